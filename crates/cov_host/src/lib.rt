@@ -1,0 +1,15 @@
+//! The outside of the program: files, standard output and the warning output behind the trait `Host`, three
+//! hosts, and the small types that every crate shares.
+#![tactic(auto)]
+
+mod fault;
+mod host;
+mod place;
+mod sequence;
+mod words;
+
+pub use fault::{Failed, HostFault, NoMemory, OpenFault};
+pub use host::Host;
+pub use place::Place;
+pub use sequence::{Bytes, Calls, Name, Sequence, Text};
+pub use words::Words;
