@@ -4,12 +4,16 @@
 
 mod fault;
 mod host;
+mod identifier;
 mod place;
 mod sequence;
 mod words;
 
 pub use fault::{Failed, HostFault, NoMemory, OpenFault};
 pub use host::Host;
+pub use identifier::{
+    KEYWORDS, begins_name, continues_name, has_name_form, is_identifier, is_keyword,
+};
 pub use place::Place;
 pub use sequence::{Bytes, Calls, Name, Sequence, Text};
 pub use words::Words;
