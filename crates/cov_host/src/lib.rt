@@ -2,6 +2,7 @@
 //! hosts, and the small types that every crate shares.
 #![tactic(auto)]
 
+mod decimal;
 mod fault;
 mod host;
 mod identifier;
@@ -9,6 +10,7 @@ mod place;
 mod sequence;
 mod words;
 
+pub use decimal::read_decimal;
 pub use fault::{Failed, HostFault, NoMemory, OpenFault};
 pub use host::Host;
 pub use identifier::{
