@@ -1,1 +1,3 @@
+pub mod MemoryHost
 pub mod Outside
+pub mod SureHost

@@ -2,14 +2,21 @@
 //! hosts, and the small types that every crate shares.
 #![tactic(auto)]
 
+mod count;
 mod fault;
 mod host;
+mod input;
+mod memory_host;
 mod place;
+mod planned_faults;
 mod sequence;
+mod sure_host;
 mod words;
 
 pub use fault::{Failed, HostFault, NoMemory, OpenFault};
 pub use host::Host;
+pub use memory_host::MemoryHost;
 pub use place::Place;
 pub use sequence::{Bytes, Calls, Name, Sequence, Text};
+pub use sure_host::SureHost;
 pub use words::Words;
