@@ -2,12 +2,17 @@
 //! hosts, and the small types that every crate shares.
 #![tactic(auto)]
 
+mod count;
 mod decimal;
 mod fault;
 mod host;
 mod identifier;
+mod input;
+mod memory_host;
 mod place;
+mod planned_faults;
 mod sequence;
+mod sure_host;
 mod words;
 
 pub use decimal::read_decimal;
@@ -16,6 +21,8 @@ pub use host::Host;
 pub use identifier::{
     KEYWORDS, begins_name, continues_name, has_name_form, is_identifier, is_keyword,
 };
+pub use memory_host::MemoryHost;
 pub use place::Place;
 pub use sequence::{Bytes, Calls, Name, Sequence, Text};
+pub use sure_host::SureHost;
 pub use words::Words;
