@@ -4,16 +4,19 @@
 
 mod count;
 mod fault;
+mod file_host;
 mod host;
 mod input;
 mod memory_host;
 mod place;
 mod planned_faults;
+mod retry;
 mod sequence;
 mod sure_host;
 mod words;
 
 pub use fault::{Failed, HostFault, NoMemory, OpenFault};
+pub use file_host::FileHost;
 pub use host::Host;
 pub use memory_host::MemoryHost;
 pub use place::Place;
