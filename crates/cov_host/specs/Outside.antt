@@ -33,6 +33,21 @@ empty_outside = record {
   mute = 0;
 }
 
+-- no content is told, and nothing is being read or written
+abbrev pub untold_outside : Outside
+untold_outside = record {
+  files = None;
+  rest = None;
+  reading = false;
+  writing = false;
+  target = None;
+  printed = None;
+  warned = None;
+  faults = 0;
+  absences = 0;
+  mute = 0;
+}
+
 -- what was told before is told after, and the two stand in this relation
 abbrev pub Told : {A : Type 0} → (A → A → Type 0) → Option A → Option A → Type 0
 Told R None after = Unit {0}
