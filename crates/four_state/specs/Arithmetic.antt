@@ -1,8 +1,8 @@
 -- Arithmetic, relations and shifts on bits, through the whole numbers that known bits stand for
 -- (IEEE 1364-2001, clauses 4.1.5, 4.1.6, 4.1.7, 4.1.12 and 4.5).
-use Rattle.std.specs.Prelude.{ℕ, zero, suc, ◌+◌, ◌-◌, ◌*◌, ◌/◌, ◌%◌, ◌==◌, nat_lt, Bool, true, false, ◌&&◌, if◌then◌else◌, List, [], ◌∷◌, ◌++◌, map, length, slice_index_or, ℤ, pos, negsuc}
+use Rattle.std.specs.Prelude.{ℕ, zero, suc, ◌+◌, ◌-◌, ◌*◌, ◌/◌, ◌%◌, ◌==◌, nat_lt, Bool, false, ◌&&◌, if◌then◌else◌, List, [], ◌∷◌, ◌++◌, map, length, slice_index_or, ℤ, pos, negsuc}
 use Rattle.std.specs.List.{range_with_len}
-use Rattle.four_state.specs.Vector.{Bit, Zero, One, X, Z, is_one, all_known, bit_of, fill, top}
+use Rattle.four_state.specs.Vector.{Bit, Zero, One, X, is_one, all_known, bit_of, fill, top}
 
 abbrev pub not_bit : Bit → Bit
 not_bit Zero = One

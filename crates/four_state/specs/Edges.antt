@@ -1,5 +1,5 @@
 -- The edges between two values of a bit (IEEE 1364-2001, clause 9.7.2).
-use Rattle.std.specs.Prelude.{Bool, true, false, ◌||◌, ◌&&◌, not, if◌then◌else◌, Option, Some, None}
+use Rattle.std.specs.Prelude.{Bool, ◌||◌, ◌&&◌, not, if◌then◌else◌, Option, Some, None}
 use Rattle.four_state.specs.Vector.{Bit, is_zero, is_one}
 pub use Rattle.four_state.specs.declared.edge.Edge.{Edge}
 pub use Rattle.four_state.specs.declared.edge.Edge.TheVariants.{Pos, Neg}

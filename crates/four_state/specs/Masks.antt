@@ -35,3 +35,7 @@ pub record FitsMasks (width ones strange : ℕ) : Type 0 where
   pub at_most : width ≤ 128
   pub ones_inside : ones < 2 ^ width
   pub strange_inside : strange < 2 ^ width
+
+-- whether the number has this place
+unfoldable pub is_set : ℕ → ℕ → Bool
+is_set n place = n / 2 ^ place % 2 == 1

@@ -1,5 +1,5 @@
 -- What each operator gives, bit by bit, and arithmetic through whole numbers (IEEE 1364-2001, clause 4.1).
-use Rattle.std.specs.Prelude.{◌≡◌, ℕ, Bool, true, false, not, ◌&&◌, ◌||◌, if◌then◌else◌, List, [], ◌∷◌, map, length, ℤ, pos, ◌+ℤ◌, ◌-ℤ◌, ◌*ℤ◌, int_lt, int_le, int_div, int_rem, ⊤}
+use Rattle.std.specs.Prelude.{◌≡◌, Bool, true, false, not, ◌&&◌, ◌||◌, if◌then◌else◌, List, [], ◌∷◌, map, length, pos, ◌+ℤ◌, ◌-ℤ◌, ◌*ℤ◌, int_lt, int_le, int_div, int_rem}
 use Rattle.four_state.specs.Vector.{Bit, Zero, One, X, Z, Vector, Truth, True, False, Strange, same_bit, same_bits, is_known, bit_of, truth, truth_bit, top}
 use Rattle.four_state.specs.Arithmetic.{if_known, cut, whole, arithmetic, division, relation, shift_left, shift_right}
 pub use Rattle.four_state.specs.Arithmetic.{not_bit}

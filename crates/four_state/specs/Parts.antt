@@ -1,5 +1,5 @@
 -- Parts of a vector by the offset of their lowest bit, and a vector as an index (IEEE 1364-2001, clause 4.2.1).
-use Rattle.std.specs.Prelude.{ℕ, zero, suc, nat_lt, Bool, true, false, if◌then◌else◌, List, [], ◌∷◌, ◌++◌, length, slice_index_or, ℤ, pos, negsuc, ◌+ℤ◌, neg_ℤ, Option, Some, None}
+use Rattle.std.specs.Prelude.{ℕ, zero, suc, nat_lt, Bool, false, if◌then◌else◌, List, [], ◌∷◌, ◌++◌, length, slice_index_or, ℤ, pos, negsuc, ◌+ℤ◌, neg_ℤ, Option, Some, None}
 use Rattle.four_state.specs.Vector.{Bit, X, Vector, all_known, extend}
 use Rattle.four_state.specs.Arithmetic.{whole}
 pub use Rattle.four_state.specs.declared.index.Index.{Index}

@@ -1,9 +1,8 @@
 -- The masks of the bits that two masks stand for are those masks, so that a vector's bits give back what it keeps.
 use Rattle.std.specs.Prelude.{◌≡◌, ℕ, zero, suc, ◌+◌, ◌*◌, ◌/◌, ◌%◌, ◌^◌, ◌<◌, ◌==◌, Bool, true, false, if◌then◌else◌, length, refl}
-use Rattle.std.proofs.Common.{suc-le-suc, zero-lt-suc, mod-lt, pow-suc, ap, sym, subst, ◌∙◌}
+use Rattle.std.proofs.Common.{suc-le-suc, zero-lt-suc, mod-lt, pow-suc, ap, subst, ◌∙◌}
 use Rattle.std.proofs.Math.Nat.{mod-add-div}
 use Rattle.std.proofs.lemmas.Nat.{div_below}
-use Rattle.four_state.specs.Vector.{Bit}
 use Rattle.four_state.specs.Masks.{bits_of_masks, mask_of, bit_in_masks, is_one_or_z, is_strange}
 
 pub width_of_bits : (w ones strange : ℕ) → length (bits_of_masks w ones strange) ≡ w

@@ -1,5 +1,5 @@
 -- Four-state vectors (IEEE 1364-2001, clauses 3.1 and 3.3): bits, the lowest first, and a sign flag.
-use Rattle.std.specs.Prelude.{◌≡◌, ◌≤◌, ℕ, zero, suc, Bool, true, false, ◌&&◌, if◌then◌else◌, List, [], ◌∷◌, length, replicate}
+use Rattle.std.specs.Prelude.{◌≤◌, ℕ, zero, suc, Bool, true, false, ◌&&◌, if◌then◌else◌, List, [], ◌∷◌, length, replicate}
 use Rattle.std.specs.List.{list_all, list_any}
 pub use Rattle.four_state.specs.declared.bit.Bit.{Bit}
 pub use Rattle.four_state.specs.declared.bit.Bit.TheVariants.{Zero, One, X, Z}

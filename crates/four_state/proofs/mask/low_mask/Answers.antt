@@ -1,4 +1,4 @@
-use Rattle.std.proofs.Common.{arith, ◌≡◌, ◌-◌, ◌∙◌, ap, ◌^◌}
+use Rattle.std.proofs.Common.{arith, ◌-◌, ◌∙◌, ap, ◌^◌}
 use Rattle.std.proofs.lemmas.Nat.Bits.{ones_shr}
 use Rattle.four_state.proofs.mask.low_mask.Goals as goal
 
