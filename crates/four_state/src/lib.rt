@@ -1,0 +1,17 @@
+//! Four-state vectors of 1 to 128 bits, and the operators of IEEE 1364-2001, clause 4, on them.
+#![tactic(auto)]
+
+mod bit;
+mod edge;
+mod four;
+mod index;
+mod mask;
+mod operator;
+mod truth;
+
+pub use bit::Bit;
+pub use edge::Edge;
+pub use four::Four;
+pub use index::Index;
+pub use operator::{Binary, CaseKind, Unary};
+pub use truth::Truth;
