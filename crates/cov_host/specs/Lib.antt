@@ -1,1 +1,5 @@
+pub mod MemoryHost
 pub mod Outside
+pub mod Identifier
+pub mod Decimal
+pub mod SureHost

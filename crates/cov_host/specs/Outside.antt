@@ -18,6 +18,21 @@ pub record Outside : Type 0 where
   pub absences : ℕ  -- how often a file to be read was absent
   pub mute : ℕ  -- how often a warning was refused
 
+-- all is told, and there is nothing
+abbrev pub empty_outside : Outside
+empty_outside = record {
+  files = Some (λ _. None);
+  rest = Some [];
+  reading = false;
+  writing = false;
+  target = None;
+  printed = Some [];
+  warned = Some [];
+  faults = 0;
+  absences = 0;
+  mute = 0;
+}
+
 -- what was told before is told after, and the two stand in this relation
 abbrev pub Told : {A : Type 0} → (A → A → Type 0) → Option A → Option A → Type 0
 Told R None after = Unit {0}
@@ -68,6 +83,12 @@ pub record KeepsOutput (before after : Outside) : Type 0 where
 pub record KeepsStreams (before after : Outside) : Type 0 where
   pub printed : after.printed ≡ before.printed
   pub warned : after.warned ≡ before.warned
+
+-- no count changed
+pub record KeepsCounts (before after : Outside) : Type 0 where
+  pub faults : after.faults ≡ before.faults
+  pub absences : after.absences ≡ before.absences
+  pub mute : after.mute ≡ before.mute
 
 -- faults do not become fewer, and the other two counts stay
 pub record CountsFaults (before after : Outside) : Type 0 where

@@ -36,6 +36,14 @@ pub enum HostFault {
     NoMemory,
 }
 
+impl From<AllocError> for HostFault {
+    ghost from_gives = { λ _ fault. fault ≡ host_fault.NoMemory };
+
+    fn from(_: AllocError) -> Self {
+        HostFault::NoMemory
+    }
+}
+
 impl From<NoMemory> for HostFault {
     ghost from_gives = { λ _ fault. fault ≡ host_fault.NoMemory };
 
@@ -53,6 +61,14 @@ pub enum OpenFault {
     Failed,
     #[error("memory ran out")]
     NoMemory,
+}
+
+impl From<AllocError> for OpenFault {
+    ghost from_gives = { λ _ fault. fault ≡ open_fault.NoMemory };
+
+    fn from(_: AllocError) -> Self {
+        OpenFault::NoMemory
+    }
 }
 
 impl From<NoMemory> for OpenFault {

@@ -93,4 +93,15 @@ impl<T> Sequence<T> {
         self.items.push(item)?;
         Ok(())
     }
+
+    /// Adds copies of all items of a slice at the end. After a refusal nothing has changed.
+    pub fn extend_from_slice(&mut self, items: &[T]) -> Result<(), NoMemory>
+    where
+        T: Copy,
+        ensures ok { OnOk result (self.new ≡ self.old ++ items.now) }
+        ensures err { OnErr result (self.new ≡ self.old) }
+    {
+        self.items.extend_from_slice(items)?;
+        Ok(())
+    }
 }

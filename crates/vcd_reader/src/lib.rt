@@ -1,0 +1,18 @@
+//! Reads a value change dump (IEEE 1364-2001 clause 18).
+//!
+//! In this pass a dump has the small form: a header of scopes and variables, and a body of times and changes.
+//! Every other dump is `NotYet`.
+#![tactic(auto)]
+
+mod body;
+mod codes;
+mod dump;
+mod fault;
+mod header;
+mod reader;
+mod value;
+mod word;
+
+pub use dump::{Change, Changes, Dump, DumpStep, DumpSteps, Var, Vars};
+pub use fault::DumpFault;
+pub use reader::whole;
