@@ -1,0 +1,15 @@
+pub mod Writes
+pub mod Inputs
+pub mod Rest
+pub mod Acts
+pub mod Leaves
+pub mod Settled
+pub mod Pending
+pub mod EdgeLaw
+pub mod Times
+pub mod Rounds
+pub mod Habits
+pub mod Grow
+pub mod Nets
+pub mod Least
+pub mod Example

@@ -1,0 +1,13 @@
+pub mod Cell
+pub mod Machine
+pub mod State
+pub mod Event
+pub mod Habit
+pub mod Step
+pub mod Told
+pub mod MayMove
+pub mod Early
+pub mod Single
+pub mod Run
+pub mod Laws
+pub mod Example
