@@ -48,9 +48,10 @@ untold_outside = record {
   mute = 0;
 }
 
--- what was told before is told after, and the two stand in this relation
+-- it is told before and after, and the two stand in this relation; or it is told neither before nor after
 abbrev pub Told : {A : Type 0} → (A → A → Type 0) → Option A → Option A → Type 0
-Told R None after = Unit {0}
+Told R None None = Unit {0}
+Told R None (Some after) = ⊥
 Told R (Some before) None = ⊥
 Told R (Some before) (Some after) = R before after
 
