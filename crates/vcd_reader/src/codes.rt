@@ -2,9 +2,6 @@ use cov_host::NoMemory;
 use indexmap::IndexMap;
 use std::alloc::Global;
 
-/// The longest identifier code, in bytes.
-const LONGEST: usize = 8;
-
 /// A code's number and the size of its variables in bits.
 #[derive(Clone, Copy, Debug, PartialEq, Eq)]
 pub(crate) struct Code {
@@ -48,9 +45,4 @@ impl Codes {
             _ => Ok(None),
         }
     }
-}
-
-/// Whether the word can be an identifier code: 1 to 8 printable bytes (IEEE 1364-2001 clause 18.2.1).
-pub(crate) fn is_code(word: &[u8]) -> bool {
-    !word.is_empty() && word.len() <= LONGEST && word.iter().all(|byte| matches!(*byte, 33..=126))
 }

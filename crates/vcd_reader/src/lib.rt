@@ -10,8 +10,11 @@ mod dump;
 mod fault;
 mod header;
 mod reader;
+mod section;
+mod steps;
 mod value;
 mod word;
+mod words;
 
 pub use dump::{Change, Changes, Dump, DumpStep, DumpSteps, Var, Vars};
 pub use fault::DumpFault;
