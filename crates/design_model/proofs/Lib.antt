@@ -1,0 +1,10 @@
+pub mod ConstantTerms
+pub mod Execution
+pub mod Named
+pub mod Lawful
+pub mod EventSignals
+pub mod Agree
+pub mod Told
+pub mod Bound
+pub mod BitReads
+pub mod Assigns
