@@ -55,10 +55,10 @@ no_edge Negedge One = refl
 no_edge Negedge X = refl
 no_edge Negedge Z = refl
 
-HasAny-halves : (us ws : List (Update Bit)) (c : Cell) → UpdatesCell (us ++ ws) c → UpdatesCell us c ⊎ UpdatesCell ws c
-HasAny-halves [] ws c h = inr h
-HasAny-halves (u ∷ us) ws c (inl e) = inl (inl e)
-HasAny-halves (u ∷ us) ws c (inr h) = ⊎_elim (λ a. inl (inr a)) (λ b. inr b) (HasAny-halves us ws c h)
+UpdatesCell-halves : (us ws : List (Update Bit)) (c : Cell) → UpdatesCell (us ++ ws) c → UpdatesCell us c ⊎ UpdatesCell ws c
+UpdatesCell-halves [] ws c h = inr h
+UpdatesCell-halves (u ∷ us) ws c (inl e) = inl (inl e)
+UpdatesCell-halves (u ∷ us) ws c (inr h) = ⊎_elim (λ a. inl (inr a)) (λ b. inr b) (UpdatesCell-halves us ws c h)
 
 flip : (a b : ℕ) → (a == b) ≡ true → (b == a) ≡ true
 flip a b e = eq-eqb b a (sym (eqb-true a b e))
@@ -81,7 +81,7 @@ module _ (d : Design) (c : Cell) where
   set_queued n true x t e r h has = h has
   set_queued n false x t e r h has =
       let bs : List Bit = extend (target_width d x) (head t).signed (value d r.values t) in
-      ⊎_elim h (λ new. ⊎_elim (λ w. both_ways (may_write d x c) e (writes_named d r.values x bs c (length-fit (target_width d x) _ (value d r.values t)) w)) (λ none. none) new) (HasAny-halves r.nonblocking (target_writes d r.values x bs ∷ []) c has)
+      ⊎_elim h (λ new. ⊎_elim (λ w. both_ways (may_write d x c) e (writes_named d r.values x bs c (length-fit (target_width d x) _ (value d r.values t)) w)) (λ none. none) new) (UpdatesCell-halves r.nonblocking (target_writes d r.values x bs ∷ []) c has)
 
   pub blocking_kept : (s : Stmt) (v : Values Bit) → WritesCell (execution d s v).blocking c → blocking_target d s c ≡ true
   blocking_kept s v h = go (blocking_target d s c) refl

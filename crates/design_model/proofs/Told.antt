@@ -50,7 +50,7 @@ tail_of (y ∷ ys) = ys
 
 module _ (d : Design) (u v : Values Bit) where
   -- two executions on u and v, so far the same
-  pub record CaseEqual (r s : Execution) : Type 0 where
+  pub record SameExecution (r s : Execution) : Type 0 where
     pub blocking : r.blocking ≡ s.blocking
     pub nonblocking : r.nonblocking ≡ s.nonblocking
     pub visits : r.visits ≡ s.visits
@@ -68,7 +68,7 @@ module _ (d : Design) (u v : Values Bit) where
   cells_same ws x y (c ∷ cs) l r e =
       ap₂ (λ b bs. b ∷ bs) (l c ∙ put_same u v ws c (ap (head_or (u c)) e) ∙ sym (r c)) (cells_same ws x y cs l r (ap tail_of e))
 
-  module _ (r s : Execution) (same : CaseEqual r s) where
+  module _ (r s : Execution) (same : SameExecution r s) where
     abbrev pub right_now : (c : Cell) → s.values c ≡ put_all v r.blocking c
     right_now c = subst (λ ws. s.values c ≡ put_all v ws c) (sym same.blocking) (same.right c)
 
@@ -92,7 +92,7 @@ module _ (d : Design) (u v : Values Bit) where
     pub visits_now : (t : Term) → AllOuter d u v (visits_of d r.values (is_inner d r) t) → visits_of d r.values (is_inner d r) t ≡ visits_of d s.values (is_inner d s) t
     visits_now t a = visits_same d r.values s.values (is_inner d r) inner_same t (outer_now _ a) ∙ ap (λ f. visits_of d s.values f t) is_inner_same
 
-    pub visit_same : (xs ys : List Visit) → xs ≡ ys → CaseEqual (with_visits r xs) (with_visits s ys)
+    pub visit_same : (xs ys : List Visit) → xs ≡ ys → SameExecution (with_visits r xs) (with_visits s ys)
     visit_same xs ys e =
         record { blocking = same.blocking; nonblocking = same.nonblocking; visits = ap₂ (λ a b. a ++ b) same.visits e; left = same.left; right = same.right }
 
@@ -105,7 +105,7 @@ module _ (d : Design) (u v : Values Bit) where
   Stays r = AllOuter d u v r.visits
 
   -- after an assignment
-  pub set_same : (n : ℕ) (b : Bool) (x : Target) (t : Term) (r s : Execution) → CaseEqual d u v r s → Stays (execute_assignment d n b x t r) → CaseEqual d u v (execute_assignment d n b x t r) (execute_assignment d n b x t s)
+  pub set_same : (n : ℕ) (b : Bool) (x : Target) (t : Term) (r s : Execution) → SameExecution d u v r s → Stays (execute_assignment d n b x t r) → SameExecution d u v (execute_assignment d n b x t r) (execute_assignment d n b x t s)
   set_same n b x t r s same a = go b (visits_part b a)
     where
       visits_part : (b : Bool) → Stays (execute_assignment d n b x t r) → AllOuter d u v (assignment_visits d n x t r)
@@ -131,7 +131,7 @@ module _ (d : Design) (u v : Values Bit) where
       written h =
           writes_same d r.values s.values (is_inner d r) (inner_same d u v r s same) x _ (index_now h) ∙ ap (λ p. target_writes d s.values x (extend (target_width d x) (head t).signed p)) (value_now d u v r s same t (term_outer h))
 
-      go : (b : Bool) → AllOuter d u v (assignment_visits d n x t r) → CaseEqual d u v (execute_assignment d n b x t r) (execute_assignment d n b x t s)
+      go : (b : Bool) → AllOuter d u v (assignment_visits d n x t r) → SameExecution d u v (execute_assignment d n b x t r) (execute_assignment d n b x t s)
       go true h =
           record {
             blocking = ap₂ (λ p q. p ++ q) same.blocking (written h);
@@ -173,7 +173,7 @@ module _ (d : Design) (u v : Values Bit) where
     arms_before : (kind : CaseKind) (on : List Bit) (arms : Arms) (otherwise : Execution → Execution) → ((r : Execution) → Before r → Before (otherwise r)) → Before (execute_arms d kind on arms otherwise r0)
     arms_before kind on arms otherwise o = arms_keep d Before visit_before kind on arms (each_all_in set_before arms) otherwise o r0 (λ a. a)
 
-  choose_same : (x : Truth) (a b a' b' : Execution) → (Stays a → CaseEqual d u v a a') → (Stays b → CaseEqual d u v b b') → Stays (choose x a b) → CaseEqual d u v (choose x a b) (choose x a' b')
+  choose_same : (x : Truth) (a b a' b' : Execution) → (Stays a → SameExecution d u v a a') → (Stays b → SameExecution d u v b b') → Stays (choose x a b) → SameExecution d u v (choose x a b) (choose x a' b')
   choose_same True a b a' b' f g h = f h
   choose_same False a b a' b' f g h = g h
   choose_same Strange a b a' b' f g h = g h
@@ -183,7 +183,7 @@ module _ (d : Design) (u v : Values Bit) where
   choose_before P False a b f g h = g h
   choose_before P Strange a b f g h = g h
 
-  if_same : (x : Bool) (a b a' b' : Execution) → (Stays a → CaseEqual d u v a a') → (Stays b → CaseEqual d u v b b') → Stays (if x then a else b) → CaseEqual d u v (if x then a else b) (if x then a' else b')
+  if_same : (x : Bool) (a b a' b' : Execution) → (Stays a → SameExecution d u v a a') → (Stays b → SameExecution d u v b b') → Stays (if x then a else b) → SameExecution d u v (if x then a else b) (if x then a' else b')
   if_same true a b a' b' f g h = f h
   if_same false a b a' b' f g h = g h
 
@@ -192,7 +192,7 @@ module _ (d : Design) (u v : Values Bit) where
   if_before P false a b f g h = g h
 
   -- the labels of an arm
-  pub labels_same : (kind : CaseKind) (on : List Bit) (r s : Execution) → CaseEqual d u v r s → (ts : Terms) → AllOuter d u v (label_visits d kind on r ts) → (some_match d kind on r.values ts ≡ some_match d kind on s.values ts) × (label_visits d kind on r ts ≡ label_visits d kind on s ts)
+  pub labels_same : (kind : CaseKind) (on : List Bit) (r s : Execution) → SameExecution d u v r s → (ts : Terms) → AllOuter d u v (label_visits d kind on r ts) → (some_match d kind on r.values ts ≡ some_match d kind on s.values ts) × (label_visits d kind on r ts ≡ label_visits d kind on s ts)
   labels_same kind on r s same no_terms a = (refl, refl)
   labels_same kind on r s same (a_term t ts) a =
       let p = outer_halves d u v (visits_of d r.values (is_inner d r) t) (if matches kind on (value d r.values t) then [] else label_visits d kind on r ts) a in
@@ -211,7 +211,7 @@ module _ (d : Design) (u v : Values Bit) where
 
   -- the same for whole bodies
   mutual
-    pub exec_same : (b : Stmt) (r s : Execution) → CaseEqual d u v r s → Stays (execute d b r) → CaseEqual d u v (execute d b r) (execute d b s)
+    pub exec_same : (b : Stmt) (r s : Execution) → SameExecution d u v r s → Stays (execute d b r) → SameExecution d u v (execute d b r) (execute d b s)
     exec_same (block p ss) r s same a = all_same ss r s same a
     exec_same (branch p n t b other) r s same a =
         let first = visit_same d u v r s same (at_line n ∷ []) (at_line n ∷ []) refl in
@@ -221,9 +221,9 @@ module _ (d : Design) (u v : Values Bit) where
         let tested' : Execution = evaluate d t s1 in
         let stays : Stays tested = choose_before (Stays tested) (truth (value d r.values t)) (execute d b tested) (execute_all d other tested) (exec_before tested b) (all_before tested other) a in
         let term_outer : AllOuter d u v (visits_of d r.values (is_inner d r) t) = (outer_halves d u v r1.visits (visits_of d r.values (is_inner d r) t) stays).1 in
-        let now : CaseEqual d u v tested tested' = visit_same d u v r1 s1 first _ _ (visits_now d u v r1 s1 first t term_outer) in
+        let now : SameExecution d u v tested tested' = visit_same d u v r1 s1 first _ _ (visits_now d u v r1 s1 first t term_outer) in
         let e : value d r.values t ≡ value d s.values t = value_now d u v r s same t term_outer in
-        subst (λ y. CaseEqual d u v (choose (truth (value d r.values t)) (execute d b tested) (execute_all d other tested)) (choose (truth y) (execute d b tested') (execute_all d other tested'))) e
+        subst (λ y. SameExecution d u v (choose (truth (value d r.values t)) (execute d b tested) (execute_all d other tested)) (choose (truth y) (execute d b tested') (execute_all d other tested'))) e
         (choose_same (truth (value d r.values t)) (execute d b tested) (execute_all d other tested) (execute d b tested') (execute_all d other tested') (exec_same b tested tested' now) (all_same other tested tested' now) a)
     exec_same (select p n kind t arms) r s same a =
         let first = visit_same d u v r s same (at_line n ∷ []) (at_line n ∷ []) refl in
@@ -234,19 +234,19 @@ module _ (d : Design) (u v : Values Bit) where
         let otherwise : (r2 : Execution) → Before tested r2 → Before tested (execute_default d arms r2) = λ r2 h. default_keeps d (Before tested) (visit_before tested) arms (each_all_in (set_before tested) arms) r2 h in
         let stays : Stays tested = arms_before tested kind (value d r.values t) arms (execute_default d arms) otherwise a in
         let term_outer : AllOuter d u v (visits_of d r.values (is_inner d r) t) = (outer_halves d u v r1.visits (visits_of d r.values (is_inner d r) t) stays).1 in
-        let now : CaseEqual d u v tested tested' = visit_same d u v r1 s1 first _ _ (visits_now d u v r1 s1 first t term_outer) in
+        let now : SameExecution d u v tested tested' = visit_same d u v r1 s1 first _ _ (visits_now d u v r1 s1 first t term_outer) in
         let e : value d r.values t ≡ value d s.values t = value_now d u v r s same t term_outer in
-        subst (λ y. CaseEqual d u v (execute_arms d kind (value d r.values t) arms (execute_default d arms) tested) (execute_arms d kind y arms (execute_default d arms) tested')) e
+        subst (λ y. SameExecution d u v (execute_arms d kind (value d r.values t) arms (execute_default d arms) tested) (execute_arms d kind y arms (execute_default d arms) tested')) e
         (arms_same kind (value d r.values t) arms (execute_default d arms) (λ r2 s2 m h. default_same arms r2 s2 m h) (λ r2. default_before r2 arms) tested tested' now a)
     exec_same (turns p n ss) r s same a = all_same ss (with_visits r (at_line n ∷ [])) (with_visits s (at_line n ∷ [])) (visit_same d u v r s same (at_line n ∷ []) (at_line n ∷ []) refl) a
     exec_same (set p n blocking x t) r s same a = set_same n blocking x t r s same a
     exec_same (empty p) r s same a = same
 
-    pub all_same : (ss : Stmts) (r s : Execution) → CaseEqual d u v r s → Stays (execute_all d ss r) → CaseEqual d u v (execute_all d ss r) (execute_all d ss s)
+    pub all_same : (ss : Stmts) (r s : Execution) → SameExecution d u v r s → Stays (execute_all d ss r) → SameExecution d u v (execute_all d ss r) (execute_all d ss s)
     all_same no_stmts r s same a = same
     all_same (a_stmt b ss) r s same a = all_same ss (execute d b r) (execute d b s) (exec_same b r s same (all_before (execute d b r) ss a)) a
 
-    pub arms_same : (kind : CaseKind) (on : List Bit) (arms : Arms) (otherwise : Execution → Execution) → ((r s : Execution) → CaseEqual d u v r s → Stays (otherwise r) → CaseEqual d u v (otherwise r) (otherwise s)) → ((r : Execution) → Before r (otherwise r)) → (r s : Execution) → CaseEqual d u v r s → Stays (execute_arms d kind on arms otherwise r) → CaseEqual d u v (execute_arms d kind on arms otherwise r) (execute_arms d kind on arms otherwise s)
+    pub arms_same : (kind : CaseKind) (on : List Bit) (arms : Arms) (otherwise : Execution → Execution) → ((r s : Execution) → SameExecution d u v r s → Stays (otherwise r) → SameExecution d u v (otherwise r) (otherwise s)) → ((r : Execution) → Before r (otherwise r)) → (r s : Execution) → SameExecution d u v r s → Stays (execute_arms d kind on arms otherwise r) → SameExecution d u v (execute_arms d kind on arms otherwise r) (execute_arms d kind on arms otherwise s)
     arms_same kind on no_arms otherwise o b r s same a = o r s same a
     arms_same kind on (arm labels x arms) otherwise o b r s same a =
         let seen : Execution = with_visits r (label_visits d kind on r labels) in
@@ -254,17 +254,17 @@ module _ (d : Design) (u v : Values Bit) where
         let after' : (r2 : Execution) → Before seen r2 → Before seen (otherwise r2) = λ r2 h k. h (b r2 k) in
         let stays : Stays seen = if_before (Stays seen) (some_match d kind on r.values labels) (execute d x seen) (execute_arms d kind on arms otherwise seen) (exec_before seen x) (arms_before seen kind on arms otherwise after') a in
         let l = labels_same kind on r s same labels (outer_halves d u v r.visits (label_visits d kind on r labels) stays).1 in
-        let now : CaseEqual d u v seen seen' = visit_same d u v r s same _ _ l.1 in
-        subst (λ y. CaseEqual d u v (if some_match d kind on r.values labels then execute d x seen else execute_arms d kind on arms otherwise seen) (if y then execute d x seen' else execute_arms d kind on arms otherwise seen')) l.0
+        let now : SameExecution d u v seen seen' = visit_same d u v r s same _ _ l.1 in
+        subst (λ y. SameExecution d u v (if some_match d kind on r.values labels then execute d x seen else execute_arms d kind on arms otherwise seen) (if y then execute d x seen' else execute_arms d kind on arms otherwise seen')) l.0
         (if_same (some_match d kind on r.values labels) (execute d x seen) (execute_arms d kind on arms otherwise seen) (execute d x seen') (execute_arms d kind on arms otherwise seen') (exec_same x seen seen' now) (arms_same kind on arms otherwise o b seen seen' now) a)
 
-    pub default_same : (arms : Arms) (r s : Execution) → CaseEqual d u v r s → Stays (execute_default d arms r) → CaseEqual d u v (execute_default d arms r) (execute_default d arms s)
+    pub default_same : (arms : Arms) (r s : Execution) → SameExecution d u v r s → Stays (execute_default d arms r) → SameExecution d u v (execute_default d arms r) (execute_default d arms s)
     default_same no_arms r s same a = same
     default_same (arm labels x arms) r s same a =
         if_same (is_default labels) (execute d x r) (execute_default d arms r) (execute d x s) (execute_default d arms s) (exec_same x r s same) (default_same arms r s same) a
 
   -- two states that agree on what an execution reads from outside have the same execution
-  pub execution_same : (b : Stmt) → AllOuter d u v (execution d b u).visits → CaseEqual d u v (execution d b u) (execution d b v)
+  pub execution_same : (b : Stmt) → AllOuter d u v (execution d b u).visits → SameExecution d u v (execution d b u) (execution d b v)
   execution_same b a = exec_same b (execution_start u) (execution_start v) (record { blocking = refl; nonblocking = refl; visits = refl; left = λ c. refl; right = λ c. refl }) a
 
 -- what is inside a map is the same on all states with the map's values

@@ -9,7 +9,7 @@ use Rattle.design_model.specs.Design.{Design, IsClocked, IsComb, IsThing, Thing,
 use Rattle.design_model.specs.Mentions.{any_set, body_assigns, body_mentions, may_write}
 use Rattle.design_model.specs.Execution.{Execution, covers, execution}
 use Rattle.design_model.specs.Paths.{each_writes_whole, reads_before_writing}
-use Rattle.design_model.specs.Reads.{Agrees, Has, IsTold, Known, nothing_known}
+use Rattle.design_model.specs.Reads.{Agrees, HasValue, IsTold, Known, nothing_known}
 use Rattle.design_model.specs.Machine.{is_level}
 use Rattle.design_model.specs.Shows.{BoundDump, IsFirst, IsListed, IsShown, IsWindow}
 use Rattle.design_model.specs.MayMove.{CanWakeSome, IsCleanAt, MayMoveAt}
@@ -47,7 +47,7 @@ IsSignal d s = s < length d.signals
 
 -- x has these bits after these writes: they write it whole, or it was clear
 pub record LeavesValue (d : Design) (start : Known) (v : Values Bit) (ws : List (Write Bit)) (x : Thing) (bits : List Bit) : Type 0 where
-  pub decided : (covers ws (cells d x) ≡ true) ⊎ Has start x
+  pub decided : (covers ws (cells d x) ≡ true) ⊎ HasValue start x
   pub is : (old : Values Bit) → ((w : List Bit) → start x w → thing_bits d old x ≡ w) → bits_after d old ws x ≡ bits
 
 -- a net has the value of its Assigns, where each of its bits is driven and all its Assigns are told
@@ -74,7 +74,7 @@ pub record IsCombValue (d : Design) (dump : BoundDump) (t : ℕ) (K : Known) (p 
   pub target : body_assigns s (body_at d p) ≡ true
   pub written_whole : each_writes_whole d (body_at d p) s ≡ true
   pub writes_first : (x : ℕ) → body_assigns x (body_at d p) ≡ true → reads_before_writing d (body_at d p) x ≡ false
-  pub all_clear : (x : ℕ) → is_level (process_at d p) x ≡ true → body_assigns x (body_at d p) ≡ false → IsSignal d x → Has K (a_signal x)
+  pub all_clear : (x : ℕ) → is_level (process_at d p) x ≡ true → body_assigns x (body_at d p) ≡ false → IsSignal d x → HasValue K (a_signal x)
   pub told : IsTold d K (body_at d p)
   pub has_changed : HasChanged dump d (body_at d p) t
   pub gives : (v : Values Bit) → Agrees d K v → bits_after d v (execution d (body_at d p) v).blocking (a_signal s) ≡ bits

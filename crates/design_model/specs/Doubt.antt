@@ -5,7 +5,7 @@ use Rattle.event_machine.specs.Habit.{Habit}
 use Rattle.design_model.specs.Design.{Design, IsComb, IsThing, Thing, a_signal, a_word, body_at, cell, owner, process_at}
 use Rattle.design_model.specs.Mentions.{body_assigns, body_mentions}
 use Rattle.design_model.specs.Paths.{reads_before_writing}
-use Rattle.design_model.specs.Reads.{Has, ReadsFrom}
+use Rattle.design_model.specs.Reads.{HasValue, ReadsFrom}
 use Rattle.design_model.specs.Machine.{is_level}
 use Rattle.design_model.specs.Shows.{BoundDump, IsListed, IsWindow}
 use Rattle.design_model.specs.Points.{IsBlock, Point, arc_point, state_point, toggle_point}
@@ -16,7 +16,7 @@ use Rattle.design_model.specs.Open.{AtEnd, IsNotClean, IsNotClocked, IsOpenFor, 
 
 -- x is not clear at the start or the end of t
 abbrev pub IsUnclear : Design → Habit → BoundDump → ℕ → Thing → Type 0
-IsUnclear d h dump t x = (Has (clear_before d h dump t) x → ⊥) ⊎ (Has (clear d h dump t) x → ⊥)
+IsUnclear d h dump t x = (HasValue (clear_before d h dump t) x → ⊥) ⊎ (HasValue (clear d h dump t) x → ⊥)
 
 -- where t is not listed, x may move, or the block mentions or lists a thing that may move
 abbrev pub MayMoveUnlisted : Design → BoundDump → ℕ → ℕ → Type 0
@@ -34,7 +34,7 @@ IsPointOn _ q = ⊥
 
 -- why signal or memory s is in doubt for block p at t
 pub data BlockDoubt (d : Design) (h : Habit) (dump : BoundDump) (t : ℕ) (s p : ℕ) : Type 0 where
-  unclear_at_start : (x : Thing) → owner x ≡ s → CanWakeSome d dump t p → ReadsFrom d (OnEntry d h dump t p) (body_at d p) x → ((c : Cell) → IsCleanAt d dump t p c → x ≢ a_signal c.thing) → (Has (clear_before d h dump t) x → ⊥) → BlockDoubt d h dump t s p
+  unclear_at_start : (x : Thing) → owner x ≡ s → CanWakeSome d dump t p → ReadsFrom d (OnEntry d h dump t p) (body_at d p) x → ((c : Cell) → IsCleanAt d dump t p c → x ≢ a_signal c.thing) → (HasValue (clear_before d h dump t) x → ⊥) → BlockDoubt d h dump t s p
   early : (x : Thing) (c : Cell) → owner x ≡ s → IsCleanAt d dump t p c → ReadsFrom d (OnEntry d h dump t p) (body_at d p) x → IsEarlyAt d h dump t p c s → BlockDoubt d h dump t s p
   not_clean : (c : Cell) → c.thing ≡ s → CanWakeAt d dump t c p → IsNotClean d dump t p → BlockDoubt d h dump t s p
   unclear_signal : (k : ℕ) → IsNotClocked d p → MayWakeUnlisted d dump t p → IsWakeBit d p (cell s k) → IsUnclear d h dump t (a_signal s) → BlockDoubt d h dump t s p

@@ -11,8 +11,8 @@ use Rattle.design_model.specs.Execution.{Visit, at_line, at_node, execution, rea
 abbrev pub Known : Type 1
 Known = Thing → List Bit → Type 0
 
-abbrev pub Has : Known → Thing → Type 0
-Has K x = (bits : List Bit) × K x bits
+abbrev pub HasValue : Known → Thing → Type 0
+HasValue K x = (bits : List Bit) × K x bits
 
 abbrev pub nothing_known : Known
 nothing_known x bits = ⊥
@@ -26,7 +26,7 @@ abbrev pub IsInside : Known → Visit → Type 0
 IsInside K (at_line n) = ⊤
 IsInside K (at_node n c) = ⊤
 IsInside K (reads x true) = ⊤
-IsInside K (reads x false) = Has K x
+IsInside K (reads x false) = HasValue K x
 IsInside K (writes_word m i) = ⊤
 
 abbrev pub AllInside : Known → List Visit → Type 0
@@ -49,4 +49,4 @@ VisitsFrom d K b x = (v : Values Bit) × Agrees d K v × UpToOutside K x (execut
 -- the body reads x from the map: up to its first read outside, or, if there is such a read, as all that it mentions
 abbrev pub ReadsFrom : Design → Known → Stmt → Thing → Type 0
 ReadsFrom d K b x =
-    VisitsFrom d K b (reads x false) ⊎ ((y : Thing) × VisitsFrom d K b (reads y false) × (Has K y → ⊥) × (body_mentions (owner x) b ≡ true) × IsThing d x)
+    VisitsFrom d K b (reads x false) ⊎ ((y : Thing) × VisitsFrom d K b (reads y false) × (HasValue K y → ⊥) × (body_mentions (owner x) b ≡ true) × IsThing d x)
