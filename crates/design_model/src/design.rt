@@ -1,4 +1,6 @@
+use crate::tree::Process;
 use cov_host::{Name, Sequence};
+use four_state::Four;
 
 /// A design after elaboration, without hierarchy.
 #[derive(Debug, Drop)]
@@ -9,6 +11,14 @@ pub struct Design {
     pub instances: Sequence<Instance>,
     /// In order of declaration. A signal goes by its place in this list.
     pub signals: Sequence<Signal>,
+    /// In order of declaration. A memory goes by the number of signals and its place in this list.
+    pub memories: Sequence<Memory>,
+    /// In order of declaration. A process goes by its place in this list.
+    pub processes: Sequence<Process>,
+    /// The parameters.
+    pub constants: Sequence<Constant>,
+    /// The ports that go by the signal they are joined to.
+    pub aliases: Sequence<Alias>,
 }
 
 /// An instance of a module.
@@ -19,7 +29,7 @@ pub struct Instance {
     pub module: Name,
 }
 
-/// A net or a variable (IEEE 1364-2001 clause 3.2).
+/// A net or a variable (IEEE 1364-2001, 3.2).
 #[derive(Debug, Drop)]
 pub struct Signal {
     /// The place of its instance in the design's list.
@@ -36,4 +46,44 @@ pub struct Signal {
     pub signed: bool,
     /// Whether it is an input of the top module.
     pub input: bool,
+}
+
+/// A memory: an array of one dimension (IEEE 1364-2001, 3.10).
+#[derive(Debug, Drop)]
+pub struct Memory {
+    /// The place of its instance in the design's list.
+    pub instance: u32,
+    pub name: Name,
+    /// The left bound of the range of its words as declared.
+    pub first: u32,
+    /// The right bound of the range of its words as declared.
+    pub last: u32,
+    /// The left bound of the range of a word as declared, 0 without one.
+    pub high: u32,
+    /// The right bound of the range of a word as declared, 0 without one.
+    pub low: u32,
+    /// Whether a word was declared with a range.
+    pub ranged: bool,
+    /// The number of bits of a word, from 1 to 128.
+    pub width: u8,
+    pub signed: bool,
+}
+
+/// A parameter with its value (IEEE 1364-2001, 3.11).
+#[derive(Debug, Drop)]
+pub struct Constant {
+    /// The place of its instance in the design's list.
+    pub instance: u32,
+    pub name: Name,
+    pub value: Four,
+}
+
+/// A port that is another name of a signal (IEEE 1364-2001, 12.3).
+#[derive(Debug, Drop)]
+pub struct Alias {
+    /// The place of the port's instance in the design's list.
+    pub instance: u32,
+    pub name: Name,
+    /// The signal that it names.
+    pub signal: u32,
 }

@@ -1,6 +1,33 @@
-//! The elaborated design: one flat list of instances and signals.
+//! The elaborated design, and the definitions of its runs and of its coverage.
 #![tactic(auto)]
 
-mod design;
+ghost use Rattle.event_machine.specs.Habit.{Habit};
+ghost use Rattle.event_machine.specs.Machine.{IsLawful};
+ghost use Rattle.design_model.specs.Design.{Design as DesignTree};
+ghost use Rattle.design_model.specs.Machine.{machine};
+ghost use Rattle.design_model.specs.Lawful.{IsLawfulDesign};
+ghost use Rattle.design_model.specs.Laws.{ClearLaw, ForcedLaw, ReachedLaw};
 
-pub use design::{Design, Instance, Signal};
+mod design;
+mod point;
+mod tree;
+
+pub use design::{Alias, Constant, Design, Instance, Memory, Signal};
+pub use point::{LineWord, NodeCase, Point};
+pub use tree::{CaseArm, Form, Process, Stmt, StmtForm, Target, Term};
+
+/// The machine of a lawful design is lawful, so the laws of the event machine hold for it.
+pub fn lawful_machine()
+    ensures { (d : DesignTree) → IsLawfulDesign d → IsLawful (machine d) }
+{}
+
+/// What the dump decides holds in each run that shows it: what is clear, and, where there is such a run, what is forced.
+pub fn clear_law()
+    ensures clear { (d : DesignTree) (h : Habit) → IsLawfulDesign d → ClearLaw d h }
+    ensures forced { (d : DesignTree) (h : Habit) → IsLawfulDesign d → ForcedLaw d h }
+{}
+
+/// Each point that a block of it reaches at a window time is hit in each run that shows the dump.
+pub fn reached_law()
+    ensures { (d : DesignTree) (h : Habit) → IsLawfulDesign d → ReachedLaw d h }
+{}

@@ -1,0 +1,34 @@
+-- What may move at a time of the dump, which Clocked can wake, and which is clean.
+use Rattle.std.specs.Prelude.{◌-◌, ℕ}
+use Rattle.event_machine.specs.Cell.{Cell}
+use Rattle.event_machine.specs.Told.{Told}
+use Rattle.event_machine.specs.MayMove.{CanWake, IsClean, MayMove}
+use Rattle.event_machine.specs.Single.{IsSingle}
+use Rattle.four_state.specs.declared.bit.Bit.{Bit}
+use Rattle.design_model.specs.Design.{Design}
+use Rattle.design_model.specs.Machine.{machine}
+use Rattle.design_model.specs.Shows.{BoundDump}
+
+-- what the dump tells of the step at a time: the bound signals, before and after
+abbrev pub told_at : BoundDump → ℕ → Told Bit
+told_at dump t = record { is_told = dump.bound; old = dump.values (t - 1); new = dump.values t }
+
+-- the cell is known to change at most once in the step, as the dump tells: a bound input, which is single in round 0
+abbrev pub IsSingleAt : Design → BoundDump → ℕ → Cell → Type 0
+IsSingleAt d dump t = IsSingle (machine d) (told_at dump t) 0
+
+-- signal or memory x may move at t
+abbrev pub MayMoveAt : Design → BoundDump → ℕ → ℕ → Type 0
+MayMoveAt d dump t x = MayMove (machine d) (told_at dump t) (IsSingleAt d dump t) x
+
+-- Clocked p can wake, by event signal c
+abbrev pub CanWakeAt : Design → BoundDump → ℕ → Cell → ℕ → Type 0
+CanWakeAt d dump t c p = CanWake (machine d) (told_at dump t) (IsSingleAt d dump t) c p
+
+-- Clocked p can wake at t
+abbrev pub CanWakeSome : Design → BoundDump → ℕ → ℕ → Type 0
+CanWakeSome d dump t p = (c : Cell) × CanWakeAt d dump t c p
+
+-- Clocked p is clean, with trigger c
+abbrev pub IsCleanAt : Design → BoundDump → ℕ → ℕ → Cell → Type 0
+IsCleanAt d dump t p c = IsClean (machine d) (told_at dump t) (IsSingleAt d dump t) p c

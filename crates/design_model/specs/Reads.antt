@@ -1,0 +1,52 @@
+-- What a body reads from a partial map of things to values.
+use Rattle.std.specs.Prelude.{◌≡◌, ◌⊎◌, ◌∷◌, true, false, List, [], ⊤}
+use Rattle.event_machine.specs.Cell.{Values}
+use Rattle.four_state.specs.declared.bit.Bit.{Bit}
+use Rattle.design_model.specs.Tree.{Stmt}
+use Rattle.design_model.specs.Design.{Design, IsThing, Thing, owner, thing_bits}
+use Rattle.design_model.specs.Mentions.{body_mentions}
+use Rattle.design_model.specs.Execution.{Visit, at_line, at_node, execution, reads, writes_word}
+
+-- a partial map from things to values
+abbrev pub Known : Type 1
+Known = Thing → List Bit → Type 0
+
+abbrev pub HasValue : Known → Thing → Type 0
+HasValue K x = (bits : List Bit) × K x bits
+
+abbrev pub nothing_known : Known
+nothing_known x bits = ⊥
+
+-- the state has each value of the map
+abbrev pub Agrees : Design → Known → Values Bit → Type 0
+Agrees d K v = (x : Thing) (bits : List Bit) → K x bits → thing_bits d v x ≡ bits
+
+-- the visit is no read of a thing outside the map that is not inner
+abbrev pub IsInside : Known → Visit → Type 0
+IsInside K (at_line n) = ⊤
+IsInside K (at_node n c) = ⊤
+IsInside K (reads x true) = ⊤
+IsInside K (reads x false) = HasValue K x
+IsInside K (writes_word m i) = ⊤
+
+abbrev pub AllInside : Known → List Visit → Type 0
+AllInside K [] = ⊤
+AllInside K (x ∷ xs) = IsInside K x × AllInside K xs
+
+-- x is visited up to the first read outside the map that is not inner, that read included
+abbrev pub UpToOutside : Known → Visit → List Visit → Type 0
+UpToOutside K x [] = ⊥
+UpToOutside K x (y ∷ ys) = (y ≡ x) ⊎ (IsInside K y × UpToOutside K x ys)
+
+-- the body is told by the map: it reads only what is in it
+abbrev pub IsTold : Design → Known → Stmt → Type 0
+IsTold d K b = (v : Values Bit) → Agrees d K v → AllInside K (execution d b v).visits
+
+-- from the map the body visits x before or at its first read outside
+abbrev pub VisitsFrom : Design → Known → Stmt → Visit → Type 0
+VisitsFrom d K b x = (v : Values Bit) × Agrees d K v × UpToOutside K x (execution d b v).visits
+
+-- the body reads x from the map: up to its first read outside, or, if there is such a read, as all that it mentions
+abbrev pub ReadsFrom : Design → Known → Stmt → Thing → Type 0
+ReadsFrom d K b x =
+    VisitsFrom d K b (reads x false) ⊎ ((y : Thing) × VisitsFrom d K b (reads y false) × (HasValue K y → ⊥) × (body_mentions (owner x) b ≡ true) × IsThing d x)

@@ -1,0 +1,144 @@
+use cov_host::{Place, Sequence};
+use four_state::{Binary, CaseKind, Edge, Four, Unary};
+
+/// An expression. It has the width and the sign that its context gives it (IEEE 1364-2001, 4.4, 4.5).
+#[derive(Debug, Drop)]
+#[cycle(term)]
+pub struct Term {
+    /// Of its first token.
+    pub place: Place,
+    /// From 1 to 128.
+    pub width: u8,
+    pub signed: bool,
+    /// Its number as a counted node, from 1.
+    pub node: Option<u32>,
+    pub form: Form,
+}
+
+/// The forms of an expression.
+#[derive(Debug, Drop)]
+#[cycle(term)]
+pub enum Form {
+    Number(Four),
+    Signal(u32),
+    /// A word of a memory.
+    Word {
+        memory: u32,
+        index: Box<Term>,
+    },
+    /// `of[index]`.
+    Bit {
+        of: Box<Term>,
+        index: Box<Term>,
+    },
+    /// `of[high:low]`.
+    Part {
+        of: Box<Term>,
+        high: Box<Term>,
+        low: Box<Term>,
+    },
+    /// `of[base +: width]`, or where `up` is false `of[base -: width]`.
+    Slide {
+        of: Box<Term>,
+        base: Box<Term>,
+        width: Box<Term>,
+        up: bool,
+    },
+    Unary(Unary, Box<Term>),
+    Binary(Binary, Box<Term>, Box<Term>),
+    /// `test ? yes : no`.
+    Choice {
+        test: Box<Term>,
+        yes: Box<Term>,
+        no: Box<Term>,
+    },
+    /// The first term is the highest.
+    Concat(Vec<Term>),
+    Repeat(Box<Term>, Vec<Term>),
+    /// `$signed` where the flag is true, else `$unsigned`.
+    Sign(bool, Box<Term>),
+}
+
+/// The left side of an assignment (IEEE 1364-2001, 6).
+#[derive(Debug, Drop)]
+pub enum Target {
+    Whole(u32),
+    /// So many bits of a signal, from the bit with the index `low` up.
+    Part { signal: u32, low: Term, width: u8 },
+    Word { memory: u32, index: Term },
+    /// A concatenation; the first target is the highest.
+    Several(Vec<Target>),
+}
+
+/// A statement (IEEE 1364-2001, 9).
+#[derive(Debug, Drop)]
+#[cycle(statement)]
+pub struct Stmt {
+    /// Of its first token.
+    pub place: Place,
+    pub form: StmtForm,
+}
+
+/// The forms of a statement. `line` is its number as a line point, from 1.
+#[derive(Debug, Drop)]
+#[cycle(statement)]
+pub enum StmtForm {
+    Block(Vec<Stmt>),
+    If {
+        line: u32,
+        test: Term,
+        yes: Box<Stmt>,
+        no: Option<Box<Stmt>>,
+    },
+    Case {
+        line: u32,
+        kind: CaseKind,
+        on: Term,
+        arms: Vec<CaseArm>,
+    },
+    /// A `for` with each of its turns written out.
+    Turns {
+        line: u32,
+        turns: Vec<Stmt>,
+    },
+    Set {
+        line: u32,
+        blocking: bool,
+        target: Target,
+        value: Term,
+    },
+    Empty,
+}
+
+/// An arm of a `case`. One without labels is the `default`.
+#[derive(Debug, Drop)]
+#[cycle(statement)]
+pub struct CaseArm {
+    pub labels: Vec<Term>,
+    pub body: Stmt,
+}
+
+/// A process (IEEE 1364-2001, 5.1).
+#[derive(Debug, Drop)]
+pub enum Process {
+    /// A continuous assignment (IEEE 1364-2001, 6.1).
+    Assign {
+        instance: u32,
+        target: Target,
+        value: Term,
+        /// Whether it has coverage points.
+        counted: bool,
+    },
+    /// An `always @*`, or an `always` with a list of names.
+    Comb {
+        instance: u32,
+        wakes: Sequence<u32>,
+        body: Stmt,
+    },
+    /// An `always` with a list of edges.
+    Clocked {
+        instance: u32,
+        events: Sequence<(Edge, u32)>,
+        body: Stmt,
+    },
+}
