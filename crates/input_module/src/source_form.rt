@@ -39,11 +39,7 @@ struct Range {
 /// `module NAME ( PORT , .. ) ; endmodule`, where a PORT is `input NAME` or `input [ A : B ] NAME`.
 ///
 /// None where the source is not of this form, or its module is not `top`.
-pub fn read_source(
-    alloc: Global,
-    source: &[u8],
-    top: &str,
-) -> Result<Option<Design>, NoMemory> {
+pub fn read_source(alloc: Global, source: &[u8], top: &str) -> Result<Option<Design>, NoMemory> {
     let Some(rest) = read_front(source, top) else {
         return Ok(None);
     };
