@@ -1,0 +1,11 @@
+//! Scores a dump for a design of inputs alone: binds its signals, follows their values over the steps of the dump,
+//! and lists its toggle points with their verdicts.
+#![tactic(auto)]
+
+mod binding;
+mod replay;
+mod score;
+mod table;
+mod toggles;
+
+pub use score::score_inputs;
