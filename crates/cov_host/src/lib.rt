@@ -13,6 +13,8 @@ mod planned_faults;
 mod retry;
 mod sequence;
 mod sure_host;
+#[cfg(test)]
+mod tests;
 mod words;
 
 pub use fault::{Failed, HostFault, NoMemory, OpenFault};
