@@ -1,7 +1,9 @@
 -- Why a command ends with a status above 0, and the line that says so.
 use Rattle.std.specs.Prelude.{◌≡◌, ◌⊎◌, ℕ, List, [], ◌∷◌, ◌++◌, codes}
-use Rattle.command_line.specs.CommandWords.{IsScore, ScoreValues}
+use Rattle.command_line.specs.CommandWords.{IsScore, ScoreValues, score_values}
 use Rattle.command_line.specs.UsageFault.{HasUsageFault, usage_text}
+use Rattle.command_line.specs.declared.command.Command.{Command}
+use Rattle.command_line.specs.declared.command.Command.TheVariants.{Score}
 use Rattle.cov_host.specs.Outside.{Outside, IsCounted}
 use Rattle.whole_files.specs.Call.{call_name}
 use Rattle.whole_files.specs.Effects.{IsMissing}
@@ -32,19 +34,67 @@ line_of fault.Memory = codes "covered: memory\n"
 abbrev pub NamesFile : ScoreValues → Call → List ℕ → Type 0
 NamesFile score OpenRead file = (file ≡ score.source) ⊎ (file ≡ score.dump)
 NamesFile score Read file = (file ≡ score.source) ⊎ (file ≡ score.dump)
-NamesFile score OpenWrite file = file ≡ score.output
-NamesFile score Write file = file ≡ score.output
-NamesFile score CloseWrite file = file ≡ score.output
+NamesFile score call file = file ≡ score.output
 
--- why the call on the host gave nothing
+-- the call on the file gave nothing: it failed, or the file that was to be read is not there
 abbrev pub IsRefused : Call → List ℕ → Outside → Outside → Type 0
 IsRefused OpenRead file before after = IsCounted before.faults after.faults ⊎ IsMissing file before after
 IsRefused call file before after = IsCounted before.faults after.faults
 
--- the fault stands in a call of the program with these words, between these outsides
+-- the fault stands in the work of this command between two outsides
+abbrev pub StandsIn : ScoreValues → Outside → Outside → Fault → Type 0
+StandsIn score before after (fault.Usage usage) = ⊥
+StandsIn score before after fault.SourceNotYet = Unit {0}
+StandsIn score before after fault.DumpNotYet = Unit {0}
+StandsIn score before after (fault.Files call file) = NamesFile score call file.now × IsRefused call file.now before after
+StandsIn score before after fault.Memory = Unit {0}
+
+-- the file that the command writes
+abbrev pub output_of : Command → List ℕ
+output_of (Score score) = score.output.now
+
+-- the fault stands in the work of this command
+abbrev pub StandsInWork : Command → Outside → Outside → Fault → Type 0
+StandsInWork (Score score) before after fault = StandsIn (score_values score) before after fault
+
+-- the fault stands in a call of the program with these words between two outsides
 abbrev pub Stands : List (List ℕ) → Outside → Outside → Fault → Type 0
 Stands words before after (fault.Usage usage) = HasUsageFault words usage
-Stands words before after fault.SourceNotYet = (score : ScoreValues) × IsScore words score
-Stands words before after fault.DumpNotYet = (score : ScoreValues) × IsScore words score
-Stands words before after (fault.Files call file) = (score : ScoreValues) × IsScore words score × NamesFile score call file.now × IsRefused call file.now before after
-Stands words before after fault.Memory = Unit {0}
+Stands words before after other = (score : ScoreValues) × IsScore words score × StandsIn score before after other
+
+-- the fault comes before the output is opened
+abbrev pub IsEarly : Fault → Type 0
+IsEarly (fault.Files OpenWrite file) = ⊥
+IsEarly (fault.Files Write file) = ⊥
+IsEarly (fault.Files CloseWrite file) = ⊥
+IsEarly fault.Memory = ⊥
+IsEarly other = Unit {0}
+
+-- a file was not read
+abbrev pub IsReadingFault : List ℕ → Outside → Outside → Fault → Type 0
+IsReadingFault name before after (fault.Files OpenWrite file) = ⊥
+IsReadingFault name before after (fault.Files Write file) = ⊥
+IsReadingFault name before after (fault.Files CloseWrite file) = ⊥
+IsReadingFault name before after (fault.Files call file) = (file.now ≡ name) × IsRefused call file.now before after
+IsReadingFault name before after fault.Memory = Unit {0}
+IsReadingFault name before after other = ⊥
+
+-- a file was not written
+abbrev pub IsWritingFault : List ℕ → Outside → Outside → Fault → Type 0
+IsWritingFault name before after (fault.Files OpenRead file) = ⊥
+IsWritingFault name before after (fault.Files Read file) = ⊥
+IsWritingFault name before after (fault.Files call file) = (file.now ≡ name) × IsRefused call file.now before after
+IsWritingFault name before after fault.Memory = Unit {0}
+IsWritingFault name before after other = ⊥
+
+-- the source was not read into a design
+abbrev pub IsSourceFault : Fault → Type 0
+IsSourceFault fault.SourceNotYet = Unit {0}
+IsSourceFault fault.Memory = Unit {0}
+IsSourceFault other = ⊥
+
+-- the dump was not read, or does not fit the design
+abbrev pub IsDumpFault : Fault → Type 0
+IsDumpFault fault.DumpNotYet = Unit {0}
+IsDumpFault fault.Memory = Unit {0}
+IsDumpFault other = ⊥

@@ -1,3 +1,10 @@
+ghost use Rattle.std.specs.Prelude.{◌<◌, ◌^◌, IfErr};
+ghost use Rattle.command_line.specs.CommandWords.{score_values};
+ghost use Rattle.cov_host.specs.Outside.{KeepsFiles, KeepsStreams, Told};
+ghost use Rattle.whole_files.specs.Effects.{CountsUp, OnlyReads};
+ghost use Rattle.covered_cli.specs.Covered.{KeepsOthers};
+ghost use Rattle.covered_cli.specs.Fault.{StandsIn, IsEarly, IsReadingFault, IsWritingFault, IsSourceFault, IsDumpFault};
+
 use crate::fault::Fault;
 use command_line::ScoreWords;
 use cov_host::{Bytes, Host, NoMemory, Text};
@@ -17,37 +24,60 @@ const LONGEST_DUMP: usize = 1_099_511_627_776;
 
 /// Scores a dump and writes the database: source, design, dump, binding, verdicts, database, in this order. The
 /// first refusal ends it.
-pub(crate) fn score<'a, H: Host>(
+pub(crate) fn run_score<'a, H: Host>(
     alloc: Global,
     words: &ScoreWords<'a>,
     host: &mut H,
-) -> Result<(), Fault<'a>> {
-    let source = match read_file(alloc, host, words.source, LONGEST_SOURCE) {
-        Ok(source) => source,
-        Err(fault) => return Err(file_fault(words.source, fault)),
-    };
+) -> Result<(), Fault<'a>>
+    ensures fault { IfErr result (StandsIn (score_values words.now) (H.outside host.old) (H.outside host.new)) }
+    ensures early { IfErr result (λ fault. IsEarly fault → KeepsFiles (H.outside host.old) (H.outside host.new)) }
+    ensures others { Told (KeepsOthers words.now.output.now) (H.outside host.old).files (H.outside host.new).files }
+    ensures streams { KeepsStreams (H.outside host.old) (H.outside host.new) }
+    ensures counts { CountsUp (H.outside host.old) (H.outside host.new) }
+{
+    let source = read(alloc, host, words.source, LONGEST_SOURCE)?;
     let design = design_of(alloc, &source, words.top)?;
-    let dump = match read_file(alloc, host, words.dump, LONGEST_DUMP) {
-        Ok(dump) => dump,
-        Err(fault) => return Err(file_fault(words.dump, fault)),
-    };
-    let dump = dump_of(alloc, &dump)?;
+    let dump = read(alloc, host, words.dump, LONGEST_DUMP)?;
     let text = text_of(alloc, &design, &dump, words)?;
-    match write_file(host, words.output, text.as_slice()) {
-        Ok(()) => Ok(()),
-        Err(fault) => Err(file_fault(words.output, fault)),
+    write(host, words.output, &text)
+}
+
+/// Reads a file whole.
+fn read<'a, H: Host>(
+    alloc: Global,
+    host: &mut H,
+    name: &'a str,
+    most: usize,
+) -> Result<Bytes, Fault<'a>>
+    requires { most < 2 ^ 63 }
+    ensures fault { IfErr result (IsReadingFault name.now (H.outside host.old) (H.outside host.new)) }
+    ensures effects { OnlyReads (H.outside host.old) (H.outside host.new) }
+{
+    match read_file(alloc, host, name, most) {
+        Ok(bytes) => Ok(bytes),
+        Err(FileFault::Refused(call)) => Err(Fault::Files { call, file: name }),
+        Err(FileFault::NoMemory) => Err(Fault::Memory),
     }
 }
 
-fn file_fault<'a>(file: &'a str, fault: FileFault) -> Fault<'a> {
-    match fault {
-        FileFault::Refused(call) => Fault::Files { call, file },
-        FileFault::NoMemory => Fault::Memory,
+/// Writes a file whole.
+fn write<'a, H: Host>(host: &mut H, name: &'a str, text: &Text) -> Result<(), Fault<'a>>
+    ensures fault { IfErr result (IsWritingFault name.now (H.outside host.old) (H.outside host.new)) }
+    ensures others { Told (KeepsOthers name.now) (H.outside host.old).files (H.outside host.new).files }
+    ensures streams { KeepsStreams (H.outside host.old) (H.outside host.new) }
+    ensures counts { CountsUp (H.outside host.old) (H.outside host.new) }
+{
+    match write_file(host, name, text.as_slice()) {
+        Ok(()) => Ok(()),
+        Err(FileFault::Refused(call)) => Err(Fault::Files { call, file: name }),
+        Err(FileFault::NoMemory) => Err(Fault::Memory),
     }
 }
 
 /// The design that the source stands for.
-fn design_of<'a>(alloc: Global, source: &Bytes, top: &str) -> Result<Design, Fault<'a>> {
+fn design_of<'a>(alloc: Global, source: &Bytes, top: &str) -> Result<Design, Fault<'a>>
+    ensures { IfErr result IsSourceFault }
+{
     match read_source(alloc, source.as_slice(), top) {
         Ok(Some(design)) => Ok(design),
         Ok(None) => Err(Fault::SourceNotYet),
@@ -55,23 +85,17 @@ fn design_of<'a>(alloc: Global, source: &Bytes, top: &str) -> Result<Design, Fau
     }
 }
 
-/// The dump that the bytes stand for.
-fn dump_of<'a>(alloc: Global, bytes: &Bytes) -> Result<Dump, Fault<'a>> {
-    match whole(alloc, bytes.as_slice()) {
-        Ok(dump) => Ok(dump),
-        Err(DumpFault::NotYet) => Err(Fault::DumpNotYet),
-        Err(DumpFault::NoMemory) => Err(Fault::Memory),
-    }
-}
-
-/// The text of the database.
+/// The text of the database of a design under the dump of these bytes.
 fn text_of<'a>(
     alloc: Global,
     design: &Design,
-    dump: &Dump,
+    bytes: &Bytes,
     words: &ScoreWords<'a>,
-) -> Result<Text, Fault<'a>> {
-    let db = match score_inputs(alloc, design, words.source, dump, words.instance) {
+) -> Result<Text, Fault<'a>>
+    ensures { IfErr result IsDumpFault }
+{
+    let dump = dump_of(alloc, bytes)?;
+    let db = match score_inputs(alloc, design, words.source, &dump, words.instance) {
         Ok(Some(db)) => db,
         Ok(None) => return Err(Fault::DumpNotYet),
         Err(NoMemory) => return Err(Fault::Memory),
@@ -79,5 +103,16 @@ fn text_of<'a>(
     match write_db(alloc, &db) {
         Ok(text) => Ok(text),
         Err(NoMemory) => Err(Fault::Memory),
+    }
+}
+
+/// The dump that the bytes stand for.
+fn dump_of<'a>(alloc: Global, bytes: &Bytes) -> Result<Dump, Fault<'a>>
+    ensures { IfErr result IsDumpFault }
+{
+    match whole(alloc, bytes.as_slice()) {
+        Ok(dump) => Ok(dump),
+        Err(DumpFault::NotYet) => Err(Fault::DumpNotYet),
+        Err(DumpFault::NoMemory) => Err(Fault::Memory),
     }
 }
