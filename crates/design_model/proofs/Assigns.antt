@@ -35,7 +35,7 @@ mutual
       ⊎_elim (λ e. or_right (mentions c.thing t) _ (read_mentions d i c e)) (λ e. or_left (mentions c.thing t) _ (read_mentions d t c (and_parts (may_read d t c) _ e).0)) (or_cases (may_read d i c) _ r)
   read_mentions d (part h t i j) c r = or_left (mentions c.thing t) _ (read_mentions d t c (and_parts (may_read d t c) _ r).0)
   read_mentions d (slide h t b w up) c r =
-      ⊎_elim (λ e. or_right (mentions c.thing t) _ (or_left (mentions c.thing b) _ (read_mentions d b c e))) (λ e. or_left (mentions c.thing t) _ (read_mentions d t c e)) (or_cases (may_read d b c) _ r)
+      ⊎_elim (λ e. or_right (mentions c.thing t) _ (or_left (mentions c.thing b) _ (read_mentions d b c e))) (λ e. or_left (mentions c.thing t) _ (read_mentions d t c (and_parts (may_read d t c) _ e).0)) (or_cases (may_read d b c) _ r)
   read_mentions d (unary h op t) c r = read_mentions d t c r
   read_mentions d (binary h op t y) c r =
       ⊎_elim (λ e. or_left (mentions c.thing t) _ (read_mentions d t c e)) (λ e. or_right (mentions c.thing t) _ (read_mentions d y c e)) (or_cases (may_read d t c) _ r)

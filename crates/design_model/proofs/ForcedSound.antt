@@ -13,7 +13,7 @@ use Rattle.design_model.specs.Clear.{IsForcedBy, IsWrittenValue, at_first, by_cl
 use Rattle.design_model.specs.Lawful.{IsLawfulDesign}
 use Rattle.design_model.specs.Laws.{ClearLaw, ForcedLaw}
 use Rattle.design_model.proofs.MadeSound.{clear_is_sound, made_sound}
-use Rattle.design_model.proofs.Sound.{as_told, cells_eq, net_sound, no_window, step_or, window_shown, written_sound}
+use Rattle.design_model.proofs.Sound.{as_told, back, cells_eq, net_sound, no_window, step_or, window_shown, written_sound}
 use Rattle.design_model.proofs.StepLaws.{StepLaws}
 use Rattle.design_model.proofs.Times.{StepTo}
 

@@ -5,6 +5,7 @@ use Rattle.std.specs.List.{list_all}
 use Rattle.std.specs.List.{range_with_len}
 use Rattle.event_machine.specs.Cell.{Cell, Values, WritesCell, join, put_all}
 use Rattle.event_machine.specs.Machine.{IsCombinational, IsWakeCell, output}
+use Rattle.event_machine.specs.Event.{writes}
 use Rattle.event_machine.specs.Habit.{Habit}
 use Rattle.event_machine.specs.Laws.{ComputedLaw, EdgeLaw, EvaluatesSettled, IdleLaw, IsIdle, NetLaw, NoWakeLaw, WriteLaw}
 use Rattle.four_state.specs.Arithmetic.{whole}

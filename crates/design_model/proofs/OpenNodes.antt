@@ -8,11 +8,12 @@ use Rattle.four_state.specs.declared.bit.Bit.{Bit}
 use Rattle.design_model.specs.Tree.{Stmt, Target, Targets, Term, Terms, a_target, a_term, all_of, binary, bit, bits_of, choice, concat, no_targets, no_terms, number, part, repeat, several, sign, signal, slide, unary, word, word_of}
 use Rattle.design_model.specs.Design.{Design, In, Thing, a_signal}
 use Rattle.design_model.specs.Value.{head, word_named}
+use Rattle.design_model.specs.Mentions.{all_index_terms, all_subterms, index_terms, subterms}
 use Rattle.design_model.specs.Execution.{Execution, NodeCase, Visit, at_node, cases, execution, execution_start, index_visits, indexes_visits, is_inner, node_visits, reads, visits_of, visits_of_all, word_read, words_written}
 use Rattle.design_model.specs.Paths.{Action, Path, PathStep, assigns, compares, reaches, selects, tests}
 use Rattle.design_model.specs.Reads.{Agrees, Known}
 use Rattle.design_model.specs.Points.{logic_point}
-use Rattle.design_model.specs.Open.{AreAsked, Asked, IsNode, IsSurelyOpen, action_terms, all_index_terms, all_subterms, asks, index_terms, subterms}
+use Rattle.design_model.specs.Open.{AreAsked, Asked, IsNode, IsSurelyOpen, action_terms, asks}
 use Rattle.design_model.proofs.Along.{AllActions, assign_visits, do_deed, do_path}
 use Rattle.design_model.proofs.NodeCases.{AskedHold, case_holds}
 use Rattle.design_model.proofs.OpenPath.{IsOfBody, IsUnchanged, fixed_value, open_path, seen_stays, the_path, unchanged_after}

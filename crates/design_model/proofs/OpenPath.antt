@@ -12,9 +12,10 @@ use Rattle.design_model.specs.Value.{head, value}
 use Rattle.design_model.specs.Assignment.{target_width}
 use Rattle.design_model.specs.Mentions.{any_set, any_set_in, any_set_of, body_blocks, may_write, mentions, target_names}
 use Rattle.design_model.specs.Execution.{Execution, Visit, assignment_writes, at_line, at_node, execution, execution_start, reads, writes_word}
+use Rattle.design_model.specs.Numbered.{LineWord}
 use Rattle.design_model.specs.Paths.{Action, Path, PathStep, assigns, compares, paths, reaches, selects, tests}
 use Rattle.design_model.specs.Reads.{Agrees, Known}
-use Rattle.design_model.specs.Points.{LineWord, line_point}
+use Rattle.design_model.specs.Points.{line_point}
 use Rattle.design_model.specs.Open.{FollowsAll, FollowsFixed, IsFixed, IsOpenPath, IsSurelyOpen, is_true, outer}
 use Rattle.design_model.proofs.Agree.{AllOuter, value_same}
 use Rattle.design_model.proofs.Along.{AllActions, Along, Decides, DeedDecides, DeedHas, assign_visits, do_deed, do_path, execute_along}

@@ -13,9 +13,11 @@ use Rattle.event_machine.specs.Habit.{Habit}
 use Rattle.event_machine.specs.Step.{IsStep, evaluations, outputs}
 use Rattle.event_machine.specs.Told.{IsAsTold, IsToldCell}
 use Rattle.event_machine.specs.Laws.{EdgeLaw, EvaluatesOnce, NetLaw, NoWakeLaw, WriteLaw}
+use Rattle.four_state.specs.Vector.{same_bits}
 use Rattle.four_state.specs.declared.bit.Bit.{Bit}
 use Rattle.design_model.specs.Tree.{Process, assign, clocked, comb}
 use Rattle.design_model.specs.Design.{Design, IsAssign, IsClocked, IsThing, Thing, a_signal, a_word, body, body_at, cell, is_assign, memory_at, no_process, owner, process_at, signal_at, signal_bits, thing_bits}
+use Rattle.design_model.specs.Value.{value}
 use Rattle.design_model.specs.Mentions.{body_assigns, may_write}
 use Rattle.design_model.specs.Execution.{execution}
 use Rattle.design_model.specs.Paths.{step}

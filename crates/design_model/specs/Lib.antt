@@ -4,6 +4,7 @@ pub mod Value
 pub mod Assignment
 pub mod Mentions
 pub mod Execution
+pub mod Numbered
 pub mod Paths
 pub mod Reads
 pub mod Machine

@@ -8,10 +8,10 @@ use Rattle.four_state.specs.Vector.{truth}
 use Rattle.four_state.specs.declared.bit.Bit.{Bit}
 use Rattle.four_state.specs.declared.truth.Truth.{Truth}
 use Rattle.four_state.specs.declared.truth.Truth.TheVariants.{False, True}
-use Rattle.design_model.specs.Tree.{Head, Stmt, Target, Targets, Term, Terms, a_target, a_term, all_of, binary, bit, bits_of, choice, concat, no_targets, no_terms, number, part, repeat, several, sign, signal, slide, unary, word, word_of}
+use Rattle.design_model.specs.Tree.{Head, Stmt, Target, Targets, Term, a_target, all_of, binary, bits_of, no_targets, several, word, word_of}
 use Rattle.design_model.specs.Design.{Design, In, IsClocked, Thing, a_word, body_at, owner, process_at, signal_at}
 use Rattle.design_model.specs.Value.{head, value, word_named}
-use Rattle.design_model.specs.Mentions.{body_assigns, body_blocks, mentions}
+use Rattle.design_model.specs.Mentions.{body_assigns, body_blocks, index_terms, mentions, subterms}
 use Rattle.design_model.specs.Execution.{BothFalse, BothTrue, FalseTrue, LeftFalse, LeftTrue, NodeCase, RightFalse, RightTrue, TrueFalse, ValueFalse, ValueTrue, Visit, at_line, at_node, node_cases, reads, visits_of, writes_word}
 use Rattle.design_model.specs.Paths.{Action, Path, PathStep, assigns, compares, paths, reaches, selects, tests}
 use Rattle.design_model.specs.Reads.{Agrees, AllInside, Known, VisitsFrom}
@@ -55,38 +55,7 @@ pub record IsOpenPath (d : Design) (K : Known) (b : Stmt) (path : Path) : Type 0
   pub is_path : In path (paths [] b)
   pub follows : FollowsAll d K b path
 
--- a term and all terms in it
-abbrev mutual
-  pub subterms : Term → List Term
-  subterms (number h n) = number h n ∷ []
-  subterms (signal h s) = signal h s ∷ []
-  subterms (word h m i) = word h m i ∷ subterms i
-  subterms (bit h t i) = bit h t i ∷ subterms t ++ subterms i
-  subterms (part h t i j) = part h t i j ∷ subterms t ++ subterms i ++ subterms j
-  subterms (slide h t b w up) = slide h t b w up ∷ subterms t ++ subterms b ++ subterms w
-  subterms (unary h op t) = unary h op t ∷ subterms t
-  subterms (binary h op t u) = binary h op t u ∷ subterms t ++ subterms u
-  subterms (choice h c t u) = choice h c t u ∷ subterms c ++ subterms t ++ subterms u
-  subterms (concat h ts) = concat h ts ∷ all_subterms ts
-  subterms (repeat h n ts) = repeat h n ts ∷ subterms n ++ all_subterms ts
-  subterms (sign h s t) = sign h s t ∷ subterms t
-
-  pub all_subterms : Terms → List Term
-  all_subterms no_terms = []
-  all_subterms (a_term t ts) = subterms t ++ all_subterms ts
-
-abbrev mutual
-  pub index_terms : Target → List Term
-  index_terms (all_of s) = []
-  index_terms (bits_of s low w) = subterms low
-  index_terms (word_of m i) = subterms i
-  index_terms (several ts) = all_index_terms ts
-
-  pub all_index_terms : Targets → List Term
-  all_index_terms no_targets = []
-  all_index_terms (a_target t ts) = index_terms t ++ all_index_terms ts
-
--- the terms that a deed evaluates
+-- the terms that an action evaluates
 abbrev pub action_terms : Action → List Term
 action_terms (reaches n) = []
 action_terms (tests t taken) = subterms t

@@ -5,10 +5,11 @@ use Rattle.event_machine.specs.State.{State}
 use Rattle.event_machine.specs.Event.{end_state}
 use Rattle.event_machine.specs.Habit.{Habit}
 use Rattle.event_machine.specs.Step.{evaluations}
-use Rattle.event_machine.specs.Run.{IsRun as IsRunFrom, Timed, state_at, step_start}
 use Rattle.four_state.specs.declared.bit.Bit.{Bit}
 use Rattle.design_model.specs.Design.{Design}
+use Rattle.design_model.specs.Paths.{step}
 use Rattle.design_model.specs.Machine.{machine}
+use Rattle.event_machine.specs.Run.{IsRun as IsRunFrom, Timed, state_at, step_start}
 
 pub record Run : Type 0 where
   pub begins : ℕ

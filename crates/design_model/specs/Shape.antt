@@ -1,5 +1,5 @@
 -- The width and sign of each term, by its context (IEEE 1364-2001, 4.4 and 4.5).
-use Rattle.std.specs.Prelude.{◌+◌, ◌*◌, ◌==◌, ◌&&◌, if◌then◌else◌, ℕ, Bool, true, false, not, length, max, nat_lt}
+use Rattle.std.specs.Prelude.{◌+◌, ◌*◌, ◌==◌, ◌&&◌, if◌then◌else◌, ℕ, Bool, true, false, not, length, max, nat_le, nat_lt}
 use Rattle.four_state.specs.Arithmetic.{natural}
 use Rattle.four_state.specs.declared.operator.Binary.{Binary}
 use Rattle.four_state.specs.declared.operator.Binary.TheVariants.{Add, ArithmeticShiftLeft, ArithmeticShiftRight, BitwiseAnd, BitwiseNxor, BitwiseOr, BitwiseXnor, BitwiseXor, Divide, Modulus, Multiply, ShiftLeft, ShiftRight, Subtract}
@@ -11,6 +11,7 @@ use Rattle.design_model.specs.Value.{part_width, value}
 use Rattle.design_model.specs.Assignment.{target_width}
 use Rattle.design_model.specs.Mentions.{blank, is_constant}
 
+-- whether two flags are equal
 abbrev pub same_bool : Bool → Bool → Bool
 same_bool true b = b
 same_bool false b = not b
@@ -35,6 +36,7 @@ is_wide_binary BitwiseNxor = true
 is_wide_binary BitwiseOr = true
 is_wide_binary _ = false
 
+-- the operator shifts
 abbrev pub is_shift : Binary → Bool
 is_shift ShiftLeft = true
 is_shift ShiftRight = true
@@ -42,6 +44,7 @@ is_shift ArithmeticShiftLeft = true
 is_shift ArithmeticShiftRight = true
 is_shift _ = false
 
+-- the operator takes truths
 abbrev pub is_logic : Binary → Bool
 is_logic Binary.LogicalAnd = true
 is_logic Binary.LogicalOr = true
@@ -78,8 +81,9 @@ own_sign d (choice h c t u) = own_sign d t && own_sign d u
 own_sign d (sign h s t) = s
 own_sign d _ = false
 
+-- a width from 1 to 128, and a sign
 abbrev pub has_shape : ℕ → Bool → Head → Bool
-has_shape w s h = (h.width == w) && same_bool h.signed s
+has_shape w s h = (h.width == w) && (same_bool h.signed s && (nat_le 1 w && nat_le w 128))
 
 -- the term has the width and sign that this context gives to it and to the terms in it, and its numbers name things of the design
 abbrev mutual
@@ -109,7 +113,7 @@ is_alone d t = is_shaped d (own_width d t) (own_sign d t) t
 abbrev mutual
   pub is_target : Design → Target → Bool
   is_target d (all_of s) = nat_lt s (length d.signals)
-  is_target d (bits_of s low w) = nat_lt s (length d.signals) && is_alone d low
+  is_target d (bits_of s low w) = nat_lt s (length d.signals) && is_alone d low && nat_le 1 w
   is_target d (word_of m i) = is_memory d m && is_alone d i
   is_target d (several ts) = are_targets d ts
 

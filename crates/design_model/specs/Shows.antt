@@ -1,6 +1,6 @@
 -- What a dump says of a design, which runs show it, and its window (IEEE 1364-2001, clause 18).
 use Rattle.std.specs.Prelude.{◌≡◌, ◌<◌, ◌≤◌, ◌∷◌, ℕ, suc, Bool, true, List, [], length, ⊤}
-use Rattle.event_machine.specs.Cell.{Cell, Values}
+use Rattle.event_machine.specs.Cell.{Cell, Values, times}
 use Rattle.four_state.specs.declared.bit.Bit.{Bit}
 use Rattle.design_model.specs.Design.{Design, In, signal_bits}
 use Rattle.design_model.specs.Machine.{machine}
