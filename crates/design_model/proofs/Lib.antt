@@ -25,3 +25,4 @@ pub mod OpenPath
 pub mod OpenNodes
 pub mod OpenWords
 pub mod Reached
+pub mod MemoryPath
