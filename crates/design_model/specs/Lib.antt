@@ -21,3 +21,8 @@ pub mod Shape
 pub mod Lawful
 pub mod Laws
 pub mod View
+pub mod ExampleParts
+pub mod FlipFlop
+pub mod Gate
+pub mod Pipe
+pub mod Ram

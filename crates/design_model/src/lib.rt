@@ -9,10 +9,12 @@ ghost use Rattle.design_model.specs.Lawful.{IsLawfulDesign};
 ghost use Rattle.design_model.specs.Laws.{ClearLaw, ForcedLaw, ReachedLaw};
 
 mod design;
+mod examples;
 mod point;
 mod tree;
 
 pub use design::{Alias, Constant, Design, Instance, Memory, Signal};
+pub use examples::{memory_word, moving_input, steady_register, undumped_net, undumped_register};
 pub use point::{LineWord, NodeCase, Point};
 pub use tree::{CaseArm, Form, Process, Stmt, StmtForm, Target, Term};
 
