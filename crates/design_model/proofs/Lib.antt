@@ -25,6 +25,7 @@ pub mod OpenPath
 pub mod OpenNodes
 pub mod OpenWords
 pub mod Reached
+pub mod Rounds
 pub mod MemoryPath
 pub mod FlipFlopRun
 pub mod FlipFlopDoubt
