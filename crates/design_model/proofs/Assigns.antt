@@ -4,7 +4,7 @@ use Rattle.std.proofs.lemmas.Bool.{and_from, and_parts, or_cases, or_left, or_ri
 use Rattle.std.specs.Prelude.{nat_lt, max}
 use Rattle.std.proofs.lemmas.List.{length-replicate}
 use Rattle.event_machine.specs.Cell.{Cell, Values, WritesCell}
-use Rattle.event_machine.specs.Machine.{IsCombinational, IsLawful, wakes}
+use Rattle.event_machine.specs.Machine.{IsCombinational, IsLawful}
 use Rattle.four_state.specs.Parts.{index}
 use Rattle.four_state.specs.Vector.{extend, fill}
 use Rattle.four_state.specs.declared.bit.Bit.{Bit}

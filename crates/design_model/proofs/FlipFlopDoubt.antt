@@ -1,17 +1,16 @@
 -- At 5 the block of `ff` is clean. With a at 1 nothing is early and its lines are reached; with a falling at 5 it is in doubt for line 2.
-use Rattle.std.proofs.Common.{◌≡◌, ◌≢◌, ◌⊎◌, refl, sym, ap, subst, ◌∙◌, ℕ, zero, suc, ◌<◌, ◌==◌, true, false, [], ◌∷◌, inl, inr, ⊎_elim, arith, suc-ne-zero, lit<, lit≤, if◌then◌else◌}
+use Rattle.std.proofs.Common.{◌≡◌, ◌≢◌, ◌⊎◌, refl, sym, ap, subst, ◌∙◌, ℕ, zero, suc, ◌<◌, ◌==◌, true, false, [], ◌∷◌, inl, inr, ⊎_elim, arith, suc-ne-zero, lit<, lit≤}
 use Rattle.event_machine.specs.Machine.{Edge as MachineEdge}
 use Rattle.std.specs.Prelude.{nat_le, nat_lt}
 use Rattle.std.proofs.lemmas.Bool.{and_parts, or_cases, eqb-true, ltb-true, leb-true, false≢true, both_ways}
 use Rattle.std.specs.Prelude.{slice_index_or}
 use Rattle.event_machine.specs.Cell.{Cell}
-use Rattle.event_machine.specs.Machine.{Negedge, Posedge, wakes}
+use Rattle.event_machine.specs.Machine.{Negedge, Posedge}
 use Rattle.event_machine.specs.Habit.{Free, Habit, Late, is_free_input}
 use Rattle.event_machine.specs.MayMove.{MayMove}
 use Rattle.event_machine.specs.Early.{IsEarly}
 use Rattle.four_state.specs.declared.bit.Bit.{Bit}
 use Rattle.four_state.specs.declared.bit.Bit.TheVariants.{One, X, Zero}
-use Rattle.design_model.specs.Tree.{clocked}
 use Rattle.design_model.specs.Design.{Thing, a_signal, a_word, body_at, cell, is_memory, thing_bits}
 use Rattle.design_model.specs.Execution.{at_line}
 use Rattle.design_model.specs.Reads.{Agrees, HasValue, VisitsFrom}
@@ -20,7 +19,7 @@ use Rattle.design_model.specs.Shows.{BoundDump}
 use Rattle.design_model.specs.MayMove.{IsCleanAt, told_at}
 use Rattle.design_model.specs.Early.{IsEarlyAt}
 use Rattle.design_model.specs.Clear.{EntryFrom, clear_before, of_dump}
-use Rattle.design_model.specs.Open.{IsOpen, IsReached, OnEntry}
+use Rattle.design_model.specs.Open.{IsOpen, IsReached, KnownOnEntry}
 use Rattle.design_model.specs.Doubt.{IsInDoubt, early, of_block}
 use Rattle.design_model.specs.FlipFlop.{falling_dump, flip_flop, flip_flop_dump, flip_flop_values, line_two, steady_dump}
 use Rattle.design_model.proofs.Bound.{clear-thing, clear_bound}
@@ -118,7 +117,7 @@ word_signal : (m i s : ℕ) → a_word m i ≡ a_signal s → ⊥
 word_signal m i s e = subst IsWord e tt
 
 -- on entry clk is new, and a and q are as they were
-pub agrees : (h : Habit) (a : Bit) → Agrees flip_flop (OnEntry flip_flop h (flip_flop_dump a) 5 0) (flip_flop_values One One X)
+pub agrees : (h : Habit) (a : Bit) → Agrees flip_flop (KnownOnEntry flip_flop h (flip_flop_dump a) 5 0) (flip_flop_values One One X)
 agrees h a (a_signal zero) bits k = go (k.2)
   where
     go : EntryFrom flip_flop h (flip_flop_dump a) 5 (clear_before flip_flop h (flip_flop_dump a) 5) 0 k.0 (a_signal 0) bits → One ∷ [] ≡ bits
@@ -147,17 +146,17 @@ agrees h a (a_word m i) bits k = go (k.2)
 
 -- where a is not early the block knows it on entry, and so visits line 2
 module _ (h : Habit) (a : Bit) (not_early : (x : ℕ) → IsEarlyAt flip_flop h (flip_flop_dump a) 5 0 (cell 0 0) x → ⊥) where
-  has_a : HasValue (OnEntry flip_flop h (flip_flop_dump a) 5 0) (a_signal 1)
+  has_a : HasValue (KnownOnEntry flip_flop h (flip_flop_dump a) 5 0) (a_signal 1)
   has_a = (One ∷ [], (cell 0 0, is_clean a, inr (λ e. suc-ne-zero 0 (ap owner_of e), not_early 1, (1, of_dump 1 (One ∷ []) (lit≤ tt, lit< tt) refl (lit< tt) refl))))
 
-  pub visits_two : VisitsFrom flip_flop (OnEntry flip_flop h (flip_flop_dump a) 5 0) (body_at flip_flop 0) (at_line 2)
+  pub visits_two : VisitsFrom flip_flop (KnownOnEntry flip_flop h (flip_flop_dump a) 5 0) (body_at flip_flop 0) (at_line 2)
   visits_two = (flip_flop_values One One X, agrees h a, inr (tt, inr (has_a, inr (tt, inl refl))))
 
   pub reached_two : IsReached flip_flop h (flip_flop_dump a) 5 0 line_two
   reached_two = ((lit< tt, lit< tt), refl, inl (cell 0 0, is_clean a, inl (at_line 2, refl, visits_two)))
 
 -- the entry values with a falling: a is not among them
-agrees_2 : (b : Bit) → Agrees flip_flop (OnEntry flip_flop Free falling_dump 5 0) (flip_flop_values One b X)
+agrees_2 : (b : Bit) → Agrees flip_flop (KnownOnEntry flip_flop Free falling_dump 5 0) (flip_flop_values One b X)
 agrees_2 b (a_signal zero) bits k = go (k.2)
   where
     go : EntryFrom flip_flop Free falling_dump 5 (clear_before flip_flop Free falling_dump 5) 0 k.0 (a_signal 0) bits → One ∷ [] ≡ bits
@@ -185,14 +184,14 @@ agrees_2 b (a_word m i) bits k = go (k.2)
     go (inr old) = absurd (no_memory_here m (clear-thing flip_flop Free falling_dump 4 (a_word m i) bits old.2).0)
 
 -- a is not known on entry
-not_known : HasValue (OnEntry flip_flop Free falling_dump 5 0) (a_signal 1) → ⊥
+not_known : HasValue (KnownOnEntry flip_flop Free falling_dump 5 0) (a_signal 1) → ⊥
 not_known k = zero_one (sym (agrees_2 Zero (a_signal 1) k.0 k.1) ∙ refl) (agrees_2 One (a_signal 1) k.0 k.1)
   where
     zero_one : k.0 ≡ Zero ∷ [] → One ∷ [] ≡ k.0 → ⊥
     zero_one e f = One≢Zero (ap (λ y. slice_index_or y 0 X) (f ∙ e))
 
 -- the test is not fixed, so line 2 is open
-pub open_2 : IsOpen flip_flop (OnEntry flip_flop Free falling_dump 5 0) (body_at flip_flop 0) line_two
+pub open_2 : IsOpen flip_flop (KnownOnEntry flip_flop Free falling_dump 5 0) (body_at flip_flop 0) line_two
 open_2 = (_, record { is_path = inl refl; follows = (tt, ((λ fixed. absurd (not_known (fixed.told (flip_flop_values One Zero X) (agrees_2 Zero)).0)), (tt, (tt, tt)))) }, (_, (_, inr (inr (inl refl)), refl, refl)))
 
 -- a is in doubt for line 2 at 5

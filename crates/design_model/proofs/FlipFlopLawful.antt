@@ -15,14 +15,12 @@ use Rattle.design_model.specs.Run.{IsRun, Run}
 use Rattle.design_model.specs.Shows.{IsDumpOf, Shows}
 use Rattle.design_model.specs.Points.{IsHit}
 use Rattle.design_model.specs.Early.{IsEarlyAt}
-use Rattle.design_model.specs.Doubt.{early}
 use Rattle.design_model.specs.Shape.{is_body}
 use Rattle.design_model.specs.Lawful.{IsLawfulDesign, target_once, wakes_of}
 use Rattle.design_model.specs.FlipFlop.{flip_flop, flip_flop_dump, flip_flop_values, line_two}
 use Rattle.design_model.proofs.Assigns.{machine_lawful}
 use Rattle.design_model.proofs.FlipFlopDoubt.{input_bound, reached_two}
 use Rattle.design_model.proofs.FlipFlopRun.{is_run, shows}
-use Rattle.design_model.proofs.Lawful.{one_writer}
 use Rattle.design_model.proofs.Reached.{reached_law}
 use Rattle.design_model.proofs.StepLaws.{step_laws}
 
@@ -66,8 +64,8 @@ nodes_once (suc p) q x y none b = absurd none
 other_name : (n : ℕ) {x y : Named} → y ≡ x → slice_index_or y.1 0 0 ≡ n → (slice_index_or x.1 0 0 ≡ n → ⊥) → ⊥
 other_name n e is differ = differ (sym (ap (λ z. slice_index_or z.1 0 0) e) ∙ is)
 
-pub ff_lawful : IsLawfulDesign flip_flop
-ff_lawful =
+pub flip_flop_lawful : IsLawfulDesign flip_flop
+flip_flop_lawful =
     record {
       signals = refl;
       memories = refl;
@@ -149,8 +147,8 @@ late a t from none = ⊎_elim (λ is. absurd (none (inr (inr (inl (omega (arith,
     least : (t : ℕ) → 9 ≤ t → (t ≡ 9) ⊎ (10 ≤ t)
     least t h = ⊎_elim (λ u. inl (omega (arith, u, h))) (λ o. inr o) (cases_lt t 10)
 
-pub ff_dump : (a : Bit) → IsDumpOf flip_flop (flip_flop_dump a)
-ff_dump a = record { rising = (lit< tt, (lit< tt, tt)); signals = λ s b. ltb-true s 3 b; inputs = λ c i. input_bound c.thing c.place i; stays = stays }
+pub flip_flop_fits : (a : Bit) → IsDumpOf flip_flop (flip_flop_dump a)
+flip_flop_fits a = record { rising = (lit< tt, (lit< tt, tt)); signals = λ s b. ltb-true s 3 b; inputs = λ c i. input_bound c.thing c.place i; stays = stays }
   where
     stays : (t : ℕ) → (In (suc t) (flip_flop_dump a).times → ⊥) → (flip_flop_dump a).values (suc t) ≡ (flip_flop_dump a).values t
     stays t none = ⊎_elim (λ early. early_same a t early) (λ later. ⊎_elim (λ five. mid a t later five none) (λ ten. late a t ten none) (cases_lt t 9)) (cases_lt t 4)
@@ -158,4 +156,4 @@ ff_dump a = record { rising = (lit< tt, (lit< tt, tt)); signals = λ s b. ltb-tr
 -- where a is not early line 2 is hit in every run that shows the dump
 pub line_two_hit : (h : Habit) (a : Bit) → ((x : ℕ) → IsEarlyAt flip_flop h (flip_flop_dump a) 5 0 (cell 0 0) x → ⊥) → (r : Run) → IsRun flip_flop h r → Shows flip_flop (flip_flop_dump a) r → IsHit flip_flop (flip_flop_dump a) r line_two
 line_two_hit h a not_early r is_run shows =
-    reached_law flip_flop h ff_lawful (step_laws (machine flip_flop) (machine_lawful flip_flop ff_lawful) h) (flip_flop_dump a) r (ff_dump a) is_run shows 5 0 line_two (reached_two h a not_early)
+    reached_law flip_flop h flip_flop_lawful (step_laws (machine flip_flop) (machine_lawful flip_flop flip_flop_lawful) h) (flip_flop_dump a) r (flip_flop_fits a) is_run shows 5 0 line_two (reached_two h a not_early)

@@ -1,8 +1,8 @@
 -- A flip flop with a test: clk is signal 0, a is 1, q is 2; its one process is
 --   always @(posedge clk) if (a) q <= 1; else q <= 0;
-use Rattle.std.proofs.Common.{◌≡◌, ◌≢◌, ◌⊎◌, refl, sym, subst, ℕ, zero, suc, ◌<◌, ◌≤◌, ◌&&◌, ◌||◌, not, ◌==◌, true, false, Bool, List, [], ◌∷◌, Some, None, inl, inr, arith, lit<, if◌then◌else◌}
-use Rattle.event_machine.proofs.Habits.{free_habit_law} -- #keep
-use Rattle.std.specs.Prelude.{nat_le, nat_lt}
+use Rattle.std.proofs.Common.{◌≡◌, ◌≢◌, ◌⊎◌, refl, sym, subst, ℕ, zero, suc, ◌<◌, ◌≤◌, ◌&&◌, ◌||◌, not, ◌==◌, true, false, Bool, List, [], ◌∷◌, inl, inr, arith, lit<, if◌then◌else◌}
+use Rattle.event_machine.proofs.Habits.{free_habit_law}  -- #keep
+use Rattle.std.specs.Prelude.{nat_le}
 use Rattle.std.proofs.lemmas.Bool.{false≢true, lt-leb, le-leb, cases_lt}
 use Rattle.event_machine.specs.Cell.{put}
 use Rattle.event_machine.specs.Machine.{is_sensitive}
@@ -12,15 +12,12 @@ use Rattle.event_machine.specs.Step.{IsStep}
 use Rattle.event_machine.specs.Run.{step_start}
 use Rattle.four_state.specs.declared.bit.Bit.{Bit}
 use Rattle.four_state.specs.declared.bit.Bit.TheVariants.{One, X, Zero}
-use Rattle.design_model.specs.Design.{a_signal, body_at, cell, is_assign, signal_bits}
-use Rattle.design_model.specs.Value.{value}
+use Rattle.design_model.specs.Design.{a_signal, body_at, cell, signal_bits}
 use Rattle.design_model.specs.Execution.{ValueFalse, ValueTrue, at_line, at_node, execution, reads}
-use Rattle.design_model.specs.Paths.{step}
 use Rattle.design_model.specs.Machine.{machine}
 use Rattle.design_model.specs.Run.{IsRun, settled}
 use Rattle.design_model.specs.Shows.{IsShown, Shows}
 use Rattle.design_model.specs.Points.{IsHit}
-use Rattle.design_model.specs.Clear.{unmoved}
 use Rattle.design_model.specs.FlipFlop.{flip_flop, flip_flop_values, line_two, steady_dump, steady_events, steady_run, steady_start}
 
 -- with a at 1 the first branch is taken

@@ -1,7 +1,6 @@
 -- The clear law and the forced law, from the laws of the machine.
 use Rattle.std.proofs.Common.{◌≡◌, ◌⊎◌, inl, inr, ℕ, zero, suc, ◌-◌, true, List, [], append-nil, sym, ap, subst, ◌∙◌, arith}
 use Rattle.event_machine.specs.Cell.{Cell}
-use Rattle.event_machine.specs.Event.{first}
 use Rattle.event_machine.specs.Habit.{Habit}
 use Rattle.four_state.specs.declared.bit.Bit.{Bit}
 use Rattle.design_model.specs.Design.{Design, a_signal, signal_bits}
@@ -13,7 +12,7 @@ use Rattle.design_model.specs.Clear.{IsForcedBy, IsWrittenValue, at_first, by_cl
 use Rattle.design_model.specs.Lawful.{IsLawfulDesign}
 use Rattle.design_model.specs.Laws.{ClearLaw, ForcedLaw}
 use Rattle.design_model.proofs.MadeSound.{clear_is_sound, made_sound}
-use Rattle.design_model.proofs.Sound.{as_told, back, cells_eq, net_sound, no_window, step_or, window_shown, written_sound}
+use Rattle.design_model.proofs.Sound.{as_told, cells_eq, net_sound, no_window, step_or, window_shown, written_sound}
 use Rattle.design_model.proofs.StepLaws.{StepLaws}
 use Rattle.design_model.proofs.Times.{StepTo}
 

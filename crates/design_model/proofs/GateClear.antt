@@ -12,8 +12,8 @@ use Rattle.design_model.specs.Execution.{BothTrue, at_node, execution}
 use Rattle.design_model.specs.Reads.{Agrees, AllInside, HasValue, IsTold, Known, nothing_known}
 use Rattle.design_model.specs.Shows.{IsShown}
 use Rattle.design_model.specs.Points.{logic_point}
-use Rattle.design_model.specs.Clear.{IsClearBy, IsClockedTarget, IsCombValue, IsNetValue, at_first, bits_after, clear, clear_from, clear_in, driven_writes, drives, is_driven, of_assigns, of_clean, of_comb, of_dump, of_unwoken}
-use Rattle.design_model.specs.Open.{AtEnd, IsReached}
+use Rattle.design_model.specs.Clear.{IsClearBy, IsClockedTarget, IsCombValue, IsNetValue, bits_after, clear, clear_from, clear_in, driven_writes, drives, is_driven, of_assigns, of_clean, of_comb, of_dump, of_unwoken}
+use Rattle.design_model.specs.Open.{KnownAtEnd, IsReached}
 use Rattle.design_model.specs.Lawful.{is_signal}
 use Rattle.design_model.specs.ExampleParts.{at}
 use Rattle.design_model.specs.Gate.{IsGateExample, gate, gate_dump, gate_values}
@@ -97,14 +97,14 @@ module _ (t : ℕ) (start : Known) (shown : IsShown gate_dump t) (a : Bit) (now 
   y_is_clear = (2, of_assigns 2 (and_bit a One ∷ []) refl (record { is_signal = lit< tt; driven = refl; told = only_driver; gives = gives }))
 
 -- what the assignment knows at 5
-known_at_5 : (x : Thing) (bits : List Bit) → AtEnd gate Free gate_dump 5 0 x bits → thing_bits gate (gate_values One One X) x ≡ bits
+known_at_5 : (x : Thing) (bits : List Bit) → KnownAtEnd gate Free gate_dump 5 0 x bits → thing_bits gate (gate_values One One X) x ≡ bits
 known_at_5 (a_signal zero) bits k = sym (clear_bound gate Free gate_dump 5 0 bits k.1 refl)
 known_at_5 (a_signal (suc zero)) bits k = sym (clear_bound gate Free gate_dump 5 1 bits k.1 refl)
 known_at_5 (a_signal (suc (suc zero))) bits k = absurd (false≢true (sym k.0))
 known_at_5 (a_signal (suc (suc (suc s)))) bits k = absurd (omega (arith, clear-thing gate Free gate_dump 5 (a_signal (suc (suc (suc s)))) bits k.1))
 known_at_5 (a_word m i) bits k = absurd (no_memory m (clear-thing gate Free gate_dump 5 (a_word m i) bits k.1).0)
 
-known : (s : ℕ) → s < 2 → HasValue (AtEnd gate Free gate_dump 5 0) (a_signal s)
+known : (s : ℕ) → s < 2 → HasValue (KnownAtEnd gate Free gate_dump 5 0) (a_signal s)
 known zero h = (One ∷ [], (refl, (1, of_dump 0 (One ∷ []) (lit≤ tt, lit< tt) refl (lit< tt) refl)))
 known (suc zero) h = (One ∷ [], (refl, (1, of_dump 1 (One ∷ []) (lit≤ tt, lit< tt) refl (lit< tt) refl)))
 known (suc (suc s)) h = absurd (omega (arith, h))

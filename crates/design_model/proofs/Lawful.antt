@@ -5,7 +5,7 @@ use Rattle.std.specs.Prelude.{nat_lt, nat_le}
 use Rattle.std.specs.List.{list_all, list_any}
 use Rattle.event_machine.specs.Machine.{Edge as MachineEdge}
 use Rattle.event_machine.specs.Cell.{Cell, Update, UpdatesCell, Values, WritesCell}
-use Rattle.event_machine.specs.Machine.{IsTarget, Negedge, Posedge, wakes}
+use Rattle.event_machine.specs.Machine.{IsTarget, Negedge, Posedge}
 use Rattle.four_state.specs.Vector.{extend, same_bit}
 use Rattle.four_state.specs.declared.bit.Bit.{Bit}
 use Rattle.four_state.specs.declared.bit.Bit.TheVariants.{One, X, Z, Zero}
@@ -17,7 +17,7 @@ use Rattle.design_model.specs.Assignment.{target_width, target_writes}
 use Rattle.design_model.specs.Mentions.{any_set, any_set_in, any_set_of, blocking_target, body_assigns, may_write, nonblocking_target, some_may_write, some_target_names, target_names}
 use Rattle.design_model.specs.Execution.{Execution, execute_assignment, execution, execution_start}
 use Rattle.design_model.specs.Machine.{events_of, is_edge, lists_edge, machine, same_edge}
-use Rattle.design_model.specs.Lawful.{IsLawfulDesign, is_signal}
+use Rattle.design_model.specs.Lawful.{IsLawfulDesign}
 use Rattle.design_model.proofs.Execution.{each_fails, each_gives, execute_keeps}
 use Rattle.design_model.proofs.Named.{WritesCell-halves, length-fit, writes_named}
 

@@ -1,6 +1,6 @@
 -- The path of a memory.
-use Rattle.std.proofs.Common.{◌≡◌, ℕ, ◌-◌, ◌<◌, Bool, true, false, length, refl, sym, ap, subst, ◌∙◌, arith, Some, if◌then◌else◌}
-use Rattle.std.proofs.lemmas.Bool.{ltb-true, lt-leb, le-leb, cases_lt}
+use Rattle.std.proofs.Common.{◌≡◌, ℕ, ◌-◌, ◌<◌, Bool, true, false, length, refl, ap, arith, Some, if◌then◌else◌}
+use Rattle.std.proofs.lemmas.Bool.{ltb-true, le-leb}
 use Rattle.std.proofs.lemmas.Option.{get_or_from_slice_get}
 use Rattle.std.specs.List.{slice_get}
 use Rattle.std.specs.Prelude.{nat_lt, nat_le}

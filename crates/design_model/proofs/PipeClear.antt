@@ -1,7 +1,7 @@
 -- A register that the dump lacks, between a gate and a flip flop: clk is signal 0, a is 1, b is 2, q is 3, y is 4.
 --   always @* y = a & b;
 --   always @(posedge clk) if (y) q <= 1; else q <= 0;
-use Rattle.std.proofs.Common.{◌≡◌, ◌≢◌, refl, sym, ap, subst, ◌∙◌, ℕ, zero, suc, ◌<◌, ◌-◌, ◌||◌, ◌==◌, true, false, List, [], ◌∷◌, inl, inr, ⊎_elim, arith, lit<, lit≤, if◌then◌else◌}
+use Rattle.std.proofs.Common.{◌≡◌, ◌≢◌, refl, sym, ap, subst, ◌∙◌, ℕ, zero, suc, ◌<◌, ◌-◌, ◌||◌, ◌==◌, true, false, List, [], ◌∷◌, inl, inr, ⊎_elim, arith, lit<, lit≤}
 use Rattle.std.specs.Prelude.{nat_le, nat_lt}
 use Rattle.std.proofs.lemmas.Bool.{and_parts, or_cases, eqb-true, ltb-true, leb-true, false≢true, lt-leb}
 use Rattle.event_machine.specs.Cell.{Values, put}

@@ -2,7 +2,6 @@
 use Rattle.std.proofs.Common.{◌≡◌, inl, inr, ℕ, Bool, true, false, List, [], ◌∷◌, ◌++◌, append_assoc, append-nil, refl, sym, ap, ap₂, subst, ◌∙◌, Option, Some, None, if◌then◌else◌}
 use Rattle.std.specs.Prelude.{⊤}
 use Rattle.event_machine.specs.Cell.{Values}
-use Rattle.event_machine.specs.Event.{first}
 use Rattle.four_state.specs.Operators.{matches}
 use Rattle.four_state.specs.Parts.{index}
 use Rattle.four_state.specs.Vector.{truth}

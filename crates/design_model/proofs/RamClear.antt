@@ -1,19 +1,17 @@
 -- A memory: clk is signal 0, we 1, wa 2, ra 3, d 4, q 5, and m is memory 6 with the words 0 to 3.
 --   always @(posedge clk) if (we) m[wa] <= d; else if (m[ra]) q <= 1; else q <= 0;
-use Rattle.std.proofs.Common.{◌≡◌, ◌≢◌, ◌⊎◌, refl, sym, ap, subst, ◌∙◌, ℕ, zero, suc, ◌<◌, ◌≤◌, ◌+◌, ◌-◌, ◌*◌, ◌||◌, ◌==◌, true, false, List, [], ◌∷◌, ◌++◌, inl, inr, ⊎_elim, arith, suc-ne-zero, lit<, lit≤, if◌then◌else◌, None}
+use Rattle.std.proofs.Common.{◌≡◌, ◌≢◌, ◌⊎◌, refl, sym, ap, subst, ◌∙◌, ℕ, zero, suc, ◌<◌, ◌≤◌, ◌+◌, ◌-◌, ◌*◌, ◌||◌, ◌==◌, true, false, List, [], ◌∷◌, ◌++◌, inl, inr, ⊎_elim, arith, suc-ne-zero, lit<, lit≤}
 use Rattle.event_machine.specs.Machine.{Edge as MachineEdge}
 use Rattle.std.specs.Prelude.{nat_le, nat_lt}
 use Rattle.std.proofs.lemmas.Bool.{and_parts, or_cases, eqb-true, ltb-true, leb-true, false≢true, both_ways, lt-leb, le-leb, lt-ltb, cases_lt}
 use Rattle.event_machine.specs.Cell.{Cell, Values, join, put}
-use Rattle.event_machine.specs.Machine.{Negedge, Posedge, wakes}
+use Rattle.event_machine.specs.Machine.{Negedge, Posedge}
 use Rattle.event_machine.specs.Habit.{Free}
 use Rattle.event_machine.specs.MayMove.{MayMove}
 use Rattle.event_machine.specs.Early.{IsEarly}
 use Rattle.four_state.specs.declared.bit.Bit.{Bit}
 use Rattle.four_state.specs.declared.bit.Bit.TheVariants.{One, X, Z, Zero}
-use Rattle.design_model.specs.Tree.{clocked}
 use Rattle.design_model.specs.Design.{Thing, a_signal, a_word, body_at, cell, cells, is_memory, thing_bits}
-use Rattle.design_model.specs.Value.{value}
 use Rattle.design_model.specs.Execution.{ValueFalse, ValueTrue, at_line, at_node, covers, execution, reads, writes_word}
 use Rattle.design_model.specs.Numbered.{Assign}
 use Rattle.design_model.specs.Reads.{Agrees, AllInside, HasValue, Known}
@@ -22,12 +20,12 @@ use Rattle.design_model.specs.Points.{line_point, word_point}
 use Rattle.design_model.specs.MayMove.{CanWakeSome, IsCleanAt, told_at}
 use Rattle.design_model.specs.Early.{IsEarlyAt}
 use Rattle.design_model.specs.Clear.{EntryFrom, IsClearBy, IsClockedTarget, IsWrittenValue, LeavesValue, all_writes, bits_after, clear, clear_in, of_assigns, of_clean, of_comb, of_dump, of_unwoken}
-use Rattle.design_model.specs.Open.{IsReached, OnEntry}
+use Rattle.design_model.specs.Open.{IsReached, KnownOnEntry}
 use Rattle.design_model.specs.Lawful.{is_signal}
 use Rattle.design_model.specs.ExampleParts.{at}
 use Rattle.design_model.specs.Ram.{ram, ram_dump, ram_values}
 use Rattle.design_model.proofs.Bound.{clear-thing, clear_bound}
-use Rattle.design_model.proofs.FlipFlopDoubt.{agrees, is_clean}
+use Rattle.design_model.proofs.FlipFlopDoubt.{agrees}
 use Rattle.design_model.proofs.Told.{told_blocking, told_by, told_nonblocking}
 
 abbrev unknown : List Bit
@@ -279,7 +277,7 @@ word_value (suc n) m i bits h k =
 
 -- what the block knows on entry at 15
 abbrev entry_15 : Known
-entry_15 = OnEntry ram Free ram_dump 15 0
+entry_15 = KnownOnEntry ram Free ram_dump 15 0
 
 old_15 : (x : Thing) (bits : List Bit) → entry_15 x bits → x ≢ a_signal 0 → clear ram Free ram_dump 14 x bits
 old_15 x bits k other = go k.2

@@ -1,10 +1,9 @@
 -- The rules of what is clear grow with the map that they begin from, so the rounds grow, and the map is the least one.
 use Rattle.std.proofs.Common.{◌≡◌, ℕ, zero, suc, Bool, true, false, List, [], ◌∷◌, sym, ◌∙◌}
 use Rattle.event_machine.specs.Cell.{Values}
-use Rattle.event_machine.specs.Event.{first}
 use Rattle.event_machine.specs.Habit.{Habit}
 use Rattle.four_state.specs.declared.bit.Bit.{Bit}
-use Rattle.design_model.specs.Tree.{Stmt, signal}
+use Rattle.design_model.specs.Tree.{Stmt}
 use Rattle.design_model.specs.Design.{Design, Thing, a_signal, body_at}
 use Rattle.design_model.specs.Execution.{Visit, at_line, at_node, execution, reads, writes_word}
 use Rattle.design_model.specs.Reads.{Agrees, AllInside, IsTold, Known, nothing_known}

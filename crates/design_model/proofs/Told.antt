@@ -3,7 +3,6 @@ use Rattle.std.proofs.Common.{◌≡◌, ⊎_elim, ℕ, Bool, true, false, ◌||
 use Rattle.std.proofs.lemmas.Bool.{and_parts, or_cases, false≢true, true≢false}
 use Rattle.std.specs.List.{list_any}
 use Rattle.event_machine.specs.Cell.{Cell, Values, Write, put, put_all, same_cell}
-use Rattle.event_machine.specs.Event.{first, rest}
 use Rattle.four_state.specs.Operators.{matches}
 use Rattle.four_state.specs.Vector.{extend, truth}
 use Rattle.four_state.specs.declared.bit.Bit.{Bit}

@@ -76,6 +76,7 @@ abbrev pub owner : Thing → ℕ
 owner (a_signal s) = s
 owner (a_word m i) = m
 
+-- the bits of a thing
 abbrev pub thing_bits : Design → Values Bit → Thing → List Bit
 thing_bits d v x = map v (cells d x)
 
@@ -112,17 +113,19 @@ is_assign (assign i x t counted) = true
 is_assign (comb i wakes s) = false
 is_assign (clocked i events s) = false
 
--- the process is an Assign, a Comb, a Clocked
+-- the process is an Assign
 abbrev pub IsAssign : Process → Type 0
 IsAssign (assign i x t counted) = ⊤
 IsAssign (comb i wakes s) = ⊥
 IsAssign (clocked i events s) = ⊥
 
+-- the process is a Comb
 abbrev pub IsComb : Process → Type 0
 IsComb (assign i x t counted) = ⊥
 IsComb (comb i wakes s) = Unit {0}
 IsComb (clocked i events s) = ⊥
 
+-- the process is a Clocked
 abbrev pub IsClocked : Process → Type 0
 IsClocked (assign i x t counted) = ⊥
 IsClocked (comb i wakes s) = ⊥

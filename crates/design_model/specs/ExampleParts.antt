@@ -9,10 +9,11 @@ use Rattle.design_model.specs.Design.{Instance, Signal}
 abbrev pub at : ℕ → Place
 at n = record { source = 1; line = 3; column = n }
 
--- a one-bit term that is no counted node, and one that is
+-- a one-bit term that is no counted node
 abbrev pub plain : Head
 plain = record { place = at 0; width = 1; signed = false; node = None }
 
+-- a one-bit term that is a counted node
 abbrev pub counted : ℕ → Head
 counted n = record { place = at 0; width = 1; signed = false; node = Some n }
 

@@ -1,7 +1,7 @@
 -- A register with a test, worked out: clk is signal 0, a is 1, q is 2.
 --   always @(posedge clk) if (a) q <= 1; else q <= 0;
 use Rattle.std.specs.Prelude.{◌≡◌, ◌∷◌, if◌then◌else◌, ℕ, true, false, List, [], nat_le, nat_lt, slice_index_or, codes}
-use Rattle.event_machine.specs.Cell.{Values, times}
+use Rattle.event_machine.specs.Cell.{Values}
 use Rattle.event_machine.specs.State.{State}
 use Rattle.event_machine.specs.Event.{Activate, Apply, Evaluate, Event, Move}
 use Rattle.event_machine.specs.Habit.{Free, Habit, Late}
@@ -10,7 +10,6 @@ use Rattle.four_state.specs.declared.bit.Bit.TheVariants.{One, X, Zero}
 use Rattle.four_state.specs.declared.edge.Edge.TheVariants.{Pos}
 use Rattle.design_model.specs.Tree.{a_stmt, all_of, branch, clocked, no_stmts, set, signal}
 use Rattle.design_model.specs.Design.{Design, a_signal, body_at, cell}
-use Rattle.design_model.specs.Value.{value}
 use Rattle.design_model.specs.Execution.{ValueTrue, at_line, at_node, execution, reads}
 use Rattle.design_model.specs.Numbered.{Assign}
 use Rattle.design_model.specs.Run.{IsRun, Run}
@@ -18,11 +17,12 @@ use Rattle.design_model.specs.Shows.{BoundDump, IsDumpOf, Shows}
 use Rattle.design_model.specs.Points.{IsHit, Point, line_point}
 use Rattle.design_model.specs.MayMove.{IsCleanAt}
 use Rattle.design_model.specs.Early.{IsEarlyAt}
-use Rattle.design_model.specs.Open.{IsOpen, IsReached, OnEntry}
-use Rattle.design_model.specs.Doubt.{IsInDoubt, early}
+use Rattle.design_model.specs.Open.{IsOpen, IsReached, KnownOnEntry}
+use Rattle.design_model.specs.Doubt.{IsInDoubt}
 use Rattle.design_model.specs.Lawful.{IsLawfulDesign}
 use Rattle.design_model.specs.ExampleParts.{at, bit_number, counted, one_bit, one_instance}
 
+-- the design
 abbrev pub flip_flop : Design
 flip_flop =
     record {
@@ -56,6 +56,7 @@ steady_dump = flip_flop_dump One
 abbrev pub falling_dump : BoundDump
 falling_dump = flip_flop_dump Zero
 
+-- the state at the first time
 abbrev pub steady_start : State Bit
 steady_start = record { values = flip_flop_values Zero One X; woken = λ p. false; active = []; queued = []; moved = λ c. false }
 
@@ -63,6 +64,7 @@ steady_start = record { values = flip_flop_values Zero One X; woken = λ p. fals
 abbrev pub steady_events : List (Event Bit)
 steady_events = Move (record { cell = cell 0 0; value = One } ∷ []) ∷ Evaluate 0 ∷ Activate ∷ Apply ∷ []
 
+-- a run of one step
 abbrev pub steady_run : Run
 steady_run = record { begins = 0; start = steady_start; steps = record { time = 5; events = steady_events } ∷ [] }
 
@@ -89,7 +91,7 @@ pub record IsFallingExample : Type 0 where
   pub dump : IsDumpOf flip_flop falling_dump
   pub clean : IsCleanAt flip_flop falling_dump 5 0 (cell 0 0)
   pub early : IsEarlyAt flip_flop Free falling_dump 5 0 (cell 0 0) 1
-  pub open_line : IsOpen flip_flop (OnEntry flip_flop Free falling_dump 5 0) (body_at flip_flop 0) line_two
+  pub open_line : IsOpen flip_flop (KnownOnEntry flip_flop Free falling_dump 5 0) (body_at flip_flop 0) line_two
   pub doubt : IsInDoubt flip_flop Free falling_dump line_two 5 1
   pub none_early_late : (x : ℕ) → IsEarlyAt flip_flop Late falling_dump 5 0 (cell 0 0) x → ⊥
   pub reached_late : IsReached flip_flop Late falling_dump 5 0 line_two

@@ -1,7 +1,7 @@
 -- A net that the dump lacks, worked out: a is signal 0, b is 1, y is 2.
 --   assign y = a & b;
 use Rattle.std.specs.Prelude.{◌∷◌, if◌then◌else◌, true, false, [], nat_le, nat_lt, slice_index_or, codes}
-use Rattle.event_machine.specs.Cell.{Values, times}
+use Rattle.event_machine.specs.Cell.{Values}
 use Rattle.event_machine.specs.Habit.{Free}
 use Rattle.four_state.specs.declared.bit.Bit.{Bit}
 use Rattle.four_state.specs.declared.bit.Bit.TheVariants.{One, X, Zero}
@@ -11,10 +11,11 @@ use Rattle.design_model.specs.Design.{Design, a_signal}
 use Rattle.design_model.specs.Execution.{BothTrue}
 use Rattle.design_model.specs.Shows.{BoundDump}
 use Rattle.design_model.specs.Points.{logic_point}
-use Rattle.design_model.specs.Clear.{at_first, clear}
+use Rattle.design_model.specs.Clear.{clear}
 use Rattle.design_model.specs.Open.{IsReached}
 use Rattle.design_model.specs.ExampleParts.{at, counted, one_bit, one_instance, plain}
 
+-- the design
 abbrev pub gate : Design
 gate =
     record {
@@ -27,6 +28,7 @@ gate =
       aliases = [];
     }
 
+-- the values in which a, b and y are these
 abbrev pub gate_values : Bit → Bit → Bit → Values Bit
 gate_values a b y c = slice_index_or (a ∷ b ∷ y ∷ []) c.thing X
 

@@ -65,6 +65,7 @@ abbrev mutual
 abbrev pub blank : Values Bit
 blank c = X
 
+-- the list writes the cell
 abbrev pub has_cell : List (Write Bit) → Cell → Bool
 has_cell ws c = list_any (λ w. same_cell w.cell c) ws
 
@@ -114,10 +115,11 @@ abbrev mutual
   any_set_in f no_arms = false
   any_set_in f (arm labels s arms) = any_set f s || any_set_in f arms
 
--- a body may write the cell by a blocking assignment, or by a nonblocking one
+-- a body may write the cell by a blocking assignment
 abbrev pub blocking_target : Design → Stmt → Cell → Bool
 blocking_target d s c = any_set (λ blocking x t. blocking && may_write d x c) s
 
+-- a body may write the cell by a nonblocking assignment
 abbrev pub nonblocking_target : Design → Stmt → Cell → Bool
 nonblocking_target d s c = any_set (λ blocking x t. not blocking && may_write d x c) s
 
@@ -155,10 +157,11 @@ abbrev mutual
 abbrev pub body_assigns : ℕ → Stmt → Bool
 body_assigns x b = any_set (λ blocking y t. target_names x y) b
 
--- the body assigns x by a blocking assignment, or by a nonblocking one
+-- the body assigns x by a blocking assignment
 abbrev pub body_blocks : ℕ → Stmt → Bool
 body_blocks x b = any_set (λ blocking y t. blocking && target_names x y) b
 
+-- the body assigns x by a nonblocking assignment
 abbrev pub body_queues : ℕ → Stmt → Bool
 body_queues x b = any_set (λ blocking y t. not blocking && target_names x y) b
 

@@ -2,7 +2,7 @@
 --   always @* y = a & b;
 --   always @(posedge clk) if (y) q <= 1; else q <= 0;
 use Rattle.std.specs.Prelude.{◌≡◌, ◌∷◌, if◌then◌else◌, true, false, [], nat_le, nat_lt, slice_index_or, codes}
-use Rattle.event_machine.specs.Cell.{Values, times}
+use Rattle.event_machine.specs.Cell.{Values}
 use Rattle.event_machine.specs.Habit.{Free}
 use Rattle.four_state.specs.declared.bit.Bit.{Bit}
 use Rattle.four_state.specs.declared.bit.Bit.TheVariants.{One, X, Zero}
@@ -18,6 +18,7 @@ use Rattle.design_model.specs.Clear.{clear}
 use Rattle.design_model.specs.Doubt.{IsInDoubt}
 use Rattle.design_model.specs.ExampleParts.{at, bit_number, counted, one_bit, one_instance, plain}
 
+-- the design
 abbrev pub pipe : Design
 pipe =
     record {
@@ -30,6 +31,7 @@ pipe =
       aliases = [];
     }
 
+-- the values in which clk, a, b, q and y are these
 abbrev pub pipe_values : Bit → Bit → Bit → Bit → Bit → Values Bit
 pipe_values clk a b q y c = slice_index_or (clk ∷ a ∷ b ∷ q ∷ y ∷ []) c.thing X
 

@@ -1,7 +1,7 @@
 -- A memory, worked out: clk is signal 0, we 1, wa 2, ra 3, d 4, q 5, and m is memory 6 with the words 0 to 3.
 --   always @(posedge clk) if (we) m[wa] <= d; else if (m[ra]) q <= 1; else q <= 0;
 use Rattle.std.specs.Prelude.{◌≡◌, ◌<◌, ◌∷◌, if◌then◌else◌, ℕ, suc, true, false, List, [], nat_le, nat_lt, slice_index_or, codes}
-use Rattle.event_machine.specs.Cell.{Values, times}
+use Rattle.event_machine.specs.Cell.{Values}
 use Rattle.event_machine.specs.Habit.{Free}
 use Rattle.four_state.specs.declared.bit.Bit.{Bit}
 use Rattle.four_state.specs.declared.bit.Bit.TheVariants.{One, X, Zero}
@@ -15,6 +15,7 @@ use Rattle.design_model.specs.Clear.{clear}
 use Rattle.design_model.specs.Open.{IsReached}
 use Rattle.design_model.specs.ExampleParts.{at, bit_number, counted, one_bit, one_instance, plain, two_bits, wide}
 
+-- the design
 abbrev pub ram : Design
 ram =
     record {

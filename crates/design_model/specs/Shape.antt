@@ -23,6 +23,7 @@ is_wide_unary Negative = true
 is_wide_unary BitwiseNot = true
 is_wide_unary _ = false
 
+-- both operands have the width and sign of the context
 abbrev pub is_wide_binary : Binary → Bool
 is_wide_binary Multiply = true
 is_wide_binary Divide = true
@@ -110,6 +111,7 @@ abbrev mutual
 abbrev pub is_alone : Design → Term → Bool
 is_alone d t = is_shaped d (own_width d t) (own_sign d t) t
 
+-- the target names signals and memories of the design, and its indexes have their shapes
 abbrev mutual
   pub is_target : Design → Target → Bool
   is_target d (all_of s) = nat_lt s (length d.signals)
@@ -126,18 +128,22 @@ abbrev pub widest : Design → ℕ → Terms → ℕ
 widest d w no_terms = w
 widest d w (a_term t ts) = widest d (max w (own_width d t)) ts
 
+-- whether a selector and these labels are all signed
 abbrev pub all_signed : Design → Bool → Terms → Bool
 all_signed d s no_terms = s
 all_signed d s (a_term t ts) = all_signed d (s && own_sign d t) ts
 
+-- the greatest width of a selector and the labels of these arms
 abbrev pub widest_of : Design → ℕ → Arms → ℕ
 widest_of d w no_arms = w
 widest_of d w (arm labels x arms) = widest_of d (widest d w labels) arms
 
+-- whether a selector and the labels of these arms are all signed
 abbrev pub all_signed_of : Design → Bool → Arms → Bool
 all_signed_of d s no_arms = s
 all_signed_of d s (arm labels x arms) = all_signed_of d (all_signed d s labels) arms
 
+-- each term has the shape that this context gives it
 abbrev pub are_shaped : Design → ℕ → Bool → Terms → Bool
 are_shaped d w s no_terms = true
 are_shaped d w s (a_term t ts) = is_shaped d w s t && are_shaped d w s ts
