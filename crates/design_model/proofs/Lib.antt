@@ -25,3 +25,14 @@ pub mod OpenPath
 pub mod OpenNodes
 pub mod OpenWords
 pub mod Reached
+pub mod Rounds
+pub mod MemoryPath
+pub mod FlipFlopRun
+pub mod FlipFlopDoubt
+pub mod FlipFlopLawful
+pub mod FlipFlopExample
+pub mod GateClear
+pub mod PipeClear
+pub mod PipeExample
+pub mod RamClear
+pub mod RamExample

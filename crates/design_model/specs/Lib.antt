@@ -4,6 +4,7 @@ pub mod Value
 pub mod Assignment
 pub mod Mentions
 pub mod Execution
+pub mod Numbered
 pub mod Paths
 pub mod Reads
 pub mod Machine
@@ -20,3 +21,8 @@ pub mod Shape
 pub mod Lawful
 pub mod Laws
 pub mod View
+pub mod ExampleParts
+pub mod FlipFlop
+pub mod Gate
+pub mod Pipe
+pub mod Ram

@@ -1,6 +1,9 @@
+ghost use Rattle.std.specs.Prelude.{◌≡◌, ◌∷◌, ◌++◌, true, IfOk};
+
 use crate::tree::Process;
-use cov_host::{Name, Sequence};
+use cov_host::{Name, NoMemory, Sequence};
 use four_state::Four;
+use std::alloc::Global;
 
 /// A design after elaboration, without hierarchy.
 #[derive(Debug, Drop)]
@@ -19,6 +22,45 @@ pub struct Design {
     pub constants: Sequence<Constant>,
     /// The ports that go by the signal they are joined to.
     pub aliases: Sequence<Alias>,
+}
+
+impl Design {
+    ghost use Rattle.design_model.specs.Design.{is_number, path_in, path_of};
+    ghost use Rattle.design_model.specs.View.{design_view};
+
+    /// The path of a signal or memory: that of its instance, a dot and its name.
+    pub fn path(&self, alloc: Global, thing: u32) -> Result<Name, NoMemory>
+        requires { is_number (design_view self.now) thing ≡ true }
+        ensures { IfOk result (λ path. path ≡ path_of (design_view self.now) thing) }
+    {
+        match self.signals.get(thing as usize) {
+            Some(signal) => self.path_in(alloc, signal.instance, &signal.name),
+            None => match self.memories.get(thing as usize - self.signals.len()) {
+                Some(memory) => self.path_in(alloc, memory.instance, &memory.name),
+                None => unreachable!(),
+            },
+        }
+    }
+
+    /// The path of what stands in an instance, by its name.
+    fn path_in(&self, alloc: Global, instance: u32, name: &Name) -> Result<Name, NoMemory>
+        ensures { IfOk result (λ path. path ≡ path_in (design_view self.now) instance name.now) }
+    {
+        match self.instances.get(instance as usize) {
+            Some(instance) => joined(alloc, instance.path.as_slice(), name.as_slice()),
+            None => joined(alloc, &[], name.as_slice()),
+        }
+    }
+}
+
+/// Two names with a dot between them.
+fn joined(alloc: Global, path: &[u8], name: &[u8]) -> Result<Name, NoMemory>
+    ensures { IfOk result (λ joined. joined ≡ path.now ++ 46 ∷ name.now) }
+{
+    let mut bytes = Vec::from_slice(alloc, path)?;
+    bytes.push(b'.')?;
+    bytes.extend_from_slice(name)?;
+    Ok(Name::from_vec(bytes))
 }
 
 /// An instance of a module.
