@@ -1,6 +1,6 @@
 //! The operators (IEEE 1364-2001, clause 4.1).
 
-ghost use Rattle.std.specs.Prelude.{◌≡◌, [], ◌∷◌, false};
+ghost use Rattle.std.specs.Prelude.{◌≡◌, ◌↔◌, [], ◌∷◌, IsTrue, false};
 ghost use Rattle.std.specs.Bool.{OnTrue};
 
 use crate::{
@@ -16,6 +16,13 @@ fn one_bit(bit: Bit) -> Four
 
 impl Four {
     ghost use Rattle.four_state.specs.Operators.{unary_vector, binary_vector, choice_vector, takes_same_shape, SameShape};
+
+    /// Whether two vectors have equal widths and signs.
+    pub fn has_same_shape(&self, other: &Four) -> bool
+        ensures { IsTrue result ↔ SameShape self.now other.now }
+    {
+        self.width() == other.width() && self.is_signed() == other.is_signed()
+    }
 
     /// What an operator with one operand gives.
     pub fn unary(op: Unary, a: &Four) -> Four
