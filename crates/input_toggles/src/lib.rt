@@ -3,9 +3,11 @@
 #![tactic(auto)]
 
 mod binding;
+mod points;
 mod replay;
 mod score;
 mod table;
 mod toggles;
+mod watched;
 
 pub use score::score_inputs;

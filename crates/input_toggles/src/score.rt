@@ -1,3 +1,7 @@
+ghost use Rattle.std.specs.Prelude.{◌≡◌, IfOk, IfSome, IsTrue};
+ghost use Rattle.coverage_db.specs.Table.{IsTable, is_file_name};
+ghost use Rattle.input_toggles.specs.InputDesign.{IsInputDesign};
+
 use crate::binding::bind;
 use crate::replay::{follow, has_first_values};
 use crate::table::table_of;
@@ -17,14 +21,19 @@ pub fn score_inputs(
     source: &str,
     dump: &Dump,
     instance: &str,
-) -> Result<Option<Db>, NoMemory> {
-    let Some(codes) = bind(alloc, design, &dump.vars, instance)? else {
+) -> Result<Option<Db>, NoMemory>
+    requires design { IsInputDesign design.now }
+    requires source { IsTrue (is_file_name source.now) }
+    ensures table { IfOk result (λ scored. IfSome scored IsTable) }
+{
+    let signals = design.signals.as_slice();
+    let Some(mut watched) = bind(alloc, signals, dump.vars.as_slice(), instance)? else {
         return Ok(None);
     };
     let steps = dump.steps.as_slice();
-    if !has_first_values(&codes, steps) {
+    if !has_first_values(&watched, steps) {
         return Ok(None);
     }
-    let watched = follow(alloc, design.signals.as_slice(), &codes, steps)?;
-    Ok(Some(table_of(alloc, design, source, &watched)?))
+    follow(&mut watched, steps);
+    Ok(Some(table_of(alloc, design, source, watched)?))
 }

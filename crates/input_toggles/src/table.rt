@@ -1,101 +1,84 @@
-use crate::replay::Watched;
+ghost use Rattle.std.specs.Prelude.{◌≡◌, [], ◌∷◌, IfOk, IsTrue, OnOk, All};
+ghost use Rattle.std.specs.List.Sorted.{IsPermutation};
+ghost use Rattle.coverage_db.specs.Table.{IsTable, is_file_name};
+ghost use Rattle.input_toggles.specs.InputDesign.{IsInput, IsInputDesign};
+ghost use Rattle.input_toggles.specs.PointList.{table, top_instance};
+ghost use Rattle.input_toggles.specs.Watched.{signals_of, NamesDiffer, NamesRise};
+
+use crate::points::points_of;
+use crate::watched::Watched;
 use cov_host::{Name, NoMemory, Sequence};
-use coverage_db::{Address, Db, DbInstance, DbPoint, DbVerdict, Subject};
-use design_model::{Design, Signal};
+use coverage_db::{Db, DbInstance};
+use design_model::Design;
 use std::alloc::Global;
 
-/// A signal with what was seen of it.
-#[derive(Clone, Copy)]
-struct Scored<'a> {
-    signal: &'a Signal,
-    watched: &'a Watched,
-}
-
-/// The database of a design of one instance: the toggle points of its signals, in their order.
+/// The database of a design of inputs alone, whose signals were followed to the end of the window.
 pub(crate) fn table_of(
     alloc: Global,
     design: &Design,
     source: &str,
-    watched: &[Watched],
-) -> Result<Db, NoMemory> {
-    let mut sources = Sequence::new(alloc);
-    sources.push(name_of(alloc, source.as_bytes())?)?;
-    let mut instances = Sequence::new(alloc);
-    for instance in design.instances.as_slice() {
-        instances.push(DbInstance {
-            path: name_of(alloc, instance.path.as_slice())?,
-            module: name_of(alloc, instance.module.as_slice())?,
-        })?;
-    }
-    let scored = in_order(alloc, design.signals.as_slice(), watched)?;
+    watched: Vec<Watched<'_>>,
+) -> Result<Db, NoMemory>
+    requires design { IsInputDesign design.now }
+    requires source { IsTrue (is_file_name source.now) }
+    requires signals { signals_of watched.items ≡ design.now.signals }
+    ensures table { IfOk result IsTable }
+{
+    let mut watched = watched;
+    sort_by_name(&mut watched)?;
+    table_in_order(alloc, design.top.as_slice(), source, &watched)
+}
+
+/// The database of a top module with the points of its signals, in the order of the signals.
+fn table_in_order(
+    alloc: Global,
+    top: &[u8],
+    source: &str,
+    watched: &[Watched<'_>],
+) -> Result<Db, NoMemory>
+    requires { All (λ w. IsInput w.signal.now) watched.now }
+    ensures { IfOk result (λ db. db ≡ table top.now source.now watched.now) }
+{
     Ok(Db {
-        top: name_of(alloc, design.top.as_slice())?,
-        sources,
-        instances,
-        points: points_of(alloc, &scored)?,
+        top: name_of(alloc, top)?,
+        sources: only(alloc, name_of(alloc, source.as_bytes())?)?,
+        instances: only(alloc, top_instance(alloc, top)?)?,
+        points: points_of(alloc, watched)?,
     })
 }
 
-fn name_of(alloc: Global, bytes: &[u8]) -> Result<Name, NoMemory> {
+/// The instance of the top module.
+fn top_instance(alloc: Global, top: &[u8]) -> Result<DbInstance, NoMemory>
+    ensures { IfOk result (λ instance. instance ≡ top_instance top.now) }
+{
+    Ok(DbInstance {
+        path: name_of(alloc, top)?,
+        module: name_of(alloc, top)?,
+    })
+}
+
+/// A sequence of one item.
+fn only<T: Drop>(alloc: Global, item: T) -> Result<Sequence<T>, NoMemory>
+    ensures { IfOk result (λ items. items ≡ item ∷ []) }
+{
+    let mut items = Sequence::new(alloc);
+    items.push(item)?;
+    Ok(items)
+}
+
+/// A name with these bytes.
+pub(crate) fn name_of(alloc: Global, bytes: &[u8]) -> Result<Name, NoMemory>
+    ensures { IfOk result (λ name. name ≡ bytes.now) }
+{
     Ok(Name::from_vec(Vec::from_slice(alloc, bytes)?))
 }
 
-/// The signals by the bytes of their names.
-fn in_order<'a>(
-    alloc: Global,
-    signals: &'a [Signal],
-    watched: &'a [Watched],
-) -> Result<Vec<Scored<'a>>, NoMemory> {
-    let mut scored = Vec::new(alloc);
-    for (signal, watched) in signals.iter().zip(watched) {
-        scored.push(Scored { signal, watched })?;
-    }
-    scored.sort_by(|a, b| a.signal.name.as_slice().cmp(b.signal.name.as_slice()))?;
-    Ok(scored)
-}
-
-/// The points of the signals, in order.
-fn points_of(alloc: Global, scored: &[Scored<'_>]) -> Result<Sequence<DbPoint>, NoMemory> {
-    let mut points = Sequence::new(alloc);
-    for signal in scored {
-        push_points(alloc, &mut points, signal)?;
-    }
-    Ok(points)
-}
-
-/// Adds the points of a signal: of each bit in rising order of its index, first 0 to 1 and then 1 to 0.
-fn push_points(
-    alloc: Global,
-    points: &mut Sequence<DbPoint>,
-    scored: &Scored<'_>,
-) -> Result<(), NoMemory> {
-    let signal = scored.signal;
-    for step in 0..signal.width {
-        let index = signal.high.min(signal.low) + u32::from(step);
-        for rise in [true, false] {
-            let hit = scored.watched.toggles.has(place_of(signal, index), rise);
-            points.push(DbPoint {
-                address: Address {
-                    instance: signal.instance,
-                    subject: Subject::Toggle {
-                        name: name_of(alloc, signal.name.as_slice())?,
-                        index: if signal.ranged { Some(index) } else { None },
-                        rise,
-                    },
-                },
-                verdict: if hit { DbVerdict::Hit } else { DbVerdict::Missed },
-            })?;
-        }
-    }
+/// Sorts the signals by the bytes of their names.
+fn sort_by_name(watched: &mut Vec<Watched<'_>>) -> Result<(), NoMemory>
+    requires { NamesDiffer watched.old.items }
+    ensures permutation { IsPermutation watched.old.items watched.new.items }
+    ensures rising { OnOk result (NamesRise watched.new.items) }
+{
+    watched.sort_by(|a, b| a.signal.name.as_slice().cmp(b.signal.name.as_slice()))?;
     Ok(())
-}
-
-/// How far above the lowest bit the bit with this index stands.
-fn place_of(signal: &Signal, index: u32) -> u8 {
-    let place = if signal.high >= signal.low {
-        index - signal.low
-    } else {
-        signal.low - index
-    };
-    place as u8
 }

@@ -1,47 +1,37 @@
-use four_state::{Binary, Bit, Four, Unary};
+ghost use Rattle.std.specs.Prelude.{◌≡◌, ◌<◌};
+ghost use Rattle.input_toggles.specs.Watched.{has_toggle};
 
-/// The bits of a signal that toggled over some step of the window.
+use four_state::Four;
+
+/// The bits of a signal that toggled, at their places from the lowest bit on.
 #[derive(Clone, Copy, Debug)]
 pub(crate) struct Toggles {
-    /// 1 at each bit that went from 0 to 1.
-    rises: Four,
-    /// 1 at each bit that went from 1 to 0.
-    falls: Four,
+    /// The bits that went from 0 to 1.
+    rises: u128,
+    /// The bits that went from 1 to 0.
+    falls: u128,
 }
 
 impl Toggles {
-    /// No toggle of so many bits.
-    pub(crate) fn none(width: u8) -> Self {
-        let none = Four::fill(width, false, Bit::Zero);
-        Toggles {
-            rises: none,
-            falls: none,
-        }
+    /// No toggle.
+    pub(crate) fn none() -> Self {
+        Toggles { rises: 0, falls: 0 }
     }
 
-    /// Whether the bit at this place, counted from the lowest, toggled in this direction.
-    pub(crate) fn has(&self, place: u8, rise: bool) -> bool {
-        let bits = if rise { &self.rises } else { &self.falls };
-        bits.bit(place) == Bit::One
+    /// Whether the bit at this place toggled in this direction.
+    pub(crate) fn has(&self, place: u8, rise: bool) -> bool
+        requires { place < 128 }
+        ensures { result ≡ has_toggle self.now place rise }
+    {
+        let bits = if rise { self.rises } else { self.falls };
+        bits >> place & 1 == 1
     }
 
     /// With the toggles of one step more, which goes from the old value to the new one.
     pub(crate) fn with_step(&self, old: &Four, new: &Four) -> Self {
         Toggles {
-            rises: either(&self.rises, &both(&inverted(old), new)),
-            falls: either(&self.falls, &both(old, &inverted(new))),
+            rises: self.rises | old.known_zeros() & new.known_ones(),
+            falls: self.falls | old.known_ones() & new.known_zeros(),
         }
     }
-}
-
-fn inverted(a: &Four) -> Four {
-    Four::unary(Unary::BitwiseNot, a)
-}
-
-fn both(a: &Four, b: &Four) -> Four {
-    Four::binary(Binary::BitwiseAnd, a, b)
-}
-
-fn either(a: &Four, b: &Four) -> Four {
-    Four::binary(Binary::BitwiseOr, a, b)
 }
