@@ -2,6 +2,10 @@
 //! take its place one by one.
 #![tactic(auto)]
 
-mod source_form;
+mod module;
+mod names;
+mod port;
+mod token;
+mod tokens;
 
-pub use source_form::read_source;
+pub use module::read_source;
