@@ -1,1 +1,4 @@
 pub mod TokenLemmas
+pub mod PortLemmas
+pub mod PortReading
+pub mod PortLists

@@ -1,8 +1,6 @@
 -- The tokens of a text.
 use Rattle.std.specs.Prelude.{ℕ, ◌==◌, Bool, false, ◌||◌, if◌then◌else◌, List, [], ◌∷◌}
 use Rattle.cov_host.specs.Identifier.{continues_name}
-use Rattle.input_module.specs.declared.token.Token.{Token as TokenRow}
-use Rattle.input_module.specs.declared.token.Token.TheVariants.{Word, Mark}
 
 -- a run of letters, digits, underscores and dollar signs, or another byte
 pub data Token : Type 0 where
@@ -31,8 +29,3 @@ tokens_of (byte ∷ bytes) =
     if is_white_space byte then tokens_of bytes
     else (if continues_name byte then (if begins_word bytes then joined byte (tokens_of bytes) else word (byte ∷ []) ∷ tokens_of bytes)
     else mark byte ∷ tokens_of bytes)
-
--- a token without where it lies in memory
-abbrev pub token_of : TokenRow → Token
-token_of (Word bytes) = word bytes.now
-token_of (Mark byte) = mark byte

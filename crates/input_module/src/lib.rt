@@ -2,10 +2,12 @@
 //! take its place one by one.
 #![tactic(auto)]
 
-mod module;
+mod module_form;
 mod names;
 mod port;
+mod port_form;
+mod source;
 mod token;
 mod tokens;
 
-pub use module::read_source;
+pub use source::read_source;

@@ -1,7 +1,9 @@
-ghost use Rattle.std.specs.Prelude.{◌≡◌, ◌≤◌, [], ◌∷◌, length, OnSome, MatchOption};
+ghost use Rattle.std.specs.Prelude.{◌≡◌, ◌≤◌, [], ◌∷◌, length, MatchOption};
 ghost use Rattle.std.specs.List.{prefix_len};
 ghost use Rattle.cov_host.specs.Identifier.{continues_name};
-ghost use Rattle.input_module.specs.Tokens.{is_white_space, token_of, tokens_of};
+ghost use Rattle.input_module.specs.Reading.{Reads, Takes, mark_at, name_at, word_at};
+ghost use Rattle.input_module.specs.Tokens.{is_white_space, tokens_of};
+ghost use Rattle.input_module.specs.Views.{token_of};
 
 use crate::token::Token;
 use cov_host::{continues_name, is_identifier};
@@ -47,7 +49,7 @@ impl<'a> Tokens<'a> {
 
     /// Takes the next token, which is to be this word.
     pub(crate) fn take_word(&mut self, word: &str) -> Option<()>
-        ensures { OnSome result (length self.new ≤ length self.old) }
+        ensures { Takes result self.new (word_at word.now self.old) }
     {
         match self.next_token()? {
             Token::Word(found) if found == word.as_bytes() => Some(()),
@@ -57,7 +59,7 @@ impl<'a> Tokens<'a> {
 
     /// Takes the next token, which is to be this mark.
     pub(crate) fn take_mark(&mut self, mark: u8) -> Option<()>
-        ensures { OnSome result (length self.new ≤ length self.old) }
+        ensures { Takes result self.new (mark_at mark self.old) }
     {
         match self.next_token()? {
             Token::Mark(found) if found == mark => Some(()),
@@ -67,7 +69,7 @@ impl<'a> Tokens<'a> {
 
     /// Takes the next token, which is to be an identifier.
     pub(crate) fn take_name(&mut self) -> Option<&'a [u8]>
-        ensures { OnSome result (length self.new ≤ length self.old) }
+        ensures { Reads (λ name. name.now) result self.new (name_at self.old) }
     {
         match self.next_token()? {
             Token::Word(word) if is_identifier(word) => Some(word),

@@ -1,7 +1,5 @@
+use crate::module_form::read_module;
 use crate::names::have_distinct_names;
-use crate::port::{read_port, signal_of};
-use crate::token::Token;
-use crate::tokens::Tokens;
 use cov_host::{Name, NoMemory, Sequence, is_identifier};
 use design_model::{Design, Instance, Signal};
 use std::alloc::Global;
@@ -25,61 +23,6 @@ pub fn read_source(alloc: Global, source: &[u8], top: &str) -> Result<Option<Des
         return Ok(None);
     }
     Ok(Some(design_of(alloc, top, signals)?))
-}
-
-/// The signals of the ports of a module, whose names may be equal.
-fn read_module(
-    alloc: Global,
-    source: &[u8],
-    top: &str,
-) -> Result<Option<Sequence<Signal>>, NoMemory> {
-    let mut tokens = Tokens::new(source);
-    if open_module(&mut tokens, top).is_none() {
-        return Ok(None);
-    }
-    let Some(signals) = read_ports(alloc, &mut tokens)? else {
-        return Ok(None);
-    };
-    if close_module(&mut tokens).is_none() {
-        return Ok(None);
-    }
-    Ok(Some(signals))
-}
-
-/// Takes `module TOP (`.
-fn open_module(tokens: &mut Tokens<'_>, top: &str) -> Option<()> {
-    tokens.take_word("module")?;
-    tokens.take_word(top)?;
-    tokens.take_mark(b'(')
-}
-
-/// Takes the ports, and the `)` that ends them.
-fn read_ports(
-    alloc: Global,
-    tokens: &mut Tokens<'_>,
-) -> Result<Option<Sequence<Signal>>, NoMemory> {
-    let mut signals = Sequence::new(alloc);
-    loop {
-        let Some(port) = read_port(tokens) else {
-            return Ok(None);
-        };
-        signals.push(signal_of(alloc, port)?)?;
-        match tokens.next_token() {
-            Some(Token::Mark(b',')) => {}
-            Some(Token::Mark(b')')) => return Ok(Some(signals)),
-            _ => return Ok(None),
-        }
-    }
-}
-
-/// Takes `; endmodule`, which is to be all that is left.
-fn close_module(tokens: &mut Tokens<'_>) -> Option<()> {
-    tokens.take_mark(b';')?;
-    tokens.take_word("endmodule")?;
-    match tokens.next_token() {
-        Some(_) => None,
-        None => Some(()),
-    }
 }
 
 /// The design of one instance with these signals.
