@@ -2,3 +2,4 @@ pub mod TokenLemmas
 pub mod PortLemmas
 pub mod PortReading
 pub mod PortLists
+pub mod ModuleReading

@@ -14,7 +14,7 @@ use Rattle.input_module.proofs.PortReading.{ReadsPort, found_both, port_at-again
 -- how reading goes through a list of ports
 pub data Begins : List Token → List Port → List Token → Type 0 where
   last : {tokens rest : List Token} {port : Port} → port_at tokens ≡ Some (declaration_of port, mark (byte ")") ∷ rest) → Begins tokens (port ∷ []) rest
-  more : {tokens next rest : List Token} {port : Port} {ports : List Port} → port_at tokens ≡ Some (declaration_of port, mark (byte ",") ∷ next) → IsPortList next ports rest → Begins tokens (port ∷ ports) rest
+  more : {tokens next rest : List Token} {port : Port} {ports : List Port} → port_at tokens ≡ Some (declaration_of port, mark (byte ",") ∷ next) → Begins next ports rest → Begins tokens (port ∷ ports) rest
 
 pub Begins-of : (tokens rest : List Token) (ports : List Port) → IsPortList tokens ports rest → Begins tokens ports rest
 Begins-of tokens rest [] is = absurd (omega (arith, is.some))
@@ -22,7 +22,7 @@ Begins-of tokens rest (port ∷ []) is = last (ap port_at is.spelled ∙ port_at
 Begins-of tokens rest (port ∷ second ∷ ports) is =
     let next : List Token = list_tokens (second ∷ ports) ++ mark (byte ")") ∷ rest in
     let parts : tokens ≡ port_tokens port ++ mark (byte ",") ∷ next = is.spelled ∙ append_assoc (port_tokens port) (mark (byte ",") ∷ list_tokens (second ∷ ports)) (mark (byte ")") ∷ rest) in
-    more (ap port_at parts ∙ port_at-again port (mark (byte ",") ∷ next) is.each.0) (record { some = omega arith; each = is.each.1; spelled = refl })
+    more (ap port_at parts ∙ port_at-again port (mark (byte ",") ∷ next) is.each.0) (Begins-of next rest (second ∷ ports) (record { some = omega arith; each = is.each.1; spelled = refl }))
 
 -- a port before the end, and a port before more of them
 IsPortList-last : (tokens rest : List Token) (port : Port) → IsPort port → tokens ≡ port_tokens port ++ mark (byte ")") ∷ rest → IsPortList tokens (port ∷ []) rest
@@ -40,12 +40,32 @@ IsPortList-more tokens next rest port (second ∷ ports) is_port spelled is = re
 reads_once : (tokens : List Token) (a b : Declaration) (x y : List Token) → port_at tokens ≡ Some (a, x) → port_at tokens ≡ Some (b, y) → (a ≡ b) × (x ≡ y)
 reads_once tokens a b x y left right = found_both a b x y (sym left ∙ right)
 
+-- a comma does not end the list
+not_both : (a b : List Token) → mark (byte ",") ∷ a ≡ mark (byte ")") ∷ b → ⊥
+not_both a b same = let apart : true ≡ false = (found_both true false a b (ap separator_at same)).0 in cc
+
+lists_once : (tokens a b : List Token) (ports others : List Port) → Begins tokens ports a → Begins tokens others b → (map declaration_of ports ≡ map declaration_of others) × (a ≡ b)
+lists_once tokens a b [] others left right = elim left [ ]
+lists_once tokens a b (port ∷ ports) [] left right = elim right [ ]
+lists_once tokens a b (port ∷ []) (other ∷ []) (last is) (last was) = let same = reads_once tokens (declaration_of port) (declaration_of other) _ _ is was in (cc same.0, cc same.1)
+lists_once tokens a b (port ∷ []) (other ∷ others) (last is) (more {next = next} was rest) = absurd (not_both next a (sym (reads_once tokens (declaration_of port) (declaration_of other) _ _ is was).1))
+lists_once tokens a b (port ∷ ports) (other ∷ []) (more {next = next} is rest) (last was) = absurd (not_both next b (reads_once tokens (declaration_of port) (declaration_of other) _ _ is was).1)
+lists_once tokens a b (port ∷ ports) (other ∷ others) (more {next = x} is left) (more {next = y} was right) =
+    let same = reads_once tokens (declaration_of port) (declaration_of other) _ _ is was in
+    let next : x ≡ y = cc same.1 in
+    let rest = lists_once y a b ports others (subst (λ (ts : List Token). Begins ts ports a) next left) right in
+    (cc (same.0, rest.0), rest.1)
+
+-- two lists of ports at the front of the same tokens declare the same
+pub IsPortList-once : (tokens a b : List Token) (ports others : List Port) → IsPortList tokens ports a → IsPortList tokens others b → (map declaration_of ports ≡ map declaration_of others) × (a ≡ b)
+IsPortList-once tokens a b ports others left right = lists_once tokens a b ports others (Begins-of tokens a ports left) (Begins-of tokens b others right)
+
 -- the ports that were read so far, and the tokens behind the comma after them
 pub record Continues (start : List Token) (signals : List Signal) (now : List Token) : Type 0 where
   pub ports : List Port
   pub declared : signals ≡ signals_of ports
   pub whole : (others : List Port) (rest : List Token) → IsPortList now others rest → IsPortList start (ports ++ others) rest
-  pub behind : (all : List Port) (rest : List Token) → IsPortList start all rest → (others : List Port) × IsPortList now others rest
+  pub behind : (all : List Port) (rest : List Token) → Begins start all rest → (others : List Port) × Begins now others rest
 
 pub Continues-none : (start : List Token) → Continues start [] start
 Continues-none start = record { ports = []; declared = refl; whole = λ others rest is. is; behind = λ all rest is. (all, is) }
@@ -68,15 +88,14 @@ goes signals ports now declaration after are read =
     }
 
 -- what is behind the comma after the port
-behind_comma : (now : List Token) (declaration : Declaration) (next rest : List Token) (ports : List Port) → port_at now ≡ Some (declaration, mark (byte ",") ∷ next) → Begins now ports rest → (others : List Port) × IsPortList next others rest
+behind_comma : (now : List Token) (declaration : Declaration) (next rest : List Token) (ports : List Port) → port_at now ≡ Some (declaration, mark (byte ",") ∷ next) → Begins now ports rest → (others : List Port) × Begins next others rest
 behind_comma now declaration next rest [] read begins = elim begins [ ]
 behind_comma now declaration next rest (port ∷ []) read (last is) =
     let same = reads_once now declaration (declaration_of port) _ _ read is in
-    let apart : true ≡ false = (found_both true false next rest (ap separator_at same.1)).0 in
-    absurd cc
+    absurd (not_both next rest same.1)
 behind_comma now declaration next rest (port ∷ ports) read (more {next = other} is others) =
     let same : next ≡ other = cc (reads_once now declaration (declaration_of port) _ _ read is).1 in
-    (ports, subst (λ (ts : List Token). IsPortList ts ports rest) (sym same) others)
+    (ports, subst (λ (ts : List Token). Begins ts ports rest) (sym same) others)
 
 -- after a port and a comma
 pub Continues-more : (start : List Token) (signals : List Signal) (now : List Token) (declaration : Declaration) (next : List Token) → Continues start signals now → port_at now ≡ Some (declaration, mark (byte ",") ∷ next)
@@ -87,7 +106,7 @@ Continues-more start signals now declaration next so_far read =
       ports = so_far.ports ++ one.port ∷ [];
       declared = one.declared;
       whole = λ others rest is. rw append_assoc (so_far.whole (one.port ∷ others) rest (IsPortList-more now next rest one.port others one.is_port one.spelled is));
-      behind = λ all rest is. let left = so_far.behind all rest is in behind_comma now declaration next rest left.0 read (Begins-of now rest left.0 left.1);
+      behind = λ all rest is. let left = so_far.behind all rest is in behind_comma now declaration next rest left.0 read left.1;
     }
 
 -- after the last port
@@ -104,7 +123,7 @@ no_port now rest (port ∷ []) none (last is) = cc
 no_port now rest (port ∷ ports) none (more is others) = cc
 
 pub Continues-no_port : (start : List Token) (signals : List Signal) (now : List Token) → Continues start signals now → port_at now ≡ None → NoPortList start
-Continues-no_port start signals now so_far none all rest is = let left = so_far.behind all rest is in no_port now rest left.0 none (Begins-of now rest left.0 left.1)
+Continues-no_port start signals now so_far none all rest is = let left = so_far.behind all rest (Begins-of start rest all is) in no_port now rest left.0 none left.1
 
 -- where neither a comma nor a parenthesis follows a port, there is no list
 no_separator : (now : List Token) (declaration : Declaration) (after rest : List Token) (ports : List Port) → port_at now ≡ Some (declaration, after) → separator_at after ≡ None → Begins now ports rest → ⊥
@@ -113,7 +132,7 @@ no_separator now declaration after rest (port ∷ []) read none (last is) = let 
 no_separator now declaration after rest (port ∷ ports) read none (more is others) = let same = (reads_once now declaration (declaration_of port) _ _ read is).1 in cc (rw same at none)
 
 pub Continues-no_separator : (start : List Token) (signals : List Signal) (now : List Token) (declaration : Declaration) (after : List Token) → Continues start signals now → port_at now ≡ Some (declaration, after) → separator_at after ≡ None → NoPortList start
-Continues-no_separator start signals now declaration after so_far read none all rest is = let left = so_far.behind all rest is in no_separator now declaration after rest left.0 read none (Begins-of now rest left.0 left.1)
+Continues-no_separator start signals now declaration after so_far read none all rest is = let left = so_far.behind all rest (Begins-of start rest all is) in no_separator now declaration after rest left.0 read none left.1
 
 -- ---- separators
 

@@ -1,4 +1,4 @@
-ghost use Rattle.std.specs.Prelude.{◌≡◌, ℕ, List, IfNone, IfOk, IfSome};
+ghost use Rattle.std.specs.Prelude.{◌≡◌, ◌↔◌, List, [], IfNone, IfOk, IfSome, IsTrue};
 ghost use Rattle.input_module.specs.Port.{Port};
 ghost use Rattle.input_module.specs.Reading.{DeclaresSignals, NoPortList, Reads, Takes, end_at, front_at, separator_at};
 ghost use Rattle.input_module.specs.SourceForm.{IsModule, signals_of};
@@ -29,10 +29,11 @@ pub(crate) fn read_module(
     let Some(signals) = read_ports(alloc, &mut tokens)? else {
         return Ok(None);
     };
-    if close_module(&mut tokens).is_none() || tokens.next_token().is_some() {
-        return Ok(None);
+    if is_closed(&mut tokens) {
+        Ok(Some(signals))
+    } else {
+        Ok(None)
     }
-    Ok(Some(signals))
 }
 
 /// Takes `module NAME (`.
@@ -77,6 +78,13 @@ fn take_separator(tokens: &mut Tokens<'_>) -> Option<bool>
         Token::Mark(b')') => Some(false),
         _ => None,
     }
+}
+
+/// Whether `; endmodule` is all that is left.
+fn is_closed(tokens: &mut Tokens<'_>) -> bool
+    ensures { IsTrue result ↔ (end_at tokens.old ≡ Some []) }
+{
+    close_module(tokens).is_some() && tokens.next_token().is_none()
 }
 
 /// Takes `; endmodule`.
