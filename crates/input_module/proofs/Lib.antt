@@ -3,3 +3,4 @@ pub mod PortLemmas
 pub mod PortReading
 pub mod PortLists
 pub mod ModuleReading
+pub mod NameLemmas
