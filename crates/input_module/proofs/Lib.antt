@@ -4,3 +4,6 @@ pub mod PortReading
 pub mod PortLists
 pub mod ModuleReading
 pub mod NameLemmas
+pub mod TextLength
+pub mod SourceLemmas
+pub mod InputLemmas

@@ -15,6 +15,10 @@ space_len text = prefix_len is_white_space text
 abbrev pub word_len : List ℕ → ℕ
 word_len text = prefix_len continues_name text
 
+-- white space is no token
+pub tokens_of-white : (b : ℕ) (bs : List ℕ) → is_white_space b ≡ true → tokens_of (b ∷ bs) ≡ tokens_of bs
+tokens_of-white b bs white = rw white refl
+
 -- white space at the front has no tokens
 tokens_of-drop_space : (text : List ℕ) → tokens_of text ≡ tokens_of (drop (space_len text) text)
 tokens_of-drop_space [] = refl
@@ -36,7 +40,7 @@ begins_word-some : (bs : List ℕ) → 0 < word_len bs → begins_word bs ≡ tr
 begins_word-some [] some = absurd (omega arith)
 begins_word-some (c ∷ cs) some = elim (cases_Bool (continues_name c)) [ inl inside ↦ inside | inr outside ↦ absurd (omega (arith, rw outside at some)) ]
 
-word_step : (b : ℕ) (bs : List ℕ) → continues_name b ≡ true → tokens_of (b ∷ bs) ≡ cond (begins_word bs) (joined b (tokens_of bs)) (word (b ∷ []) ∷ tokens_of bs)
+pub word_step : (b : ℕ) (bs : List ℕ) → continues_name b ≡ true → tokens_of (b ∷ bs) ≡ cond (begins_word bs) (joined b (tokens_of bs)) (word (b ∷ []) ∷ tokens_of bs)
 word_step b bs inside = let black : is_white_space b ≡ false = word_not_white b inside in rw (black, inside) refl
 
 -- a word at the front is the first token
@@ -52,7 +56,7 @@ tokens_of-word (b ∷ bs) some =
     ]
 
 -- any other byte at the front is the first token
-tokens_of-mark : (b : ℕ) (bs : List ℕ) → is_white_space b ≡ false → continues_name b ≡ false → tokens_of (b ∷ bs) ≡ mark b ∷ tokens_of bs
+pub tokens_of-mark : (b : ℕ) (bs : List ℕ) → is_white_space b ≡ false → continues_name b ≡ false → tokens_of (b ∷ bs) ≡ mark b ∷ tokens_of bs
 tokens_of-mark b bs black outside = rw (black, outside) refl
 
 -- what follows the longest front that passes does not pass
