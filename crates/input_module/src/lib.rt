@@ -2,6 +2,12 @@
 //! take its place one by one.
 #![tactic(auto)]
 
-mod source_form;
+mod module_form;
+mod names;
+mod port;
+mod port_form;
+mod source;
+mod token;
+mod tokens;
 
-pub use source_form::read_source;
+pub use source::read_source;
