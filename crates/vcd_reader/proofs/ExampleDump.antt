@@ -1,14 +1,17 @@
 -- The example has the dump that is expected.
 use Rattle.std.proofs.Common.{◌≡◌, ◌≢◌, ◌<◌, ◌≤◌, arith, ℕ, true, false, List, [], ◌∷◌, map, codes, refl, take, drop, lit≤, lit<, inl}
-use Rattle.std.specs.Prelude.{bytes_eq}
+use Rattle.std.specs.Prelude.{bytes_eq, IsTrue, Some, length}
+use Rattle.std.specs.List.{list_all}
 use Rattle.std.proofs.lemmas.Slice.Eq.{bytes_eq-Decides}
 use Rattle.std.specs.Char.{digit_value}
 use Rattle.cov_host.specs.Decimal.{decimal_value}
 use Rattle.four_state.specs.declared.Bit.TheVariants.{Zero, One, X}
 use Rattle.vcd_reader.specs.Words.{Word, words_of}
-use Rattle.vcd_reader.specs.Codes.{Code}
-use Rattle.vcd_reader.specs.Header.{scope, upscope, variable, end_definitions, Header, IsHeader, IsSize}
-use Rattle.vcd_reader.specs.Body.{Item, time, change, SpellsAll, simulation_time, scalar_change, vector_change, none, first, IsBody}
+use Rattle.vcd_reader.specs.Codes.{Code, code_of}
+use Rattle.vcd_reader.specs.Values.{is_digit}
+use Rattle.vcd_reader.specs.Spelling.{SpellsAll, none, first}
+use Rattle.vcd_reader.specs.Header.{scope, upscope, variable, end_definitions, scope_section, upscope_section, variable_section, last_section, END, is_printable, Header, IsHeader, IsSize, IsCode}
+use Rattle.vcd_reader.specs.Body.{Item, time, change, SpellsItem, simulation_time, scalar_change, vector_change, IsValueOf, IsBody}
 use Rattle.vcd_reader.specs.Dump.{IsDump}
 use Rattle.vcd_reader.specs.Example.{example_text, example_dump}
 
@@ -34,44 +37,42 @@ differ a b apart same = let equal : bytes_eq a b ≡ true = (bytes_eq-Decides a 
 one_digit_size : (digit : ℕ) → digit_value digit < 10 → 1 ≤ decimal_value (digit ∷ []) → IsSize (digit ∷ [])
 one_digit_size digit decimal least = record { decimal = (lit< tt, (decimal, tt)); least = least; greatest = omega arith }
 
+one_byte_code : (byte : ℕ) → bytes_eq (byte ∷ []) END ≡ false → IsTrue (list_all is_printable (byte ∷ [])) → IsCode (byte ∷ [])
+one_byte_code byte apart printable = record { field = differ _ _ apart; longest = lit≤ tt; printable = printable }
+
 is_header : IsHeader (words_of example_text) header body
 is_header = record {
   front = take 26 (words_of example_text);
-  sections = scope (codes "module") (codes "tb") ∷ scope (codes "module") (codes "dut")
-      ∷ variable (codes "wire") (codes "1") (codes "!") (codes "clk") ∷ variable (codes "wire") (codes "2") (codes "\"") (codes "a")
-      ∷ upscope ∷ upscope ∷ end_definitions ∷ [];
+  sections = scope (codes "tb") ∷ scope (codes "dut") ∷ variable (codes "wire") 1 (codes "!") (codes "clk") ∷ variable (codes "wire") 2 (codes "\"") (codes "a") ∷ upscope ∷ upscope ∷ end_definitions ∷ [];
   split = refl;
-  spelled = refl;
-  each = (
-    (differ _ _ refl, differ _ _ refl),
-    (
-      (differ _ _ refl, differ _ _ refl),
-      (
-        (differ _ _ refl, one_digit_size 49 (lit< tt) (lit≤ tt), (record { field = differ _ _ refl; longest = lit≤ tt; printable = refl }), differ _ _ refl),
-        (
-          (differ _ _ refl, one_digit_size 50 (lit< tt) (lit≤ tt), (record { field = differ _ _ refl; longest = lit≤ tt; printable = refl }), differ _ _ refl),
-          (tt, (tt, (tt, tt))),
-        ),
-      ),
-    ),
-  );
+  spelled =
+      first (scope_section (differ _ _ refl) (differ _ _ refl)) (
+      first (scope_section (differ _ _ refl) (differ _ _ refl)) (
+      first (variable_section (differ _ _ refl) (one_digit_size 49 (lit< tt) (lit≤ tt)) (one_byte_code 33 refl refl) (differ _ _ refl)) (
+      first (variable_section (differ _ _ refl) (one_digit_size 50 (lit< tt) (lit≤ tt)) (one_byte_code 34 refl refl) (differ _ _ refl)) (
+      first upscope_section (
+      first upscope_section (
+      first last_section none))))));
   declares = refl;
   within = lit≤ tt;
 }
 
-spelled : SpellsAll table (map (λ word. word.bytes) body) items
+value : {code digits : List ℕ} {number size : ℕ} → code_of table code ≡ Some (number, size) → 0 < length digits → IsTrue (list_all is_digit digits) → length digits ≤ size → IsValueOf table code digits number size
+value known some each fits = record { known = known; some = some; each = each; fits = fits }
+
+spelled : SpellsAll (SpellsItem table) (map (λ word. word.bytes) body) items
 spelled =
     first (simulation_time (lit< tt, (lit< tt, tt)) (lit< tt)) (
-    first (scalar_change refl refl) (
-    first (vector_change (inl refl) (lit< tt) refl refl (lit≤ tt)) (
+    first (scalar_change (value refl (lit< tt) refl (lit≤ tt))) (
+    first (vector_change (inl refl) (value refl (lit< tt) refl (lit≤ tt))) (
     first (simulation_time (lit< tt, (lit< tt, tt)) (lit< tt)) (
-    first (scalar_change refl refl) (
-    first (vector_change (inl refl) (lit< tt) refl refl (lit≤ tt)) (
+    first (scalar_change (value refl (lit< tt) refl (lit≤ tt))) (
+    first (vector_change (inl refl) (value refl (lit< tt) refl (lit≤ tt))) (
     first (simulation_time (lit< tt, (lit< tt, (lit< tt, tt))) (lit< tt)) (
-    first (scalar_change refl refl) (
-    first (vector_change (inl refl) (lit< tt) refl refl (lit≤ tt)) (
+    first (scalar_change (value refl (lit< tt) refl (lit≤ tt))) (
+    first (vector_change (inl refl) (value refl (lit< tt) refl (lit≤ tt))) (
     first (simulation_time (lit< tt, (lit< tt, (lit< tt, tt))) (lit< tt)) (
-    first (scalar_change refl refl)
+    first (scalar_change (value refl (lit< tt) refl (lit≤ tt)))
     none))))))))))
 
 is_body : IsBody table body items

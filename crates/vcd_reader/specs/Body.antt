@@ -4,6 +4,7 @@ use Rattle.std.specs.List.{list_all}
 use Rattle.cov_host.specs.Decimal.{IsDecimal, decimal_value}
 use Rattle.four_state.specs.declared.Bit.{Bit}
 use Rattle.vcd_reader.specs.Words.{Word}
+use Rattle.vcd_reader.specs.Spelling.{SpellsAll}
 use Rattle.vcd_reader.specs.Codes.{Code, code_of}
 use Rattle.vcd_reader.specs.Values.{is_digit, value_bits}
 use Rattle.vcd_reader.specs.declared.dump.Change.{Change}
@@ -14,24 +15,24 @@ pub data Item : Type 0 where
   time : ℕ → Item
   change : ℕ → List Bit → Item
 
+-- the digits are a value of the code, which has this number and this size
+pub record IsValueOf (table : List Code) (code digits : List ℕ) (number size : ℕ) : Type 0 where
+  pub known : code_of table code ≡ Some (number, size)
+  pub some : 0 < length digits
+  pub each : IsTrue (list_all is_digit digits)
+  pub fits : length digits ≤ size
+
 -- the words spell the item, where the codes are those of the table
-pub data Spells (codes : List Code) : List (List ℕ) → Item → Type 0 where
+pub data SpellsItem (table : List Code) : List (List ℕ) → Item → Type 0 where
   -- `#` and a decimal number below 2 ^ 63
   simulation_time : {digits : List ℕ} → IsDecimal digits → decimal_value digits < 2 ^ 63
-      → Spells codes ((35 ∷ digits) ∷ []) (time (decimal_value digits))
+      → SpellsItem table ((35 ∷ digits) ∷ []) (time (decimal_value digits))
   -- a digit and a code
-  scalar_change : {byte number size : ℕ} {code : List ℕ} → IsTrue (is_digit byte) → code_of codes code ≡ Some (number, size)
-      → Spells codes ((byte ∷ code) ∷ []) (change number (value_bits size (byte ∷ [])))
-  -- `b` or `B` and digits, and then a code of at least their number of bits
-  vector_change : {letter number size : ℕ} {digits code : List ℕ} → (letter ≡ 98) ⊎ (letter ≡ 66)
-      → 0 < length digits → IsTrue (list_all is_digit digits) → code_of codes code ≡ Some (number, size) → length digits ≤ size
-      → Spells codes ((letter ∷ digits) ∷ code ∷ []) (change number (value_bits size digits))
-
--- the words spell the items, one behind the other
-pub data SpellsAll (codes : List Code) : List (List ℕ) → List Item → Type 0 where
-  none : SpellsAll codes [] []
-  first : {words others : List (List ℕ)} {item : Item} {items : List Item} → Spells codes words item → SpellsAll codes others items
-      → SpellsAll codes (words ++ others) (item ∷ items)
+  scalar_change : {digit number size : ℕ} {code : List ℕ} → IsValueOf table code (digit ∷ []) number size
+      → SpellsItem table ((digit ∷ code) ∷ []) (change number (value_bits size (digit ∷ [])))
+  -- `b` or `B` and digits, and then a code
+  vector_change : {letter number size : ℕ} {digits code : List ℕ} → (letter ≡ 98) ⊎ (letter ≡ 66) → IsValueOf table code digits number size
+      → SpellsItem table ((letter ∷ digits) ∷ code ∷ []) (change number (value_bits size digits))
 
 -- from this time on no time falls
 abbrev pub NeverFalls : ℕ → List Item → Type 0
@@ -40,8 +41,8 @@ NeverFalls least (time t ∷ items) = (least ≤ t) × NeverFalls t items
 NeverFalls least (change code bits ∷ items) = NeverFalls least items
 
 -- the words spell the items, and no time falls
-pub record IsBody (codes : List Code) (words : List Word) (items : List Item) : Type 0 where
-  pub spelled : SpellsAll codes (map (λ word. word.bytes) words) items
+pub record IsBody (table : List Code) (words : List Word) (items : List Item) : Type 0 where
+  pub spelled : SpellsAll (SpellsItem table) (map (λ word. word.bytes) words) items
   pub rising : NeverFalls 0 items
 
 -- the changes with one more in front, where it has at most 128 bits

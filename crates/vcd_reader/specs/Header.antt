@@ -1,28 +1,23 @@
 -- The header of a dump (IEEE 1364-2001 clause 18.2.3), in the small form: scopes and variables alone.
-use Rattle.std.specs.Prelude.{◌≡◌, ◌≢◌, ◌≤◌, ◌==◌, ℕ, ◌+◌, nat_le, nat_lt, Bool, ◌&&◌, IsTrue, if◌then◌else◌, List, [], ◌∷◌, ◌++◌, map, flat_map, reverse, length, codes, Option, Some, None, option_map, option_and_then}
-use Rattle.std.specs.List.{AllByRecursion, list_all, before_first, join_with_byte}
+use Rattle.std.specs.Prelude.{◌≡◌, ◌≢◌, ◌≤◌, ◌==◌, ℕ, ◌+◌, nat_le, nat_lt, Bool, ◌&&◌, IsTrue, if◌then◌else◌, List, [], ◌∷◌, ◌++◌, map, reverse, length, codes, Option, Some, None, option_map, option_and_then}
+use Rattle.std.specs.List.{list_all, before_first, join_with_byte}
 use Rattle.cov_host.specs.Decimal.{IsDecimal, decimal_value}
 use Rattle.vcd_reader.specs.Words.{Word}
+use Rattle.vcd_reader.specs.Spelling.{SpellsAll}
 use Rattle.vcd_reader.specs.Codes.{Code, code_of, with_code}
 use Rattle.vcd_reader.specs.declared.dump.Var.{Var}
 
--- a section by its words: a scope's kind and name, a variable's kind, size, code and reference
+-- what a section says: that a scope of this name opens, that the innermost one closes, that a variable has this kind, size,
+-- code and name, or that the definitions end
 pub data Section : Type 0 where
-  scope : List ℕ → List ℕ → Section
+  scope : List ℕ → Section
   upscope : Section
-  variable : List ℕ → List ℕ → List ℕ → List ℕ → Section
+  variable : List ℕ → ℕ → List ℕ → List ℕ → Section
   end_definitions : Section
 
 -- the word that ends a section
 abbrev pub END : List ℕ
 END = codes "$end"
-
--- the words of a section
-abbrev pub section_words : Section → List (List ℕ)
-section_words (scope kind name) = codes "$scope" ∷ kind ∷ name ∷ END ∷ []
-section_words upscope = codes "$upscope" ∷ END ∷ []
-section_words (variable kind size code reference) = codes "$var" ∷ kind ∷ size ∷ code ∷ reference ∷ END ∷ []
-section_words end_definitions = codes "$enddefinitions" ∷ END ∷ []
 
 -- any word but the end of a section
 abbrev pub IsField : List ℕ → Type 0
@@ -44,12 +39,18 @@ pub record IsCode (word : List ℕ) : Type 0 where
   pub longest : length word ≤ 8
   pub printable : IsTrue (list_all is_printable word)
 
--- what each word of a section is
-abbrev pub IsSection : Section → Type 0
-IsSection (scope kind name) = IsField kind × IsField name
-IsSection upscope = Unit {0}
-IsSection (variable kind size code reference) = IsField kind × IsSize size × IsCode code × IsField reference
-IsSection end_definitions = Unit {0}
+-- a reference up to its first bracket
+abbrev pub name_of : List ℕ → List ℕ
+name_of reference = before_first (λ byte. byte == 91) reference
+
+-- the words spell the section
+pub data SpellsSection : List (List ℕ) → Section → Type 0 where
+  scope_section : {kind name : List ℕ} → IsField kind → IsField name
+      → SpellsSection (codes "$scope" ∷ kind ∷ name ∷ END ∷ []) (scope name)
+  upscope_section : SpellsSection (codes "$upscope" ∷ END ∷ []) upscope
+  variable_section : {kind size code reference : List ℕ} → IsField kind → IsSize size → IsCode code → IsField reference
+      → SpellsSection (codes "$var" ∷ kind ∷ size ∷ code ∷ reference ∷ END ∷ []) (variable kind (decimal_value size) code (name_of reference))
+  last_section : SpellsSection (codes "$enddefinitions" ∷ END ∷ []) end_definitions
 
 -- the variables and the codes that a header declares
 pub record Header : Type 0 where
@@ -59,10 +60,6 @@ pub record Header : Type 0 where
 -- the names of open scopes, of which the innermost comes first, from the outermost on with dots between them
 abbrev pub path_of : List (List ℕ) → List ℕ
 path_of scopes = join_with_byte 46 (reverse scopes)
-
--- a reference up to its first bracket
-abbrev pub name_of : List ℕ → List ℕ
-name_of reference = before_first (λ byte. byte == 91) reference
 
 -- one variable more in front
 abbrev pub with_var : Var → Header → Header
@@ -77,12 +74,12 @@ number_of table code size = option_and_then (λ found. if found.1 == size then S
 -- definitions do not end with the last section and there alone.
 abbrev pub declared : List (List ℕ) → List Code → List Section → Option Header
 declared scopes table [] = None
-declared scopes table (scope kind name ∷ sections) = if nat_lt (length scopes) 64 then declared (name ∷ scopes) table sections else None
+declared scopes table (scope name ∷ sections) = if nat_lt (length scopes) 64 then declared (name ∷ scopes) table sections else None
 declared [] table (upscope ∷ sections) = None
 declared (name ∷ scopes) table (upscope ∷ sections) = declared scopes table sections
-declared scopes table (variable kind size code reference ∷ sections) =
-    let table' = with_code table code (decimal_value size) in
-    option_and_then (λ number. option_map (with_var (record { scope = path_of scopes; kind = kind; name = name_of reference; size = decimal_value size; code = number })) (declared scopes table' sections)) (number_of table' code (decimal_value size))
+declared scopes table (variable kind size code name ∷ sections) =
+    let table' = with_code table code size in
+    option_and_then (λ number. option_map (with_var (record { scope = path_of scopes; kind = kind; name = name; size = size; code = number })) (declared scopes table' sections)) (number_of table' code size)
 declared scopes table (end_definitions ∷ []) = Some (record { vars = []; codes = table })
 declared scopes table (end_definitions ∷ section ∷ sections) = None
 
@@ -97,7 +94,6 @@ pub record IsHeader (words : List Word) (header : Header) (rest : List Word) : T
   pub front : List Word
   pub sections : List Section
   pub split : words ≡ front ++ rest
-  pub spelled : map (λ word. word.bytes) front ≡ flat_map section_words sections
-  pub each : AllByRecursion IsSection sections
+  pub spelled : SpellsAll SpellsSection (map (λ word. word.bytes) front) sections
   pub declares : declared [] [] sections ≡ Some header
   pub within : end_of front ≤ 67108864
