@@ -154,7 +154,7 @@ module _ (bs cs : List Bit) (same : length bs ≡ length cs) where
   pub merge_of_masks : bits_of_masks (length bs) (bit_and (mask_of is_one bs) (mask_of is_one cs)) (2 ^ length bs - 1 - bit_or (bit_and (mask_of is_one bs) (mask_of is_one cs)) (bit_and (mask_of is_zero bs) (mask_of is_zero cs))) ≡ zip_bits merge_bit bs cs
   merge_of_masks =
       zipped_known merge_bit (bit_and (mask_of is_one bs) (mask_of is_one cs)) (bit_and (mask_of is_zero bs) (mask_of is_zero cs)) bs cs same (and_inside (length bs) _ _ (mask_below is_one bs)) (and_inside (length bs) _ _ (mask_below is_zero bs)) (λ i l.
-      simp (is_set-and, is_set-or, one_here i l, zero_here i l, one_there i l, zero_there i l) (merge_at (get_or bs i X) (get_or cs i X)))
+      simp (is_set-and, one_here i l, zero_here i l, one_there i l, zero_there i l) (merge_at (get_or bs i X) (get_or cs i X)))
 
   pub xor_of_masks : bits_of_masks (length bs) (bit_or (bit_and (mask_of is_one bs) (mask_of is_zero cs)) (bit_and (mask_of is_zero bs) (mask_of is_one cs))) (2 ^ length bs - 1 - bit_or (bit_or (bit_and (mask_of is_one bs) (mask_of is_zero cs)) (bit_and (mask_of is_zero bs) (mask_of is_one cs))) (bit_or (bit_and (mask_of is_one bs) (mask_of is_one cs)) (bit_and (mask_of is_zero bs) (mask_of is_zero cs)))) ≡ zip_bits xor_bit bs cs
   xor_of_masks =

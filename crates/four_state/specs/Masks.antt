@@ -1,5 +1,5 @@
 -- Vectors as two masks: a 1 bit is in the first, x in the second, z in both.
-use Rattle.std.specs.Prelude.{ℕ, zero, suc, ◌+◌, ◌*◌, ◌/◌, ◌%◌, ◌^◌, ◌<◌, ◌≤◌, ◌==◌, Bool, true, false, not, if◌then◌else◌, List, [], ◌∷◌, ℤ, pos, negsuc}
+use Rattle.std.specs.Prelude.{ℕ, zero, suc, ◌+◌, ◌-◌, ◌*◌, ◌/◌, ◌%◌, ◌^◌, ◌<◌, ◌≤◌, ◌==◌, Bool, true, false, not, if◌then◌else◌, bit_or, List, [], ◌∷◌, ℤ, pos, negsuc}
 use Rattle.four_state.specs.Vector.{Bit, Zero, One, X, Z, is_known}
 
 -- the bit that is in these masks
@@ -23,6 +23,10 @@ is_strange b = not (is_known b)
 unfoldable pub bits_of_masks : ℕ → ℕ → ℕ → List Bit
 bits_of_masks zero ones strange = []
 bits_of_masks (suc w) ones strange = bit_in_masks (ones % 2 == 1) (strange % 2 == 1) ∷ bits_of_masks w (ones / 2) (strange / 2)
+
+-- the w bits that are 1 in the first mask, 0 in the second, and else x
+abbrev pub bits_of_known : ℕ → ℕ → ℕ → List Bit
+bits_of_known w ones zeros = bits_of_masks w ones (2 ^ w - 1 - bit_or ones zeros)
 
 -- the mask of the places whose bits pass a test
 unfoldable pub mask_of : (Bit → Bool) → List Bit → ℕ

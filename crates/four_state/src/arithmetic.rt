@@ -1,16 +1,16 @@
 //! The arithmetic operators (IEEE 1364-2001, clauses 4.1.5 and 4.5).
 
-ghost use Rattle.std.specs.Prelude.{◌≡◌, ◌==◌, ◌+◌, ◌-◌, ◌%◌, ◌^◌, ◌++◌, ◌&&◌, not, pos, length, ◌+ℤ◌, ◌-ℤ◌, ◌*ℤ◌, int_div, int_rem, unsigned_abs, IsTrue, false, true};
-ghost use Rattle.four_state.specs.Vector.{fill as copies, all_known, HasWidth};
-ghost use Rattle.four_state.specs.Arithmetic.{natural, low_bits, cut as cut_bits, if_known, whole, arithmetic, division};
-ghost use Rattle.four_state.specs.Operators.{SameShape};
+ghost use Rattle.std.specs.Prelude.{◌≡◌, ◌==◌, ◌+◌, ◌%◌, ◌^◌, ◌++◌, ◌&&◌, not, length, unsigned_abs, IsTrue, false, true};
+ghost use Rattle.four_state.specs.Vector.{fill as copies, all_known, with_bits, HasWidth};
+ghost use Rattle.four_state.specs.Arithmetic.{natural, low_bits, whole};
+ghost use Rattle.four_state.specs.Operators.{unary_vector, binary_vector, SameShape};
 
 use crate::mask::low_mask;
-use crate::{Bit, Four};
+use crate::{Binary, Bit, Four, Unary};
 
 /// A number cut to the width of `like`.
 fn cut(like: &Four, number: u128) -> Four
-    ensures value { result ≡ record { bits = low_bits (length like.now.bits) number; signed = like.now.signed } }
+    ensures value { result ≡ with_bits like.now (low_bits (length like.now.bits) number) }
     ensures within { HasWidth like.now }
 {
     Four::make(
@@ -23,21 +23,21 @@ fn cut(like: &Four, number: u128) -> Four
 
 /// All bits x.
 fn unknown(like: &Four) -> Four
-    ensures { result ≡ record { bits = copies (length like.now.bits) Bit.X; signed = like.now.signed } }
+    ensures { result ≡ with_bits like.now (copies (length like.now.bits) Bit.X) }
 {
     Four::fill(like.width(), like.is_signed(), Bit::X)
 }
 
 /// `+a`
 pub(crate) fn positive(a: &Four) -> Four
-    ensures { result ≡ record { bits = if_known a.now.bits (length a.now.bits) a.now.bits; signed = a.now.signed } }
+    ensures { result ≡ unary_vector Unary.Positive a.now }
 {
     if a.is_known() { *a } else { unknown(a) }
 }
 
 /// `-a`
 pub(crate) fn negative(a: &Four) -> Four
-    ensures { let w = length a.now.bits in result ≡ record { bits = if_known a.now.bits w (cut_bits w (pos 0 -ℤ whole false a.now.bits)); signed = a.now.signed } }
+    ensures { result ≡ unary_vector Unary.Negative a.now }
 {
     if a.is_known() {
         cut(a, a.known_ones().wrapping_neg())
@@ -49,7 +49,7 @@ pub(crate) fn negative(a: &Four) -> Four
 /// `a + b`
 pub(crate) fn add(a: &Four, b: &Four) -> Four
     requires { SameShape a.now b.now }
-    ensures { result ≡ record { bits = arithmetic ◌+ℤ◌ a.now.signed a.now.bits b.now.bits; signed = a.now.signed } }
+    ensures { result ≡ binary_vector Binary.Add a.now b.now }
 {
     if Four::are_known(a, b) {
         cut(a, a.known_ones().wrapping_add(b.known_ones()))
@@ -61,7 +61,7 @@ pub(crate) fn add(a: &Four, b: &Four) -> Four
 /// `a - b`
 pub(crate) fn subtract(a: &Four, b: &Four) -> Four
     requires { SameShape a.now b.now }
-    ensures { result ≡ record { bits = arithmetic ◌-ℤ◌ a.now.signed a.now.bits b.now.bits; signed = a.now.signed } }
+    ensures { result ≡ binary_vector Binary.Subtract a.now b.now }
 {
     if Four::are_known(a, b) {
         cut(a, a.known_ones().wrapping_sub(b.known_ones()))
@@ -73,7 +73,7 @@ pub(crate) fn subtract(a: &Four, b: &Four) -> Four
 /// `a * b`
 pub(crate) fn multiply(a: &Four, b: &Four) -> Four
     requires { SameShape a.now b.now }
-    ensures { result ≡ record { bits = arithmetic ◌*ℤ◌ a.now.signed a.now.bits b.now.bits; signed = a.now.signed } }
+    ensures { result ≡ binary_vector Binary.Multiply a.now b.now }
 {
     if Four::are_known(a, b) {
         cut(a, a.known_ones().wrapping_mul(b.known_ones()))
@@ -116,7 +116,7 @@ fn can_divide(a: &Four, b: &Four) -> bool
 /// `a / b`
 pub(crate) fn divide(a: &Four, b: &Four) -> Four
     requires { SameShape a.now b.now }
-    ensures { result ≡ record { bits = division int_div a.now.signed a.now.bits b.now.bits; signed = a.now.signed } }
+    ensures { result ≡ binary_vector Binary.Divide a.now b.now }
 {
     if !can_divide(a, b) {
         return unknown(a);
@@ -128,7 +128,7 @@ pub(crate) fn divide(a: &Four, b: &Four) -> Four
 /// `a % b`
 pub(crate) fn modulus(a: &Four, b: &Four) -> Four
     requires { SameShape a.now b.now }
-    ensures { result ≡ record { bits = division int_rem a.now.signed a.now.bits b.now.bits; signed = a.now.signed } }
+    ensures { result ≡ binary_vector Binary.Modulus a.now b.now }
 {
     if !can_divide(a, b) {
         return unknown(a);

@@ -1,18 +1,19 @@
 //! The bitwise operators (IEEE 1364-2001, clause 4.1.10).
 
-ghost use Rattle.std.specs.Prelude.{◌≡◌, ◌^◌, ◌<◌, ◌≤◌, ◌-◌, map, length, bit_or};
-ghost use Rattle.four_state.specs.Operators.{zip_bits, and_bit, or_bit, xor_bit, merge_bit, not_bit};
-ghost use Rattle.four_state.specs.Masks.{bits_of_masks};
+ghost use Rattle.std.specs.Prelude.{◌≡◌, ◌^◌, ◌<◌, length};
+ghost use Rattle.four_state.specs.Vector.{with_bits};
+ghost use Rattle.four_state.specs.Operators.{unary_vector, binary_vector, choice_vector};
+ghost use Rattle.four_state.specs.Masks.{bits_of_known};
 
-use crate::Four;
 use crate::mask::low_mask;
+use crate::{Binary, Four, Truth, Unary};
 
 /// The vector with 1 at the places of one mask, 0 at those of another, and x elsewhere.
 #[tactic(auto, using(crate::proofs::BitwiseLaws::or_inside))]
 fn known(like: &Four, ones: u128, zeros: u128) -> Four
     requires ones_inside { ones < 2 ^ length like.now.bits }
     requires zeros_inside { zeros < 2 ^ length like.now.bits }
-    ensures { let w = length like.now.bits in result ≡ record { bits = bits_of_masks w ones (2 ^ w - 1 - bit_or ones zeros); signed = like.now.signed } }
+    ensures { result ≡ with_bits like.now (bits_of_known (length like.now.bits) ones zeros) }
 {
     Four::make(
         like.width(),
@@ -25,7 +26,7 @@ fn known(like: &Four, ones: u128, zeros: u128) -> Four
 /// `~a`
 #[tactic(auto, using(crate::proofs::BitwiseLaws::not_of_masks))]
 pub(crate) fn not(a: &Four) -> Four
-    ensures { result ≡ record { bits = map not_bit a.now.bits; signed = a.now.signed } }
+    ensures { result ≡ unary_vector Unary.BitwiseNot a.now }
 {
     known(a, a.known_zeros(), a.known_ones())
 }
@@ -34,7 +35,7 @@ pub(crate) fn not(a: &Four) -> Four
 #[tactic(auto, using(crate::proofs::BitwiseLaws::and_of_masks, crate::proofs::BitwiseLaws::and_inside, crate::proofs::BitwiseLaws::or_inside))]
 pub(crate) fn and(a: &Four, b: &Four) -> Four
     requires { length a.now.bits ≡ length b.now.bits }
-    ensures { result ≡ record { bits = zip_bits and_bit a.now.bits b.now.bits; signed = a.now.signed } }
+    ensures { result ≡ binary_vector Binary.BitwiseAnd a.now b.now }
 {
     known(
         a,
@@ -47,7 +48,7 @@ pub(crate) fn and(a: &Four, b: &Four) -> Four
 #[tactic(auto, using(crate::proofs::BitwiseLaws::or_of_masks, crate::proofs::BitwiseLaws::and_inside, crate::proofs::BitwiseLaws::or_inside))]
 pub(crate) fn or(a: &Four, b: &Four) -> Four
     requires { length a.now.bits ≡ length b.now.bits }
-    ensures { result ≡ record { bits = zip_bits or_bit a.now.bits b.now.bits; signed = a.now.signed } }
+    ensures { result ≡ binary_vector Binary.BitwiseOr a.now b.now }
 {
     known(
         a,
@@ -60,7 +61,7 @@ pub(crate) fn or(a: &Four, b: &Four) -> Four
 #[tactic(auto, using(crate::proofs::BitwiseLaws::xor_of_masks, crate::proofs::BitwiseLaws::and_inside, crate::proofs::BitwiseLaws::or_inside))]
 pub(crate) fn xor(a: &Four, b: &Four) -> Four
     requires { length a.now.bits ≡ length b.now.bits }
-    ensures { result ≡ record { bits = zip_bits xor_bit a.now.bits b.now.bits; signed = a.now.signed } }
+    ensures { result ≡ binary_vector Binary.BitwiseXor a.now b.now }
 {
     let different = a.known_ones() & b.known_zeros() | a.known_zeros() & b.known_ones();
     let equal = a.known_ones() & b.known_ones() | a.known_zeros() & b.known_zeros();
@@ -71,7 +72,7 @@ pub(crate) fn xor(a: &Four, b: &Four) -> Four
 #[tactic(auto, using(crate::proofs::BitwiseLaws::merge_of_masks, crate::proofs::BitwiseLaws::and_inside, crate::proofs::BitwiseLaws::or_inside))]
 pub(crate) fn merge(a: &Four, b: &Four) -> Four
     requires { length a.now.bits ≡ length b.now.bits }
-    ensures { result ≡ record { bits = zip_bits merge_bit a.now.bits b.now.bits; signed = a.now.signed } }
+    ensures { result ≡ choice_vector Truth.Strange a.now b.now }
 {
     known(
         a,

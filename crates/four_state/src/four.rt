@@ -1,6 +1,6 @@
 ghost use Rattle.std.specs.Prelude.{◌≡◌, ◌^◌, ◌<◌, ◌≤◌, ◌&&◌, ◌++◌, if◌then◌else◌, length, slice_get, Some};
 ghost use Rattle.std.specs.List.{list_any};
-ghost use Rattle.four_state.specs.Vector.{HasWidth, fill as copies, is_one, is_zero, all_known, top as top_bit};
+ghost use Rattle.four_state.specs.Vector.{HasWidth, fill as copies, is_one, is_zero, all_known, top as top_bit, with_bits};
 ghost use Rattle.four_state.specs.Arithmetic.{natural};
 ghost use Rattle.four_state.specs.Masks.{bits_of_masks, bits_over, mask_of, is_one_or_z, is_strange};
 
@@ -46,7 +46,8 @@ impl Four {
         requires at_most { width ≤ 128 }
         requires ones_inside { ones < 2 ^ width }
         requires strange_inside { strange < 2 ^ width }
-        ensures { result ≡ record { bits = bits_of_masks width ones strange; signed = signed } }
+        ensures value { result ≡ record { bits = bits_of_masks width ones strange; signed = signed } }
+        ensures width { length result.bits ≡ width }
     {
         Four {
             ones,
@@ -179,7 +180,7 @@ impl Four {
 
     /// The bits of two masks at the places of `inside`, over this vector.
     pub(crate) fn overlaid(&self, inside: u128, ones: u128, strange: u128) -> Four
-        ensures value { result ≡ record { bits = bits_over self.now.bits inside ones strange; signed = self.now.signed } }
+        ensures value { result ≡ with_bits self.now (bits_over self.now.bits inside ones strange) }
         ensures within { HasWidth self.now }
     {
         let inside = inside & low_mask(self.width());

@@ -1,6 +1,7 @@
 //! The shift operators (IEEE 1364-2001, clause 4.1.12).
 
 ghost use Rattle.std.specs.Prelude.{◌≡◌};
+ghost use Rattle.four_state.specs.Vector.{with_bits};
 ghost use Rattle.four_state.specs.Arithmetic.{shift_left, shift_right};
 
 use crate::mask::{low_mask, lowered, raised};
@@ -8,7 +9,7 @@ use crate::{Bit, Four};
 
 /// `a << amount` and `a <<< amount`
 pub(crate) fn left(a: &Four, amount: &Four) -> Four
-    ensures { result ≡ record { bits = shift_left a.now.bits amount.now.bits; signed = a.now.signed } }
+    ensures { result ≡ with_bits a.now (shift_left a.now.bits amount.now.bits) }
 {
     if !amount.is_known() {
         return Four::fill(a.width(), a.is_signed(), Bit::X);
@@ -25,7 +26,7 @@ pub(crate) fn left(a: &Four, amount: &Four) -> Four
 
 /// `a >> amount` with the vacated places filled by a bit
 pub(crate) fn right(filler: Bit, a: &Four, amount: &Four) -> Four
-    ensures { result ≡ record { bits = shift_right filler a.now.bits amount.now.bits; signed = a.now.signed } }
+    ensures { result ≡ with_bits a.now (shift_right filler a.now.bits amount.now.bits) }
 {
     if !amount.is_known() {
         return Four::fill(a.width(), a.is_signed(), Bit::X);

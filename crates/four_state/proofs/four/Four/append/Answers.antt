@@ -12,4 +12,4 @@ make-requires-clause-strange_inside c =
 
 pub returns : goal.returns
 returns c =
-    rw (c.make.ensures, c.width.ensures.value, c.width-2.ensures.value, c.width-3.ensures.value, c.width-4.ensures.value, c.ones.ensures.value, c.ones-2.ensures.value, c.strange.ensures.value, c.strange-2.ensures.value) (ap (λ bs. record { bits = bs; signed = false }) (appended_law c.args.high.now.bits c.args.low.now.bits c.requires))
+    rw (c.make.ensures.value, c.width.ensures.value, c.width-2.ensures.value, c.width-3.ensures.value, c.width-4.ensures.value, c.ones.ensures.value, c.ones-2.ensures.value, c.strange.ensures.value, c.strange-2.ensures.value) (ap (λ bs. record { bits = bs; signed = false }) (appended_law c.args.high.now.bits c.args.low.now.bits c.requires))

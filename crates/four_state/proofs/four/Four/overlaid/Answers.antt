@@ -12,4 +12,4 @@ make-requires-clause-strange_inside c =
 
 pub returns-clause-value : goal.returns-clause-value
 returns-clause-value c =
-    rw (c.make.ensures, c.ones.ensures.value, c.strange.ensures.value, c.low_mask.ensures, c.width-2.ensures.value, c.width.ensures.value, c.is_signed.ensures) (ap (λ bs. record { bits = bs; signed = c.args.self.now.signed }) (overlaid_masks (length c.args.self.now.bits) c.args.inside c.width.ensures.within.1 c.args.ones c.args.strange c.args.self.now.bits refl))
+    rw (c.make.ensures.value, c.ones.ensures.value, c.strange.ensures.value, c.low_mask.ensures, c.width-2.ensures.value, c.width.ensures.value, c.is_signed.ensures) (ap (λ bs. record { bits = bs; signed = c.args.self.now.signed }) (overlaid_masks (length c.args.self.now.bits) c.args.inside c.width.ensures.within.1 c.args.ones c.args.strange c.args.self.now.bits refl))
