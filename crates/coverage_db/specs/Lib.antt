@@ -2,3 +2,4 @@ pub mod Words
 pub mod Order
 pub mod Table
 pub mod Text
+pub mod Merge

@@ -7,6 +7,7 @@ mod fault;
 mod line_word;
 mod node_case;
 mod operator;
+mod same;
 mod verdict;
 mod write;
 
