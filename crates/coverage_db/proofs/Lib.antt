@@ -1,2 +1,4 @@
 pub mod Lines
 pub mod Differences
+pub mod Splits
+pub mod Numbers

@@ -3,3 +3,4 @@ pub mod Order
 pub mod Table
 pub mod Text
 pub mod Merge
+pub mod Fields

@@ -5,6 +5,8 @@ use Rattle.std.specs.Ordering.{nat_cmp, ordering_then, is_le}
 use Rattle.coverage_db.specs.declared.address.Address.{Address}
 use Rattle.coverage_db.specs.declared.db.Db.{Db}
 use Rattle.coverage_db.specs.declared.db.DbPoint.{DbPoint}
+use Rattle.coverage_db.specs.declared.fault.MergeFault.{MergeFault}
+use Rattle.coverage_db.specs.declared.fault.MergeFault.TheVariants.{NoMemory, DesignsDiffer}
 use Rattle.coverage_db.specs.declared.verdict.DbVerdict.{DbVerdict}
 use Rattle.coverage_db.specs.declared.verdict.DbVerdict.TheVariants.{Hit, Missed, Undetermined}
 use Rattle.coverage_db.specs.Order.{bytes_cmp}
@@ -64,6 +66,10 @@ pub record IsFirstDifference (line : ℕ) (left right : List ℕ) (lefts rights 
   pub number : line ≡ length before + 1
   pub differ : left ≢ right
 
+-- the lists of lines differ first at a place, counted from 0
+abbrev pub DifferFirstAt : ℕ → List (List ℕ) → List (List ℕ) → Type 0
+DifferFirstAt place lefts rights = (left : List ℕ) × (right : List ℕ) × IsFirstDifference (place + 1) left right lefts rights
+
 -- what is left of two lists begins with different items, or only one of them is at its end
 abbrev pub HeadsDiffer : {T : Type 0} → List T → List T → Type 0
 HeadsDiffer [] [] = ⊥
@@ -77,3 +83,8 @@ pub record IsFirstUnequal {T : Type 0} (place : ℕ) (lefts rights : List T) : T
   pub within : place ≤ length lefts
   pub within_too : place ≤ length rights
   pub differ : HeadsDiffer (drop place lefts) (drop place rights)
+
+-- a refusal other than for want of memory names the first line that differs
+abbrev pub IsDesignsDiffer : MergeFault → Db → Db → Type 0
+IsDesignsDiffer NoMemory a b = Unit {0}
+IsDesignsDiffer (DesignsDiffer line left right) a b = IsFirstDifference line left right (bare_lines a) (bare_lines b)

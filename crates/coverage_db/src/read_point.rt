@@ -1,0 +1,135 @@
+ghost use Rattle.std.specs.Prelude.{◌≡◌, ◌≤◌, ◌<◌, ◌^◌, ◌-◌, ◌&&◌, List, Bool, codes, IsTrue, Some, IfOk};
+ghost use Rattle.std.specs.List.{slice_split};
+ghost use Rattle.std.specs.Str.{bytes_eq};
+ghost use Rattle.cov_host.specs.Identifier.{is_identifier};
+ghost use Rattle.coverage_db.specs.Table.{Rises, is_state, is_thing};
+ghost use Rattle.coverage_db.specs.Order.{bytes_cmp};
+ghost use Rattle.coverage_db.specs.Words.{line_word_text, node_case_text, operator_text};
+ghost use Rattle.coverage_db.specs.Fields.{Gives, passing, number_of, counted_of, place_of, word_of, index_of, choice_of, line_of, logic_of, toggle_of, machine_of, memory_of, subject_of, instance_of, doubt_of, verdict_of, point_of};
+ghost use Rattle.coverage_db.specs.declared.line_word.TheConstants.LineWord as line_words;
+ghost use Rattle.coverage_db.specs.declared.node_case.TheConstants.NodeCase as node_cases;
+ghost use Rattle.coverage_db.specs.declared.operator.TheConstants.Operator as operators;
+
+use crate::fields::{Fields, Misfit};
+use crate::{Address, DbInstance, DbPoint, DbVerdict, LineWord, NodeCase, Operator, SourceLine, Subject};
+use cov_host::{Name, is_identifier, read_decimal};
+use std::alloc::Global;
+
+/// The greatest time, 2 ^ 63 - 1.
+const GREATEST_TIME: u64 = u64::MAX / 2;
+
+/// The fields of a line point.
+#[tactic(auto, unfolding(crate::specs::Fields::line_of))]
+fn read_line(sources: usize, fields: &mut Fields) -> Result<Subject, Misfit>
+    ensures { let after = fields.new in Gives (λ subject. (subject, after)) result (line_of sources fields.old) }
+{
+    let number = read_count(fields.next()?)?;
+    let at = read_place(sources, fields.next()?)?;
+    let word = read_line_word(fields.next()?)?;
+    Ok(Subject::Line { number, at, word })
+}
+
+/// The fields of a logic point.
+#[tactic(auto, unfolding(crate::specs::Fields::logic_of))]
+fn read_logic(sources: usize, fields: &mut Fields) -> Result<Subject, Misfit>
+    ensures { let after = fields.new in Gives (λ subject. (subject, after)) result (logic_of sources fields.old) }
+{
+    let number = read_count(fields.next()?)?;
+    let at = read_place(sources, fields.next()?)?;
+    let operator = read_operator(fields.next()?)?;
+    let case = read_node_case(fields.next()?)?;
+    if !operator.can_have(case) {
+        return Err(Misfit::Line);
+    }
+    Ok(Subject::Logic {
+        number,
+        at,
+        operator,
+        case,
+    })
+}
+
+/// A source and its line.
+#[tactic(auto, unfolding(crate::specs::Fields::place_of))]
+fn read_place(sources: usize, field: &[u8]) -> Result<SourceLine, Misfit>
+    ensures { Gives (λ at. at) result (place_of sources field.now) }
+{
+    let mut parts = Fields::new(field, b':');
+    let source = read_count(parts.next()?)?;
+    let line = read_count(parts.next()?)?;
+    if source as usize <= sources && parts.is_empty() {
+        Ok(SourceLine { source, line })
+    } else {
+        Err(Misfit::Line)
+    }
+}
+
+/// A number from 1 that has 32 bits.
+#[tactic(auto, unfolding(crate::specs::Fields::counted_of))]
+fn read_count(field: &[u8]) -> Result<u32, Misfit>
+    ensures { Gives (λ number. number) result (counted_of field.now) }
+{
+    let number = read_u32(field)?;
+    if number == 0 {
+        return Err(Misfit::Line);
+    }
+    Ok(number)
+}
+
+/// A number that has 32 bits.
+fn read_u32(field: &[u8]) -> Result<u32, Misfit>
+    ensures { Gives (λ number. number) result (number_of (2 ^ 32 - 1) field.now) }
+{
+    let number = read_number(field, u64::from(u32::MAX))?;
+    Ok(number as u32)
+}
+
+/// The number whose decimal text the field is.
+fn read_number(field: &[u8], greatest: u64) -> Result<u64, Misfit>
+    ensures gives { Gives (λ number. number) result (number_of greatest field.now) }
+    ensures within { IfOk result (λ number. number ≤ greatest) }
+{
+    if field.len() > 1 && field[0] == b'0' {
+        return Err(Misfit::Line);
+    }
+    match read_decimal(field, greatest) {
+        Some(number) => Ok(number),
+        None => Err(Misfit::Line),
+    }
+}
+
+fn read_line_word(field: &[u8]) -> Result<LineWord, Misfit>
+    ensures { Gives (λ word. word) result (word_of line_word_text line_words.ALL field.now) }
+{
+    find_line_word(field).ok_or(Misfit::Line)
+}
+
+fn find_line_word(field: &[u8]) -> Option<LineWord>
+    ensures { result ≡ word_of line_word_text line_words.ALL field.now }
+{
+    LineWord::ALL.iter().copied().find(|word| word.text().as_bytes() == field)
+}
+
+fn read_operator(field: &[u8]) -> Result<Operator, Misfit>
+    ensures { Gives (λ operator. operator) result (word_of operator_text operators.ALL field.now) }
+{
+    find_operator(field).ok_or(Misfit::Line)
+}
+
+fn find_operator(field: &[u8]) -> Option<Operator>
+    ensures { result ≡ word_of operator_text operators.ALL field.now }
+{
+    Operator::ALL.iter().copied().find(|operator| operator.text().as_bytes() == field)
+}
+
+fn read_node_case(field: &[u8]) -> Result<NodeCase, Misfit>
+    ensures { Gives (λ case. case) result (word_of node_case_text node_cases.ALL field.now) }
+{
+    find_node_case(field).ok_or(Misfit::Line)
+}
+
+fn find_node_case(field: &[u8]) -> Option<NodeCase>
+    ensures { result ≡ word_of node_case_text node_cases.ALL field.now }
+{
+    NodeCase::ALL.iter().copied().find(|case| case.text().as_bytes() == field)
+}
