@@ -1,5 +1,6 @@
-ghost use Rattle.std.specs.Prelude.{◌≡◌, ◌≤◌, ◌<◌, ◌^◌, ◌-◌, ◌&&◌, List, Bool, codes, IsTrue, Some, IfOk};
-ghost use Rattle.std.specs.List.{slice_split};
+ghost use Rattle.std.specs.Prelude.{◌≡◌, ◌≤◌, ◌<◌, ◌^◌, ◌-◌, ◌&&◌, List, Bool, codes, IsTrue, Some, IfOk, IfErr};
+ghost use Rattle.std.specs.List.{slice_split, list_all};
+ghost use Rattle.std.specs.Char.{is_ascii_digit};
 ghost use Rattle.std.specs.Str.{bytes_eq};
 ghost use Rattle.cov_host.specs.Identifier.{is_identifier};
 ghost use Rattle.coverage_db.specs.Table.{Rises, is_state, is_thing};
@@ -47,6 +48,137 @@ fn read_logic(sources: usize, fields: &mut Fields) -> Result<Subject, Misfit>
         operator,
         case,
     })
+}
+
+/// The fields of a toggle point.
+#[tactic(auto, unfolding(crate::specs::Fields::toggle_of))]
+fn read_toggle(alloc: Global, fields: &mut Fields) -> Result<Subject, Misfit>
+    ensures { let after = fields.new in Gives (λ subject. (subject, after)) result (toggle_of fields.old) }
+{
+    let name = read_identifier(alloc, fields.next()?)?;
+    let index = read_index(fields.next()?)?;
+    let rise = read_choice(fields.next()?, b"01", b"10")?;
+    Ok(Subject::Toggle { name, index, rise })
+}
+
+/// The fields of a word that is read or written.
+#[tactic(auto, unfolding(crate::specs::Fields::memory_of))]
+fn read_memory(alloc: Global, fields: &mut Fields) -> Result<Subject, Misfit>
+    ensures { let after = fields.new in Gives (λ subject. (subject, after)) result (memory_of fields.old) }
+{
+    let name = read_identifier(alloc, fields.next()?)?;
+    let index = read_u32(fields.next()?)?;
+    let write = read_choice(fields.next()?, b"w", b"r")?;
+    Ok(Subject::Word { name, index, write })
+}
+
+/// The fields of a state, or of an arc, which has one field more before the equals sign.
+#[tactic(auto, unfolding(crate::specs::Fields::machine_of))]
+fn read_machine(alloc: Global, fields: &mut Fields) -> Result<Subject, Misfit>
+    ensures { let after = fields.new in Gives (λ subject. (subject, after)) result (machine_of fields.old) }
+{
+    let name = read_identifier(alloc, fields.next()?)?;
+    let state = read_state(alloc, fields.next()?)?;
+    if fields.peek()? == b"=".as_slice() {
+        return Ok(Subject::State { name, state });
+    }
+    let to = read_state(alloc, fields.next()?)?;
+    if state.as_slice() == to.as_slice() {
+        return Err(Misfit::Line);
+    }
+    Ok(Subject::Arc {
+        name,
+        from: state,
+        to,
+    })
+}
+
+/// The fields that follow a letter and an instance, up to the equals sign.
+#[tactic(auto, unfolding(crate::specs::Fields::subject_of))]
+fn read_subject(
+    alloc: Global,
+    sources: usize,
+    letter: &[u8],
+    fields: &mut Fields,
+) -> Result<Subject, Misfit>
+    ensures { let after = fields.new in Gives (λ subject. (subject, after)) result (subject_of sources letter.now fields.old) }
+{
+    match letter {
+        b"l" => read_line(sources, fields),
+        b"c" => read_logic(sources, fields),
+        b"t" => read_toggle(alloc, fields),
+        b"f" => read_machine(alloc, fields),
+        b"m" => read_memory(alloc, fields),
+        _ => Err(Misfit::Line),
+    }
+}
+
+/// An identifier.
+fn read_identifier(alloc: Global, field: &[u8]) -> Result<Name, Misfit>
+    ensures { Gives (λ name. name) result (passing (is_identifier field.now) field.now) }
+{
+    if !is_identifier(field) {
+        return Err(Misfit::Line);
+    }
+    copied(alloc, field)
+}
+
+/// The name of a state: an identifier, or decimal digits.
+fn read_state(alloc: Global, field: &[u8]) -> Result<Name, Misfit>
+    ensures { Gives (λ name. name) result (passing (is_state field.now) field.now) }
+{
+    if !is_state(field) {
+        return Err(Misfit::Line);
+    }
+    copied(alloc, field)
+}
+
+/// Whether it is an identifier, or decimal digits.
+fn is_state(field: &[u8]) -> bool
+    ensures { result ≡ is_state field.now }
+{
+    is_identifier(field) || (!field.is_empty() && are_digits(field))
+}
+
+/// Whether each byte is a decimal digit.
+fn are_digits(field: &[u8]) -> bool
+    ensures { result ≡ list_all is_ascii_digit field.now }
+{
+    field.iter().all(|byte| byte.is_ascii_digit())
+}
+
+/// A name with these bytes.
+fn copied(alloc: Global, bytes: &[u8]) -> Result<Name, Misfit>
+    ensures gives { IfOk result (λ name. name ≡ bytes.now) }
+    ensures memory { IfErr result (λ fault. fault ≡ Misfit.NoMemory) }
+{
+    let mut name = Name::new(alloc);
+    name.extend_from_slice(bytes)?;
+    Ok(name)
+}
+
+/// An index as declared.
+#[tactic(auto, unfolding(crate::specs::Fields::index_of))]
+fn read_index(field: &[u8]) -> Result<Option<u32>, Misfit>
+    ensures { Gives (λ index. index) result (index_of field.now) }
+{
+    if field == b"-".as_slice() {
+        return Ok(None);
+    }
+    Ok(Some(read_u32(field)?))
+}
+
+/// Whether the field is the one text and not the other.
+fn read_choice(field: &[u8], one: &[u8], other: &[u8]) -> Result<bool, Misfit>
+    ensures { Gives (λ choice. choice) result (choice_of one.now other.now field.now) }
+{
+    if field == one {
+        Ok(true)
+    } else if field == other {
+        Ok(false)
+    } else {
+        Err(Misfit::Line)
+    }
 }
 
 /// A source and its line.
