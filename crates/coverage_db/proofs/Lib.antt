@@ -2,3 +2,4 @@ pub mod Lines
 pub mod Differences
 pub mod Splits
 pub mod Numbers
+pub mod Orders

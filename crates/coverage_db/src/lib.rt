@@ -7,6 +7,7 @@ mod db;
 mod difference;
 mod fault;
 mod fields;
+mod instances;
 mod line_word;
 mod merging;
 mod node_case;
