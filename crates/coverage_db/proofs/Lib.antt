@@ -3,3 +3,5 @@ pub mod Differences
 pub mod Splits
 pub mod Numbers
 pub mod Orders
+pub mod Lacking
+pub mod Things
