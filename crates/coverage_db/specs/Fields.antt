@@ -152,13 +152,17 @@ doubt_of instances fields = do
   second ← field_of first.1
   passing (is_thing instances second.0 && nat_le (length second.1) 0) (Undetermined time second.0)
 
+-- hit or missed
+abbrev pub verdict_of_hit : Bool → DbVerdict
+verdict_of_hit true = Hit
+verdict_of_hit false = Missed
+
 -- the fields of a verdict, to the end of the line
 unfoldable pub verdict_of : List DbInstance → List (List ℕ) → Option DbVerdict
 verdict_of instances fields = do
   first ← field_of fields
   if bytes_eq first.0 (codes "?") then doubt_of instances first.1
-    else if bytes_eq first.0 (codes "hit") then passing (nat_le (length first.1) 0) Hit
-    else passing (bytes_eq first.0 (codes "missed") && nat_le (length first.1) 0) Missed
+    else (choice_of (codes "hit") (codes "missed") first.0 >>= λ hit. passing (nat_le (length first.1) 0) (verdict_of_hit hit))
 
 -- the point of the fields of a line
 unfoldable pub point_of : ℕ → List DbInstance → List (List ℕ) → Option DbPoint

@@ -10,7 +10,8 @@ use std::cmp::Ordering;
 /// The place of the instance with the path.
 pub(crate) fn find_instance(instances: &[DbInstance], path: &[u8]) -> Option<usize>
     requires { Rises (λ a b. bytes_cmp a.path b.path) instances.now }
-    ensures { result ≡ instance_of instances.now path.now }
+    ensures place { result ≡ instance_of instances.now path.now }
+    ensures within { IfSome result (λ place. place < length instances.now) }
 {
     let (mut low, mut high) = (0, instances.len());
     while low < high {

@@ -1,4 +1,4 @@
-ghost use Rattle.std.specs.Prelude.{◌≡◌, ◌≤◌, ◌<◌, ◌^◌, ◌-◌, ◌&&◌, List, Bool, codes, IsTrue, Some, IfOk, IfErr};
+ghost use Rattle.std.specs.Prelude.{◌≡◌, ◌==◌, ◌≤◌, ◌<◌, ◌^◌, length, ◌-◌, ◌&&◌, List, Bool, codes, IsTrue, Some, IfOk, IfErr};
 ghost use Rattle.std.specs.List.{slice_split, list_all};
 ghost use Rattle.std.specs.Char.{is_ascii_digit};
 ghost use Rattle.std.specs.Str.{bytes_eq};
@@ -12,12 +12,100 @@ ghost use Rattle.coverage_db.specs.declared.node_case.TheConstants.NodeCase as n
 ghost use Rattle.coverage_db.specs.declared.operator.TheConstants.Operator as operators;
 
 use crate::fields::{Fields, Misfit};
+use crate::instances::{find_instance, is_thing};
 use crate::{Address, DbInstance, DbPoint, DbVerdict, LineWord, NodeCase, Operator, SourceLine, Subject};
 use cov_host::{Name, is_identifier, read_decimal};
 use std::alloc::Global;
 
 /// The greatest time, 2 ^ 63 - 1.
 const GREATEST_TIME: u64 = u64::MAX / 2;
+
+/// The point of a line, with so many sources and these instances.
+#[tactic(auto, unfolding(crate::specs::Fields::point_of))]
+pub(crate) fn read_point(
+    alloc: Global,
+    sources: usize,
+    instances: &[DbInstance],
+    line: &[u8],
+) -> Result<DbPoint, Misfit>
+    requires rises { Rises (λ a b. bytes_cmp a.path b.path) instances.now }
+    requires few { length instances.now < 2 ^ 32 }
+    ensures { Gives (λ point. point) result (point_of sources instances.now (slice_split (λ byte. byte == 32) line.now)) }
+{
+    let mut fields = Fields::new(line, b' ');
+    let letter = fields.next()?;
+    let place = read_instance(instances, fields.next()?)?;
+    let subject = read_subject(alloc, sources, letter, &mut fields)?;
+    if fields.next()? != b"=".as_slice() {
+        return Err(Misfit::Line);
+    }
+    let verdict = read_verdict(alloc, instances, &mut fields)?;
+    Ok(DbPoint {
+        address: Address {
+            instance: place,
+            subject,
+        },
+        verdict,
+    })
+}
+
+/// The place of the instance with the path.
+fn read_instance(instances: &[DbInstance], path: &[u8]) -> Result<u32, Misfit>
+    requires rises { Rises (λ a b. bytes_cmp a.path b.path) instances.now }
+    requires few { length instances.now < 2 ^ 32 }
+    ensures { Gives (λ place. place) result (instance_of instances.now path.now) }
+{
+    match find_instance(instances, path) {
+        Some(place) => Ok(place as u32),
+        None => Err(Misfit::Line),
+    }
+}
+
+/// The fields of a verdict, to the end of the line.
+#[tactic(auto, unfolding(crate::specs::Fields::verdict_of))]
+fn read_verdict(
+    alloc: Global,
+    instances: &[DbInstance],
+    fields: &mut Fields,
+) -> Result<DbVerdict, Misfit>
+    requires { Rises (λ a b. bytes_cmp a.path b.path) instances.now }
+    ensures { Gives (λ verdict. verdict) result (verdict_of instances.now fields.old) }
+{
+    let first = fields.next()?;
+    if first == b"?".as_slice() {
+        return read_doubt(alloc, instances, fields);
+    }
+    let hit = read_choice(first, b"hit", b"missed")?;
+    if !fields.is_empty() {
+        return Err(Misfit::Line);
+    }
+    Ok(if hit {
+        DbVerdict::Hit
+    } else {
+        DbVerdict::Missed
+    })
+}
+
+/// The fields of a doubt, to the end of the line.
+#[tactic(auto, unfolding(crate::specs::Fields::doubt_of))]
+fn read_doubt(
+    alloc: Global,
+    instances: &[DbInstance],
+    fields: &mut Fields,
+) -> Result<DbVerdict, Misfit>
+    requires { Rises (λ a b. bytes_cmp a.path b.path) instances.now }
+    ensures { Gives (λ verdict. verdict) result (doubt_of instances.now fields.old) }
+{
+    let time = read_number(fields.next()?, GREATEST_TIME)?;
+    let path = fields.next()?;
+    if !is_thing(instances, path) || !fields.is_empty() {
+        return Err(Misfit::Line);
+    }
+    Ok(DbVerdict::Undetermined {
+        time,
+        path: copied(alloc, path)?,
+    })
+}
 
 /// The fields of a line point.
 #[tactic(auto, unfolding(crate::specs::Fields::line_of))]

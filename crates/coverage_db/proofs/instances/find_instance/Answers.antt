@@ -21,13 +21,13 @@ loop-low-preserved c =
     search_down c.args.instances.now c.args.path.now c.loop-low.low c.loop-low.high middle found c.requires c.loop-low.invariant (omega arith) (omega arith)
         (subst (λ (i : DbInstance). bytes_cmp i.path c.args.path.now ≡ Greater) c.index-instances-middle.is more)
 
-pub returns-in-Equal : goal.returns-in-Equal
-returns-in-Equal c =
+pub returns-in-Equal-clause-place : goal.returns-in-Equal-clause-place
+returns-in-Equal-clause-place c =
     let found = c.index-instances-middle.result in
     let tied : bytes_cmp found.path c.args.path.now ≡ Equal = cc (c.in-Equal.ensures, c.as_slice.ensures) in
     let middle = c.loop-low.low + (c.loop-low.high - c.loop-low.low) / 2 in
     sym (search_hits c.args.instances.now c.args.path.now middle found c.requires (omega (arith, c.loop-low.invariant.within))
         (subst (λ (i : DbInstance). bytes_cmp i.path c.args.path.now ≡ Equal) c.index-instances-middle.is tied))
 
-pub returns : goal.returns
-returns c = sym (search_ends c.args.instances.now c.args.path.now c.loop-low.low c.loop-low.high c.loop-low.invariant c.loop-low-test.false)
+pub returns-clause-place : goal.returns-clause-place
+returns-clause-place c = sym (search_ends c.args.instances.now c.args.path.now c.loop-low.low c.loop-low.high c.loop-low.invariant c.loop-low-test.false)

@@ -12,7 +12,7 @@ returns-in-None c = sym (thing_without_dot c.args.instances.now c.args.path.now 
 pub returns-then-is_identifier : goal.returns-then-is_identifier
 returns-then-is_identifier c =
     let name : is_identifier (drop (c.in-Some.dot + 1) c.args.path.now) ≡ true = rw take_rest at (sym c.if-is_identifier.ensures) in
-    let found : c.is_some.result ≡ is_some (instance_of c.args.instances.now (take c.in-Some.dot c.args.path.now)) = cc (c.is_some.ensures, c.find_instance.ensures) in
+    let found : c.is_some.result ≡ is_some (instance_of c.args.instances.now (take c.in-Some.dot c.args.path.now)) = cc (c.is_some.ensures, c.find_instance.ensures.place) in
     found ∙ sym (thing_is c.in-Some.dot c.args.instances.now c.args.path.now c.in-Some.ensures.within c.in-Some.ensures.dot c.in-Some.ensures.last name)
 
 pub returns-else-is_identifier : goal.returns-else-is_identifier
