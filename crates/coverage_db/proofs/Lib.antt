@@ -5,3 +5,4 @@ pub mod Numbers
 pub mod Orders
 pub mod Lacking
 pub mod Things
+pub mod Parts

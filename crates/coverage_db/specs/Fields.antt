@@ -1,5 +1,5 @@
 -- Reading the fields of a line.
-use Rattle.std.specs.Prelude.{◌≡◌, ℕ, suc, ◌+◌, ◌-◌, ◌^◌, nat_le, Bool, true, false, ◌&&◌, Option, Some, None, Result, Ok, Err, List, [], ◌∷◌, ◌++◌, length, codes, decimal, if◌then◌else◌, ◌==◌, not}
+use Rattle.std.specs.Prelude.{◌≡◌, ℕ, suc, ◌+◌, ◌-◌, ◌^◌, nat_le, Bool, true, false, ◌&&◌, Option, Some, None, Result, Ok, Err, List, [], ◌∷◌, ◌++◌, length, take, drop, codes, decimal, if◌then◌else◌, ◌==◌, not}
 use Rattle.std.specs.List.{slice_split, find}
 use Rattle.std.specs.Option.{option_map}
 use Rattle.std.specs.Str.{bytes_eq}
@@ -21,7 +21,9 @@ use Rattle.coverage_db.specs.declared.node_case.TheConstants.NodeCase as node_ca
 use Rattle.coverage_db.specs.declared.operator.TheConstants.Operator as operators
 use Rattle.coverage_db.specs.declared.fields.Misfit.{Misfit}
 use Rattle.coverage_db.specs.declared.fields.Misfit.TheVariants as misfit
-use Rattle.coverage_db.specs.Table.{is_state, is_thing}
+use Rattle.std.specs.Ordering.{is_lt}
+use Rattle.coverage_db.specs.Order.{bytes_cmp, address_cmp}
+use Rattle.coverage_db.specs.Table.{is_state, is_thing, is_path, is_file_name}
 use Rattle.coverage_db.specs.Words.{line_word_text, node_case_text, operator_text, can_have}
 
 infixl 10 ◌>>=◌
@@ -181,3 +183,43 @@ abbrev pub Gives : {X Y : Type 0} → (X → Y) → Result X Misfit → Option Y
 Gives view (Ok x) read = read ≡ Some (view x)
 Gives view (Err misfit.Line) read = read ≡ None
 Gives view (Err misfit.NoMemory) read = Unit {0}
+
+-- the line begins with the word
+abbrev pub begins : List ℕ → List ℕ → Bool
+begins word line = bytes_eq (take (length word) line) word
+
+-- what stands after the word that the line begins with
+abbrev pub after_word : List ℕ → List ℕ → Option (List ℕ)
+after_word word line = passing (begins word line) (drop (length word) line)
+
+-- the name of the source with the number
+unfoldable pub source_of : ℕ → List ℕ → Option (List ℕ)
+source_of number line = do
+  rest ← after_word (codes "source ") line
+  after ← after_word (decimal number) rest
+  name ← after_word (codes " ") after
+  passing (is_file_name name) name
+
+-- the path stands after that of the instance before it
+abbrev pub is_after : Option DbInstance → List ℕ → Bool
+is_after None path = true
+is_after (Some before) path = is_lt (bytes_cmp before.path path)
+
+-- the instance of a line, which stands after the one before it
+unfoldable pub instance_at : Option DbInstance → List ℕ → Option DbInstance
+instance_at before line = do
+  rest ← after_word (codes "instance ") line
+  path ← field_of (slice_split (λ byte. byte == 32) rest)
+  name ← field_of path.1
+  passing (is_path path.0 && is_identifier name.0 && nat_le (length name.1) 0 && is_after before path.0) (record { path = path.0; «module» = name.0 })
+
+-- the point stands after the one before it
+abbrev pub is_next : Option DbPoint → DbPoint → Bool
+is_next None point = true
+is_next (Some before) point = is_lt (address_cmp before.address point.address)
+
+-- the point of a line, which stands after the one before it
+unfoldable pub point_at : ℕ → List DbInstance → Option DbPoint → List ℕ → Option DbPoint
+point_at sources instances before line = do
+  point ← point_of sources instances (slice_split (λ byte. byte == 32) line)
+  passing (is_next before point) point

@@ -4,3 +4,5 @@ pub mod Table
 pub mod Text
 pub mod Merge
 pub mod Fields
+pub mod Reading
+pub mod Stops

@@ -12,8 +12,10 @@ mod line_word;
 mod merging;
 mod node_case;
 mod operator;
+mod read;
 mod read_point;
 mod same;
+mod stop;
 mod verdict;
 mod write;
 

@@ -14,7 +14,7 @@ ghost use Rattle.coverage_db.specs.declared.operator.TheConstants.Operator as op
 use crate::fields::{Fields, Misfit};
 use crate::instances::{find_instance, is_thing};
 use crate::{Address, DbInstance, DbPoint, DbVerdict, LineWord, NodeCase, Operator, SourceLine, Subject};
-use cov_host::{Name, is_identifier, read_decimal};
+use cov_host::{Name, NoMemory, is_identifier, read_decimal};
 use std::alloc::Global;
 
 /// The greatest time, 2 ^ 63 - 1.
@@ -208,7 +208,7 @@ fn read_identifier(alloc: Global, field: &[u8]) -> Result<Name, Misfit>
     if !is_identifier(field) {
         return Err(Misfit::Line);
     }
-    copied(alloc, field)
+    Ok(copied(alloc, field)?)
 }
 
 /// The name of a state: an identifier, or decimal digits.
@@ -218,7 +218,7 @@ fn read_state(alloc: Global, field: &[u8]) -> Result<Name, Misfit>
     if !is_state(field) {
         return Err(Misfit::Line);
     }
-    copied(alloc, field)
+    Ok(copied(alloc, field)?)
 }
 
 /// Whether it is an identifier, or decimal digits.
@@ -229,16 +229,15 @@ fn is_state(field: &[u8]) -> bool
 }
 
 /// Whether each byte is a decimal digit.
-fn are_digits(field: &[u8]) -> bool
+pub(crate) fn are_digits(field: &[u8]) -> bool
     ensures { result ≡ list_all is_ascii_digit field.now }
 {
     field.iter().all(|byte| byte.is_ascii_digit())
 }
 
 /// A name with these bytes.
-fn copied(alloc: Global, bytes: &[u8]) -> Result<Name, Misfit>
-    ensures gives { IfOk result (λ name. name ≡ bytes.now) }
-    ensures memory { IfErr result (λ fault. fault ≡ Misfit.NoMemory) }
+pub(crate) fn copied(alloc: Global, bytes: &[u8]) -> Result<Name, NoMemory>
+    ensures { IfOk result (λ name. name ≡ bytes.now) }
 {
     let mut name = Name::new(alloc);
     name.extend_from_slice(bytes)?;
