@@ -6,3 +6,5 @@ pub mod Orders
 pub mod Lacking
 pub mod Things
 pub mod Parts
+pub mod Stages
+pub mod StopLemmas
