@@ -214,7 +214,7 @@ fn is_after(before: Option<&DbInstance>, path: &[u8]) -> bool
 {
     match before {
         None => true,
-        Some(instance) => instance.path.as_slice() < path,
+        Some(instance) => instance.path.as_slice().cmp(path).is_lt(),
     }
 }
 
