@@ -1,6 +1,11 @@
 -- Texts that lack a byte: a separator, or the line feed.
-use Rattle.std.proofs.Common.{◌≡◌, ◌≢◌, ℕ, zero, suc, ◌+◌, ◌<◌, ◌≤◌, Bool, true, false, cond, eqb, ◌&&◌, ◌||◌, not, List, [], ◌∷◌, ◌++◌, length, get_or, refl, sym, inl, inr, arith, rules}
-use Rattle.std.specs.List.{AllByRecursion, list_all}
+use Rattle.std.proofs.Common.{◌≡◌, ◌≢◌, ℕ, zero, suc, ◌+◌, ◌<◌, ◌≤◌, Bool, true, false, cond, eqb, ◌&&◌, ◌||◌, not, List, [], ◌∷◌, ◌++◌, length, get_or, refl, sym, ap, inl, inr, arith, rules}
+use Rattle.std.specs.Prelude.{All}
+use Rattle.std.specs.List.{AllByRecursion, list_all, slice_split}
+use Rattle.std.specs.Char.{digit_value}
+use Rattle.std.specs.Str.Parse.{AllDigits}
+use Rattle.std.proofs.lemmas.List.Elements.{All-from_recursion}
+use Rattle.std.proofs.lemmas.List.Splits.{slice_split_at, slice_split_none}
 use Rattle.std.proofs.lemmas.Bool.{cases_Bool, eqb-true}
 use Rattle.std.specs.Prelude.{nat_le, ◌==◌}
 use Rattle.std.specs.Char.{is_ascii_digit}
@@ -48,3 +53,25 @@ pub identifier_lacks : (byte : ℕ) (name : List ℕ) → continues_name byte �
 identifier_lacks byte name fails is =
     let both = and_parts (has_name_form name && nat_le (length name) 255) (not (is_reserved name)) is in
     form_lacks byte name fails (and_parts (has_name_form name) (nat_le (length name) 255) both.0).0
+
+digit_apart : (byte x : ℕ) → digit_value x < 10 → 9 < digit_value byte → eqb x byte ≡ false
+digit_apart byte x digit other = elim (cases_Bool (eqb x byte)) [
+  | inl same ↦ absurd (let e : x ≡ byte = eqb-true x byte same in omega (arith, ap digit_value e))
+  | inr apart ↦ apart
+]
+
+-- digits lack each byte that is no digit
+pub digits_lack : (byte : ℕ) (digits : List ℕ) → AllDigits 10 digits → 9 < digit_value byte → Lacks byte digits
+digits_lack byte [] all other = tt
+digits_lack byte (x ∷ digits) all other = (digit_apart byte x all.0 other, digits_lack byte digits all.1 other)
+
+lacks_all : (byte : ℕ) (bytes : List ℕ) → Lacks byte bytes → All (λ b. eqb b byte ≡ false) bytes
+lacks_all byte bytes lacks = All-from_recursion (λ b. eqb b byte ≡ false) bytes lacks
+
+-- a separator ends the first part
+pub split_at_separator : (byte : ℕ) (first others : List ℕ) → Lacks byte first → slice_split (λ b. eqb b byte) (first ++ byte ∷ others) ≡ first ∷ slice_split (λ b. eqb b byte) others
+split_at_separator byte first others lacks = slice_split_at (λ b. eqb b byte) first byte others (lacks_all byte first lacks) (itself byte)
+
+-- a text without a separator is one part
+pub split_once : (byte : ℕ) (bytes : List ℕ) → Lacks byte bytes → slice_split (λ b. eqb b byte) bytes ≡ bytes ∷ []
+split_once byte bytes lacks = slice_split_none (λ b. eqb b byte) bytes (lacks_all byte bytes lacks)

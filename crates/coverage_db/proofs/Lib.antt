@@ -8,3 +8,4 @@ pub mod Things
 pub mod Parts
 pub mod Stages
 pub mod StopLemmas
+pub mod FieldLaws
