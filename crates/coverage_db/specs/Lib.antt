@@ -2,7 +2,3 @@ pub mod Words
 pub mod Order
 pub mod Table
 pub mod Text
-pub mod Merge
-pub mod Fields
-pub mod Reading
-pub mod Stops

@@ -1,10 +1,9 @@
 -- The tables that have a text.
-use Rattle.std.specs.Prelude.{◌≡◌, ◌≢◌, ℕ, ◌+◌, ◌<◌, ◌≤◌, ◌^◌, Bool, ◌&&◌, ◌||◌, nat_le, ◌==◌, IfSome, IsTrue, List, [], ◌∷◌, ◌++◌, length, drop, All}
+use Rattle.std.specs.Prelude.{◌≡◌, ◌≢◌, ℕ, ◌+◌, ◌<◌, ◌≤◌, ◌^◌, Bool, ◌&&◌, ◌||◌, nat_le, ◌==◌, IfSome, IsTrue, List, [], ◌∷◌, ◌++◌, length, All, Contains}
 use Rattle.std.specs.declared.cmp.Ordering.{Ordering}
 use Rattle.std.specs.declared.cmp.Ordering.TheVariants.{Less}
-use Rattle.std.specs.List.{list_all, list_any, slice_split}
-use Rattle.std.specs.Char.{is_ascii_digit}
-use Rattle.std.specs.Str.{bytes_eq}
+use Rattle.std.specs.List.{list_all, slice_split}
+use Rattle.std.specs.Str.{all_ascii_digits}
 use Rattle.cov_host.specs.Identifier.{is_identifier}
 use Rattle.coverage_db.specs.declared.address.SourceLine.{SourceLine}
 use Rattle.coverage_db.specs.declared.address.Subject.{Subject}
@@ -33,7 +32,7 @@ is_path path = list_all is_identifier (slice_split (λ byte. byte == 46) path)
 
 -- an identifier, or decimal digits
 abbrev pub is_state : List ℕ → Bool
-is_state name = is_identifier name || (nat_le 1 (length name) && list_all is_ascii_digit name)
+is_state name = is_identifier name || (nat_le 1 (length name) && all_ascii_digits name)
 
 -- one or more bytes, none of them a control character below the space
 abbrev pub is_file_name : List ℕ → Bool
@@ -62,19 +61,15 @@ IsSubject sources (State name state) = IsIdentifier name × IsTrue (is_state sta
 IsSubject sources (Arc name from to) = IsIdentifier name × IsTrue (is_state from) × IsTrue (is_state to) × (from ≢ to)
 IsSubject sources (Word name index write) = IsIdentifier name × (index < 2 ^ 32)
 
--- the path, a dot and an identifier
-abbrev pub is_thing_of : List ℕ → List ℕ → Bool
-is_thing_of path thing = bytes_eq thing (path ++ 46 ∷ drop (length path + 1) thing) && is_identifier (drop (length path + 1) thing)
-
--- the path of a signal or memory in one of the instances: its own path, a dot and an identifier
-abbrev pub is_thing : List DbInstance → List ℕ → Bool
-is_thing instances path = list_any (λ instance. is_thing_of instance.path path) instances
+-- the path of a signal or memory in one of the instances
+abbrev pub IsThingIn : List DbInstance → List ℕ → Type 0
+IsThingIn instances path = (instance : DbInstance) × (name : List ℕ) × Contains instances instance × IsIdentifier name × (path ≡ instance.path ++ 46 ∷ name)
 
 -- a doubt has a time and a thing
 abbrev pub IsVerdict : List DbInstance → DbVerdict → Type 0
 IsVerdict instances Hit = Unit {0}
 IsVerdict instances Missed = Unit {0}
-IsVerdict instances (Undetermined time path) = (time < 2 ^ 63) × IsTrue (is_thing instances path)
+IsVerdict instances (Undetermined time path) = (time < 2 ^ 63) × IsThingIn instances path
 
 -- a point of a table with so many sources and these instances
 pub record IsPoint (sources : ℕ) (instances : List DbInstance) (point : DbPoint) : Type 0 where

@@ -1,6 +1,6 @@
 -- The text of a table.
 use Rattle.std.specs.Prelude.{ℕ, ◌+◌, List, [], ◌∷◌, ◌++◌, length, map, codes, decimal, Bool, true, false, Option, Some, None, unwrap_or, slice_get}
-use Rattle.std.specs.List.{flat_map, join_with_byte}
+use Rattle.std.specs.List.{flat_map}
 use Rattle.std.specs.Option.{option_map}
 use Rattle.coverage_db.specs.declared.address.Address.{Address}
 use Rattle.coverage_db.specs.declared.address.SourceLine.{SourceLine}
@@ -18,8 +18,8 @@ abbrev pub ended : List ℕ → List ℕ
 ended line = line ++ 10 ∷ []
 
 -- fields are separated by one space
-abbrev pub spaced : List (List ℕ) → List ℕ
-spaced fields = join_with_byte 32 fields
+abbrev pub then_field : List ℕ → List ℕ → List ℕ
+then_field fields field = fields ++ 32 ∷ field
 
 -- a source and its line
 abbrev pub place_text : SourceLine → List ℕ
@@ -50,33 +50,27 @@ letter (Arc name from to) = 102
 letter (Word name index write) = 109
 
 -- the fields of an address after its instance
-abbrev pub subject_fields : Subject → List (List ℕ)
-subject_fields (Line number at word) = decimal number ∷ place_text at ∷ line_word_text word ∷ []
-subject_fields (Logic number at operator case) = decimal number ∷ place_text at ∷ operator_text operator ∷ node_case_text case ∷ []
-subject_fields (Toggle name index rise) = name ∷ index_text index ∷ rise_text rise ∷ []
-subject_fields (State name state) = name ∷ state ∷ []
-subject_fields (Arc name from to) = name ∷ from ∷ to ∷ []
-subject_fields (Word name index write) = name ∷ decimal index ∷ write_text write ∷ []
+abbrev pub subject_fields : Subject → List ℕ
+subject_fields (Line number at word) = decimal number ++ 32 ∷ place_text at ++ 32 ∷ line_word_text word
+subject_fields (Logic number at operator case) = decimal number ++ 32 ∷ place_text at ++ 32 ∷ operator_text operator ++ 32 ∷ node_case_text case
+subject_fields (Toggle name index rise) = name ++ 32 ∷ index_text index ++ 32 ∷ rise_text rise
+subject_fields (State name state) = name ++ 32 ∷ state
+subject_fields (Arc name from to) = name ++ 32 ∷ from ++ 32 ∷ to
+subject_fields (Word name index write) = name ++ 32 ∷ decimal index ++ 32 ∷ write_text write
 
 -- the path of the instance at a place
 abbrev pub path_at : List DbInstance → ℕ → List ℕ
 path_at instances place = unwrap_or (option_map (λ instance. instance.path) (slice_get instances place)) []
 
 -- a letter, the instance and the other fields
-abbrev pub address_fields : List DbInstance → Address → List (List ℕ)
-address_fields instances address = (letter address.subject ∷ []) ∷ path_at instances address.instance ∷ subject_fields address.subject
-
 abbrev pub address_text : List DbInstance → Address → List ℕ
-address_text instances address = spaced (address_fields instances address)
+address_text instances address = letter address.subject ∷ 32 ∷ path_at instances address.instance ++ 32 ∷ subject_fields address.subject
 
--- hit, missed, or a question mark with a time and a path
-abbrev pub verdict_fields : DbVerdict → List (List ℕ)
-verdict_fields Hit = codes "hit" ∷ []
-verdict_fields Missed = codes "missed" ∷ []
-verdict_fields (Undetermined time path) = codes "?" ∷ decimal time ∷ path ∷ []
-
+-- hit, missed, or a doubt with its time and its path
 abbrev pub verdict_text : DbVerdict → List ℕ
-verdict_text verdict = spaced (verdict_fields verdict)
+verdict_text Hit = codes "hit"
+verdict_text Missed = codes "missed"
+verdict_text (Undetermined time path) = codes "? " ++ decimal time ++ 32 ∷ path
 
 -- an address and its verdict
 abbrev pub point_line : List DbInstance → DbPoint → List ℕ

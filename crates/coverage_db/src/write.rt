@@ -1,6 +1,6 @@
 ghost use Rattle.std.specs.Prelude.{◌≡◌, ℕ, ◌+◌, ◌∷◌, [], ◌++◌, ◌<◌, length, map, decimal, codes, OnOk, IfOk};
 ghost use Rattle.coverage_db.specs.Table.{IsTable};
-ghost use Rattle.coverage_db.specs.Text.{text_of, text_of_lines, head_lines, top_line, source_lines, source_line, instance_line, count_line, point_line, address_text, subject_fields, spaced, letter, place_text, index_text, verdict_text, ended, path_at};
+ghost use Rattle.coverage_db.specs.Text.{text_of, text_of_lines, head_lines, top_line, source_lines, source_line, instance_line, count_line, point_line, address_text, subject_fields, letter, place_text, index_text, verdict_text, ended, path_at};
 
 use crate::{Address, Db, DbInstance, DbPoint, DbVerdict, SourceLine, Subject};
 use cov_host::{Name, NoMemory, Sequence, Text};
@@ -15,7 +15,6 @@ pub fn write_db(alloc: Global, db: &Db) -> Result<Text, NoMemory>
     let mut text = Text::new(alloc);
     push_head(&mut text, db)?;
     push_count(&mut text, db.points.len())?;
-    text.push(b'\n')?;
     push_points(&mut text, &db.instances, &db.points)?;
     text.extend_from_slice(b"end\n")?;
     Ok(text)
@@ -25,19 +24,11 @@ pub fn write_db(alloc: Global, db: &Db) -> Result<Text, NoMemory>
 fn push_head(text: &mut Text, db: &Db) -> Result<(), NoMemory>
     ensures { OnOk result (text.new ≡ text.old ++ text_of_lines (head_lines db.now)) }
 {
-    text.extend_from_slice(b"covered-db 1\n")?;
-    push_top(text, &db.top)?;
+    text.extend_from_slice(b"covered-db 1\ntop ")?;
+    text.extend_from_slice(db.top.as_slice())?;
     text.push(b'\n')?;
     push_sources(text, &db.sources)?;
     push_instances(text, &db.instances)
-}
-
-/// Appends the line of the top module, without its line feed.
-pub(crate) fn push_top(text: &mut Text, top: &Name) -> Result<(), NoMemory>
-    ensures { OnOk result (text.new ≡ text.old ++ top_line top.now) }
-{
-    text.extend_from_slice(b"top ")?;
-    text.extend_from_slice(top.as_slice())
 }
 
 /// Appends the lines of the sources.
@@ -46,18 +37,18 @@ fn push_sources(text: &mut Text, sources: &Sequence<Name>) -> Result<(), NoMemor
 {
     for (place, name) in sources.as_slice().iter().enumerate() {
         push_source(text, place + 1, name)?;
-        text.push(b'\n')?;
     }
     Ok(())
 }
 
-/// Appends the line of a source, without its line feed.
-pub(crate) fn push_source(text: &mut Text, number: usize, name: &Name) -> Result<(), NoMemory>
-    ensures { OnOk result (text.new ≡ text.old ++ source_line number name.now) }
+/// Appends the line of a source.
+fn push_source(text: &mut Text, number: usize, name: &Name) -> Result<(), NoMemory>
+    ensures { OnOk result (text.new ≡ text.old ++ ended (source_line number name.now)) }
 {
     text.extend_from_slice(b"source ")?;
     push_number(text, number)?;
-    push_field(text, name.as_slice())
+    push_field(text, name.as_slice())?;
+    text.push(b'\n')
 }
 
 /// Appends the lines of the instances.
@@ -66,26 +57,27 @@ fn push_instances(text: &mut Text, instances: &Sequence<DbInstance>) -> Result<(
 {
     for instance in instances.as_slice() {
         push_instance(text, instance)?;
-        text.push(b'\n')?;
     }
     Ok(())
 }
 
-/// Appends the line of an instance, without its line feed.
-pub(crate) fn push_instance(text: &mut Text, instance: &DbInstance) -> Result<(), NoMemory>
-    ensures { OnOk result (text.new ≡ text.old ++ instance_line instance.now) }
+/// Appends the line of an instance.
+fn push_instance(text: &mut Text, instance: &DbInstance) -> Result<(), NoMemory>
+    ensures { OnOk result (text.new ≡ text.old ++ ended (instance_line instance.now)) }
 {
     text.extend_from_slice(b"instance ")?;
     text.extend_from_slice(instance.path.as_slice())?;
-    push_field(text, instance.module.as_slice())
+    push_field(text, instance.module.as_slice())?;
+    text.push(b'\n')
 }
 
-/// Appends the line of the count of the points, without its line feed.
-pub(crate) fn push_count(text: &mut Text, count: usize) -> Result<(), NoMemory>
-    ensures { OnOk result (text.new ≡ text.old ++ count_line count) }
+/// Appends the line of the count of the points.
+fn push_count(text: &mut Text, count: usize) -> Result<(), NoMemory>
+    ensures { OnOk result (text.new ≡ text.old ++ ended (count_line count)) }
 {
     text.extend_from_slice(b"points ")?;
-    push_number(text, count)
+    push_number(text, count)?;
+    text.push(b'\n')
 }
 
 /// Appends the lines of the points.
@@ -135,7 +127,7 @@ pub(crate) fn push_address(
 
 /// Appends the fields of an address after its instance.
 fn push_subject(text: &mut Text, subject: &Subject) -> Result<(), NoMemory>
-    ensures { OnOk result (text.new ≡ text.old ++ spaced (subject_fields subject.now)) }
+    ensures { OnOk result (text.new ≡ text.old ++ subject_fields subject.now) }
 {
     match subject {
         Subject::Line { number, at, word } => {

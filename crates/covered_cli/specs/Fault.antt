@@ -53,6 +53,10 @@ StandsIn score before after fault.Memory = Unit {0}
 abbrev pub output_of : Command → List ℕ
 output_of (Score score) = score.output.now
 
+-- the source that the command reads
+abbrev pub source_of : Command → List ℕ
+source_of (Score score) = score.source.now
+
 -- the fault stands in the work of this command
 abbrev pub StandsInWork : Command → Outside → Outside → Fault → Type 0
 StandsInWork (Score score) before after fault = StandsIn (score_values score) before after fault

@@ -1,7 +1,9 @@
-ghost use Rattle.std.specs.Prelude.{◌<◌, ◌^◌, IfErr};
+ghost use Rattle.std.specs.Prelude.{◌<◌, ◌^◌, IfErr, IfOk, IsTrue};
 ghost use Rattle.command_line.specs.CommandWords.{score_values};
 ghost use Rattle.cov_host.specs.Outside.{KeepsFiles, KeepsStreams, Told};
 ghost use Rattle.whole_files.specs.Effects.{CountsUp, OnlyReads};
+ghost use Rattle.coverage_db.specs.Table.{is_file_name};
+ghost use Rattle.input_toggles.specs.InputDesign.{IsInputDesign};
 ghost use Rattle.covered_cli.specs.Covered.{KeepsOthers};
 ghost use Rattle.covered_cli.specs.Fault.{StandsIn, IsEarly, IsReadingFault, IsWritingFault, IsSourceFault, IsDumpFault};
 
@@ -29,6 +31,7 @@ pub(crate) fn run_score<'a, H: Host>(
     words: &ScoreWords<'a>,
     host: &mut H,
 ) -> Result<(), Fault<'a>>
+    requires { IsTrue (is_file_name words.now.source.now) }
     ensures fault { IfErr result (StandsIn (score_values words.now) (H.outside host.old) (H.outside host.new)) }
     ensures early { IfErr result (λ fault. IsEarly fault → KeepsFiles (H.outside host.old) (H.outside host.new)) }
     ensures others { Told (KeepsOthers words.now.output.now) (H.outside host.old).files (H.outside host.new).files }
@@ -76,7 +79,8 @@ fn write<'a, H: Host>(host: &mut H, name: &'a str, text: &Text) -> Result<(), Fa
 
 /// The design that the source stands for.
 fn design_of<'a>(alloc: Global, source: &Bytes, top: &str) -> Result<Design, Fault<'a>>
-    ensures { IfErr result IsSourceFault }
+    ensures design { IfOk result IsInputDesign }
+    ensures fault { IfErr result IsSourceFault }
 {
     match read_source(alloc, source.as_slice(), top) {
         Ok(Some(design)) => Ok(design),
@@ -92,6 +96,8 @@ fn text_of<'a>(
     bytes: &Bytes,
     words: &ScoreWords<'a>,
 ) -> Result<Text, Fault<'a>>
+    requires design { IsInputDesign design.now }
+    requires source { IsTrue (is_file_name words.now.source.now) }
     ensures { IfErr result IsDumpFault }
 {
     let dump = dump_of(alloc, bytes)?;

@@ -1,8 +1,9 @@
-ghost use Rattle.std.specs.Prelude.{◌≡◌, ◌≢◌, ◌↔◌, IfErr, OnOk};
+ghost use Rattle.std.specs.Prelude.{◌≡◌, ◌≢◌, ◌↔◌, IfErr, IsTrue, OnOk};
 ghost use Rattle.cov_host.specs.Outside.{KeepsFiles, KeepsStreams, Told};
+ghost use Rattle.coverage_db.specs.Table.{is_file_name};
 ghost use Rattle.whole_files.specs.Effects.{CountsUp};
 ghost use Rattle.covered_cli.specs.Covered.{HasEarlyStatus, HasFilesCause, IsNoCommand, IsSomeCommand, KeepsOthers, KeepsUnnamed, WarnsFault};
-ghost use Rattle.covered_cli.specs.Fault.{IsEarly, Stands, StandsInWork, output_of};
+ghost use Rattle.covered_cli.specs.Fault.{IsEarly, Stands, StandsInWork, output_of, source_of};
 
 use crate::Status;
 use crate::fault::Fault;
@@ -57,6 +58,7 @@ fn run_command<'a, H: Host>(
     command: &Command<'a>,
     host: &mut H,
 ) -> Result<(), Fault<'a>>
+    requires { IsTrue (is_file_name (source_of command.now)) }
     ensures fault { IfErr result (StandsInWork command.now (H.outside host.old) (H.outside host.new)) }
     ensures early { IfErr result (λ fault. IsEarly fault → KeepsFiles (H.outside host.old) (H.outside host.new)) }
     ensures others { Told (KeepsOthers (output_of command.now)) (H.outside host.old).files (H.outside host.new).files }

@@ -1,9 +1,11 @@
+use Rattle.std.proofs.Common.{◌≡◌, ◌++◌}
 use Rattle.std.proofs.lemmas.Result.{IfOk-equal}
 use Rattle.coverage_db.proofs.Lines.{head_written}
 use Rattle.coverage_db.proofs.write.push_head.Goals as goal
 
 pub returns : goal.returns
 returns c =
+    let two : c.extend_from_slice-2.new.self ≡ c.extend_from_slice.new.self ++ c.args.db.now.top = cc (c.in_ok-extend_from_slice-2.ensures.ok, c.as_slice.ensures) in
     IfOk-equal c.push_instances.result _ _ _ c.push_instances.ensures
-    (head_written c.args.db.now c.args.text.now c.extend_from_slice.new.self c.push_top.new.text c.push.new.self c.push_sources.new.text
-        c.in_ok-extend_from_slice.ensures.ok c.in_ok-push_top.ensures c.in_ok-push.ensures.ok c.in_ok-push_sources.ensures)
+    (head_written c.args.db.now c.args.text.now c.extend_from_slice.new.self c.extend_from_slice-2.new.self c.push.new.self c.push_sources.new.text
+    c.in_ok-extend_from_slice.ensures.ok two c.in_ok-push.ensures.ok c.in_ok-push_sources.ensures)

@@ -1,0 +1,7 @@
+use Rattle.covered_cli.proofs.Inputs.{input_design}
+use Rattle.covered_cli.proofs.score.design_of.Goals as goal
+
+pub returns-in-Ok-Some-clause-design : goal.returns-in-Ok-Some-clause-design
+returns-in-Ok-Some-clause-design c =
+    let source = rw c.in-Ok-Some.field-0-is at c.in-Ok-Some.ensures.design in
+    input_design _ _ source.short (rw c.in-Ok-Some.field-0-is at c.in-Ok-Some.ensures.inputs)
