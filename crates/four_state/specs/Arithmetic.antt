@@ -4,6 +4,7 @@ use Rattle.std.specs.Prelude.{ℕ, zero, suc, ◌+◌, ◌-◌, ◌*◌, ◌/◌
 use Rattle.std.specs.List.{range_with_len}
 use Rattle.four_state.specs.Vector.{Bit, Zero, One, X, is_one, all_known, bit_of, fill, top}
 
+-- the other bit, or x
 abbrev pub not_bit : Bit → Bit
 not_bit Zero = One
 not_bit One = Zero
@@ -32,6 +33,7 @@ cut w (negsuc n) = map not_bit (low_bits w n)
 abbrev pub if_known : List Bit → ℕ → List Bit → List Bit
 if_known operands w result = if all_known operands then result else fill w X
 
+-- whether a whole number is 0
 abbrev pub is_natural_zero : ℤ → Bool
 is_natural_zero (pos n) = n == 0
 is_natural_zero (negsuc n) = false
@@ -52,6 +54,7 @@ relation f signed a b = if_known (a ++ b) 1 (bit_of (f (whole signed a) (whole s
 abbrev pub shift : (ℕ → ℕ → Bit) → List Bit → List Bit → List Bit
 shift f a amount = if_known amount (length a) (map (f (natural amount)) (range_with_len 0 (length a)))
 
+-- vacated places are filled by 0
 abbrev pub shift_left : List Bit → List Bit → List Bit
 shift_left a amount = shift (λ n j. if nat_lt j n then Zero else slice_index_or a (j - n) Zero) a amount
 

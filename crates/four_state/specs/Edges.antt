@@ -12,5 +12,6 @@ rises before after = (is_zero before && not (is_zero after)) || (not (is_one bef
 abbrev pub falls : Bit → Bit → Bool
 falls before after = (is_one before && not (is_one after)) || (not (is_zero before) && is_zero after)
 
+-- the edge, if there is one
 abbrev pub edge_between : Bit → Bit → Option Edge
 edge_between before after = if rises before after then Some Pos else (if falls before after then Some Neg else None)

@@ -37,6 +37,7 @@ merge_bit Zero Zero = Zero
 merge_bit One One = One
 merge_bit _ _ = X
 
+-- an operator on each pair of bits
 abbrev pub zip_bits : (Bit → Bit → Bit) → List Bit → List Bit → List Bit
 zip_bits f [] cs = []
 zip_bits f (b ∷ bs) [] = []
@@ -51,6 +52,7 @@ reduce f b (c ∷ cs) = f c (reduce f b cs)
 abbrev pub equal : List Bit → List Bit → Bit
 equal a b = not_bit (reduce or_bit Zero (zip_bits xor_bit a b))
 
+-- what an operator with one operand gives
 abbrev pub unary_value : Unary → List Bit → List Bit
 unary_value Positive a = if_known a (length a) a
 unary_value Negative a = if_known a (length a) (cut (length a) (pos 0 -ℤ whole false a))
@@ -64,7 +66,7 @@ unary_value ReduceXor a = reduce xor_bit Zero a ∷ []
 unary_value ReduceXnor a = not_bit (reduce xor_bit Zero a) ∷ []
 unary_value ReduceNxor a = not_bit (reduce xor_bit Zero a) ∷ []
 
--- signed is the sign of both operands, of a shift that of the left one
+-- what an operator with two operands gives; the sign is that of both, of a shift that of the left one
 abbrev pub binary_value : Binary → Bool → List Bit → List Bit → List Bit
 binary_value Multiply signed a b = arithmetic ◌*ℤ◌ signed a b
 binary_value Divide signed a b = division int_div signed a b
@@ -109,13 +111,14 @@ matches kind [] [] = true
 matches kind (b ∷ bs) (c ∷ cs) = (is_any kind b || is_any kind c || same_bit b c) && matches kind bs cs
 matches kind _ _ = false
 
--- whether the operator's result has the sign of its first operand; the others give unsigned ones (clause 4.5.1)
+-- whether the result has the sign of the operand; ! and reductions give unsigned results (clause 4.5.1)
 abbrev pub unary_keeps_sign : Unary → Bool
 unary_keeps_sign Positive = true
 unary_keeps_sign Negative = true
 unary_keeps_sign BitwiseNot = true
 unary_keeps_sign _ = false
 
+-- comparisons, equalities, && and || give unsigned results
 abbrev pub binary_keeps_sign : Binary → Bool
 binary_keeps_sign LessThan = false
 binary_keeps_sign LessOrEqual = false
@@ -129,6 +132,7 @@ binary_keeps_sign LogicalAnd = false
 binary_keeps_sign LogicalOr = false
 binary_keeps_sign _ = true
 
+-- the same of vectors
 abbrev pub unary_vector : Unary → Vector → Vector
 unary_vector op a = record { bits = unary_value op a.bits; signed = unary_keeps_sign op && a.signed }
 
@@ -149,5 +153,6 @@ takes_same_shape LogicalAnd = false
 takes_same_shape LogicalOr = false
 takes_same_shape _ = true
 
+-- c ? a : b of vectors
 abbrev pub choice_vector : Truth → Vector → Vector → Vector
 choice_vector c a b = record { bits = choice_value c a.bits b.bits; signed = a.signed }

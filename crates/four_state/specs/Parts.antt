@@ -10,6 +10,7 @@ abbrev pub within : ℕ → ℤ → Option ℕ
 within n (pos k) = if nat_lt k n then Some k else None
 within n (negsuc k) = None
 
+-- the bit at this place, or else x
 abbrev pub option_bit : List Bit → Option ℕ → Bit
 option_bit bs None = X
 option_bit bs (Some k) = slice_index_or bs k X
@@ -24,7 +25,7 @@ abbrev pub bit_or_part : Bit → List Bit → Option ℕ → Bit
 bit_or_part b part None = b
 bit_or_part b part (Some k) = slice_index_or part k b
 
--- the bits, over which a part lies of which the bit at this place falls on the first one; what falls outside is dropped
+-- the bits with a part written over them, whose bit at this place falls on the first one; what falls outside is dropped
 abbrev pub bits_with : List Bit → List Bit → ℤ → List Bit
 bits_with [] part from = []
 bits_with (b ∷ bs) part from = bit_or_part b part (within (length part) from) ∷ bits_with bs part (from +ℤ pos 1)
@@ -39,12 +40,15 @@ index_of None = variant.Strange
 index_of (Some (pos n)) = variant.At n
 index_of (Some (negsuc n)) = variant.Below
 
+-- at another width, by its own sign, with this sign from then on
 abbrev pub extended_vector : ℕ → Bool → Vector → Vector
 extended_vector w signed v = record { bits = extend w v.signed v.bits; signed = signed }
 
+-- the part of w bits from an offset up
 abbrev pub selected_vector : ℤ → ℕ → Vector → Vector
 selected_vector low w v = record { bits = bits_from v.bits low w; signed = false }
 
+-- with a part written from an offset up
 abbrev pub placed_vector : ℤ → Vector → Vector → Vector
 placed_vector low part v = record { bits = bits_with v.bits part.bits (neg_ℤ low); signed = v.signed }
 

@@ -18,6 +18,7 @@ with_bits v bs = record { bits = bs; signed = v.signed }
 abbrev pub HasWidth : Vector → Type 0
 HasWidth v = (1 ≤ length v.bits) × (length v.bits ≤ 128)
 
+-- whether two bits are equal, x and z as values
 abbrev pub same_bit : Bit → Bit → Bool
 same_bit Zero Zero = true
 same_bit One One = true
@@ -25,6 +26,7 @@ same_bit X X = true
 same_bit Z Z = true
 same_bit _ _ = false
 
+-- whether two lists of bits are
 abbrev pub same_bits : List Bit → List Bit → Bool
 same_bits [] [] = true
 same_bits (b ∷ bs) (c ∷ cs) = same_bit b c && same_bits bs cs
@@ -42,9 +44,11 @@ is_zero b = same_bit b Zero
 abbrev pub is_one : Bit → Bool
 is_one b = same_bit b One
 
+-- no bit is x or z
 abbrev pub all_known : List Bit → Bool
 all_known bs = list_all is_known bs
 
+-- 1 for true
 abbrev pub bit_of : Bool → Bit
 bit_of true = One
 bit_of false = Zero
@@ -53,6 +57,7 @@ bit_of false = Zero
 abbrev pub truth : List Bit → Truth
 truth bs = if list_any is_one bs then True else (if list_all is_zero bs then False else Strange)
 
+-- the bit that a logical operator gives for a truth
 abbrev pub truth_bit : Truth → Bit
 truth_bit True = One
 truth_bit False = Zero

@@ -29,7 +29,12 @@ impl Model for Four {
 
     ghost invariant = { λ f. FitsMasks f.width f.ones f.strange };
 
-    ghost inverse = { λ v. record { ones = mask_of is_one_or_z v.bits; strange = mask_of is_strange v.bits; width = length v.bits; signed = v.signed } };
+    ghost inverse = { λ v. record {
+      ones = mask_of is_one_or_z v.bits;
+      strange = mask_of is_strange v.bits;
+      width = length v.bits;
+      signed = v.signed;
+    } };
 
     ghost inverse_ok = { λ f h i. record {
       ones = ones_of_bits f.width f.ones f.strange h.ones_inside i;

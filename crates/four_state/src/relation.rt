@@ -32,7 +32,8 @@ pub(crate) fn equal(a: &Four, b: &Four) -> Bit
 /// The mask of the places at which a kind of case takes one of two bits to match any bit.
 fn any_mask(kind: CaseKind, a: &Four, b: &Four) -> u128
     requires { length a.now.bits ≡ length b.now.bits }
-    ensures { (i : ℕ) → i < length a.now.bits → is_set result i ≡ (is_any kind (slice_index_or a.now.bits i Bit.X) || is_any kind (slice_index_or b.now.bits i Bit.X)) }
+    ensures { (i : ℕ) → i < length a.now.bits → is_set result i ≡
+        (is_any kind (slice_index_or a.now.bits i Bit.X) || is_any kind (slice_index_or b.now.bits i Bit.X)) }
 {
     match kind {
         CaseKind::Exact => 0,

@@ -138,7 +138,7 @@ const UNARY: &str = "
 ";
 
 /// A condition, `a`, `b` and `c ? a : b`. Of the second and the last case Icarus keeps the bits that are z in both;
-/// in the standard (Table 4-20) z with z gives x.
+/// by clause 4.1.13 z with z gives x.
 const CHOICES: &[(Truth, &str, &str, &str)] = &[
     (Truth::Strange, "4'b1010", "4'b1001", "4'b10xx"),
     (Truth::Strange, "4'sb1xz0", "4'sb1xz0", "4'sb1xx0"),
