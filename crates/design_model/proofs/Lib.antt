@@ -26,6 +26,7 @@ pub mod OpenNodes
 pub mod OpenWords
 pub mod Reached
 pub mod Rounds
+pub mod Closed
 pub mod MemoryPath
 pub mod FlipFlopRun
 pub mod FlipFlopDoubt
@@ -33,6 +34,4 @@ pub mod FlipFlopLawful
 pub mod FlipFlopExample
 pub mod GateClear
 pub mod PipeClear
-pub mod PipeExample
 pub mod RamClear
-pub mod RamExample

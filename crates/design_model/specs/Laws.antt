@@ -1,5 +1,6 @@
 -- What is clear and what is forced holds, and what is reached is hit, in every run that shows the dump.
 use Rattle.std.specs.Prelude.{◌≡◌, ℕ, suc, Bool, true, List}
+use Rattle.event_machine.specs.Cell.{Values}
 use Rattle.event_machine.specs.Habit.{Habit}
 use Rattle.four_state.specs.declared.bit.Bit.{Bit}
 use Rattle.design_model.specs.Design.{Design, Thing, signal_bits}
@@ -34,6 +35,11 @@ ClearRoundsLaw d h =
 abbrev pub ClearLeastLaw : Design → Habit → Type 0
 ClearLeastLaw d h =
     (dump : BoundDump) (t : ℕ) (has : Thing → List Bit → Bool) → ((x : Thing) (bits : List Bit) → IsClearBy d h dump t (clear_start d h dump t) (λ y w. has y w ≡ true) x bits → has x bits ≡ true) → (x : Thing) (bits : List Bit) → clear d h dump t x bits → has x bits ≡ true
+
+-- Closed law: where some state agrees with what is clear, what a rule gives from it is clear.
+abbrev pub ClearClosedLaw : Design → Habit → Type 0
+ClearClosedLaw d h =
+    (dump : BoundDump) (t : ℕ) (v : Values Bit) → Agrees d (clear d h dump t) v → (x : Thing) (bits : List Bit) → IsClearBy d h dump t (clear_start d h dump t) (clear d h dump t) x bits → clear d h dump t x bits
 
 -- One-value law: where a run shows the dump, what is clear at a time that it shows has one value.
 abbrev pub ClearValueLaw : Design → Habit → Type 0

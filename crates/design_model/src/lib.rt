@@ -6,7 +6,7 @@ ghost use Rattle.event_machine.specs.Machine.{IsLawful};
 ghost use Rattle.design_model.specs.Design.{Design as DesignTree};
 ghost use Rattle.design_model.specs.Machine.{machine};
 ghost use Rattle.design_model.specs.Lawful.{IsLawfulDesign};
-ghost use Rattle.design_model.specs.Laws.{ClearLaw, ForcedLaw, ClearValueLaw, ClearRoundsLaw, ClearLeastLaw, ReachedLaw};
+ghost use Rattle.design_model.specs.Laws.{ClearLaw, ForcedLaw, ClearValueLaw, ClearRoundsLaw, ClearClosedLaw, ClearLeastLaw, ReachedLaw};
 
 mod design;
 mod examples;
@@ -30,9 +30,10 @@ pub fn clear_law()
     ensures one_value { (d : DesignTree) (h : Habit) → IsLawfulDesign d → ClearValueLaw d h }
 {}
 
-/// What is clear grows from round to round, and is the least map that is closed under its rules.
+/// What is clear grows from round to round, is closed under its rules, and is the least map that is.
 pub fn clear_rounds_law()
     ensures rounds { (d : DesignTree) (h : Habit) → ClearRoundsLaw d h }
+    ensures closed { (d : DesignTree) (h : Habit) → IsLawfulDesign d → ClearClosedLaw d h }
     ensures least { (d : DesignTree) (h : Habit) → ClearLeastLaw d h }
 {}
 
