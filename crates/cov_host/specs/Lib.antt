@@ -1,3 +1,4 @@
+pub mod FileHost
 pub mod MemoryHost
 pub mod Outside
 pub mod Identifier

@@ -33,9 +33,25 @@ empty_outside = record {
   mute = 0;
 }
 
--- what was told before is told after, and the two stand in this relation
+-- no content is told, and nothing is being read or written
+abbrev pub untold_outside : Outside
+untold_outside = record {
+  files = None;
+  rest = None;
+  reading = false;
+  writing = false;
+  target = None;
+  printed = None;
+  warned = None;
+  faults = 0;
+  absences = 0;
+  mute = 0;
+}
+
+-- it is told before and after, and the two stand in this relation; or it is told neither before nor after
 abbrev pub Told : {A : Type 0} → (A → A → Type 0) → Option A → Option A → Type 0
-Told R None after = Unit {0}
+Told R None None = Unit {0}
+Told R None (Some after) = ⊥
 Told R (Some before) None = ⊥
 Told R (Some before) (Some after) = R before after
 

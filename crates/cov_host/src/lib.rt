@@ -5,18 +5,23 @@
 mod count;
 mod decimal;
 mod fault;
+mod file_host;
 mod host;
 mod identifier;
 mod input;
 mod memory_host;
 mod place;
 mod planned_faults;
+mod retry;
 mod sequence;
 mod sure_host;
+#[cfg(test)]
+mod tests;
 mod words;
 
 pub use decimal::read_decimal;
 pub use fault::{Failed, HostFault, NoMemory, OpenFault};
+pub use file_host::FileHost;
 pub use host::Host;
 pub use identifier::{
     KEYWORDS, begins_name, continues_name, has_name_form, is_identifier, is_keyword,

@@ -1,4 +1,5 @@
-ghost use Rattle.std.specs.Prelude.{◌≡◌, ◌<◌, ◌≤◌, Some, OnOk, OnErr, IfOk, IsSomeAnd};
+ghost use Rattle.std.specs.Prelude.{◌≡◌, ◌<◌, ◌≤◌, Some, true, false, OnOk, OnErr, IfOk, IsOkAnd, IsSomeAnd, IsTrue};
+ghost use Rattle.std.specs.Bool.{OnFalse};
 ghost use Rattle.std.specs.Option.{option_copied};
 ghost use Rattle.cov_host.specs.Outside.{Told, HasFile, KeepsFiles, KeepsInput, KeepsOutput, KeepsStreams, KeepsCounts, empty_outside};
 
@@ -16,12 +17,14 @@ pub struct MemoryHost {
 }
 
 impl MemoryHost {
-    ghost use Rattle.cov_host.specs.MemoryHost.{memory_outside};
+    ghost use Rattle.cov_host.specs.MemoryHost.{memory_outside, memory_plan};
 
-    /// No file, and nothing read, written, printed or warned. Of the calls of `Host`, by their numbers from 1, the
-    /// failing ones answer Failed.
+    /// No file, and nothing read, written, printed or warned. The calls of `Host` are numbered from 1, and those
+    /// whose numbers are among the failing ones answer Failed.
     pub fn new(alloc: Global, failing: Calls) -> Result<Self, NoMemory>
-        ensures { IfOk result (λ host. memory_outside host ≡ empty_outside) }
+        ensures empty { IsOkAnd result (λ host. memory_outside host ≡ empty_outside) }
+        ensures plan { IfOk result (λ host. memory_plan host
+            ≡ record { failing = failing; calls = 0; by_one_byte = false }) }
     {
         Ok(MemoryHost {
             sure: SureHost::new(alloc)?,
@@ -55,19 +58,22 @@ impl MemoryHost {
     /// it was opened, and what is being written goes on at the end of these bytes. After a refusal nothing has
     /// changed.
     pub fn put(&mut self, name: &str, bytes: &[u8]) -> Result<(), NoMemory>
-        ensures file { OnOk result (Told (HasFile name.now bytes.now) (memory_outside self.old).files (memory_outside self.new).files) }
+        ensures file { OnOk result (Told (HasFile name.now bytes.now)
+            (memory_outside self.old).files (memory_outside self.new).files) }
         ensures refused { OnErr result (KeepsFiles (memory_outside self.old) (memory_outside self.new)) }
         ensures input { KeepsInput (memory_outside self.old) (memory_outside self.new) }
         ensures output { KeepsOutput (memory_outside self.old) (memory_outside self.new) }
         ensures streams { KeepsStreams (memory_outside self.old) (memory_outside self.new) }
         ensures counts { KeepsCounts (memory_outside self.old) (memory_outside self.new) }
+        ensures plan { memory_plan self.new ≡ memory_plan self.old }
     {
         self.sure.put(name, bytes)
     }
 
     /// From here on each `read` and each `write` moves at most one byte.
     pub fn one_byte(&mut self)
-        ensures { memory_outside self.new ≡ memory_outside self.old }
+        ensures same { memory_outside self.new ≡ memory_outside self.old }
+        ensures plan { memory_plan self.new ≡ record (memory_plan self.old) { by_one_byte = true } }
     {
         self.by_one_byte = true;
     }
@@ -76,6 +82,8 @@ impl MemoryHost {
     fn portion(&self, length: usize) -> usize
         ensures within { result ≤ length }
         ensures some { 0 < length → 0 < result }
+        ensures one { IsTrue self.now.by_one_byte → result ≤ 1 }
+        ensures whole { OnFalse self.now.by_one_byte (result ≡ length) }
     {
         if self.by_one_byte {
             length.min(1)

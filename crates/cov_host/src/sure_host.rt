@@ -1,4 +1,4 @@
-ghost use Rattle.std.specs.Prelude.{◌≡◌, false, Some, OnOk, OnErr, IfOk, IsSomeAnd, IsSome, string_bytes};
+ghost use Rattle.std.specs.Prelude.{◌≡◌, false, Some, OnOk, OnErr, IsOkAnd, IsSomeAnd, IsSome, string_bytes};
 ghost use Rattle.std.specs.Option.{ForSome, option_copied};
 ghost use Rattle.std.specs.BTreeMap.{get_by_text};
 ghost use Rattle.cov_host.specs.Outside.{Told, HasFile, IsCounted, KeepsFiles, KeepsInput, KeepsOutput, KeepsStreams, KeepsCounts, CountsMute, empty_outside};
@@ -29,7 +29,7 @@ impl SureHost {
 
     /// No file, and nothing read, written, printed or warned.
     pub fn new(alloc: Global) -> Result<Self, NoMemory>
-        ensures { IfOk result (λ host. sure_outside host ≡ empty_outside) }
+        ensures { IsOkAnd result (λ host. sure_outside host ≡ empty_outside) }
     {
         Ok(SureHost {
             alloc,
@@ -69,7 +69,8 @@ impl SureHost {
     /// it was opened, and what is being written goes on at the end of these bytes. After a refusal nothing has
     /// changed.
     pub fn put(&mut self, name: &str, bytes: &[u8]) -> Result<(), NoMemory>
-        ensures file { OnOk result (Told (HasFile name.now bytes.now) (sure_outside self.old).files (sure_outside self.new).files) }
+        ensures file { OnOk result (Told (HasFile name.now bytes.now)
+            (sure_outside self.old).files (sure_outside self.new).files) }
         ensures refused { OnErr result (KeepsFiles (sure_outside self.old) (sure_outside self.new)) }
         ensures input { KeepsInput (sure_outside self.old) (sure_outside self.new) }
         ensures output { KeepsOutput (sure_outside self.old) (sure_outside self.new) }

@@ -14,6 +14,7 @@ pub mod Mentions
 pub mod Prefix
 pub mod Untouched
 pub mod Times
+pub mod Toggles
 pub mod Sound
 pub mod Along
 pub mod Combs

@@ -53,7 +53,7 @@ pick u v s n (suc k) (suc j) e h =
     let same : (n + 1) + j ≡ n + suc j = omega arith in
     subst (λ y. u (cell s y) ≡ v (cell s y)) same (pick u v s (n + 1) k j (ap tail_of e) (omega arith))
 
-pick_cell : (d : Design) (u v : Values Bit) (c : Cell) → signal_bits d u c.thing ≡ signal_bits d v c.thing → c.place < (signal_at d c.thing).width → u c ≡ v c
+pub pick_cell : (d : Design) (u v : Values Bit) (c : Cell) → signal_bits d u c.thing ≡ signal_bits d v c.thing → c.place < (signal_at d c.thing).width → u c ≡ v c
 pick_cell d u v c e h =
     let same : 0 + c.place ≡ c.place = omega arith in
     subst (λ y. u (cell c.thing y) ≡ v (cell c.thing y)) same (pick u v c.thing 0 (signal_at d c.thing).width c.place e h)

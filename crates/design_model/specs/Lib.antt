@@ -10,6 +10,7 @@ pub mod Reads
 pub mod Machine
 pub mod Run
 pub mod Shows
+pub mod ToggleLaw
 pub mod Scored
 pub mod Points
 pub mod MayMove

@@ -6,6 +6,7 @@ ghost use Rattle.event_machine.specs.Machine.{IsLawful};
 ghost use Rattle.design_model.specs.Design.{Design as DesignTree};
 ghost use Rattle.design_model.specs.Machine.{machine};
 ghost use Rattle.design_model.specs.Lawful.{IsLawfulDesign};
+ghost use Rattle.design_model.specs.ToggleLaw.{ToggleLaw};
 ghost use Rattle.design_model.specs.Laws.{ClearLaw, ForcedLaw, ClearValueLaw, ClearRoundsLaw, ClearClosedLaw, ClearLeastLaw, ReachedLaw};
 
 mod design;
@@ -35,6 +36,11 @@ pub fn clear_rounds_law()
     ensures rounds { (d : DesignTree) (h : Habit) → ClearRoundsLaw d h }
     ensures closed { (d : DesignTree) (h : Habit) → IsLawfulDesign d → ClearClosedLaw d h }
     ensures least { (d : DesignTree) (h : Habit) → ClearLeastLaw d h }
+{}
+
+/// In a run that shows the dump, a toggle point of a signal that the dump has is hit exactly where the dump toggles it.
+pub fn toggle_law()
+    ensures { (d : DesignTree) (h : Habit) → ToggleLaw d h }
 {}
 
 /// Each point that a block of it reaches at a window time is hit in each run that shows the dump.

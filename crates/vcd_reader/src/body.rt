@@ -1,71 +1,52 @@
+ghost use Rattle.std.specs.Prelude.{◌≤◌, length, OnSome};
+
 use crate::codes::{Code, Codes};
+use crate::steps::Steps;
 use crate::value::{WIDEST, are_digits, is_digit, value_of};
-use crate::word::split_word;
-use crate::{Change, Changes, DumpFault, DumpStep, DumpSteps};
-use cov_host::{Sequence, read_decimal};
+use crate::words::Words;
+use crate::{Change, DumpFault, DumpSteps};
+use cov_host::read_decimal;
 use std::alloc::Global;
 
 /// The latest time.
 const LATEST: u64 = i64::MAX as u64;
 
-/// An item of the body.
+/// An item of the body (IEEE 1364-2001 clause 18.2.2).
 #[derive(Clone, Copy)]
-enum Item {
+pub(crate) enum Item {
     Time(u64),
     Change(Change),
     /// A change of a code that is too wide to keep.
-    Passed,
+    WideChange,
 }
 
-/// Reads the body of a dump.
-pub(crate) fn read_body(alloc: Global, codes: &Codes, text: &[u8]) -> Result<DumpSteps, DumpFault> {
-    let mut steps = Vec::new(alloc);
-    let mut time = None;
-    let mut changes = Vec::new(alloc);
-    let mut rest = text;
-    while let Some((word, after)) = split_word(rest) {
-        let (item, after) = read_item(codes, word, after).ok_or(DumpFault::NotYet)?;
-        rest = after;
-        match item {
-            Item::Passed => {}
-            Item::Change(change) => changes.push(change)?,
-            Item::Time(next) => match time {
-                None => time = Some(next),
-                Some(now) if now == next => {}
-                Some(now) if now < next => {
-                    let step = DumpStep {
-                        time: now,
-                        changes: Sequence::from_vec(changes),
-                    };
-                    steps.push(step)?;
-                    changes = Vec::new(alloc);
-                    time = Some(next);
-                }
-                Some(_) => return Err(DumpFault::NotYet),
-            },
-        }
-    }
-    if let Some(now) = time {
-        let step = DumpStep {
-            time: now,
-            changes: Sequence::from_vec(changes),
+/// Reads the body of a dump, which is all words that are left.
+pub(crate) fn read_body(
+    alloc: Global,
+    codes: &Codes,
+    words: &mut Words<'_>,
+) -> Result<DumpSteps, DumpFault> {
+    let mut steps = Steps::new(alloc);
+    while let Some(word) = words.next_word() {
+        let Some(item) = read_item(codes, word.bytes, words) else {
+            return Err(DumpFault::NotYet);
         };
-        steps.push(step)?;
+        steps.add(item)?;
     }
-    Ok(Sequence::from_vec(steps))
+    Ok(steps.finish()?)
 }
 
-/// The item that begins with this word, and what follows it.
-fn read_item<'a>(codes: &Codes, word: &[u8], after: &'a [u8]) -> Option<(Item, &'a [u8])> {
+/// The item that begins with this word.
+fn read_item(codes: &Codes, word: &[u8], words: &mut Words<'_>) -> Option<Item>
+    ensures { OnSome result (length words.new ≤ length words.old) }
+{
     match word {
-        [b'#', digits @ ..] => Some((Item::Time(read_decimal(digits, LATEST)?), after)),
+        [b'#', digits @ ..] => Some(Item::Time(read_decimal(digits, LATEST)?)),
         [b'b' | b'B', digits @ ..] => {
-            let (code, after) = split_word(after)?;
-            Some((change_of(codes.find(code)?, digits)?, after))
+            let code = words.next_word()?.bytes;
+            change_of(codes.find(code)?, digits)
         }
-        [digit, code @ ..] if is_digit(*digit) => {
-            Some((change_of(codes.find(code)?, &word[..1])?, after))
-        }
+        [digit, code @ ..] if is_digit(*digit) => change_of(codes.find(code)?, &word[..1]),
         _ => None,
     }
 }
@@ -76,11 +57,11 @@ fn change_of(code: Code, digits: &[u8]) -> Option<Item> {
         return None;
     }
     if code.size > WIDEST {
-        return Some(Item::Passed);
+        return Some(Item::WideChange);
     }
-    let value = value_of(digits, code.size as u8);
-    Some(Item::Change(Change {
+    let change = Change {
         code: code.number,
-        value,
-    }))
+        value: value_of(digits, code.size as u8),
+    };
+    Some(Item::Change(change))
 }

@@ -1,27 +1,21 @@
-use crate::codes::{Codes, is_code};
-use crate::word::split_word;
+ghost use Rattle.std.specs.Prelude.{◌≡◌, ℕ, ◌<◌, ◌≤◌, ◌^◌, List, [], map, length, IfOk, OnOk, IsErrOf};
+ghost use Rattle.std.specs.List.{join_with_byte};
+ghost use Rattle.vcd_reader.specs.Words.{Word};
+ghost use Rattle.vcd_reader.specs.Header.{Header as SpecHeader, IsHeader, scope as scope_section, upscope};
+ghost use Rattle.vcd_reader.specs.Views.{header_of, variable_of, declaration_of, Declares, Refuses};
+
+use crate::codes::Codes;
+use crate::section::{Declaration, Section, Variable, read_section};
+use crate::words::Words;
 use crate::{DumpFault, Var, Vars};
-use cov_host::{Name, Sequence, read_decimal};
+use cov_host::{Name, NoMemory, Sequence};
 use std::alloc::Global;
-
-const SCOPE: &str = "$scope";
-
-const UPSCOPE: &str = "$upscope";
-
-const VARIABLE: &str = "$var";
-
-const END: &str = "$end";
-
-const END_DEFINITIONS: &str = "$enddefinitions";
 
 /// The longest header, in bytes.
 const LONGEST: usize = 67_108_864;
 
 /// How many scopes can be open at once.
 const DEEPEST: usize = 64;
-
-/// The greatest size of a variable, in bits.
-const GREATEST_SIZE: u64 = 999_999_999;
 
 /// A header that was read: its variables and their codes.
 #[derive(Drop)]
@@ -30,161 +24,126 @@ pub(crate) struct Header {
     pub(crate) codes: Codes,
 }
 
-/// A section of the header.
-#[derive(Clone, Copy)]
-enum Section<'a> {
-    Scope(&'a [u8]),
-    Upscope,
-    Variable {
-        kind: &'a [u8],
-        size: u32,
-        code: &'a [u8],
-        reference: &'a [u8],
-    },
-    End,
-}
-
-/// Reads the header at the front of a text, and gives what follows it.
-pub(crate) fn read_header<'a>(
-    alloc: Global,
-    text: &'a [u8],
-) -> Result<(Header, &'a [u8]), DumpFault> {
-    let mut header = Header {
-        vars: Sequence::new(alloc),
-        codes: Codes::new(alloc),
-    };
-    let mut scopes = Vec::new(alloc);
-    let mut rest = text;
-    while let Some((section, after)) = read_section(rest) {
-        rest = after;
+/// Reads the header at the front of the words.
+pub(crate) fn read_header(alloc: Global, words: &mut Words<'_>) -> Result<Header, DumpFault>
+    ensures header { IfOk result (λ header. IsHeader words.old (header_of header) words.new) }
+    // A header within the limit has fewer codes.
+    ensures not_yet { IsErrOf result DumpFault.NotYet → (header : SpecHeader) (rest : List Word) → IsHeader words.old header rest → 2 ^ 32 ≤ length header.codes }
+{
+    let mut declarations = Declarations::new(alloc);
+    while let Some(section) = read_section(words) {
         match section {
-            Section::End => return within_limit(text, header, rest),
-            Section::Upscope => {
-                scopes.pop().ok_or(DumpFault::NotYet)?;
-            }
-            Section::Scope(name) => open_scope(&mut scopes, name)?,
-            Section::Variable {
-                kind,
-                size,
-                code,
-                reference,
-            } => {
-                let code = header.codes.add(code, size)?.ok_or(DumpFault::NotYet)?;
-                let scope = path_of(alloc, &scopes)?;
-                let kind = name_of(alloc, kind)?;
-                let name = name_of(alloc, before_range(reference))?;
-                header.vars.push(Var {
-                    scope,
-                    kind,
-                    name,
-                    size,
-                    code,
-                })?;
-            }
+            Section::Declaration(declaration) => declarations.declare(declaration)?,
+            Section::EndDefinitions { end } => return within_limit(declarations.header, end),
         }
     }
     Err(DumpFault::NotYet)
 }
 
-/// Refuses a header that is longer than the limit.
-fn within_limit<'a>(
-    text: &[u8],
-    header: Header,
-    rest: &'a [u8],
-) -> Result<(Header, &'a [u8]), DumpFault> {
-    if text.len().saturating_sub(rest.len()) <= LONGEST {
-        Ok((header, rest))
+/// The header, if it ends within the limit.
+fn within_limit(header: Header, end: usize) -> Result<Header, DumpFault>
+    ensures header { IfOk result (λ same. (same ≡ header) × (end ≤ 67108864)) }
+    ensures not_yet { IsErrOf result DumpFault.NotYet → 67108864 < end }
+{
+    if end <= LONGEST {
+        Ok(header)
     } else {
         Err(DumpFault::NotYet)
     }
 }
 
-fn open_scope<'a>(scopes: &mut Vec<&'a [u8]>, name: &'a [u8]) -> Result<(), DumpFault> {
-    if scopes.len() >= DEEPEST {
-        return Err(DumpFault::NotYet);
-    }
-    scopes.push(name)?;
-    Ok(())
+/// What the sections so far declare.
+#[derive(Drop)]
+struct Declarations<'a> {
+    alloc: Global,
+    /// The names of the open scopes, the outermost first.
+    scopes: Vec<&'a [u8]>,
+    header: Header,
 }
 
-/// The names of the open scopes, joined by dots.
-fn path_of(alloc: Global, scopes: &[&[u8]]) -> Result<Name, DumpFault> {
-    let mut path = Vec::new(alloc);
+impl<'a> Declarations<'a> {
+    fn new(alloc: Global) -> Self
+        ensures scopes { result.scopes.items ≡ [] }
+        ensures header { header_of result.header ≡ record { vars = []; codes = [] } }
+    {
+        Declarations {
+            alloc,
+            scopes: Vec::new(alloc),
+            header: Header {
+                vars: Sequence::new(alloc),
+                codes: Codes::new(alloc),
+            },
+        }
+    }
+
+    /// Adds what a section declares.
+    fn declare(&mut self, declaration: Declaration<'a>) -> Result<(), DumpFault>
+        ensures ok { OnOk result (Declares self.old (declaration_of declaration.entry) self.new) }
+        ensures not_yet { IsErrOf result DumpFault.NotYet → Refuses self.old (declaration_of declaration.entry) }
+    {
+        match declaration {
+            Declaration::Scope(name) => self.open_scope(name),
+            Declaration::Upscope => self.close_scope(),
+            Declaration::Variable(variable) => self.add_variable(variable),
+        }
+    }
+
+    fn open_scope(&mut self, name: &'a [u8]) -> Result<(), DumpFault>
+        ensures ok { OnOk result (Declares self.old (scope_section name.now) self.new) }
+        ensures not_yet { IsErrOf result DumpFault.NotYet → Refuses self.old (scope_section name.now) }
+    {
+        if self.scopes.len() >= DEEPEST {
+            return Err(DumpFault::NotYet);
+        }
+        self.scopes.push(name)?;
+        Ok(())
+    }
+
+    fn close_scope(&mut self) -> Result<(), DumpFault>
+        ensures ok { OnOk result (Declares self.old upscope self.new) }
+        ensures not_yet { IsErrOf result DumpFault.NotYet → Refuses self.old upscope }
+    {
+        match self.scopes.pop() {
+            Some(_) => Ok(()),
+            None => Err(DumpFault::NotYet),
+        }
+    }
+
+    fn add_variable(&mut self, variable: Variable<'_>) -> Result<(), DumpFault>
+        ensures ok { OnOk result (Declares self.old (variable_of variable.entry) self.new) }
+        ensures not_yet { IsErrOf result DumpFault.NotYet → Refuses self.old (variable_of variable.entry) }
+    {
+        let Some(code) = self.header.codes.add(variable.code, variable.size)? else {
+            return Err(DumpFault::NotYet);
+        };
+        let var = Var {
+            scope: path_of(self.alloc, self.scopes.as_slice())?,
+            kind: to_name(self.alloc, variable.kind)?,
+            name: to_name(self.alloc, variable.name)?,
+            size: variable.size,
+            code,
+        };
+        self.header.vars.push(var)?;
+        Ok(())
+    }
+}
+
+/// The names of scopes, joined by dots.
+fn path_of(alloc: Global, scopes: &[&[u8]]) -> Result<Name, NoMemory>
+    ensures { IfOk result (λ path. path ≡ join_with_byte 46 (map (λ scope. scope.now) scopes.now)) }
+{
+    let mut path = Sequence::new(alloc);
     for (depth, scope) in scopes.iter().enumerate() {
         if depth > 0 {
             path.push(b'.')?;
         }
         path.extend_from_slice(scope)?;
     }
-    Ok(Name::from_vec(path))
+    Ok(path)
 }
 
-fn name_of(alloc: Global, bytes: &[u8]) -> Result<Name, DumpFault> {
+fn to_name(alloc: Global, bytes: &[u8]) -> Result<Name, NoMemory>
+    ensures { IfOk result (λ name. name ≡ bytes.now) }
+{
     Ok(Name::from_vec(Vec::from_slice(alloc, bytes)?))
-}
-
-/// The reference without the range that is joined to it.
-fn before_range(reference: &[u8]) -> &[u8] {
-    match reference.iter().position(|byte| *byte == b'[') {
-        Some(end) => &reference[..end],
-        None => reference,
-    }
-}
-
-/// The next section and what follows it. None where the text does not go on with a section of the small form.
-fn read_section(text: &[u8]) -> Option<(Section<'_>, &[u8])> {
-    let (keyword, rest) = split_word(text)?;
-    if keyword == END_DEFINITIONS.as_bytes() {
-        Some((Section::End, read_end(rest)?))
-    } else if keyword == UPSCOPE.as_bytes() {
-        Some((Section::Upscope, read_end(rest)?))
-    } else if keyword == SCOPE.as_bytes() {
-        let (_kind, rest) = read_word(rest)?;
-        let (name, rest) = read_word(rest)?;
-        Some((Section::Scope(name), read_end(rest)?))
-    } else if keyword == VARIABLE.as_bytes() {
-        read_variable(rest)
-    } else {
-        None
-    }
-}
-
-/// The words of a variable's section after `$var`.
-fn read_variable(text: &[u8]) -> Option<(Section<'_>, &[u8])> {
-    let (kind, rest) = read_word(text)?;
-    let (size, rest) = read_word(rest)?;
-    let (code, rest) = read_word(rest)?;
-    let (reference, rest) = read_word(rest)?;
-    let size = read_decimal(size, GREATEST_SIZE)?;
-    if size == 0 || !is_code(code) {
-        return None;
-    }
-    let size = u32::try_from(size).ok()?;
-    let section = Section::Variable {
-        kind,
-        size,
-        code,
-        reference,
-    };
-    Some((section, read_end(rest)?))
-}
-
-/// The next word, which is not `$end`.
-fn read_word(text: &[u8]) -> Option<(&[u8], &[u8])> {
-    let (word, rest) = split_word(text)?;
-    if word == END.as_bytes() {
-        None
-    } else {
-        Some((word, rest))
-    }
-}
-
-/// What follows the next word, which is `$end`.
-fn read_end(text: &[u8]) -> Option<&[u8]> {
-    let (word, rest) = split_word(text)?;
-    if word == END.as_bytes() {
-        Some(rest)
-    } else {
-        None
-    }
 }

@@ -9,10 +9,18 @@ mod codes;
 mod dump;
 mod fault;
 mod header;
+mod laws;
 mod reader;
+mod section;
+mod steps;
 mod value;
 mod word;
+mod words;
 
 pub use dump::{Change, Changes, Dump, DumpStep, DumpSteps, Var, Vars};
 pub use fault::DumpFault;
+pub use laws::one_dump;
 pub use reader::whole;
+
+#[cfg(test)]
+mod tests;

@@ -1,5 +1,6 @@
 use crate::body::read_body;
 use crate::header::read_header;
+use crate::words::Words;
 use crate::{Dump, DumpFault};
 use std::alloc::Global;
 
@@ -12,8 +13,9 @@ pub fn whole(alloc: Global, bytes: &[u8]) -> Result<Dump, DumpFault> {
     if bytes.len() > LONGEST {
         return Err(DumpFault::NotYet);
     }
-    let (header, rest) = read_header(alloc, bytes)?;
-    let steps = read_body(alloc, &header.codes, rest)?;
+    let mut words = Words::new(bytes);
+    let header = read_header(alloc, &mut words)?;
+    let steps = read_body(alloc, &header.codes, &mut words)?;
     Ok(Dump {
         vars: header.vars,
         steps,

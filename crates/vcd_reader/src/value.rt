@@ -1,10 +1,14 @@
+ghost use Rattle.std.specs.Prelude.{◌≡◌, ◌+◌, ◌*◌, ◌-◌, ◌^◌, ◌<◌, ◌≤◌, length, if◌then◌else◌, IsTrue};
+
 use four_state::Four;
 
 /// The widest value that is kept, in bits.
 pub(crate) const WIDEST: u32 = 128;
 
 /// Whether each byte is a digit of a value, and there is one (IEEE 1364-2001 clause 18.2.1).
-pub(crate) fn are_digits(word: &[u8]) -> bool {
+pub(crate) fn are_digits(word: &[u8]) -> bool
+    ensures { IsTrue result → 0 < length word.now }
+{
     !word.is_empty() && word.iter().all(|byte| is_digit(*byte))
 }
 
@@ -13,15 +17,20 @@ pub(crate) fn is_digit(byte: u8) -> bool {
 }
 
 /// The value that digits write, the highest first. Fewer digits than the width are extended on the left: by x
-/// after x, by z after z, and else by 0 (IEEE 1364-2001 clause 18.2.2).
-pub(crate) fn value_of(digits: &[u8], width: u8) -> Four {
-    let filling = low_bits(width as usize - digits.len());
-    let mut ones = if is_one(digits[0]) && is_strange(digits[0]) {
+/// after x, by z after z, and else by 0 (IEEE 1364-2001 clause 18.2.1).
+pub(crate) fn value_of(digits: &[u8], width: u8) -> Four
+    requires some { 0 < length digits.now }
+    requires no_more { length digits.now ≤ width }
+    requires kept { width ≤ 128 }
+{
+    let filling = low_bits(width - digits.len() as u8);
+    let first = digits[0];
+    let mut ones = if is_strange(first) && is_one(first) {
         filling
     } else {
         0
     };
-    let mut strange = if is_strange(digits[0]) { filling } else { 0 };
+    let mut strange = if is_strange(first) { filling } else { 0 };
     for digit in digits {
         ones = with_bit(ones, is_one(*digit));
         strange = with_bit(strange, is_strange(*digit));
@@ -39,7 +48,11 @@ fn is_strange(digit: u8) -> bool {
     matches!(digit, b'x' | b'X' | b'z' | b'Z')
 }
 
-fn low_bits(count: usize) -> u128 {
+/// The mask of the lowest places.
+fn low_bits(count: u8) -> u128
+    requires { count < 128 }
+    ensures { result ≡ 2 ^ count - 1 }
+{
     if count == 0 {
         0
     } else {
@@ -48,6 +61,9 @@ fn low_bits(count: usize) -> u128 {
 }
 
 /// The mask with one more bit at its low end.
-fn with_bit(mask: u128, bit: bool) -> u128 {
+fn with_bit(mask: u128, bit: bool) -> u128
+    requires { mask < 2 ^ 127 }
+    ensures { result ≡ 2 * mask + (if bit then 1 else 0) }
+{
     mask * 2 + u128::from(bit)
 }

@@ -1,15 +1,19 @@
-/// Whether the byte separates words: space, tab, line feed, carriage return, vertical tab or form feed.
-pub(crate) fn is_white_space(byte: u8) -> bool {
-    matches!(byte, b' ' | b'\t' | b'\n' | b'\r' | 0x0b | 0x0c)
+ghost use Rattle.std.specs.Prelude.{◌≡◌, ◌+◌, ◌^◌, ◌<◌, length};
+
+/// A word of a text.
+#[derive(Clone, Copy)]
+pub(crate) struct Word<'a> {
+    /// The offset of its first byte in the text.
+    pub(crate) at: usize,
+    pub(crate) bytes: &'a [u8],
+    ghost within: { at + length bytes.now < 2 ^ 64 },
 }
 
-/// The first word of a text and what follows it, or nothing where only white space is left.
-pub(crate) fn split_word(text: &[u8]) -> Option<(&[u8], &[u8])> {
-    let begin = text.iter().position(|byte| !is_white_space(*byte))?;
-    let (_, from_word) = text.split_at(begin);
-    let end = from_word
-        .iter()
-        .position(|byte| is_white_space(*byte))
-        .unwrap_or(from_word.len());
-    Some(from_word.split_at(end))
+impl Word<'_> {
+    /// The offset behind its last byte.
+    pub(crate) fn end(&self) -> usize
+        ensures { result ≡ self.now.at + length self.now.bytes.now }
+    {
+        self.at + self.bytes.len()
+    }
 }

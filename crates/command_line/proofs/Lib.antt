@@ -1,0 +1,4 @@
+pub mod OptionLemmas
+pub mod GivenLemmas
+pub mod ScoreReading
+pub mod ScoreOutcome

@@ -1,0 +1,105 @@
+-- What words come to, as a function of them: so they come to one thing only.
+use Rattle.std.proofs.Common.{◌≡◌, ◌∙◌, ℕ, cond, true, ap, refl, List, [], ◌∷◌, ◌++◌, append_assoc, Option, Some, None, Result, Ok, Err, is_some, codes}
+use Rattle.std.specs.List.{find}
+use Rattle.std.specs.Str.{bytes_eq}
+use Rattle.std.proofs.lemmas.Bool.{false_from_ne_true}
+use Rattle.std.proofs.lemmas.List.{append-nil}
+use Rattle.std.proofs.lemmas.Slice.Eq.{bytes_eq-Decides}
+use Rattle.command_line.specs.declared.score_option.ScoreOption.{ScoreOption}
+use Rattle.command_line.specs.declared.score_option.ScoreOption.TheVariants.{Top, Instance, Source, Dump, Output}
+use Rattle.command_line.specs.declared.usage_fault.UsageFault.{UsageFault}
+use Rattle.command_line.specs.declared.usage_fault.UsageFault.TheVariants.{NoCommand, UnknownCommand, UnknownWord, GivenTwice, NeedsValue, BadValue, Missing}
+use Rattle.command_line.specs.ScoreOption.{options, option_text, accepts}
+use Rattle.command_line.specs.CommandWords.{GivenOption, spelled, value_in, AreGiven, IsScoreUpTo, IsScore, ScoreValues}
+use Rattle.command_line.specs.UsageFault.{usage_text, first_missing, IsNoOption, FaultAfter, HasUsageFault}
+use Rattle.command_line.proofs.GivenLemmas.{AreGiven-at}
+
+-- what words come to: options with their values, or the text of a fault
+abbrev pub Outcome : Type 0
+Outcome = Result (List GivenOption) (List ℕ)
+
+-- the option that a word is
+pub named : List ℕ → Option ScoreOption
+named word = find (λ option. bytes_eq word (option_text option)) options
+
+-- at the end of the words
+abbrev pub at_end : List GivenOption → Option ScoreOption → Outcome
+at_end given None = Ok given
+at_end given (Some option) = Err (codes "missing " ++ option_text option)
+
+-- at a word that is this option, if any, and comes to next if it has no value
+abbrev pub at_option : List GivenOption → List ℕ → Option ScoreOption → (ScoreOption → Outcome) → Outcome
+at_option given word None next = Err (codes "unknown word " ++ word)
+at_option given word (Some option) next = cond (is_some (value_in given option)) (Err (word ++ codes " given twice")) (next option)
+
+-- after options with their values
+abbrev pub outcome : List GivenOption → List (List ℕ) → Outcome
+outcome given [] = at_end given (first_missing (value_in given))
+outcome given (word ∷ []) = at_option given word (named word) (λ option. Err (word ++ codes " needs a value"))
+outcome given (word ∷ value ∷ left) = at_option given word (named word) (λ option. cond (accepts option value) (outcome (given ++ record { option = option; value = value } ∷ []) left) (Err (codes "bad value " ++ value)))
+
+-- of all words
+abbrev pub outcome_of : List (List ℕ) → Outcome
+outcome_of [] = Err (codes "no command")
+outcome_of (word ∷ left) = cond (bytes_eq word (codes "score")) (outcome [] left) (Err (codes "unknown command " ++ word))
+
+named_text : (option : ScoreOption) → named (option_text option) ≡ Some option
+unfolding named
+named_text Top = refl
+named_text Instance = refl
+named_text Source = refl
+named_text Dump = refl
+named_text Output = refl
+
+named_word : (word : List ℕ) (option : ScoreOption) → word ≡ option_text option → named word ≡ Some option
+named_word word option h = ap named h ∙ named_text option
+
+named_none : (word : List ℕ) → IsNoOption word → named word ≡ None
+unfolding named
+named_none word h =
+    let other = λ (option : ScoreOption). false_from_ne_true (bytes_eq word (option_text option)) (λ e. h option ((bytes_eq-Decides word (option_text option)).0 e)) in
+    rw (other Top, other Instance, other Source, other Dump, other Output)
+
+-- options with their values are read one by one
+outcome-spelled : (front more : List GivenOption) (left : List (List ℕ)) → AreGiven (front ++ more) → outcome front (spelled more ++ left) ≡ outcome (front ++ more) left
+outcome-spelled front [] left h = rw append-nil
+outcome-spelled front (x ∷ more) left h =
+    let at = AreGiven-at front x more h in
+    let next = outcome-spelled (front ++ x ∷ []) more left (rw append_assoc h) in
+    rw (named_text x.option, at.0, at.1, next, append_assoc)
+
+outcome_of-up_to : (words : List (List ℕ)) (given : List GivenOption) (left : List (List ℕ)) → IsScoreUpTo words given left → outcome_of words ≡ outcome given left
+outcome_of-up_to words given left up_to = ap outcome_of up_to.spells ∙ outcome-spelled [] given left up_to.are_given
+
+-- a word that is no option
+outcome-unknown : (given : List GivenOption) (word : List ℕ) (rest : List (List ℕ)) → named word ≡ None → outcome given (word ∷ rest) ≡ Err (codes "unknown word " ++ word)
+outcome-unknown given word [] h = rw h
+outcome-unknown given word (value ∷ rest) h = rw h
+
+-- a word that is an option with a value
+outcome-twice : (given : List GivenOption) (word : List ℕ) (rest : List (List ℕ)) (option : ScoreOption) → named word ≡ Some option → is_some (value_in given option) ≡ true → outcome given (word ∷ rest) ≡ Err (word ++ codes " given twice")
+outcome-twice given word [] option h has = rw (h, has)
+outcome-twice given word (value ∷ rest) option h has = rw (h, has)
+
+outcome-fault : (given : List GivenOption) (left : List (List ℕ)) (fault : UsageFault) → FaultAfter given left fault → outcome given left ≡ Err (usage_text fault)
+outcome-fault given left NoCommand h = absurd h
+outcome-fault given left (UnknownCommand word) h = absurd h
+outcome-fault given left (UnknownWord word) h = ap (outcome given) h.0.1 ∙ outcome-unknown given word.now h.0.0 (named_none word.now h.1)
+outcome-fault given left (GivenTwice word) h = ap (outcome given) h.0.1 ∙ outcome-twice given word.now h.0.0 h.1.0 (named_word word.now h.1.0 h.1.1) h.1.2
+outcome-fault given left (NeedsValue word) h = ap (outcome given) h.0 ∙ rw (named_word word.now h.1.0 h.1.1, h.1.2)
+outcome-fault given left (BadValue word) h = ap (outcome given) h.2 ∙ rw (named_text h.0, h.3, h.4)
+outcome-fault given left (Missing word) h = ap (outcome given) h.0 ∙ rw (h.1.1, h.1.2)
+
+-- a fault is what the words come to
+pub outcome_of-fault : (words : List (List ℕ)) (fault : UsageFault) → HasUsageFault words fault → outcome_of words ≡ Err (usage_text fault)
+outcome_of-fault words NoCommand h = ap outcome_of h
+outcome_of-fault words (UnknownCommand word) h =
+    let other = false_from_ne_true (bytes_eq word.now (codes "score")) (λ e. h.1 ((bytes_eq-Decides word.now (codes "score")).0 e)) in
+    ap outcome_of h.0.1 ∙ rw other
+outcome_of-fault words fault h = outcome_of-up_to words h.0 h.1 h.2 ∙ outcome-fault h.0 h.1 fault h.3
+
+-- so a command's words come to its options
+pub outcome_of-score : (words : List (List ℕ)) (values : ScoreValues) (score : IsScore words values) → outcome_of words ≡ Ok score.0
+outcome_of-score words values score =
+    let at = score.2 in
+    outcome_of-up_to words score.0 [] score.1 ∙ rw (at.top, at.instance, at.source, at.dump, at.output)

@@ -1,0 +1,56 @@
+ghost use Rattle.std.specs.Prelude.{◌∷◌, codes, IfOk, IfErr};
+ghost use Rattle.command_line.specs.Command.{IsCommand};
+ghost use Rattle.command_line.specs.CommandWords.{IsScore, score_values};
+ghost use Rattle.command_line.specs.UsageFault.{HasUsageFault};
+
+use crate::given_values::GivenValues;
+use crate::words_left::WordsLeft;
+use crate::{ScoreOption, ScoreWords, UsageFault};
+use cov_host::Words;
+
+/// A command with its values.
+#[derive(Clone, Copy, Debug, PartialEq, Eq)]
+pub enum Command<'a> {
+    /// Scores the coverage of a design from a value change dump.
+    Score(ScoreWords<'a>),
+}
+
+/// Reads the words that follow the name of the program. It takes no memory. The fault is the first one from
+/// the left; at one option `GivenTwice` goes before `NeedsValue`, and that before `BadValue`.
+pub fn read_command<'a>(words: &'a Words) -> Result<Command<'a>, UsageFault<'a>>
+    ensures command { IfOk result (λ command. IsCommand words.now command) }
+    ensures fault { IfErr result (λ fault. HasUsageFault words.now fault) }
+{
+    let mut left = WordsLeft::new(words);
+    match left.next_word() {
+        None => Err(UsageFault::NoCommand),
+        Some("score") => read_score(&mut left).map(Command::Score),
+        Some(word) => Err(UsageFault::UnknownCommand(word)),
+    }
+}
+
+/// Reads the words that are left after `score`.
+fn read_score<'a>(left: &mut WordsLeft<'a>) -> Result<ScoreWords<'a>, UsageFault<'a>>
+    ensures score { IfOk result (λ score. IsScore (codes "score" ∷ left.old) (score_values score)) }
+    ensures fault { IfErr result (λ fault. HasUsageFault (codes "score" ∷ left.old) fault) }
+{
+    let mut values = GivenValues::none();
+    while let Some(word) = left.next_word() {
+        let Some(option) = ScoreOption::named(word) else {
+            return Err(UsageFault::UnknownWord(word));
+        };
+        if values.get(option).is_some() {
+            return Err(UsageFault::GivenTwice(word));
+        }
+        let Some(value) = left.next_word() else {
+            return Err(UsageFault::NeedsValue(word));
+        };
+        if !option.accepts(value) {
+            return Err(UsageFault::BadValue(value));
+        }
+        values.set(option, value);
+    }
+    values
+        .complete()
+        .map_err(|option| UsageFault::Missing(option.text()))
+}

@@ -1,0 +1,20 @@
+//! What the words of a command line can be: at most one command, or else one first fault.
+ghost use Rattle.std.specs.Prelude.{◌≡◌, ℕ, List};
+ghost use Rattle.command_line.specs.declared.usage_fault.UsageFault.{UsageFault};
+ghost use Rattle.command_line.specs.CommandWords.{IsScore, ScoreValues};
+ghost use Rattle.command_line.specs.UsageFault.{HasUsageFault, usage_text};
+
+/// The words of a command have no fault.
+pub fn commands_have_no_fault()
+    ensures { (words : List (List ℕ)) (values : ScoreValues) (fault : UsageFault) → IsScore words values → HasUsageFault words fault → ⊥ }
+{}
+
+/// Words are one command at most.
+pub fn words_are_one_command()
+    ensures { (words : List (List ℕ)) (a b : ScoreValues) → IsScore words a → IsScore words b → a ≡ b }
+{}
+
+/// Words have one fault at most, and it is told in one way.
+pub fn words_have_one_fault()
+    ensures { (words : List (List ℕ)) (a b : UsageFault) → HasUsageFault words a → HasUsageFault words b → usage_text a ≡ usage_text b }
+{}

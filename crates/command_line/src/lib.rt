@@ -1,0 +1,23 @@
+//! The words of the command line, read into a command with its values or into the first fault of usage.
+//!
+//! A command is its name and its options, each with its value, in any order. Words are one command at most, or
+//! they have one first fault from the left. Nothing here takes memory: values and faults borrow from the words.
+#![tactic(auto)]
+
+mod command;
+mod given_values;
+mod laws;
+mod score_option;
+mod score_words;
+#[cfg(test)]
+mod tests;
+mod usage_fault;
+mod value_form;
+mod words_left;
+
+pub use command::{Command, read_command};
+pub use laws::{commands_have_no_fault, words_are_one_command, words_have_one_fault};
+pub use score_option::ScoreOption;
+pub use score_words::ScoreWords;
+pub use usage_fault::UsageFault;
+pub use value_form::{is_file_name, is_instance_path, is_module_name};

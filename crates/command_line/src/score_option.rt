@@ -1,0 +1,60 @@
+ghost use Rattle.std.specs.Prelude.{◌≡◌, ◌≢◌, IfSome, IfNone};
+ghost use Rattle.command_line.specs.ScoreOption.{option_text, accepts};
+
+use crate::{is_file_name, is_instance_path, is_module_name};
+
+/// An option of the command `score`. Its value is the next word, whatever that begins with.
+#[derive(Clone, Copy, Debug, PartialEq, Eq)]
+pub enum ScoreOption {
+    /// The name of the top module.
+    Top,
+    /// The path of the top module's instance in the dump.
+    Instance,
+    /// The file of the design.
+    Source,
+    /// The file of the value change dump (IEEE 1364-2001 clause 18).
+    Dump,
+    /// The file that the coverage is written to.
+    Output,
+}
+
+impl ScoreOption {
+    /// The option that a word is.
+    pub fn named(word: &str) -> Option<Self>
+        ensures named { IfSome result (λ option. word.now ≡ option_text option) }
+        ensures unknown { IfNone result ((option : ScoreOption) → word.now ≢ option_text option) }
+    {
+        match word {
+            "-t" => Some(ScoreOption::Top),
+            "-i" => Some(ScoreOption::Instance),
+            "-v" => Some(ScoreOption::Source),
+            "-vcd" => Some(ScoreOption::Dump),
+            "-o" => Some(ScoreOption::Output),
+            _ => None,
+        }
+    }
+
+    /// The option as it is written.
+    pub fn text(self) -> &'static str
+        ensures { result.now ≡ option_text self }
+    {
+        match self {
+            ScoreOption::Top => "-t",
+            ScoreOption::Instance => "-i",
+            ScoreOption::Source => "-v",
+            ScoreOption::Dump => "-vcd",
+            ScoreOption::Output => "-o",
+        }
+    }
+
+    /// Whether the value has the option's form.
+    pub fn accepts(self, value: &str) -> bool
+        ensures { result ≡ accepts self value.now }
+    {
+        match self {
+            ScoreOption::Top => is_module_name(value),
+            ScoreOption::Instance => is_instance_path(value),
+            ScoreOption::Source | ScoreOption::Dump | ScoreOption::Output => is_file_name(value),
+        }
+    }
+}

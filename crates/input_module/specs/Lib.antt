@@ -1,0 +1,6 @@
+pub mod Tokens
+pub mod Port
+pub mod SourceForm
+pub mod InputDesign
+pub mod Reading
+pub mod Views

@@ -1,0 +1,65 @@
+ghost use Rattle.std.specs.Prelude.{◌≡◌, IfNone, IfOk, IfSome};
+ghost use Rattle.input_module.specs.InputDesign.{IsInputDesign};
+ghost use Rattle.input_module.specs.SourceForm.{IsSource, design_with};
+
+use crate::module_form::read_module;
+use crate::names::have_distinct_names;
+use cov_host::{Name, NoMemory, Sequence, is_identifier};
+use design_model::{Design, Instance, Signal};
+use std::alloc::Global;
+
+/// The longest source, in bytes.
+const LONGEST_SOURCE: usize = 67_108_864;
+
+/// The design of a source that is one module with inputs alone:
+///
+/// `module NAME ( PORT , .. ) ; endmodule`, where a PORT is `input NAME` or `input [ A : B ] NAME`.
+///
+/// None where the source is not of this form, or its module is not `top`.
+pub fn read_source(
+    alloc: Global,
+    source: &[u8],
+    top: &str,
+) -> Result<Option<Design>, NoMemory>
+    ensures design { IfOk result (λ found. IfSome found (λ design. IsSource source.now top.now design)) }
+    ensures none { IfOk result (λ found. IfNone found ((design : Design) → IsSource source.now top.now design → ⊥)) }
+    ensures inputs { IfOk result (λ found. IfSome found (λ design. IsInputDesign source.now design)) }
+{
+    if source.len() > LONGEST_SOURCE || !is_identifier(top.as_bytes()) {
+        return Ok(None);
+    }
+    let Some(signals) = read_module(alloc, source, top)? else {
+        return Ok(None);
+    };
+    if !have_distinct_names(alloc, signals.as_slice())? {
+        return Ok(None);
+    }
+    Ok(Some(design_of(alloc, top, signals)?))
+}
+
+/// The design of one instance with these signals.
+fn design_of(alloc: Global, top: &str, signals: Sequence<Signal>) -> Result<Design, NoMemory>
+    ensures { IfOk result (λ design. design ≡ design_with top.now signals) }
+{
+    let mut instances = Sequence::new(alloc);
+    instances.push(Instance {
+        path: name_of(alloc, top)?,
+        module: name_of(alloc, top)?,
+    })?;
+    Ok(Design {
+        top: name_of(alloc, top)?,
+        instances,
+        signals,
+        memories: Sequence::new(alloc),
+        processes: Sequence::new(alloc),
+        constants: Sequence::new(alloc),
+        aliases: Sequence::new(alloc),
+    })
+}
+
+/// A copy of a text.
+fn name_of(alloc: Global, text: &str) -> Result<Name, NoMemory>
+    ensures { IfOk result (λ name. name ≡ text.now) }
+{
+    Ok(Name::from_vec(Vec::from_slice(alloc, text.as_bytes())?))
+}
