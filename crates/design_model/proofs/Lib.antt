@@ -32,7 +32,9 @@ pub mod MemoryPath
 pub mod FlipFlopRun
 pub mod FlipFlopDoubt
 pub mod FlipFlopLawful
+pub mod FlipFlopDefinite
 pub mod FlipFlopExample
 pub mod GateClear
 pub mod PipeClear
 pub mod RamClear
+pub mod Definite
