@@ -40,7 +40,7 @@ edge_thing Posedge x k h =
 edge_thing Negedge x k h = absurd (both_ways _ refl (and_parts (k == 0) false h).1)
 
 -- clk is the only event signal of the block
-only_clk : (e : MachineEdge) (c : Cell) → (machine flip_flop).edge 0 e c ≡ true → c ≡ cell 0 0
+pub only_clk : (e : MachineEdge) (c : Cell) → (machine flip_flop).edge 0 e c ≡ true → c ≡ cell 0 0
 only_clk e c h = edge_thing e c.thing c.place h
 
 input_thing : (x k : ℕ) → is_input_cell flip_flop (cell x k) ≡ true → (cell x k ≡ cell 0 0) ⊎ (cell x k ≡ cell 1 0)

@@ -2,6 +2,7 @@
 use Rattle.event_machine.specs.Habit.{Free, Late}
 use Rattle.four_state.specs.declared.bit.Bit.TheVariants.{One, Zero}
 use Rattle.design_model.specs.FlipFlop.{IsFallingExample, IsSteadyExample}
+use Rattle.design_model.proofs.FlipFlopDefinite.{flip_flop_definite}
 use Rattle.design_model.proofs.FlipFlopDoubt.{a_early, doubt_2, is_clean, none_early, none_early_late, open_2, reached_two}
 use Rattle.design_model.proofs.FlipFlopLawful.{flip_flop_fits, flip_flop_lawful, line_two_hit}
 use Rattle.design_model.proofs.FlipFlopRun.{hit_2, is_run, shows, visits_1, visits_x}
@@ -20,6 +21,7 @@ steady_example =
       none_early = none_early;
       reached = reached_two Free One (none_early Free);
       hit = line_two_hit Free One (none_early Free);
+      definite = flip_flop_definite;
     }
 
 pub falling_example : IsFallingExample

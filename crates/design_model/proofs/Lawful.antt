@@ -101,7 +101,7 @@ module _ (d : Design) (c : Cell) where
 
 -- a test that is weaker passes too
 mutual
-  any_weaker : (f g : Bool → Target → Term → Bool) → ((b : Bool) (x : Target) (t : Term) → f b x t ≡ true → g b x t ≡ true) → (s : Stmt) → any_set f s ≡ true → any_set g s ≡ true
+  pub any_weaker : (f g : Bool → Target → Term → Bool) → ((b : Bool) (x : Target) (t : Term) → f b x t ≡ true → g b x t ≡ true) → (s : Stmt) → any_set f s ≡ true → any_set g s ≡ true
   any_weaker f g w (block p ss) e = any_weaker_of f g w ss e
   any_weaker f g w (branch p n t s other) e =
       ⊎_elim (λ a. or_left (any_set g s) _ (any_weaker f g w s a)) (λ a. or_right (any_set g s) _ (any_weaker_of f g w other a)) (or_cases (any_set f s) (any_set_of f other) e)

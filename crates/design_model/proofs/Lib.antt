@@ -27,13 +27,14 @@ pub mod OpenNodes
 pub mod OpenWords
 pub mod Reached
 pub mod Rounds
+pub mod Closed
 pub mod MemoryPath
 pub mod FlipFlopRun
 pub mod FlipFlopDoubt
 pub mod FlipFlopLawful
+pub mod FlipFlopDefinite
 pub mod FlipFlopExample
 pub mod GateClear
 pub mod PipeClear
-pub mod PipeExample
 pub mod RamClear
-pub mod RamExample
+pub mod Definite

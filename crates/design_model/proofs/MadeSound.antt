@@ -33,7 +33,7 @@ use Rattle.design_model.proofs.Told.{SameExecution, execution_same}
 use Rattle.design_model.proofs.Untouched.{put_other}
 
 -- a Comb of a lawful design has blocking assignments alone
-comb_blocks : (d : Design) (x : Process) → IsComb x → target_once x d ≡ true → EachSet (λ n k y t. k ≡ true) (body x)
+pub comb_blocks : (d : Design) (x : Process) → IsComb x → target_once x d ≡ true → EachSet (λ n k y t. k ≡ true) (body x)
 comb_blocks d (assign i y t c) is once = absurd is
 comb_blocks d (comb i wakes s) is once = each_gives (λ n k y t e. not_false k e) s (each_fails (λ k y t. not k) s (not-true _ once))
   where

@@ -17,7 +17,7 @@ use Rattle.design_model.specs.Points.{toggle_point}
 use Rattle.design_model.specs.Clear.{HasChanged, IsClearBy, IsClockedTarget, IsCombValue, bits_after, clear, clear_in, is_driven, of_assigns, of_clean, of_comb, of_dump, of_unwoken}
 use Rattle.design_model.specs.Doubt.{IsInDoubt, of_signal}
 use Rattle.design_model.specs.Lawful.{is_signal}
-use Rattle.design_model.specs.Pipe.{pipe, pipe_dump, pipe_values}
+use Rattle.design_model.specs.Pipe.{IsPipeExample, pipe, pipe_dump, pipe_values}
 use Rattle.design_model.proofs.Bound.{clear_in-thing, in_bound}
 use Rattle.design_model.proofs.FlipFlopDoubt.{agrees}
 use Rattle.design_model.proofs.Told.{told_blocking, told_by}
@@ -155,3 +155,6 @@ not_clear_y k = in_early (clear pipe Free pipe_dump 3) k.1.0 k.0 k.1.1
 
 pub doubt_y : IsInDoubt pipe Free pipe_dump (toggle_point 4 0 true) 5 4
 doubt_y = of_signal (lit< tt, lit< tt) refl (inl (inr (inl refl))) (inl not_clear_y)
+
+pub pipe_example : IsPipeExample
+pipe_example = record { visits = gate_visits; not_clear = not_clear_y; doubt = doubt_y; is_clear = clear_y }

@@ -5,7 +5,7 @@ use Rattle.event_machine.specs.Machine.{Edge as MachineEdge}
 use Rattle.std.specs.Prelude.{nat_le, nat_lt}
 use Rattle.std.proofs.lemmas.Bool.{and_parts, or_cases, eqb-true, ltb-true, leb-true, false≢true, both_ways, lt-leb, le-leb, lt-ltb, cases_lt}
 use Rattle.event_machine.specs.Cell.{Cell, Values, join, put}
-use Rattle.event_machine.specs.Machine.{Negedge, Posedge}
+use Rattle.event_machine.specs.Machine.{Negedge, Posedge, wakes}
 use Rattle.event_machine.specs.Habit.{Free}
 use Rattle.event_machine.specs.MayMove.{MayMove}
 use Rattle.event_machine.specs.Early.{IsEarly}
@@ -23,7 +23,7 @@ use Rattle.design_model.specs.Clear.{EntryFrom, IsClearBy, IsClockedTarget, IsWr
 use Rattle.design_model.specs.Open.{IsReached, KnownOnEntry}
 use Rattle.design_model.specs.Lawful.{is_signal}
 use Rattle.design_model.specs.ExampleParts.{at}
-use Rattle.design_model.specs.Ram.{ram, ram_dump, ram_values}
+use Rattle.design_model.specs.Ram.{IsRamExample, ram, ram_dump, ram_values}
 use Rattle.design_model.proofs.Bound.{clear-thing, clear_bound}
 use Rattle.design_model.proofs.FlipFlopDoubt.{agrees}
 use Rattle.design_model.proofs.Told.{told_blocking, told_by, told_nonblocking}
@@ -320,3 +320,6 @@ reached_read = ((lit< tt, lit< tt), refl, inl (cell 0 0, clean_15, inl (reads (a
 
 pub reached_4 : IsReached ram Free ram_dump 15 0 (line_point 0 4 (at 30) Assign)
 reached_4 = ((lit< tt, lit< tt), refl, inl (cell 0 0, clean_15, inl (at_line 4, refl, (values_15, agrees_15, inr (tt, inr (known_15 0 (lit< tt), inr (tt, inr (tt, inr (known_15 2 (lit< tt), inr (known_word, inr (tt, inl refl)))))))))))
+
+pub ram_example : IsRamExample
+ram_example = record { written = clear_5; kept = clear_14; no_other = word_value; reached_read = reached_read; reached_line = reached_4 }

@@ -22,7 +22,7 @@ module _ (d : Design) (K L : Known) (more : (x : Thing) (bits : List Bit) → K 
   agrees_less : (v : Values Bit) → Agrees d L v → Agrees d K v
   agrees_less v agrees x bits k = agrees x bits (more x bits k)
 
-  inside_more : (xs : List Visit) → AllInside K xs → AllInside L xs
+  pub inside_more : (xs : List Visit) → AllInside K xs → AllInside L xs
   inside_more [] inside = tt
   inside_more (at_line n ∷ xs) inside = (tt, inside_more xs inside.1)
   inside_more (at_node n c ∷ xs) inside = (tt, inside_more xs inside.1)
@@ -63,7 +63,7 @@ module _ (d : Design) (K L : Known) (more : (x : Thing) (bits : List Bit) → K 
   rules_more h dump t start x bits (of_unwoken p x0 w0 window unbound target cannot old) = of_unwoken p x0 w0 window unbound target cannot old
   rules_more h dump t start x bits (of_clean p c x0 w0 window unbound is) = of_clean p c x0 w0 window unbound is
 
-rounds_grow : (d : Design) (h : Habit) (dump : BoundDump) (t : ℕ) (start : Known) (n : ℕ) (x : Thing) (bits : List Bit) → clear_in d h dump t start n x bits → clear_in d h dump t start (suc n) x bits
+pub rounds_grow : (d : Design) (h : Habit) (dump : BoundDump) (t : ℕ) (start : Known) (n : ℕ) (x : Thing) (bits : List Bit) → clear_in d h dump t start n x bits → clear_in d h dump t start (suc n) x bits
 rounds_grow d h dump t start zero x bits k = absurd k
 rounds_grow d h dump t start (suc n) x bits k =
     rules_more d (clear_in d h dump t start n) (clear_in d h dump t start (suc n)) (rounds_grow d h dump t start n) h dump t start x bits k

@@ -1,8 +1,6 @@
 -- A toggle point of a bound signal is hit where the dump toggles its bit.
-use Rattle.std.proofs.Common.{◌≡◌, ◌⊎◌, inl, inr, ℕ, zero, suc, ◌-◌, ◌<◌, ◌≤◌, Bool, true, false, List, [], ◌∷◌, ◌++◌, refl, sym, ap, subst, ◌∙◌, arith, if◌then◌else◌, pos, negsuc, Option, None, Some, nat_lt, ℤ}
-use Rattle.std.specs.Prelude.{◌↔◌}
+use Rattle.std.proofs.Common.{◌≡◌, ◌⊎◌, inl, inr, ℕ, zero, suc, ◌-◌, ◌<◌, Bool, true, false, List, [], ◌∷◌, ◌++◌, refl, sym, ap, subst, ◌∙◌, arith, if◌then◌else◌, pos, negsuc, None, Some, nat_lt, ℤ}
 use Rattle.std.proofs.lemmas.Bool.{ltb-true}
-use Rattle.event_machine.specs.Cell.{Cell, Values}
 use Rattle.event_machine.specs.State.{State}
 use Rattle.event_machine.specs.Event.{end_state}
 use Rattle.event_machine.specs.Habit.{Habit}
@@ -10,10 +8,10 @@ use Rattle.event_machine.specs.Run.{AreSteps, Timed, state_at, step_start}
 use Rattle.four_state.specs.Parts.{within}
 use Rattle.four_state.specs.declared.bit.Bit.{Bit}
 use Rattle.four_state.specs.declared.bit.Bit.TheVariants.{One, Zero}
-use Rattle.design_model.specs.Design.{Design, cell, signal_at, signal_bits}
+use Rattle.design_model.specs.Design.{Design, cell, signal_at}
 use Rattle.design_model.specs.Machine.{machine}
 use Rattle.design_model.specs.Run.{IsRun, Run, StepOf, end_of, settled, start_of, state_after_steps}
-use Rattle.design_model.specs.Shows.{BoundDump, InWindow, IsShown, IsShownOf, IsWindow, IsWindowOf, Shows, last_time}
+use Rattle.design_model.specs.Shows.{BoundDump, InWindow, IsShown, IsShownOf, IsWindow, IsWindowOf, Shows}
 use Rattle.design_model.specs.Points.{IsHit, StandAtEnds, TogglesIn, indexed_cell, toggle_cell, toggle_point}
 use Rattle.design_model.specs.ToggleLaw.{ToggleLaw, TogglesAt}
 use Rattle.design_model.specs.Value.{offset}
@@ -91,9 +89,10 @@ module _ (d : Design) (h : Habit) (dump : BoundDump) (r : Run) (s i : ℕ) (is_r
 
   to_dump : (k : StepOf r) (x y : Bit) (t : ℕ) → k.step.time ≡ suc t → IsWindow dump (suc t) → StandAtEnds d r k (toggle_cell d s i) x y → (dump.values t (toggle_cell d s i) ≡ x) × (dump.values (suc t) (toggle_cell d s i) ≡ y)
   to_dump k x y t at window ends =
-      let shown = window_shown_at dump.times t window in
-      (sym (shown_value t shown.0) ∙ ap (λ v. v (toggle_cell d s i)) (sym (start_values d h r is_run k t at)) ∙ ends.0,
-       sym (shown_value (suc t) shown.1) ∙ ap (λ v. v (toggle_cell d s i)) (sym (end_values d h r is_run k (suc t) at)) ∙ ends.1)
+      let shown = window_shown_at dump.times t window in (
+        sym (shown_value t shown.0) ∙ ap (λ v. v (toggle_cell d s i)) (sym (start_values d h r is_run k t at)) ∙ ends.0,
+        sym (shown_value (suc t) shown.1) ∙ ap (λ v. v (toggle_cell d s i)) (sym (end_values d h r is_run k (suc t) at)) ∙ ends.1,
+      )
 
   -- where the dump changes the bit, the run has a step with these values at its ends
   to_run : (x y : Bit) (t : ℕ) → (x ≡ y → ⊥) → IsWindow dump (suc t) → dump.values t (toggle_cell d s i) ≡ x → dump.values (suc t) (toggle_cell d s i) ≡ y → (k : StepOf r) × InWindow dump r k × StandAtEnds d r k (toggle_cell d s i) x y
@@ -110,10 +109,14 @@ module _ (d : Design) (h : Habit) (dump : BoundDump) (r : Run) (s i : ℕ) (is_r
 
       go : (settled d r (suc t) ≡ settled d r t) ⊎ StepHere d h r t → (k : StepOf r) × InWindow dump r k × StandAtEnds d r k (toggle_cell d s i) x y
       go (inl same) = absurd (apart (sym old ∙ ap (λ v. v (toggle_cell d s i)) (sym same) ∙ new))
-      go (inr here) =
-          (here.step, subst (IsWindow dump) (sym here.at) window,
-           (ap (λ v. v (toggle_cell d s i)) (start_values d h r is_run here.step t here.at) ∙ old,
-            ap (λ v. v (toggle_cell d s i)) (end_values d h r is_run here.step (suc t) here.at) ∙ new))
+      go (inr here) = (
+        here.step,
+        subst (IsWindow dump) (sym here.at) window,
+        (
+          ap (λ v. v (toggle_cell d s i)) (start_values d h r is_run here.step t here.at) ∙ old,
+          ap (λ v. v (toggle_cell d s i)) (end_values d h r is_run here.step (suc t) here.at) ∙ new,
+        ),
+      )
 
   zero_one : Zero ≡ One → ⊥
   zero_one e = cc

@@ -57,7 +57,7 @@ module _ (d : Design) (u v : Values Bit) where
     pub left : (c : Cell) → r.values c ≡ put_all u r.blocking c
     pub right : (c : Cell) → s.values c ≡ put_all v s.blocking c
 
-  cells_covered : (ws : List (Write Bit)) (x y : Values Bit) (cs : List Cell) → ((c : Cell) → x c ≡ put_all u ws c) → ((c : Cell) → y c ≡ put_all v ws c) → covers ws cs ≡ true → map x cs ≡ map y cs
+  pub cells_covered : (ws : List (Write Bit)) (x y : Values Bit) (cs : List Cell) → ((c : Cell) → x c ≡ put_all u ws c) → ((c : Cell) → y c ≡ put_all v ws c) → covers ws cs ≡ true → map x cs ≡ map y cs
   cells_covered ws x y [] l r h = refl
   cells_covered ws x y (c ∷ cs) l r h =
       let p = and_parts (list_any (λ w. same_cell w.cell c) ws) _ h in

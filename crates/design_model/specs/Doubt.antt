@@ -12,7 +12,7 @@ use Rattle.design_model.specs.Points.{IsBlock, Point, arc_point, state_point, to
 use Rattle.design_model.specs.MayMove.{CanWakeAt, CanWakeSome, IsCleanAt, MayMoveAt}
 use Rattle.design_model.specs.Early.{IsEarlyAt}
 use Rattle.design_model.specs.Clear.{clear, clear_before}
-use Rattle.design_model.specs.Open.{KnownAtEnd, IsNotClean, IsNotClocked, IsOpenFor, IsWakeBit, KnownOnEntry}
+use Rattle.design_model.specs.Open.{IsNotClean, IsNotClocked, IsOpenFor, IsWakeBit, KnownAtEnd, KnownOnEntry}
 
 -- x is not clear at the start or the end of t
 abbrev pub IsUnclear : Design → Habit → BoundDump → ℕ → Thing → Type 0
@@ -35,7 +35,7 @@ IsPointOn _ q = ⊥
 
 -- why signal or memory s is in doubt for block p at t
 pub data BlockDoubt (d : Design) (h : Habit) (dump : BoundDump) (t : ℕ) (s p : ℕ) : Type 0 where
-  unclear_at_start : (x : Thing) → owner x ≡ s → CanWakeSome d dump t p → ReadsFrom d (KnownOnEntry d h dump t p) (body_at d p) x → ((c : Cell) → IsCleanAt d dump t p c → x ≢ a_signal c.thing) → (HasValue (clear_before d h dump t) x → ⊥) → BlockDoubt d h dump t s p
+  unclear_at_start : (x : Thing) → IsThing d x → owner x ≡ s → CanWakeSome d dump t p → ReadsFrom d (KnownOnEntry d h dump t p) (body_at d p) x → ((c : Cell) → IsCleanAt d dump t p c → x ≢ a_signal c.thing) → (HasValue (clear_before d h dump t) x → ⊥) → BlockDoubt d h dump t s p
   early : (x : Thing) (c : Cell) → owner x ≡ s → IsCleanAt d dump t p c → ReadsFrom d (KnownOnEntry d h dump t p) (body_at d p) x → IsEarlyAt d h dump t p c s → BlockDoubt d h dump t s p
   not_clean : (c : Cell) → c.thing ≡ s → CanWakeAt d dump t c p → IsNotClean d dump t p → BlockDoubt d h dump t s p
   unclear_signal : (k : ℕ) → IsNotClocked d p → MayWakeUnlisted d dump t p → IsWakeBit d p (cell s k) → IsUnclear d h dump t (a_signal s) → BlockDoubt d h dump t s p

@@ -20,6 +20,7 @@ use Rattle.design_model.specs.Early.{IsEarlyAt}
 use Rattle.design_model.specs.Open.{IsOpen, IsReached, KnownOnEntry}
 use Rattle.design_model.specs.Doubt.{IsInDoubt}
 use Rattle.design_model.specs.Lawful.{IsLawfulDesign}
+use Rattle.design_model.specs.Laws.{IsDefinite}
 use Rattle.design_model.specs.ExampleParts.{at, bit_number, counted, one_bit, one_instance}
 
 -- the design
@@ -85,6 +86,7 @@ pub record IsSteadyExample : Type 0 where
   pub none_early : (h : Habit) (x : ℕ) → IsEarlyAt flip_flop h steady_dump 5 0 (cell 0 0) x → ⊥
   pub reached : IsReached flip_flop Free steady_dump 5 0 line_two
   pub hit : (r : Run) → IsRun flip_flop Free r → Shows flip_flop steady_dump r → IsHit flip_flop steady_dump r line_two
+  pub definite : IsDefinite flip_flop Free steady_dump 0
 
 -- With a falling at 5: by the free habit a is early and in doubt for line 2; by the late habit line 2 is hit in every run.
 pub record IsFallingExample : Type 0 where

@@ -1,14 +1,19 @@
 -- What is clear and what is forced holds, and what is reached is hit, in every run that shows the dump.
-use Rattle.std.specs.Prelude.{◌≡◌, ℕ, suc, Bool, true, List}
+use Rattle.std.specs.Prelude.{◌≡◌, ◌≢◌, ℕ, suc, Bool, true, List, ⊤}
+use Rattle.event_machine.specs.Cell.{Cell, Values}
 use Rattle.event_machine.specs.Habit.{Habit}
 use Rattle.four_state.specs.declared.bit.Bit.{Bit}
-use Rattle.design_model.specs.Design.{Design, Thing, signal_bits}
+use Rattle.design_model.specs.Design.{Design, IsClocked, Thing, body_at, process_at, signal_bits}
+use Rattle.design_model.specs.Mentions.{body_mentions}
 use Rattle.design_model.specs.Reads.{Agrees}
 use Rattle.design_model.specs.Run.{IsRun, Run, settled}
-use Rattle.design_model.specs.Shows.{BoundDump, IsDumpOf, IsShown, Shows}
-use Rattle.design_model.specs.Points.{IsHit, Point}
+use Rattle.design_model.specs.Shows.{BoundDump, IsDumpOf, IsShown, IsWindow, Shows}
+use Rattle.design_model.specs.Points.{IsBlock, IsHit, Point, line_point, logic_point}
+use Rattle.design_model.specs.MayMove.{CanWakeSome, IsCleanAt}
+use Rattle.design_model.specs.Early.{IsEarlyAt}
 use Rattle.design_model.specs.Clear.{IsClearBy, IsForced, clear, clear_in, clear_start}
 use Rattle.design_model.specs.Open.{IsReached}
+use Rattle.design_model.specs.Doubt.{IsInDoubt}
 
 -- Clear law: in each run that shows the dump, at each time that the dump shows, the settled values are those that are clear.
 abbrev pub ClearLaw : Design → Habit → Type 0
@@ -35,7 +40,30 @@ abbrev pub ClearLeastLaw : Design → Habit → Type 0
 ClearLeastLaw d h =
     (dump : BoundDump) (t : ℕ) (has : Thing → List Bit → Bool) → ((x : Thing) (bits : List Bit) → IsClearBy d h dump t (clear_start d h dump t) (λ y w. has y w ≡ true) x bits → has x bits ≡ true) → (x : Thing) (bits : List Bit) → clear d h dump t x bits → has x bits ≡ true
 
+-- Closed law: where some state agrees with what is clear, what a rule gives from it is clear.
+abbrev pub ClearClosedLaw : Design → Habit → Type 0
+ClearClosedLaw d h =
+    (dump : BoundDump) (t : ℕ) (v : Values Bit) → Agrees d (clear d h dump t) v → (x : Thing) (bits : List Bit) → IsClearBy d h dump t (clear_start d h dump t) (clear d h dump t) x bits → clear d h dump t x bits
+
 -- One-value law: where a run shows the dump, what is clear at a time that it shows has one value.
 abbrev pub ClearValueLaw : Design → Habit → Type 0
 ClearValueLaw d h =
     (dump : BoundDump) (r : Run) → IsDumpOf d dump → IsRun d h r → Shows d dump r → (t : ℕ) → IsShown dump t → (x : Thing) (a b : List Bit) → clear d h dump t x a → clear d h dump t x b → a ≡ b
+
+-- Clocked p is clean whenever it can wake, all that it mentions is bound, and of that only its trigger may be early
+pub record IsDefinite (d : Design) (h : Habit) (dump : BoundDump) (p : ℕ) : Type 0 where
+  pub clocked : IsClocked (process_at d p)
+  pub clean : (t : ℕ) → IsWindow dump t → CanWakeSome d dump t p → (c : Cell) × IsCleanAt d dump t p c
+  pub all_bound : (x : ℕ) → body_mentions x (body_at d p) ≡ true → dump.bound x ≡ true
+  pub none_early : (t : ℕ) (c : Cell) → IsWindow dump t → IsCleanAt d dump t p c → (x : ℕ) → body_mentions x (body_at d p) ≡ true → x ≢ c.thing → IsEarlyAt d h dump t p c x → ⊥
+
+-- a line or logic point
+abbrev pub IsLineOrLogic : Point → Type 0
+IsLineOrLogic (line_point p n at w) = ⊤
+IsLineOrLogic (logic_point p n at op c) = ⊤
+IsLineOrLogic _ = ⊥
+
+-- Definiteness law: nothing is in doubt for a line or logic point of such a block.
+abbrev pub DefinitenessLaw : Design → Habit → Type 0
+DefinitenessLaw d h =
+    (dump : BoundDump) → IsDumpOf d dump → (p : ℕ) → IsDefinite d h dump p → (x : Point) → IsLineOrLogic x → IsBlock d x p → (t s : ℕ) → IsInDoubt d h dump x t s → ⊥

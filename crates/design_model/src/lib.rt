@@ -7,7 +7,7 @@ ghost use Rattle.design_model.specs.Design.{Design as DesignTree};
 ghost use Rattle.design_model.specs.Machine.{machine};
 ghost use Rattle.design_model.specs.Lawful.{IsLawfulDesign};
 ghost use Rattle.design_model.specs.ToggleLaw.{ToggleLaw};
-ghost use Rattle.design_model.specs.Laws.{ClearLaw, ForcedLaw, ClearValueLaw, ClearRoundsLaw, ClearLeastLaw, ReachedLaw};
+ghost use Rattle.design_model.specs.Laws.{ClearLaw, ForcedLaw, ClearValueLaw, ClearRoundsLaw, ClearClosedLaw, ClearLeastLaw, ReachedLaw, DefinitenessLaw};
 
 mod design;
 mod examples;
@@ -31,9 +31,10 @@ pub fn clear_law()
     ensures one_value { (d : DesignTree) (h : Habit) → IsLawfulDesign d → ClearValueLaw d h }
 {}
 
-/// What is clear grows from round to round, and is the least map that is closed under its rules.
+/// What is clear grows from round to round, is closed under its rules, and is the least map that is.
 pub fn clear_rounds_law()
     ensures rounds { (d : DesignTree) (h : Habit) → ClearRoundsLaw d h }
+    ensures closed { (d : DesignTree) (h : Habit) → IsLawfulDesign d → ClearClosedLaw d h }
     ensures least { (d : DesignTree) (h : Habit) → ClearLeastLaw d h }
 {}
 
@@ -45,4 +46,10 @@ pub fn toggle_law()
 /// Each point that a block of it reaches at a window time is hit in each run that shows the dump.
 pub fn reached_law()
     ensures { (d : DesignTree) (h : Habit) → IsLawfulDesign d → ReachedLaw d h }
+{}
+
+/// Nothing is in doubt for the line and logic points of a block that is clean whenever it can wake, of which all that
+/// it mentions is bound, and of that nothing but the trigger is early.
+pub fn definiteness_law()
+    ensures { (d : DesignTree) (h : Habit) → DefinitenessLaw d h }
 {}

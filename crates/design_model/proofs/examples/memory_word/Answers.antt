@@ -1,4 +1,4 @@
-use Rattle.design_model.proofs.RamExample.{ram_example}
+use Rattle.design_model.proofs.RamClear.{ram_example}
 use Rattle.design_model.proofs.examples.memory_word.Goals as goal
 
 pub returns : goal.returns

@@ -1,4 +1,4 @@
-use Rattle.design_model.proofs.PipeExample.{pipe_example}
+use Rattle.design_model.proofs.PipeClear.{pipe_example}
 use Rattle.design_model.proofs.examples.undumped_register.Goals as goal
 
 pub returns : goal.returns
