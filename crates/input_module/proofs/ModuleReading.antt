@@ -1,5 +1,5 @@
 -- A module, read from its tokens.
-use Rattle.std.proofs.Common.{◌≡◌, ℕ, List, [], ◌∷◌, ◌++◌, map, Option, Some, None, refl, sym, true, false, ap, subst, ◌∙◌}
+use Rattle.std.proofs.Common.{◌≡◌, ℕ, List, [], ◌∷◌, ◌++◌, map, Option, Some, None, refl, true, false, ap, subst, ◌∙◌}
 use Rattle.std.specs.Prelude.{Bool, codes, is_some, not}
 use Rattle.std.specs.Str.{byte}
 use Rattle.design_model.specs.declared.design.Signal.{Signal}

@@ -5,7 +5,7 @@ use Rattle.cov_host.specs.Identifier.{is_identifier}
 use Rattle.design_model.specs.declared.design.Design.{Design}
 use Rattle.design_model.specs.declared.design.Signal.{Signal}
 use Rattle.input_module.specs.Tokens.{tokens_of}
-use Rattle.input_module.specs.Port.{Declaration, Port, declaration_of, signal_of}
+use Rattle.input_module.specs.Port.{Port, declaration_of, signal_of}
 use Rattle.input_module.specs.SourceForm.{AreDistinct, IsModule, IsSource, design_with, signals_of}
 use Rattle.input_module.proofs.ModuleReading.{IsModule-once}
 
@@ -30,13 +30,13 @@ Declares text top signals = (ports : List Port) × IsModule (tokens_of text) top
 pub source_found : (text top : List ℕ) (signals given : List Signal) (distinct : Bool) (design : Design) → length text ≤ 67108864 → is_identifier top ≡ true → Declares text top signals → given ≡ signals
     → (IsTrue distinct ↔ AreDistinct (map (λ signal. signal.name) given)) → distinct ≡ true → design ≡ design_with top signals → IsSource text top design
 source_found text top signals given distinct design short name found same tested test is = record {
-    short = short;
-    name = name;
-    ports = found.0;
-    of_form = found.1;
-    distinct = subst AreDistinct (names-signals_of found.0) (subst (λ (ss : List Signal). AreDistinct (map (λ signal. signal.name) ss)) (same ∙ found.2) (tested.0 test));
-    design_is = is ∙ ap (design_with top) found.2;
-  }
+  short = short;
+  name = name;
+  ports = found.0;
+  of_form = found.1;
+  distinct = subst AreDistinct (names-signals_of found.0) (subst (λ (ss : List Signal). AreDistinct (map (λ signal. signal.name) ss)) (same ∙ found.2) (tested.0 test));
+  design_is = is ∙ ap (design_with top) found.2;
+}
 
 -- where the names of the ports of a module are not distinct, there is no source
 pub source_twice : (text top : List ℕ) (signals given : List Signal) (distinct : Bool) → Declares text top signals → given ≡ signals

@@ -47,10 +47,7 @@ fn open_module(tokens: &mut Tokens<'_>, name: &str) -> Option<()>
 }
 
 /// Takes the ports, and the `)` that ends them.
-fn read_ports(
-    alloc: Global,
-    tokens: &mut Tokens<'_>,
-) -> Result<Option<Sequence<Signal>>, NoMemory>
+fn read_ports(alloc: Global, tokens: &mut Tokens<'_>) -> Result<Option<Sequence<Signal>>, NoMemory>
     ensures found { IfOk result (λ found. IfSome found (λ signals. DeclaresSignals tokens.old signals tokens.new)) }
     ensures none { IfOk result (λ found. IfNone found (NoPortList tokens.old)) }
 {

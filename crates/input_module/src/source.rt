@@ -16,11 +16,7 @@ const LONGEST_SOURCE: usize = 67_108_864;
 /// `module NAME ( PORT , .. ) ; endmodule`, where a PORT is `input NAME` or `input [ A : B ] NAME`.
 ///
 /// None where the source is not of this form, or its module is not `top`.
-pub fn read_source(
-    alloc: Global,
-    source: &[u8],
-    top: &str,
-) -> Result<Option<Design>, NoMemory>
+pub fn read_source(alloc: Global, source: &[u8], top: &str) -> Result<Option<Design>, NoMemory>
     ensures design { IfOk result (λ found. IfSome found (λ design. IsSource source.now top.now design)) }
     ensures none { IfOk result (λ found. IfNone found ((design : Design) → IsSource source.now top.now design → ⊥)) }
     ensures inputs { IfOk result (λ found. IfSome found (λ design. IsInputDesign source.now design)) }
