@@ -6,7 +6,7 @@ use Rattle.cov_host.specs.Identifier.{is_identifier}
 use Rattle.input_module.specs.Tokens.{Token, word, mark}
 use Rattle.design_model.specs.declared.design.Signal.{Signal}
 use Rattle.input_module.specs.Port.{Declaration, Port, width_between}
-use Rattle.input_module.specs.SourceForm.{IsPortList, signals_of}
+use Rattle.input_module.specs.SourceForm.{IsModule, IsPortList, signals_of}
 
 infixl 10 ◌>>=◌
 abbrev pub ◌>>=◌ : {A B : Type 0} → Option A → (A → Option B) → Option B
@@ -100,3 +100,11 @@ NoPortList tokens = (ports : List Port) (rest : List Token) → IsPortList token
 -- the ports at the front declare these signals, and the tokens `rest` are behind them
 abbrev pub DeclaresSignals : List Token → List Signal → List Token → Type 0
 DeclaresSignals tokens signals rest = (ports : List Port) × IsPortList tokens ports rest × (signals ≡ signals_of ports)
+
+-- the tokens are a module of this name, whose ports declare these signals
+abbrev pub IsModuleWith : List Token → List ℕ → List Signal → Type 0
+IsModuleWith tokens name signals = (ports : List Port) × IsModule tokens name ports × (signals ≡ signals_of ports)
+
+-- the tokens are no module of this name
+abbrev pub NoModule : List Token → List ℕ → Type 0
+NoModule tokens name = (ports : List Port) → IsModule tokens name ports → ⊥
