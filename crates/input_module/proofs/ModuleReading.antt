@@ -5,8 +5,8 @@ use Rattle.std.specs.Str.{byte}
 use Rattle.design_model.specs.declared.design.Signal.{Signal}
 use Rattle.input_module.specs.Tokens.{Token, word, mark}
 use Rattle.input_module.specs.Port.{Port, declaration_of}
-use Rattle.input_module.specs.Reading.{◌>>=◌, DeclaresSignals, IsModuleWith, NoModule, NoPortList, Takes, end_at, front_at, mark_at, word_at}
-use Rattle.input_module.specs.SourceForm.{IsModule, IsPortList, list_tokens, module_tokens}
+use Rattle.input_module.specs.Reading.{◌>>=◌, DeclaresSignals, IsModuleWith, IsPortList, NoModule, NoPortList, Takes, end_at, front_at, mark_at, word_at}
+use Rattle.input_module.specs.SourceForm.{IsModule, list_tokens, module_tokens}
 use Rattle.input_module.proofs.PortLists.{IsPortList-once}
 use Rattle.input_module.proofs.PortReading.{bind_some, mark_at-read, word_at-again, word_at-read}
 

@@ -6,8 +6,8 @@ use Rattle.std.proofs.lemmas.List.{length-append, map-append}
 use Rattle.design_model.specs.declared.design.Signal.{Signal}
 use Rattle.input_module.specs.Tokens.{Token, word, mark}
 use Rattle.input_module.specs.Port.{Declaration, IsPort, Port, declaration_of, port_tokens, signal_of}
-use Rattle.input_module.specs.Reading.{DeclaresSignals, NoPortList, port_at, separator_at}
-use Rattle.input_module.specs.SourceForm.{IsPortList, list_tokens, signals_of}
+use Rattle.input_module.specs.Reading.{DeclaresSignals, IsPortList, NoPortList, port_at, separator_at}
+use Rattle.input_module.specs.SourceForm.{list_tokens, signals_of}
 use Rattle.input_module.proofs.PortReading.{found_both, port_at-again, port_at-read}
 
 -- how reading goes through a list of ports
