@@ -10,30 +10,30 @@ use Rattle.command_line.specs.declared.score_option.ScoreOption.TheVariants.{Top
 use Rattle.command_line.specs.declared.usage_fault.UsageFault.{UsageFault}
 use Rattle.command_line.specs.declared.usage_fault.UsageFault.TheVariants.{NoCommand, UnknownCommand, UnknownWord, GivenTwice, NeedsValue, BadValue, Missing}
 use Rattle.command_line.specs.ScoreOption.{options, option_text, accepts}
-use Rattle.command_line.specs.CommandWords.{Given, spelled, value_in, AreGiven, IsScoreUpTo, IsScore, ScoreValues}
+use Rattle.command_line.specs.CommandWords.{GivenOption, spelled, value_in, AreGiven, IsScoreUpTo, IsScore, ScoreValues}
 use Rattle.command_line.specs.UsageFault.{usage_text, first_missing, IsNoOption, FaultAfter, HasUsageFault}
 use Rattle.command_line.proofs.GivenLemmas.{AreGiven-at}
 
 -- what words come to: options with their values, or the text of a fault
 abbrev pub Outcome : Type 0
-Outcome = Result (List Given) (List ℕ)
+Outcome = Result (List GivenOption) (List ℕ)
 
 -- the option that a word is
 pub named : List ℕ → Option ScoreOption
 named word = find (λ option. bytes_eq word (option_text option)) options
 
 -- at the end of the words
-abbrev pub at_end : List Given → Option ScoreOption → Outcome
+abbrev pub at_end : List GivenOption → Option ScoreOption → Outcome
 at_end given None = Ok given
 at_end given (Some option) = Err (codes "missing " ++ option_text option)
 
 -- at a word that is this option, if any, and comes to next if it has no value
-abbrev pub at_option : List Given → List ℕ → Option ScoreOption → (ScoreOption → Outcome) → Outcome
+abbrev pub at_option : List GivenOption → List ℕ → Option ScoreOption → (ScoreOption → Outcome) → Outcome
 at_option given word None next = Err (codes "unknown word " ++ word)
 at_option given word (Some option) next = cond (is_some (value_in given option)) (Err (word ++ codes " given twice")) (next option)
 
 -- after options with their values
-abbrev pub outcome : List Given → List (List ℕ) → Outcome
+abbrev pub outcome : List GivenOption → List (List ℕ) → Outcome
 outcome given [] = at_end given (first_missing (value_in given))
 outcome given (word ∷ []) = at_option given word (named word) (λ option. Err (word ++ codes " needs a value"))
 outcome given (word ∷ value ∷ left) = at_option given word (named word) (λ option. cond (accepts option value) (outcome (given ++ record { option = option; value = value } ∷ []) left) (Err (codes "bad value " ++ value)))
@@ -61,27 +61,27 @@ named_none word h =
     rw (other Top, other Instance, other Source, other Dump, other Output)
 
 -- options with their values are read one by one
-outcome-spelled : (front more : List Given) (left : List (List ℕ)) → AreGiven (front ++ more) → outcome front (spelled more ++ left) ≡ outcome (front ++ more) left
+outcome-spelled : (front more : List GivenOption) (left : List (List ℕ)) → AreGiven (front ++ more) → outcome front (spelled more ++ left) ≡ outcome (front ++ more) left
 outcome-spelled front [] left h = rw append-nil
 outcome-spelled front (x ∷ more) left h =
     let at = AreGiven-at front x more h in
     let next = outcome-spelled (front ++ x ∷ []) more left (rw append_assoc h) in
     rw (named_text x.option, at.0, at.1, next, append_assoc)
 
-outcome_of-up_to : (words : List (List ℕ)) (given : List Given) (left : List (List ℕ)) → IsScoreUpTo words given left → outcome_of words ≡ outcome given left
+outcome_of-up_to : (words : List (List ℕ)) (given : List GivenOption) (left : List (List ℕ)) → IsScoreUpTo words given left → outcome_of words ≡ outcome given left
 outcome_of-up_to words given left up_to = ap outcome_of up_to.spells ∙ outcome-spelled [] given left up_to.are_given
 
 -- a word that is no option
-outcome-unknown : (given : List Given) (word : List ℕ) (rest : List (List ℕ)) → named word ≡ None → outcome given (word ∷ rest) ≡ Err (codes "unknown word " ++ word)
+outcome-unknown : (given : List GivenOption) (word : List ℕ) (rest : List (List ℕ)) → named word ≡ None → outcome given (word ∷ rest) ≡ Err (codes "unknown word " ++ word)
 outcome-unknown given word [] h = rw h
 outcome-unknown given word (value ∷ rest) h = rw h
 
 -- a word that is an option with a value
-outcome-twice : (given : List Given) (word : List ℕ) (rest : List (List ℕ)) (option : ScoreOption) → named word ≡ Some option → is_some (value_in given option) ≡ true → outcome given (word ∷ rest) ≡ Err (word ++ codes " given twice")
+outcome-twice : (given : List GivenOption) (word : List ℕ) (rest : List (List ℕ)) (option : ScoreOption) → named word ≡ Some option → is_some (value_in given option) ≡ true → outcome given (word ∷ rest) ≡ Err (word ++ codes " given twice")
 outcome-twice given word [] option h has = rw (h, has)
 outcome-twice given word (value ∷ rest) option h has = rw (h, has)
 
-outcome-fault : (given : List Given) (left : List (List ℕ)) (fault : UsageFault) → FaultAfter given left fault → outcome given left ≡ Err (usage_text fault)
+outcome-fault : (given : List GivenOption) (left : List (List ℕ)) (fault : UsageFault) → FaultAfter given left fault → outcome given left ≡ Err (usage_text fault)
 outcome-fault given left NoCommand h = absurd h
 outcome-fault given left (UnknownCommand word) h = absurd h
 outcome-fault given left (UnknownWord word) h = ap (outcome given) h.0.1 ∙ outcome-unknown given word.now h.0.0 (named_none word.now h.1)

@@ -3,13 +3,13 @@ use Rattle.std.proofs.Common.{◌≡◌, ◌∙◌, ℕ, cond, true, sym, ap, re
 use Rattle.command_line.specs.declared.score_option.ScoreOption.{ScoreOption}
 use Rattle.command_line.specs.declared.given_values.GivenValues.{GivenValues}
 use Rattle.command_line.specs.ScoreOption.{option_text, is_same, accepts}
-use Rattle.command_line.specs.CommandWords.{Given, spelled, value_in, IsScoreUpTo}
+use Rattle.command_line.specs.CommandWords.{GivenOption, spelled, value_in, IsScoreUpTo}
 use Rattle.command_line.specs.GivenValues.{value_of}
 use Rattle.command_line.proofs.GivenLemmas.{spelled-append, value_in-push, AreGiven-push}
 
 -- the words were read up to what is left, and these are the values of the options in them
 pub record HasRead (words left : List (List ℕ)) (values : GivenValues) : Type 0 where
-  pub given : List Given
+  pub given : List GivenOption
   pub up_to : IsScoreUpTo words given left
   pub same : (option : ScoreOption) → value_in given option ≡ value_of values option
 
@@ -28,7 +28,7 @@ pub HasRead-more : (words all rest left : List (List ℕ)) (before after : Given
     → ((other : ScoreOption) → value_of after other ≡ cond (is_same option other) (Some value) (value_of before other))
     → HasRead words left after
 HasRead-more words all rest left before after option word value read first second is_word absent form set =
-    let x : Given = record { option = option; value = value } in
+    let x : GivenOption = record { option = option; value = value } in
     let absent_in : value_in read.given option ≡ None = read.same option ∙ absent in
     let regrouped : spelled read.given ++ all ≡ spelled (read.given ++ x ∷ []) ++ left = rw (first, second, is_word, spelled-append read.given (x ∷ []), append_assoc) in
     record {

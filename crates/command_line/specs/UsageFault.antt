@@ -5,7 +5,7 @@ use Rattle.command_line.specs.declared.score_option.ScoreOption.{ScoreOption}
 use Rattle.command_line.specs.declared.usage_fault.UsageFault.{UsageFault}
 use Rattle.command_line.specs.declared.usage_fault.UsageFault.TheVariants.{NoCommand, UnknownCommand, UnknownWord, GivenTwice, NeedsValue, BadValue, Missing}
 use Rattle.command_line.specs.ScoreOption.{options, option_text, accepts}
-use Rattle.command_line.specs.CommandWords.{Given, value_in, IsScoreUpTo}
+use Rattle.command_line.specs.CommandWords.{GivenOption, value_in, IsScoreUpTo}
 
 -- the fault as it is told
 abbrev pub usage_text : UsageFault → List ℕ
@@ -30,23 +30,23 @@ abbrev pub IsNoOption : List ℕ → Type 0
 IsNoOption word = (option : ScoreOption) → word ≢ option_text option
 
 -- the word is an option that has a value
-abbrev pub HasValue : List Given → List ℕ → Type 0
+abbrev pub HasValue : List GivenOption → List ℕ → Type 0
 HasValue given word = (option : ScoreOption) × (word ≡ option_text option) × IsSome (value_in given option)
 
 -- the word is an option that has no value
-abbrev pub HasNoValue : List Given → List ℕ → Type 0
+abbrev pub HasNoValue : List GivenOption → List ℕ → Type 0
 HasNoValue given word = (option : ScoreOption) × (word ≡ option_text option) × (value_in given option ≡ None)
 
 -- the words are an option that has no value, one that is not of its form, and any others
-abbrev pub BeginsWithBadValue : List Given → List ℕ → List (List ℕ) → Type 0
+abbrev pub BeginsWithBadValue : List GivenOption → List ℕ → List (List ℕ) → Type 0
 BeginsWithBadValue given value words = (option : ScoreOption) × (rest : List (List ℕ)) × (words ≡ option_text option ∷ value ∷ rest) × (value_in given option ≡ None) × (accepts option value ≡ false)
 
 -- the first option that has no value is this word
-abbrev pub IsMissing : List Given → List ℕ → Type 0
+abbrev pub IsMissing : List GivenOption → List ℕ → Type 0
 IsMissing given word = (option : ScoreOption) × (first_missing (value_in given) ≡ Some option) × (word ≡ option_text option)
 
 -- after options with their values this is the fault of the words that are left
-abbrev pub FaultAfter : List Given → List (List ℕ) → UsageFault → Type 0
+abbrev pub FaultAfter : List GivenOption → List (List ℕ) → UsageFault → Type 0
 FaultAfter given left NoCommand = ⊥
 FaultAfter given left (UnknownCommand word) = ⊥
 FaultAfter given left (UnknownWord word) = BeginsWith word.now left × IsNoOption word.now
@@ -59,4 +59,4 @@ FaultAfter given left (Missing word) = (left ≡ []) × IsMissing given word.now
 abbrev pub HasUsageFault : List (List ℕ) → UsageFault → Type 0
 HasUsageFault words NoCommand = words ≡ []
 HasUsageFault words (UnknownCommand word) = BeginsWith word.now words × (word.now ≢ codes "score")
-HasUsageFault words fault = (given : List Given) × (left : List (List ℕ)) × IsScoreUpTo words given left × FaultAfter given left fault
+HasUsageFault words fault = (given : List GivenOption) × (left : List (List ℕ)) × IsScoreUpTo words given left × FaultAfter given left fault

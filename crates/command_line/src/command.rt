@@ -15,7 +15,8 @@ pub enum Command<'a> {
     Score(ScoreWords<'a>),
 }
 
-/// Reads the words that follow the name of the program. It takes no memory.
+/// Reads the words that follow the name of the program. It takes no memory. The fault is the first one from
+/// the left; at one option `GivenTwice` goes before `NeedsValue`, and that before `BadValue`.
 pub fn read_command<'a>(words: &'a Words) -> Result<Command<'a>, UsageFault<'a>>
     ensures command { IfOk result (λ command. IsCommand words.now command) }
     ensures fault { IfErr result (λ fault. HasUsageFault words.now fault) }
@@ -23,10 +24,7 @@ pub fn read_command<'a>(words: &'a Words) -> Result<Command<'a>, UsageFault<'a>>
     let mut left = WordsLeft::new(words);
     match left.next_word() {
         None => Err(UsageFault::NoCommand),
-        Some("score") => match read_score(&mut left) {
-            Ok(score) => Ok(Command::Score(score)),
-            Err(fault) => Err(fault),
-        },
+        Some("score") => read_score(&mut left).map(Command::Score),
         Some(word) => Err(UsageFault::UnknownCommand(word)),
     }
 }
@@ -52,8 +50,7 @@ fn read_score<'a>(left: &mut WordsLeft<'a>) -> Result<ScoreWords<'a>, UsageFault
         }
         values.set(option, value);
     }
-    match values.complete() {
-        Ok(score) => Ok(score),
-        Err(option) => Err(UsageFault::Missing(option.text())),
-    }
+    values
+        .complete()
+        .map_err(|option| UsageFault::Missing(option.text()))
 }

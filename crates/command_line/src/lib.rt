@@ -1,5 +1,7 @@
-//! The words of the command line: a command with its values, or the first fault of usage from the left.
-//! Nothing here takes memory.
+//! The words of the command line, read into a command with its values or into the first fault of usage.
+//!
+//! A command is its name and its options, each with its value, in any order. Words are one command at most, or
+//! they have one first fault from the left. Nothing here takes memory: values and faults borrow from the words.
 #![tactic(auto)]
 
 mod command;
@@ -7,6 +9,8 @@ mod given_values;
 mod laws;
 mod score_option;
 mod score_words;
+#[cfg(test)]
+mod tests;
 mod usage_fault;
 mod value_form;
 mod words_left;

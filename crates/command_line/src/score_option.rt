@@ -10,9 +10,9 @@ pub enum ScoreOption {
     Top,
     /// The path of the top module's instance in the dump.
     Instance,
-    /// A file of the design.
+    /// The file of the design.
     Source,
-    /// The value change dump.
+    /// The file of the value change dump (IEEE 1364-2001 clause 18).
     Dump,
     /// The file that the coverage is written to.
     Output,

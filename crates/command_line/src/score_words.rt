@@ -7,7 +7,7 @@ pub struct ScoreWords<'a> {
     pub instance: &'a str,
     /// The file of the design.
     pub source: &'a str,
-    /// The file of the value change dump.
+    /// The file of the value change dump (IEEE 1364-2001 clause 18).
     pub dump: &'a str,
     /// The file that the coverage is written to.
     pub output: &'a str,

@@ -18,7 +18,7 @@ pub fn is_instance_path(value: &str) -> bool
     value
         .as_bytes()
         .split(|byte| *byte == b'.')
-        .all(|part| is_path_part(part))
+        .all(is_path_part)
 }
 
 /// Whether the bytes are one part of an instance's path.

@@ -15,6 +15,8 @@ mod planned_faults;
 mod retry;
 mod sequence;
 mod sure_host;
+#[cfg(test)]
+mod tests;
 mod words;
 
 pub use decimal::read_decimal;

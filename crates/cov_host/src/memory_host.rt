@@ -19,11 +19,12 @@ pub struct MemoryHost {
 impl MemoryHost {
     ghost use Rattle.cov_host.specs.MemoryHost.{memory_outside, memory_plan};
 
-    /// No file, and nothing read, written, printed or warned. Of the calls of `Host`, by their numbers from 1, the
-    /// failing ones answer Failed.
+    /// No file, and nothing read, written, printed or warned. The calls of `Host` are numbered from 1, and those
+    /// whose numbers are among the failing ones answer Failed.
     pub fn new(alloc: Global, failing: Calls) -> Result<Self, NoMemory>
         ensures empty { IsOkAnd result (λ host. memory_outside host ≡ empty_outside) }
-        ensures plan { IfOk result (λ host. memory_plan host ≡ record { failing = failing; calls = 0; by_one_byte = false }) }
+        ensures plan { IfOk result (λ host. memory_plan host
+            ≡ record { failing = failing; calls = 0; by_one_byte = false }) }
     {
         Ok(MemoryHost {
             sure: SureHost::new(alloc)?,
@@ -57,7 +58,8 @@ impl MemoryHost {
     /// it was opened, and what is being written goes on at the end of these bytes. After a refusal nothing has
     /// changed.
     pub fn put(&mut self, name: &str, bytes: &[u8]) -> Result<(), NoMemory>
-        ensures file { OnOk result (Told (HasFile name.now bytes.now) (memory_outside self.old).files (memory_outside self.new).files) }
+        ensures file { OnOk result (Told (HasFile name.now bytes.now)
+            (memory_outside self.old).files (memory_outside self.new).files) }
         ensures refused { OnErr result (KeepsFiles (memory_outside self.old) (memory_outside self.new)) }
         ensures input { KeepsInput (memory_outside self.old) (memory_outside self.new) }
         ensures output { KeepsOutput (memory_outside self.old) (memory_outside self.new) }

@@ -69,7 +69,8 @@ impl SureHost {
     /// it was opened, and what is being written goes on at the end of these bytes. After a refusal nothing has
     /// changed.
     pub fn put(&mut self, name: &str, bytes: &[u8]) -> Result<(), NoMemory>
-        ensures file { OnOk result (Told (HasFile name.now bytes.now) (sure_outside self.old).files (sure_outside self.new).files) }
+        ensures file { OnOk result (Told (HasFile name.now bytes.now)
+            (sure_outside self.old).files (sure_outside self.new).files) }
         ensures refused { OnErr result (KeepsFiles (sure_outside self.old) (sure_outside self.new)) }
         ensures input { KeepsInput (sure_outside self.old) (sure_outside self.new) }
         ensures output { KeepsOutput (sure_outside self.old) (sure_outside self.new) }

@@ -1,4 +1,4 @@
--- Each execution goes along a path: it does the deeds of the path in order.
+-- Each execution goes along a path: it does the actions of the path in order.
 use Rattle.std.proofs.Common.{◌≡◌, inl, inr, ℕ, suc, Bool, true, false, ◌||◌, List, [], ◌∷◌, ◌++◌, append_assoc, append-nil, refl, sym, ap, subst, ◌∙◌, if◌then◌else◌}
 use Rattle.std.specs.Prelude.{⊤}
 use Rattle.std.proofs.lemmas.Bool.{true≢false, false≢true}
@@ -20,49 +20,49 @@ use Rattle.design_model.proofs.Execution.{EachSet, EachSetIn, EachSetOf}
 abbrev pub assign_visits : Design → Target → Term → Execution → List Visit
 assign_visits d x t r = index_visits d r.values (is_inner d r) x ++ visits_of d r.values (is_inner d r) t ++ words_written d r.values x
 
-abbrev pub do_deed : Design → Action → Execution → Execution
-do_deed d (reaches n) r = with_visits r (at_line n ∷ [])
-do_deed d (tests t b) r = evaluate d t r
-do_deed d (selects t) r = evaluate d t r
-do_deed d (compares kind on t b) r = evaluate d t r
-do_deed d (assigns b x t) r =
+abbrev pub do_action : Design → Action → Execution → Execution
+do_action d (reaches n) r = with_visits r (at_line n ∷ [])
+do_action d (tests t b) r = evaluate d t r
+do_action d (selects t) r = evaluate d t r
+do_action d (compares kind on t b) r = evaluate d t r
+do_action d (assigns b x t) r =
     if b then write_now (assignment_writes d x t r) (with_visits r (assign_visits d x t r)) else queue_update (assignment_writes d x t r) (with_visits r (assign_visits d x t r))
 
 abbrev pub do_path : Design → Path → Execution → Execution
 do_path d [] r = r
-do_path d (x ∷ xs) r = do_path d xs (do_deed d x.action r)
+do_path d (x ∷ xs) r = do_path d xs (do_action d x.action r)
 
 do_append : (d : Design) (p q : Path) (r : Execution) → do_path d (p ++ q) r ≡ do_path d q (do_path d p r)
 do_append d [] q r = refl
-do_append d (x ∷ xs) q r = do_append d xs q (do_deed d x.action r)
+do_append d (x ∷ xs) q r = do_append d xs q (do_action d x.action r)
 
 -- a fact of each assignment of a path
-abbrev pub DeedHas : (Bool → Target → Term → Type 0) → Action → Type 0
-DeedHas S (reaches n) = ⊤
-DeedHas S (tests t b) = ⊤
-DeedHas S (selects t) = ⊤
-DeedHas S (compares kind on t b) = ⊤
-DeedHas S (assigns b x t) = S b x t
+abbrev pub ActionHas : (Bool → Target → Term → Type 0) → Action → Type 0
+ActionHas S (reaches n) = ⊤
+ActionHas S (tests t b) = ⊤
+ActionHas S (selects t) = ⊤
+ActionHas S (compares kind on t b) = ⊤
+ActionHas S (assigns b x t) = S b x t
 
 abbrev pub AllActions : (Bool → Target → Term → Type 0) → Path → Type 0
 AllActions S [] = ⊤
-AllActions S (x ∷ xs) = DeedHas S x.action × AllActions S xs
+AllActions S (x ∷ xs) = ActionHas S x.action × AllActions S xs
 
 -- the path decides as the values at each test do
-abbrev pub DeedDecides : Design → Action → Execution → Type 0
-DeedDecides d (reaches n) r = ⊤
-DeedDecides d (tests t b) r = is_true (truth (value d r.values t)) ≡ b
-DeedDecides d (selects t) r = ⊤
-DeedDecides d (compares kind on t b) r = matches kind (value d r.values on) (value d r.values t) ≡ b
-DeedDecides d (assigns b x t) r = ⊤
+abbrev pub ActionDecides : Design → Action → Execution → Type 0
+ActionDecides d (reaches n) r = ⊤
+ActionDecides d (tests t b) r = is_true (truth (value d r.values t)) ≡ b
+ActionDecides d (selects t) r = ⊤
+ActionDecides d (compares kind on t b) r = matches kind (value d r.values on) (value d r.values t) ≡ b
+ActionDecides d (assigns b x t) r = ⊤
 
 abbrev pub Decides : Design → Path → Execution → Type 0
 Decides d [] r = ⊤
-Decides d (x ∷ xs) r = DeedDecides d x.action r × Decides d xs (do_deed d x.action r)
+Decides d (x ∷ xs) r = ActionDecides d x.action r × Decides d xs (do_action d x.action r)
 
 decides_append : (d : Design) (p q : Path) (r : Execution) → Decides d p r → Decides d q (do_path d p r) → Decides d (p ++ q) r
 decides_append d [] q r a b = b
-decides_append d (x ∷ xs) q r a b = (a.0, decides_append d xs q (do_deed d x.action r) a.1 b)
+decides_append d (x ∷ xs) q r a b = (a.0, decides_append d xs q (do_action d x.action r) a.1 b)
 
 actions_append : (S : Bool → Target → Term → Type 0) (p q : Path) → AllActions S p → AllActions S q → AllActions S (p ++ q)
 actions_append S [] q a b = b
@@ -125,7 +125,7 @@ module _ (d : Design) (S : Bool → Target → Term → Type 0) where
   visit_parts : (r : Execution) (xs ys : List Visit) → with_visits r (xs ++ ys) ≡ with_visits (with_visits r xs) ys
   visit_parts r xs ys = λ i. record { values = r.values; blocking = r.blocking; nonblocking = r.nonblocking; visits = sym (append_assoc r.visits xs ys) i }
 
-  set_along : (n : ℕ) (b : Bool) (x : Target) (t : Term) (r : Execution) → execute_assignment d n b x t r ≡ do_deed d (assigns b x t) (with_visits r (at_line n ∷ []))
+  set_along : (n : ℕ) (b : Bool) (x : Target) (t : Term) (r : Execution) → execute_assignment d n b x t r ≡ do_action d (assigns b x t) (with_visits r (at_line n ∷ []))
   set_along n true x t r = ap (write_now (assignment_writes d x t r)) (visit_parts r (at_line n ∷ []) (assign_visits d x t r))
   set_along n false x t r = ap (queue_update (assignment_writes d x t r)) (visit_parts r (at_line n ∷ []) (assign_visits d x t r))
 

@@ -4,7 +4,7 @@ use Rattle.std.proofs.lemmas.Bool.{and_from, and_parts, or_cases, or_left, or_ri
 use Rattle.std.specs.Prelude.{nat_lt, max}
 use Rattle.std.proofs.lemmas.List.{length-replicate}
 use Rattle.event_machine.specs.Cell.{Cell, Values, WritesCell}
-use Rattle.event_machine.specs.Machine.{IsCombinational, IsLawful, wakes}
+use Rattle.event_machine.specs.Machine.{IsCombinational, IsLawful}
 use Rattle.four_state.specs.Parts.{index}
 use Rattle.four_state.specs.Vector.{extend, fill}
 use Rattle.four_state.specs.declared.bit.Bit.{Bit}
@@ -35,7 +35,7 @@ mutual
       ⊎_elim (λ e. or_right (mentions c.thing t) _ (read_mentions d i c e)) (λ e. or_left (mentions c.thing t) _ (read_mentions d t c (and_parts (may_read d t c) _ e).0)) (or_cases (may_read d i c) _ r)
   read_mentions d (part h t i j) c r = or_left (mentions c.thing t) _ (read_mentions d t c (and_parts (may_read d t c) _ r).0)
   read_mentions d (slide h t b w up) c r =
-      ⊎_elim (λ e. or_right (mentions c.thing t) _ (or_left (mentions c.thing b) _ (read_mentions d b c e))) (λ e. or_left (mentions c.thing t) _ (read_mentions d t c e)) (or_cases (may_read d b c) _ r)
+      ⊎_elim (λ e. or_right (mentions c.thing t) _ (or_left (mentions c.thing b) _ (read_mentions d b c e))) (λ e. or_left (mentions c.thing t) _ (read_mentions d t c (and_parts (may_read d t c) _ e).0)) (or_cases (may_read d b c) _ r)
   read_mentions d (unary h op t) c r = read_mentions d t c r
   read_mentions d (binary h op t y) c r =
       ⊎_elim (λ e. or_left (mentions c.thing t) _ (read_mentions d t c e)) (λ e. or_right (mentions c.thing t) _ (read_mentions d y c e)) (or_cases (may_read d t c) _ r)

@@ -5,6 +5,7 @@ use Rattle.std.specs.Prelude.{nat_lt, max}
 use Rattle.std.specs.List.{range_with_len}
 use Rattle.std.specs.Prelude.{slice_index_or}
 use Rattle.event_machine.specs.Cell.{Cell, Values, Write, same_cell}
+use Rattle.four_state.specs.Arithmetic.{natural}
 use Rattle.four_state.specs.Parts.{bits_from, index, option_bit, within}
 use Rattle.four_state.specs.Vector.{extend, fill, fit, top}
 use Rattle.four_state.specs.declared.bit.Bit.{Bit}
@@ -12,11 +13,11 @@ use Rattle.four_state.specs.declared.bit.Bit.TheVariants.{X, Zero}
 use Rattle.four_state.specs.declared.operator.Binary.{Binary}
 use Rattle.design_model.specs.Tree.{Head, Term, Terms, a_term, binary, bit, bits_of, choice, concat, no_terms, number, part, repeat, sign, signal, slide, unary, word}
 use Rattle.design_model.specs.Design.{Design, cell, is_memory, memory_at, signal_at, signal_bits}
-use Rattle.design_model.specs.Value.{bits_from_option, head, joined, named_word, offset_option, option_word, part_width, range_of, value}
+use Rattle.design_model.specs.Value.{bits_from_option, head, joined, named_word, offset_option, option_word, part_width, range_of, slide_offset, value}
 use Rattle.design_model.specs.Assignment.{bit_writes, bit_writes_option, option_cell, signal_range, writes_to}
 use Rattle.design_model.specs.Mentions.{blank, has_cell, is_constant, static_writes}
 use Rattle.design_model.specs.Shape.{are_alone, has_shape, is_logic, is_shaped, is_shift, is_wide_binary, is_wide_unary, own_sign, own_width}
-use Rattle.design_model.specs.Lawful.{is_plain, may_read, some_may_read}
+use Rattle.design_model.specs.Lawful.{is_plain, may_read, slide_writes, some_may_read}
 use Rattle.design_model.proofs.ConstantTerms.{value_constant}
 use Rattle.design_model.proofs.Named.{WritesCell-from, length-fit, option_bits_range}
 
@@ -139,6 +140,26 @@ module _ (d : Design) (u v : Values Bit) where
               on_s c r = (option_bits_range s (signal_at d s).width (offset_option (signal_range d s) (index (head i).signed (value d blank i))) (fill w X) c (WritesCell-from _ c r)).0
           of_plain _ f shape same = absurd (false≢true f)
 
+  -- the same of an indexed part-select
+  slide_same : (t b : Term) (up : Bool) (w : ℕ) → (is_plain t && is_constant b ≡ true → (h : Head) (s : ℕ) → t ≡ signal h s → h.width ≡ (signal_at d s).width) → SameValue b → ((c : Cell) → may_read d t c ≡ true → (not (is_plain t && is_constant b) || has_cell (slide_writes d c.thing up b w) c) ≡ true → u c ≡ v c) → (SameBits t → SameValue t) → bits_from_option (value d u t) (slide_offset (range_of d t) up w (index (head b).signed (value d u b))) w ≡ bits_from_option (value d v t) (slide_offset (range_of d t) up w (index (head b).signed (value d v b))) w
+  slide_same t b up w shape e same rec = go (is_plain t && is_constant b) refl
+    where
+      moved : bits_from_option (value d v t) (slide_offset (range_of d t) up w (index (head b).signed (value d u b))) w ≡ bits_from_option (value d v t) (slide_offset (range_of d t) up w (index (head b).signed (value d v b))) w
+      moved = ap (λ y. bits_from_option (value d v t) (slide_offset (range_of d t) up w (index (head b).signed y)) w) e
+
+      go : (k : Bool) → (is_plain t && is_constant b) ≡ k → bits_from_option (value d u t) (slide_offset (range_of d t) up w (index (head b).signed (value d u b))) w ≡ bits_from_option (value d v t) (slide_offset (range_of d t) up w (index (head b).signed (value d v b))) w
+      go false f = ap (λ y. bits_from_option y (slide_offset (range_of d t) up w (index (head b).signed (value d u b))) w) (rec (λ c r. same c r (subst (λ k. (not k || has_cell (slide_writes d c.thing up b w) c) ≡ true) (sym f) refl))) ∙ moved
+      go true f = of_plain t f shape same ∙ moved
+        where
+          of_plain : (t : Term) → (is_plain t && is_constant b) ≡ true → (is_plain t && is_constant b ≡ true → (h : Head) (s : ℕ) → t ≡ signal h s → h.width ≡ (signal_at d s).width) → ((c : Cell) → may_read d t c ≡ true → (not (is_plain t && is_constant b) || has_cell (slide_writes d c.thing up b w) c) ≡ true → u c ≡ v c) → bits_from_option (value d u t) (slide_offset (range_of d t) up w (index (head b).signed (value d u b))) w ≡ bits_from_option (value d v t) (slide_offset (range_of d t) up w (index (head b).signed (value d u b))) w
+          of_plain (signal h s) f shape same =
+              subst (λ y. bits_from_option (value d u (signal h s)) (slide_offset (signal_range d s) up w (index (head b).signed y)) w ≡ bits_from_option (value d v (signal h s)) (slide_offset (signal_range d s) up w (index (head b).signed y)) w) (value_constant d blank u b f)
+              (plain_select h s w (slide_offset (signal_range d s) up w (index (head b).signed (value d blank b))) (shape f h s refl) (λ c r. same c (eq-eqb c.thing s (on_s c r)) (or_right (not (is_plain (signal h s) && is_constant b)) _ (subst (λ y. has_cell (slide_writes d y up b w) c ≡ true) (sym (on_s c r)) r))))
+            where
+              on_s : (c : Cell) → has_cell (slide_writes d s up b w) c ≡ true → c.thing ≡ s
+              on_s c r = (option_bits_range s (signal_at d s).width (slide_offset (signal_range d s) up w (index (head b).signed (value d blank b))) (fill w X) c (WritesCell-from _ c r)).0
+          of_plain _ f shape same = absurd (false≢true f)
+
   own_shape : (t : Term) (k : Head) (s : ℕ) → t ≡ signal k s → is_shaped d (own_width d t) (own_sign d t) t ≡ true → k.width ≡ (signal_at d s).width
   own_shape t k s is shape = eqb-true _ _ (and_parts (k.width == (signal_at d s).width) _ (and_parts (has_shape (signal_at d s).width (signal_at d s).signed k) _ (subst (λ y. is_shaped d (own_width d y) (own_sign d y) y ≡ true) is shape)).0).0
 
@@ -174,7 +195,14 @@ module _ (d : Design) (u v : Values Bit) where
         let p3 = and_parts _ (is_shaped d (own_width d k) (own_sign d k) k) p4.0 in
         let p2 = and_parts _ (is_shaped d (own_width d b) (own_sign d b) b) p3.0 in
         let p1 = and_parts (has_shape w g h) (is_shaped d (own_width d t) (own_sign d t) t) p2.0 in
-        rw (value_reads (own_width d t) (own_sign d t) t p1.1 (λ c r. same c (or_right (may_read d b c) _ r)), value_reads (own_width d b) (own_sign d b) b p2.1 (λ c r. same c (or_left (may_read d b c) _ r)), value_constant d u v k p4.1)
+        let wide : ℕ = natural (value d blank k) in
+        let wide_u : natural (value d u k) ≡ wide = ap natural (value_constant d u blank k p4.1) in
+        let wide_v : wide ≡ natural (value d v k) = ap natural (value_constant d blank v k p4.1) in
+        let e : SameValue b = value_reads (own_width d b) (own_sign d b) b p2.1 (λ c r. same c (or_left (may_read d b c) _ r)) in
+        let off_u : ℕ → Option ℤ = λ n. slide_offset (range_of d t) up n (index (head b).signed (value d u b)) in
+        let off_v : ℕ → Option ℤ = λ n. slide_offset (range_of d t) up n (index (head b).signed (value d v b)) in
+        ap (extend h.width h.signed)
+        (ap (λ n. bits_from_option (value d u t) (off_u n) n) wide_u ∙ slide_same t b up wide (λ f k s is. own_shape t k s is p1.1) e (λ c r f. same c (or_right (may_read d b c) _ (and_from (may_read d t c) _ r f))) (value_reads (own_width d t) (own_sign d t) t p1.1) ∙ ap (λ n. bits_from_option (value d v t) (off_v n) n) wide_v)
     value_reads w g (unary h op t) shape same =
         let e : SameValue t = ⊎_elim (λ p. value_reads w g t p same) (λ p. value_reads (own_width d t) (own_sign d t) t p same) (if_cases (is_wide_unary op) (is_shaped d w g t) (is_shaped d (own_width d t) (own_sign d t) t) (and_parts (has_shape w g h) (if is_wide_unary op then is_shaped d w g t else is_shaped d (own_width d t) (own_sign d t) t) shape).1) in
         rw e

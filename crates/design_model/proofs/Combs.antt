@@ -14,7 +14,7 @@ use Rattle.design_model.specs.Assignment.{target_width, target_writes, targets_w
 use Rattle.design_model.specs.Mentions.{all_sure_writes, has_cell, index_mentions, indexes_mention, is_constant, mentions, mentions_any, static_writes, sure_writes}
 use Rattle.design_model.specs.Execution.{Execution, NodeCase, Visit, all_words_written, assignment_writes, at_line, covers, execution, execution_start, index_visits, indexes_visits, is_inner, node_visits, reads, visits_of, visits_of_all, word_read, word_written, words_written}
 use Rattle.design_model.specs.Paths.{Action, Path, action_blocking_writes, action_mentions, action_writes, assigns, compares, each_writes_whole, path_writes, paths, reaches, reads_before_writing, reads_unwritten, selects, tests}
-use Rattle.design_model.proofs.Along.{AllActions, DeedHas, assign_visits, do_deed, do_path, execute_along}
+use Rattle.design_model.proofs.Along.{AllActions, ActionHas, assign_visits, do_action, do_path, execute_along}
 use Rattle.design_model.proofs.Execution.{EachSet}
 use Rattle.design_model.proofs.Named.{WritesCell-from, WritesCell-left, WritesCell-places, WritesCell-right, cell_halves, has_cell-from, has_place, length-fit, static_written}
 
@@ -138,29 +138,29 @@ module _ (d : Design) where
   set_written : (x : Target) (t : Term) (r : Execution) (c : Cell) → has_cell (sure_writes d x) c ≡ true → has_cell (assignment_writes d x t r) c ≡ true
   set_written x t r c h = has_cell-from _ c (sure_written d r.values x (extend (target_width d x) (head t).signed (value d r.values t)) c (length-fit (target_width d x) _ (value d r.values t)) h)
 
-  -- what a deed blocks is written after it
-  deed_written : (written : List (Write Bit)) (x : Action) (r : Execution) → Sub written r.blocking → Sub (written ++ action_blocking_writes d x) (do_deed d x r).blocking
-  deed_written written (reaches n) r sub c h = ⊎_elim (sub c) (λ e. absurd (false≢true e)) (cell_halves written [] c h)
-  deed_written written (tests t b) r sub c h = ⊎_elim (sub c) (λ e. absurd (false≢true e)) (cell_halves written [] c h)
-  deed_written written (selects t) r sub c h = ⊎_elim (sub c) (λ e. absurd (false≢true e)) (cell_halves written [] c h)
-  deed_written written (compares kind on t b) r sub c h = ⊎_elim (sub c) (λ e. absurd (false≢true e)) (cell_halves written [] c h)
-  deed_written written (assigns true x t) r sub c h = ⊎_elim (λ e. cell_left r.blocking (assignment_writes d x t r) c (sub c e)) (λ e. cell_right r.blocking (assignment_writes d x t r) c (set_written x t r c e)) (cell_halves written (sure_writes d x) c h)
-  deed_written written (assigns false x t) r sub c h = ⊎_elim (sub c) (λ e. absurd (false≢true e)) (cell_halves written [] c h)
+  -- what a action blocks is written after it
+  action_written : (written : List (Write Bit)) (x : Action) (r : Execution) → Sub written r.blocking → Sub (written ++ action_blocking_writes d x) (do_action d x r).blocking
+  action_written written (reaches n) r sub c h = ⊎_elim (sub c) (λ e. absurd (false≢true e)) (cell_halves written [] c h)
+  action_written written (tests t b) r sub c h = ⊎_elim (sub c) (λ e. absurd (false≢true e)) (cell_halves written [] c h)
+  action_written written (selects t) r sub c h = ⊎_elim (sub c) (λ e. absurd (false≢true e)) (cell_halves written [] c h)
+  action_written written (compares kind on t b) r sub c h = ⊎_elim (sub c) (λ e. absurd (false≢true e)) (cell_halves written [] c h)
+  action_written written (assigns true x t) r sub c h = ⊎_elim (λ e. cell_left r.blocking (assignment_writes d x t r) c (sub c e)) (λ e. cell_right r.blocking (assignment_writes d x t r) c (set_written x t r c e)) (cell_halves written (sure_writes d x) c h)
+  action_written written (assigns false x t) r sub c h = ⊎_elim (sub c) (λ e. absurd (false≢true e)) (cell_halves written [] c h)
 
-  -- the visits of a deed that mentions signal s only where it is written whole
-  deed_inner : (s : ℕ) (x : Action) (r : Execution) → (action_mentions s x ≡ true → is_inner d r (a_signal s) ≡ true) → AllInnerOf s r.visits → AllInnerOf s (do_deed d x r).visits
-  deed_inner s (reaches n) r w a = inner_append s r.visits (at_line n ∷ []) a (tt, tt)
-  deed_inner s (tests t b) r w a = inner_append s r.visits _ a (term_inner d r.values (is_inner d r) s t w)
-  deed_inner s (selects t) r w a = inner_append s r.visits _ a (term_inner d r.values (is_inner d r) s t w)
-  deed_inner s (compares kind on t b) r w a = inner_append s r.visits _ a (term_inner d r.values (is_inner d r) s t w)
-  deed_inner s (assigns b x t) r w a = go b
+  -- the visits of a action that mentions signal s only where it is written whole
+  action_inner : (s : ℕ) (x : Action) (r : Execution) → (action_mentions s x ≡ true → is_inner d r (a_signal s) ≡ true) → AllInnerOf s r.visits → AllInnerOf s (do_action d x r).visits
+  action_inner s (reaches n) r w a = inner_append s r.visits (at_line n ∷ []) a (tt, tt)
+  action_inner s (tests t b) r w a = inner_append s r.visits _ a (term_inner d r.values (is_inner d r) s t w)
+  action_inner s (selects t) r w a = inner_append s r.visits _ a (term_inner d r.values (is_inner d r) s t w)
+  action_inner s (compares kind on t b) r w a = inner_append s r.visits _ a (term_inner d r.values (is_inner d r) s t w)
+  action_inner s (assigns b x t) r w a = go b
     where
       visits : AllInnerOf s (r.visits ++ assign_visits d x t r)
       visits =
           inner_append s r.visits _ a
           (inner_append s _ _ (inner_append s _ _ (index_inner d r.values (is_inner d r) s x (λ e. w (or_left (index_mentions s x) _ e))) (term_inner d r.values (is_inner d r) s t (λ e. w (or_right (index_mentions s x) _ e)))) (words_inner d r.values (is_inner d r) s x))
 
-      go : (b : Bool) → AllInnerOf s (do_deed d (assigns b x t) r).visits
+      go : (b : Bool) → AllInnerOf s (do_action d (assigns b x t) r).visits
       go true = visits
       go false = visits
 
@@ -169,8 +169,8 @@ module _ (d : Design) where
   path_inner s [] written r sub e a = a
   path_inner s (x ∷ xs) written r sub e a =
       let p = or_parts (action_mentions s x.action && not (covers written (signal_cells d s))) _ e in
-      path_inner s xs (written ++ action_blocking_writes d x.action) (do_deed d x.action r) (deed_written written x.action r sub) p.1
-      (deed_inner s x.action r (λ m. covers_more written r.blocking sub (signal_cells d s) (not-false _ (both (action_mentions s x.action) (not (covers written (signal_cells d s))) m p.0))) a)
+      path_inner s xs (written ++ action_blocking_writes d x.action) (do_action d x.action r) (action_written written x.action r sub) p.1
+      (action_inner s x.action r (λ m. covers_more written r.blocking sub (signal_cells d s) (not-false _ (both (action_mentions s x.action) (not (covers written (signal_cells d s))) m p.0))) a)
     where
       both : (b c : Bool) → b ≡ true → (b && c) ≡ false → c ≡ false
       both true c e h = h
@@ -181,9 +181,9 @@ module _ (d : Design) where
 
   grows : (path : Path) (r : Execution) → Sub r.blocking (do_path d path r).blocking
   grows [] r c h = h
-  grows (x ∷ xs) r c h = grows xs (do_deed d x.action r) c (one x.action)
+  grows (x ∷ xs) r c h = grows xs (do_action d x.action r) c (one x.action)
     where
-      one : (x : Action) → has_cell (do_deed d x r).blocking c ≡ true
+      one : (x : Action) → has_cell (do_action d x r).blocking c ≡ true
       one (reaches n) = h
       one (tests t b) = h
       one (selects t) = h
@@ -194,9 +194,9 @@ module _ (d : Design) where
   -- what a path of blocking assignments surely writes is written
   path_written : (path : Path) (r : Execution) → AllActions Blocks path → Sub (path_writes d path) (do_path d path r).blocking
   path_written [] r all c h = absurd (false≢true h)
-  path_written (x ∷ xs) r all c h = ⊎_elim (λ e. grows xs (do_deed d x.action r) c (one x.action all.0 e)) (λ e. path_written xs (do_deed d x.action r) all.1 c e) (cell_halves (action_writes d x.action) (path_writes d xs) c h)
+  path_written (x ∷ xs) r all c h = ⊎_elim (λ e. grows xs (do_action d x.action r) c (one x.action all.0 e)) (λ e. path_written xs (do_action d x.action r) all.1 c e) (cell_halves (action_writes d x.action) (path_writes d xs) c h)
     where
-      one : (x : Action) → DeedHas Blocks x → has_cell (action_writes d x) c ≡ true → has_cell (do_deed d x r).blocking c ≡ true
+      one : (x : Action) → ActionHas Blocks x → has_cell (action_writes d x) c ≡ true → has_cell (do_action d x r).blocking c ≡ true
       one (reaches n) a e = absurd (false≢true e)
       one (tests t b) a e = absurd (false≢true e)
       one (selects t) a e = absurd (false≢true e)

@@ -5,7 +5,7 @@ use Rattle.std.specs.List.{list_any}
 use Rattle.std.specs.Prelude.{slice_index_or}
 use Rattle.event_machine.specs.Machine.{Edge as MachineEdge}
 use Rattle.event_machine.specs.Cell.{Cell}
-use Rattle.event_machine.specs.Machine.{Negedge, Posedge, wakes}
+use Rattle.event_machine.specs.Machine.{Negedge, Posedge}
 use Rattle.four_state.specs.declared.edge.Edge.{Edge}
 use Rattle.four_state.specs.declared.edge.Edge.TheVariants.{Neg, Pos}
 use Rattle.design_model.specs.Tree.{Process, assign, clocked, comb}

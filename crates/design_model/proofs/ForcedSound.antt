@@ -1,7 +1,6 @@
 -- The clear law and the forced law, from the laws of the machine.
 use Rattle.std.proofs.Common.{◌≡◌, ◌⊎◌, inl, inr, ℕ, zero, suc, ◌-◌, true, List, [], append-nil, sym, ap, subst, ◌∙◌, arith}
 use Rattle.event_machine.specs.Cell.{Cell}
-use Rattle.event_machine.specs.Event.{first}
 use Rattle.event_machine.specs.Habit.{Habit}
 use Rattle.four_state.specs.declared.bit.Bit.{Bit}
 use Rattle.design_model.specs.Design.{Design, a_signal, signal_bits}

@@ -5,7 +5,7 @@ use Rattle.std.specs.Prelude.{nat_lt, nat_le}
 use Rattle.std.specs.List.{list_all, list_any}
 use Rattle.event_machine.specs.Machine.{Edge as MachineEdge}
 use Rattle.event_machine.specs.Cell.{Cell, Update, UpdatesCell, Values, WritesCell}
-use Rattle.event_machine.specs.Machine.{IsTarget, Negedge, Posedge, wakes}
+use Rattle.event_machine.specs.Machine.{IsTarget, Negedge, Posedge}
 use Rattle.four_state.specs.Vector.{extend, same_bit}
 use Rattle.four_state.specs.declared.bit.Bit.{Bit}
 use Rattle.four_state.specs.declared.bit.Bit.TheVariants.{One, X, Z, Zero}

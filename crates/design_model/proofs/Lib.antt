@@ -14,6 +14,7 @@ pub mod Mentions
 pub mod Prefix
 pub mod Untouched
 pub mod Times
+pub mod Toggles
 pub mod Sound
 pub mod Along
 pub mod Combs
@@ -25,3 +26,14 @@ pub mod OpenPath
 pub mod OpenNodes
 pub mod OpenWords
 pub mod Reached
+pub mod Rounds
+pub mod MemoryPath
+pub mod FlipFlopRun
+pub mod FlipFlopDoubt
+pub mod FlipFlopLawful
+pub mod FlipFlopExample
+pub mod GateClear
+pub mod PipeClear
+pub mod PipeExample
+pub mod RamClear
+pub mod RamExample

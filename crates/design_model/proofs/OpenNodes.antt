@@ -2,18 +2,18 @@
 use Rattle.std.proofs.Common.{◌≡◌, ◌⊎◌, inl, inr, ⊎_elim, ℕ, Bool, true, false, List, [], ◌∷◌, ◌++◌, map, refl, sym, ap, subst, ◌∙◌, Option, Some}
 use Rattle.cov_host.specs.declared.place.Place.{Place}
 use Rattle.event_machine.specs.Cell.{Values}
-use Rattle.event_machine.specs.Event.{rest}
 use Rattle.four_state.specs.Vector.{truth}
 use Rattle.four_state.specs.declared.bit.Bit.{Bit}
 use Rattle.design_model.specs.Tree.{Stmt, Target, Targets, Term, Terms, a_target, a_term, all_of, binary, bit, bits_of, choice, concat, no_targets, no_terms, number, part, repeat, several, sign, signal, slide, unary, word, word_of}
 use Rattle.design_model.specs.Design.{Design, In, Thing, a_signal}
 use Rattle.design_model.specs.Value.{head, word_named}
+use Rattle.design_model.specs.Mentions.{all_index_terms, all_subterms, index_terms, subterms}
 use Rattle.design_model.specs.Execution.{Execution, NodeCase, Visit, at_node, cases, execution, execution_start, index_visits, indexes_visits, is_inner, node_visits, reads, visits_of, visits_of_all, word_read, words_written}
 use Rattle.design_model.specs.Paths.{Action, Path, PathStep, assigns, compares, reaches, selects, tests}
 use Rattle.design_model.specs.Reads.{Agrees, Known}
 use Rattle.design_model.specs.Points.{logic_point}
-use Rattle.design_model.specs.Open.{AreAsked, Asked, IsNode, IsSurelyOpen, action_terms, all_index_terms, all_subterms, asks, index_terms, subterms}
-use Rattle.design_model.proofs.Along.{AllActions, assign_visits, do_deed, do_path}
+use Rattle.design_model.specs.Open.{AreAsked, Asked, IsNode, IsSurelyOpen, action_terms, asks}
+use Rattle.design_model.proofs.Along.{AllActions, assign_visits, do_action, do_path}
 use Rattle.design_model.proofs.NodeCases.{AskedHold, case_holds}
 use Rattle.design_model.proofs.OpenPath.{IsOfBody, IsUnchanged, fixed_value, open_path, seen_stays, the_path, unchanged_after}
 
@@ -88,19 +88,19 @@ module _ (d : Design) (v : Values Bit) (f : Thing → Bool) (n : ℕ) (c : NodeC
     indexes_seen no_targets a = absurd a
     indexes_seen (a_target x ts) a = ⊎_elim (λ p. In-left y (index_visits d v f x) (indexes_visits d v f ts) (index_seen x p)) (λ q. In-right y (index_visits d v f x) (indexes_visits d v f ts) (indexes_seen ts q)) (In-halves t (index_terms x) (all_index_terms ts) a)
 
-deed_node : (d : Design) (n : ℕ) (c : NodeCase) (t : Term) (x : Action) (r : Execution) → (head t).node ≡ Some n → In t (action_terms x) → In c (cases d r.values t) → In (at_node n c) (do_deed d x r).visits
-deed_node d n c t (reaches m) r e a h = absurd a
-deed_node d n c t (tests u k) r e a h = In-right (at_node n c) r.visits (visits_of d r.values (is_inner d r) u) (node_seen d r.values (is_inner d r) n c t e h u a)
-deed_node d n c t (selects u) r e a h = In-right (at_node n c) r.visits (visits_of d r.values (is_inner d r) u) (node_seen d r.values (is_inner d r) n c t e h u a)
-deed_node d n c t (compares kind on u k) r e a h = In-right (at_node n c) r.visits (visits_of d r.values (is_inner d r) u) (node_seen d r.values (is_inner d r) n c t e h u a)
-deed_node d n c t (assigns k x u) r e a h = go k
+action_node : (d : Design) (n : ℕ) (c : NodeCase) (t : Term) (x : Action) (r : Execution) → (head t).node ≡ Some n → In t (action_terms x) → In c (cases d r.values t) → In (at_node n c) (do_action d x r).visits
+action_node d n c t (reaches m) r e a h = absurd a
+action_node d n c t (tests u k) r e a h = In-right (at_node n c) r.visits (visits_of d r.values (is_inner d r) u) (node_seen d r.values (is_inner d r) n c t e h u a)
+action_node d n c t (selects u) r e a h = In-right (at_node n c) r.visits (visits_of d r.values (is_inner d r) u) (node_seen d r.values (is_inner d r) n c t e h u a)
+action_node d n c t (compares kind on u k) r e a h = In-right (at_node n c) r.visits (visits_of d r.values (is_inner d r) u) (node_seen d r.values (is_inner d r) n c t e h u a)
+action_node d n c t (assigns k x u) r e a h = go k
   where
     seen : In (at_node n c) (assign_visits d x u r)
     seen =
         In-left (at_node n c) (index_visits d r.values (is_inner d r) x ++ visits_of d r.values (is_inner d r) u) (words_written d r.values x)
         (⊎_elim (λ p. In-left (at_node n c) (index_visits d r.values (is_inner d r) x) (visits_of d r.values (is_inner d r) u) (index_seen d r.values (is_inner d r) n c t e h x p)) (λ q. In-right (at_node n c) (index_visits d r.values (is_inner d r) x) (visits_of d r.values (is_inner d r) u) (node_seen d r.values (is_inner d r) n c t e h u q)) (In-halves t (index_terms x) (subterms u) a))
 
-    go : (k : Bool) → In (at_node n c) (do_deed d (assigns k x u) r).visits
+    go : (k : Bool) → In (at_node n c) (do_action d (assigns k x u) r).visits
     go true = In-right (at_node n c) r.visits (assign_visits d x u r) seen
     go false = In-right (at_node n c) r.visits (assign_visits d x u r) seen
 
@@ -109,8 +109,8 @@ module _ (d : Design) (K : Known) (b : Stmt) (v : Values Bit) (av : Agrees d K v
   path_node [] r u s holds z h node = absurd h
   path_node (x ∷ xs) r u s holds z (inl e) node =
       let node' : IsNode n x.action t = subst (λ w. IsNode n w t) (sym (ap (λ w. w.action) e)) node in
-      seen_stays d (at_node n c) xs (do_deed d x.action r) (deed_node d n c t x.action r node'.1 node'.0 (holds r u))
-  path_node (x ∷ xs) r u s holds z (inr h) node = path_node xs (do_deed d x.action r) (unchanged_after d K b v av x.action r s.0 u) s.1 holds z h node
+      seen_stays d (at_node n c) xs (do_action d x.action r) (action_node d n c t x.action r node'.1 node'.0 (holds r u))
+  path_node (x ∷ xs) r u s holds z (inr h) node = path_node xs (do_action d x.action r) (unchanged_after d K b v av x.action r s.0 u) s.1 holds z h node
 
   -- on the way each operand that is asked has the truth that it has on K
   asked_hold : (as' : List Asked) (r : Execution) → IsUnchanged d K b v av r → AreAsked d K b as' → AskedHold d r.values as'

@@ -12,12 +12,13 @@ use Rattle.design_model.specs.Value.{head, value}
 use Rattle.design_model.specs.Assignment.{target_width}
 use Rattle.design_model.specs.Mentions.{any_set, any_set_in, any_set_of, body_blocks, may_write, mentions, target_names}
 use Rattle.design_model.specs.Execution.{Execution, Visit, assignment_writes, at_line, at_node, execution, execution_start, reads, writes_word}
+use Rattle.design_model.specs.Numbered.{LineWord}
 use Rattle.design_model.specs.Paths.{Action, Path, PathStep, assigns, compares, paths, reaches, selects, tests}
 use Rattle.design_model.specs.Reads.{Agrees, Known}
-use Rattle.design_model.specs.Points.{LineWord, line_point}
+use Rattle.design_model.specs.Points.{line_point}
 use Rattle.design_model.specs.Open.{FollowsAll, FollowsFixed, IsFixed, IsOpenPath, IsSurelyOpen, is_true, outer}
 use Rattle.design_model.proofs.Agree.{AllOuter, value_same}
-use Rattle.design_model.proofs.Along.{AllActions, Along, Decides, DeedDecides, DeedHas, assign_visits, do_deed, do_path, execute_along}
+use Rattle.design_model.proofs.Along.{AllActions, Along, Decides, ActionDecides, ActionHas, assign_visits, do_action, do_path, execute_along}
 use Rattle.design_model.proofs.Execution.{EachSet, EachSetIn, EachSetOf, each_gives, each_gives_in, each_gives_of}
 use Rattle.design_model.proofs.Lawful.{names_from}
 use Rattle.design_model.proofs.Mentions.{AllReads, term_reads}
@@ -68,7 +69,7 @@ module _ (d : Design) (K : Known) (b : Stmt) (v : Values Bit) (av : Agrees d K v
   of_body : EachSet (λ n. IsOfBody) b
   of_body = each_gives (λ n k x t any on c w. any (λ k x t. k && target_names c.thing x) (and_from k (target_names c.thing x) on (names_from d x c w))) b (each_any b)
 
-  pub unchanged_after : (x : Action) (r : Execution) → DeedHas IsOfBody x → IsUnchanged r → IsUnchanged (do_deed d x r)
+  pub unchanged_after : (x : Action) (r : Execution) → ActionHas IsOfBody x → IsUnchanged r → IsUnchanged (do_action d x r)
   unchanged_after (reaches n) r s u c away = u c away
   unchanged_after (tests t k) r s u c away = u c away
   unchanged_after (selects t) r s u c away = u c away
@@ -82,7 +83,7 @@ module _ (d : Design) (K : Known) (b : Stmt) (v : Values Bit) (av : Agrees d K v
   fixed_value t r u fixed w aw =
       value_mentions d r.values v t (λ c m. u c (fixed.unwritten c.thing m)) ∙ value_same d v w outer (λ x e. absurd (false≢true e)) t (inside_outer d K v w av aw _ (fixed.told v av))
 
-  follows_here : (x : Action) (r : Execution) → IsUnchanged r → DeedDecides d x r → FollowsFixed d K b x
+  follows_here : (x : Action) (r : Execution) → IsUnchanged r → ActionDecides d x r → FollowsFixed d K b x
   follows_here (reaches n) r u e = tt
   follows_here (tests t k) r u e = λ fixed w aw. ap (λ y. is_true (truth y)) (sym (fixed_value t r u fixed w aw)) ∙ e
   follows_here (selects t) r u e = tt
@@ -91,7 +92,7 @@ module _ (d : Design) (K : Known) (b : Stmt) (v : Values Bit) (av : Agrees d K v
 
   follows_all : (path : Path) (r : Execution) → IsUnchanged r → AllActions IsOfBody path → Decides d path r → FollowsAll d K b path
   follows_all [] r u s e = tt
-  follows_all (x ∷ xs) r u s e = (follows_here x.action r u e.0, follows_all xs (do_deed d x.action r) (unchanged_after x.action r s.0 u) s.1 e.1)
+  follows_all (x ∷ xs) r u s e = (follows_here x.action r u e.0, follows_all xs (do_action d x.action r) (unchanged_after x.action r s.0 u) s.1 e.1)
 
   -- the execution goes along an open path
   pub open_path : (a : Along d IsOfBody (paths [] b) (execution_start v) (execution d b v)) → IsOpenPath d K b a.path
@@ -112,9 +113,9 @@ In-last x (z ∷ xs) = inr (In-last x xs)
 -- what was visited stays visited
 pub seen_stays : (d : Design) (y : Visit) (path : Path) (r : Execution) → In y r.visits → In y (do_path d path r).visits
 seen_stays d y [] r h = h
-seen_stays d y (x ∷ xs) r h = seen_stays d y xs (do_deed d x.action r) (one x.action)
+seen_stays d y (x ∷ xs) r h = seen_stays d y xs (do_action d x.action r) (one x.action)
   where
-    one : (x : Action) → In y (do_deed d x r).visits
+    one : (x : Action) → In y (do_action d x r).visits
     one (reaches n) = In-first y r.visits _ h
     one (tests t k) = In-first y r.visits _ h
     one (selects t) = In-first y r.visits _ h
@@ -124,8 +125,8 @@ seen_stays d y (x ∷ xs) r h = seen_stays d y xs (do_deed d x.action r) (one x.
 
 line_seen : (d : Design) (n : ℕ) (x : PathStep) (path : Path) (r : Execution) → In x path → x.action ≡ reaches n → In (at_line n) (do_path d path r).visits
 line_seen d n x [] r h e = absurd h
-line_seen d n x (z ∷ zs) r (inl is) e = seen_stays d (at_line n) zs (do_deed d z.action r) (subst (λ y. In (at_line n) (do_deed d y r).visits) (sym (ap (λ y. y.action) is ∙ e)) (In-last (at_line n) r.visits))
-line_seen d n x (z ∷ zs) r (inr h) e = line_seen d n x zs (do_deed d z.action r) h e
+line_seen d n x (z ∷ zs) r (inl is) e = seen_stays d (at_line n) zs (do_action d z.action r) (subst (λ y. In (at_line n) (do_action d y r).visits) (sym (ap (λ y. y.action) is ∙ e)) (In-last (at_line n) r.visits))
+line_seen d n x (z ∷ zs) r (inr h) e = line_seen d n x zs (do_action d z.action r) h e
 
 -- a line point that is surely open from K is visited on each state that agrees with K
 pub line_visited : (d : Design) (K : Known) (b : Stmt) (v : Values Bit) → Agrees d K v → (p n : ℕ) (at : Place) (w : LineWord) → IsSurelyOpen d K b (line_point p n at w) → In (at_line n) (execution d b v).visits

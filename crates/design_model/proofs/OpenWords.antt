@@ -6,12 +6,13 @@ use Rattle.four_state.specs.declared.bit.Bit.{Bit}
 use Rattle.design_model.specs.Tree.{Head, Stmt, Target, Targets, Term, Terms, a_target, a_term, all_of, binary, bit, bits_of, choice, concat, no_targets, no_terms, number, part, repeat, several, sign, signal, slide, unary, word, word_of}
 use Rattle.design_model.specs.Design.{Design, In, Thing, a_word, memory_at}
 use Rattle.design_model.specs.Value.{head, named_word, word_named}
+use Rattle.design_model.specs.Mentions.{all_index_terms, all_subterms, index_terms, subterms}
 use Rattle.design_model.specs.Execution.{Execution, Visit, all_words_written, cases, execution, execution_start, index_visits, indexes_visits, is_inner, node_visits, reads, visits_of, visits_of_all, word_read, word_written, words_written, writes_word}
 use Rattle.design_model.specs.Paths.{Action, Path, PathStep, assigns, compares, reaches, selects, tests}
 use Rattle.design_model.specs.Reads.{Agrees, Known}
 use Rattle.design_model.specs.Points.{word_point}
-use Rattle.design_model.specs.Open.{ActionOnWord, ActionReads, ActionWrites, IsSurelyOpen, SomeTargetWord, TargetWord, all_index_terms, all_subterms, index_terms, subterms}
-use Rattle.design_model.proofs.Along.{AllActions, assign_visits, do_deed, do_path}
+use Rattle.design_model.specs.Open.{ActionOnWord, ActionReads, ActionWrites, IsSurelyOpen, SomeTargetWord, TargetWord}
+use Rattle.design_model.proofs.Along.{AllActions, assign_visits, do_action, do_path}
 use Rattle.design_model.proofs.OpenNodes.{In-halves, In-left, In-right}
 use Rattle.design_model.proofs.OpenPath.{IsOfBody, IsUnchanged, fixed_value, open_path, seen_stays, the_path, unchanged_after}
 
@@ -88,12 +89,12 @@ abbrev pub SeesWord : ℕ → ℕ → Bool → List Visit → Type 0
 SeesWord m k true vs = In (writes_word m k) vs
 SeesWord m k false vs = (inner : Bool) × In (reads (a_word m k) inner) vs
 
-reads_deed : (d : Design) (m k : ℕ) (i : Term) (x : Action) (r : Execution) → word_named d r.values m i ≡ Some k → ActionReads m x i → In (reads (a_word m k) (is_inner d r (a_word m k))) (do_deed d x r).visits
-reads_deed d m k i (reaches n) r e a = absurd a.1
-reads_deed d m k i (tests u b) r e a = In-right _ r.visits (visits_of d r.values (is_inner d r) u) (word_seen d r.values (is_inner d r) m k a.0 i e u a.1)
-reads_deed d m k i (selects u) r e a = In-right _ r.visits (visits_of d r.values (is_inner d r) u) (word_seen d r.values (is_inner d r) m k a.0 i e u a.1)
-reads_deed d m k i (compares kind on u b) r e a = In-right _ r.visits (visits_of d r.values (is_inner d r) u) (word_seen d r.values (is_inner d r) m k a.0 i e u a.1)
-reads_deed d m k i (assigns b x u) r e a = go b
+reads_action : (d : Design) (m k : ℕ) (i : Term) (x : Action) (r : Execution) → word_named d r.values m i ≡ Some k → ActionReads m x i → In (reads (a_word m k) (is_inner d r (a_word m k))) (do_action d x r).visits
+reads_action d m k i (reaches n) r e a = absurd a.1
+reads_action d m k i (tests u b) r e a = In-right _ r.visits (visits_of d r.values (is_inner d r) u) (word_seen d r.values (is_inner d r) m k a.0 i e u a.1)
+reads_action d m k i (selects u) r e a = In-right _ r.visits (visits_of d r.values (is_inner d r) u) (word_seen d r.values (is_inner d r) m k a.0 i e u a.1)
+reads_action d m k i (compares kind on u b) r e a = In-right _ r.visits (visits_of d r.values (is_inner d r) u) (word_seen d r.values (is_inner d r) m k a.0 i e u a.1)
+reads_action d m k i (assigns b x u) r e a = go b
   where
     y : Visit
     y = reads (a_word m k) (is_inner d r (a_word m k))
@@ -103,27 +104,27 @@ reads_deed d m k i (assigns b x u) r e a = go b
         In-left (reads (a_word m k) (is_inner d r (a_word m k))) (index_visits d r.values (is_inner d r) x ++ visits_of d r.values (is_inner d r) u) (words_written d r.values x)
         (⊎_elim (λ p. In-left (reads (a_word m k) (is_inner d r (a_word m k))) (index_visits d r.values (is_inner d r) x) (visits_of d r.values (is_inner d r) u) (index_word d r.values (is_inner d r) m k a.0 i e x p)) (λ q. In-right (reads (a_word m k) (is_inner d r (a_word m k))) (index_visits d r.values (is_inner d r) x) (visits_of d r.values (is_inner d r) u) (word_seen d r.values (is_inner d r) m k a.0 i e u q)) (In-halves (word a.0 m i) (index_terms x) (subterms u) a.1))
 
-    go : (b : Bool) → In (reads (a_word m k) (is_inner d r (a_word m k))) (do_deed d (assigns b x u) r).visits
+    go : (b : Bool) → In (reads (a_word m k) (is_inner d r (a_word m k))) (do_action d (assigns b x u) r).visits
     go true = In-right _ r.visits (assign_visits d x u r) seen
     go false = In-right _ r.visits (assign_visits d x u r) seen
 
-writes_deed : (d : Design) (m k : ℕ) (i : Term) (x : Action) (r : Execution) → word_named d r.values m i ≡ Some k → ActionWrites m x i → In (writes_word m k) (do_deed d x r).visits
-writes_deed d m k i (reaches n) r e a = absurd a
-writes_deed d m k i (tests u b) r e a = absurd a
-writes_deed d m k i (selects u) r e a = absurd a
-writes_deed d m k i (compares kind on u b) r e a = absurd a
-writes_deed d m k i (assigns b x u) r e a = go b
+writes_action : (d : Design) (m k : ℕ) (i : Term) (x : Action) (r : Execution) → word_named d r.values m i ≡ Some k → ActionWrites m x i → In (writes_word m k) (do_action d x r).visits
+writes_action d m k i (reaches n) r e a = absurd a
+writes_action d m k i (tests u b) r e a = absurd a
+writes_action d m k i (selects u) r e a = absurd a
+writes_action d m k i (compares kind on u b) r e a = absurd a
+writes_action d m k i (assigns b x u) r e a = go b
   where
     seen : In (writes_word m k) (assign_visits d x u r)
     seen = In-right (writes_word m k) (index_visits d r.values (is_inner d r) x ++ visits_of d r.values (is_inner d r) u) (words_written d r.values x) (target_seen d r.values m k i e x a)
 
-    go : (b : Bool) → In (writes_word m k) (do_deed d (assigns b x u) r).visits
+    go : (b : Bool) → In (writes_word m k) (do_action d (assigns b x u) r).visits
     go true = In-right _ r.visits (assign_visits d x u r) seen
     go false = In-right _ r.visits (assign_visits d x u r) seen
 
-word_deed : (d : Design) (m k : ℕ) (w : Bool) (i : Term) (x : Action) (r : Execution) → word_named d r.values m i ≡ Some k → ActionOnWord w m x i → SeesWord m k w (do_deed d x r).visits
-word_deed d m k true i x r e a = writes_deed d m k i x r e a
-word_deed d m k false i x r e a = (is_inner d r (a_word m k), reads_deed d m k i x r e a)
+word_deed : (d : Design) (m k : ℕ) (w : Bool) (i : Term) (x : Action) (r : Execution) → word_named d r.values m i ≡ Some k → ActionOnWord w m x i → SeesWord m k w (do_action d x r).visits
+word_deed d m k true i x r e a = writes_action d m k i x r e a
+word_deed d m k false i x r e a = (is_inner d r (a_word m k), reads_action d m k i x r e a)
 
 sees_stays : (d : Design) (m k : ℕ) (w : Bool) (path : Path) (r : Execution) → SeesWord m k w r.visits → SeesWord m k w (do_path d path r).visits
 sees_stays d m k true path r h = seen_stays d (writes_word m k) path r h
@@ -132,8 +133,8 @@ sees_stays d m k false path r h = (h.0, seen_stays d (reads (a_word m k) h.0) pa
 module _ (d : Design) (K : Known) (b : Stmt) (v : Values Bit) (av : Agrees d K v) (m k : ℕ) (w : Bool) (i : Term) where
   path_word : (path : Path) (r : Execution) → IsUnchanged d K b v av r → AllActions (IsOfBody d K b v av) path → ((r2 : Execution) → IsUnchanged d K b v av r2 → word_named d r2.values m i ≡ Some k) → (z : PathStep) → In z path → ActionOnWord w m z.action i → SeesWord m k w (do_path d path r).visits
   path_word [] r u s named z h a = absurd h
-  path_word (x ∷ xs) r u s named z (inl e) a = sees_stays d m k w xs (do_deed d x.action r) (word_deed d m k w i x.action r (named r u) (subst (λ y. ActionOnWord w m y i) (sym (ap (λ y. y.action) e)) a))
-  path_word (x ∷ xs) r u s named z (inr h) a = path_word xs (do_deed d x.action r) (unchanged_after d K b v av x.action r s.0 u) s.1 named z h a
+  path_word (x ∷ xs) r u s named z (inl e) a = sees_stays d m k w xs (do_action d x.action r) (word_deed d m k w i x.action r (named r u) (subst (λ y. ActionOnWord w m y i) (sym (ap (λ y. y.action) e)) a))
+  path_word (x ∷ xs) r u s named z (inr h) a = path_word xs (do_action d x.action r) (unchanged_after d K b v av x.action r s.0 u) s.1 named z h a
 
 -- a memory point that is surely open from K is visited on each state that agrees with K
 pub word_visited : (d : Design) (K : Known) (b : Stmt) (v : Values Bit) → Agrees d K v → (m k : ℕ) (w : Bool) → IsSurelyOpen d K b (word_point m k w) → SeesWord m k w (execution d b v).visits

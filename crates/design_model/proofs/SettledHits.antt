@@ -2,7 +2,7 @@
 use Rattle.std.proofs.Common.{◌≡◌, ◌≢◌, ◌⊎◌, inl, inr, ℕ, zero, suc, ◌-◌, true, false, List, [], ◌∷◌, ◌++◌, refl, sym, ap, subst, ◌∙◌, arith}
 use Rattle.std.proofs.lemmas.Bool.{or_left, both_ways, false_from_ne_true}
 use Rattle.event_machine.specs.Cell.{Cell, Values}
-use Rattle.event_machine.specs.Machine.{IsWakeCell, wakes}
+use Rattle.event_machine.specs.Machine.{IsWakeCell}
 use Rattle.event_machine.specs.Event.{end_state}
 use Rattle.event_machine.specs.Habit.{Habit}
 use Rattle.event_machine.specs.Step.{evaluations}
@@ -14,11 +14,11 @@ use Rattle.design_model.specs.Mentions.{body_assigns, body_mentions}
 use Rattle.design_model.specs.Execution.{Visit, at_line, at_node, execution, execution_start, reads, writes_word}
 use Rattle.design_model.specs.Reads.{Agrees, HasValue, Known, UpToOutside, VisitsFrom}
 use Rattle.design_model.specs.Machine.{is_level, machine}
-use Rattle.design_model.specs.Run.{IsRun, Run, StepOf, entries_of, settled, start_of}
+use Rattle.design_model.specs.Run.{IsRun, Run, StepOf, evaluations_of, settled, start_of}
 use Rattle.design_model.specs.Shows.{BoundDump, InWindow, IsDumpOf, IsShown, IsWindow, Shows}
 use Rattle.design_model.specs.Scored.{ChangesOver, IsScoredOf, VisitsIn}
 use Rattle.design_model.specs.Points.{IsBlock, IsHit, Point}
-use Rattle.design_model.specs.Open.{AtEnd, HasChangedWakeBit, IsNotClocked, IsVisitOf}
+use Rattle.design_model.specs.Open.{KnownAtEnd, HasChangedWakeBit, IsNotClocked, IsVisitOf}
 use Rattle.design_model.specs.Lawful.{IsLawfulDesign}
 use Rattle.design_model.proofs.ForcedSound.{clear_law}
 use Rattle.design_model.proofs.Hits.{StepHere, hit_of, step_here, upto_in}
@@ -33,7 +33,7 @@ settling_level (assign i z t c) y is m = m
 settling_level (comb i wakes s) y is m = or_left (body_mentions y s) _ m
 settling_level (clocked i events s) y is m = absurd (is tt)
 
-settling_scored : (x : Process) (d : Design) (r : Run) (k : StepOf r) (p : ℕ) (v : Values Bit) → (IsClocked x → ⊥) → ((earlier : List (Values Bit)) × (entries_of d r k p ≡ earlier ++ v ∷ [])) → ((c : Cell) × IsWakeCell (machine d) p c × ChangesOver d r k c) → IsScoredOf x d r k p v
+settling_scored : (x : Process) (d : Design) (r : Run) (k : StepOf r) (p : ℕ) (v : Values Bit) → (IsClocked x → ⊥) → ((earlier : List (Values Bit)) × (evaluations_of d r k p ≡ earlier ++ v ∷ [])) → ((c : Cell) × IsWakeCell (machine d) p c × ChangesOver d r k c) → IsScoredOf x d r k p v
 settling_scored (assign i z t c) d r k p v is a b = (a, b)
 settling_scored (comb i wakes s) d r k p v is a b = (a, b)
 settling_scored (clocked i events s) d r k p v is a b = absurd (is tt)
@@ -53,39 +53,39 @@ widen d p v K y not_own (reads x true ∷ xs) a (inr h) = inr (tt, widen d p v K
 widen d p v K y not_own (reads x false ∷ xs) a (inr h) = inr ((thing_bits d v x, (a.0, not_own x h.0, refl)), widen d p v K y not_own xs a.1 h.1)
 
 module _ (d : Design) (lawful : IsLawfulDesign d) (h : Habit) (laws : StepLaws (machine d) h) (settled_law : SettledLaw (machine d)) (dump : BoundDump) (r : Run) (fits : IsDumpOf d dump) (is_run : IsRun d h r) (shows : Shows d dump r) where
-  settled_visits : (t p : ℕ) (y : Visit) → IsWindow dump (suc t) → IsNotClocked d p → HasChangedWakeBit d dump (suc t) p → VisitsFrom d (AtEnd d h dump (suc t) p) (body_at d p) y → (k : StepOf r) × InWindow dump r k × VisitsIn d r k p y
-  settled_visits t p y window settling stirred from = go (step_here d h r is_run t)
+  settled_visits : (t p : ℕ) (y : Visit) → IsWindow dump (suc t) → IsNotClocked d p → HasChangedWakeBit d dump (suc t) p → VisitsFrom d (KnownAtEnd d h dump (suc t) p) (body_at d p) y → (k : StepOf r) × InWindow dump r k × VisitsIn d r k p y
+  settled_visits t p y window not_clocked changed_bit from = go (step_here d h r is_run t)
     where
       c : Cell
-      c = stirred.0
+      c = changed_bit.0
 
       both : IsShown dump t × IsShown dump (suc t)
       both = window_shown d lawful h dump fits r is_run shows laws.net laws.no_wake laws.write laws.edge t window
 
       value : (u : ℕ) → IsShown dump u → settled d r u c ≡ dump.values u c
-      value u now = at_time d lawful h dump fits r is_run shows laws.net laws.no_wake laws.write laws.edge u now c stirred.2 stirred.1.1
+      value u now = at_time d lawful h dump fits r is_run shows laws.net laws.no_wake laws.write laws.edge u now c changed_bit.2 changed_bit.1.1
 
       last : suc t - 1 ≡ t
       last = omega arith
 
       changes : settled d r (suc t) c ≢ settled d r t c
-      changes e = stirred.3 (ap (λ u. dump.values u c) last ∙ sym (value t both.0) ∙ sym e ∙ value (suc t) both.1)
+      changes e = changed_bit.3 (ap (λ u. dump.values u c) last ∙ sym (value t both.0) ∙ sym e ∙ value (suc t) both.1)
 
       wake : IsWakeCell (machine d) p c
-      wake = stirred.1.2
+      wake = changed_bit.1.2
 
       -- visits on the settled values
-      seen : UpToOutside (AtEnd d h dump (suc t) p) y (execution d (body_at d p) (settled d r (suc t))).visits
-      seen = visits_on_all d (AtEnd d h dump (suc t) p) (body_at d p) y from (settled d r (suc t)) (λ x bits k. clear_law d lawful h laws dump r fits is_run shows (suc t) both.1 x bits k.1)
+      seen : UpToOutside (KnownAtEnd d h dump (suc t) p) y (execution d (body_at d p) (settled d r (suc t))).visits
+      seen = visits_on_all d (KnownAtEnd d h dump (suc t) p) (body_at d p) y from (settled d r (suc t)) (λ x bits k. clear_law d lawful h laws dump r fits is_run shows (suc t) both.1 x bits k.1)
 
       wide : UpToOutside (Wakes d p (settled d r (suc t))) y (execution d (body_at d p) (settled d r (suc t))).visits
-      wide = widen d p (settled d r (suc t)) (AtEnd d h dump (suc t) p) y (λ x k. k.1.0) _ (execute_reads (λ q. body_mentions q (body_at d p) ≡ true) d (body_at d p) (λ q e. e) (execution_start (settled d r (suc t))) tt) seen
+      wide = widen d p (settled d r (suc t)) (KnownAtEnd d h dump (suc t) p) y (λ x k. k.1.0) _ (execute_reads (λ q. body_mentions q (body_at d p) ≡ true) d (body_at d p) (λ q e. e) (execution_start (settled d r (suc t))) tt) seen
 
       same_wakes : (entry : Values Bit) → ((b : Cell) → IsWakeCell (machine d) p b → entry b ≡ settled d r (suc t) b) → Agrees d (Wakes d p (settled d r (suc t))) entry
       same_wakes entry same x bits k =
           cells_eq d entry (settled d r (suc t)) x
           (λ b at. same b
-          (settling_level (process_at d p) b.thing settling (subst (λ q. body_mentions q (body_at d p) ≡ true) (sym at) k.0), false_from_ne_true _ (λ e. both_ways (body_assigns (owner x) (body_at d p)) k.1 (subst (λ q. body_assigns q (body_at d p) ≡ true) at (assigns_any d (body_at d p) b (inl e))))))
+          (settling_level (process_at d p) b.thing not_clocked (subst (λ q. body_mentions q (body_at d p) ≡ true) (sym at) k.0), false_from_ne_true _ (λ e. both_ways (body_assigns (owner x) (body_at d p)) k.1 (subst (λ q. body_assigns q (body_at d p) ≡ true) at (assigns_any d (body_at d p) b (inl e))))))
           ∙ sym k.2
 
       go : (settled d r (suc t) ≡ settled d r t) ⊎ StepHere d h r t → (k : StepOf r) × InWindow dump r k × VisitsIn d r k p y
@@ -95,29 +95,29 @@ module _ (d : Design) (lawful : IsLawfulDesign d) (h : Habit) (laws : StepLaws (
           let listed : evaluations (machine d) p (start_of d r s.step) s.step.step.events ≡ evaluated.earlier ++ evaluated.entry ∷ [] = ap (λ es. evaluations (machine d) p (start_of d r s.step) es) (sym s.events) ∙ ap (λ u. evaluations (machine d) p u s.to.events) (sym s.start) ∙ evaluated.evaluated in
           let over : ChangesOver d r s.step c = λ e. changes (sym (ap (λ f. f c) s.to.ends) ∙ ap (λ es. (end_state (machine d) s.to.start es).values c) s.events ∙ ap (λ u. (end_state (machine d) u s.step.step.events).values c) s.start ∙ sym e ∙ ap (λ u. u.values c) (sym s.start) ∙ ap (λ f. f c) s.to.starts) in
           let agree : Agrees d (Wakes d p (settled d r (suc t))) evaluated.entry = same_wakes evaluated.entry (λ b w. evaluated.settled b w ∙ ap (λ f. f b) s.to.ends) in
-          (s.step, subst (IsWindow dump) (sym s.at) window, (evaluated.entry, settling_scored (process_at d p) d r s.step p evaluated.entry settling (evaluated.earlier, listed) (c, wake, over), upto_in (Wakes d p (settled d r (suc t))) y _ (up_visits (Wakes d p (settled d r (suc t))) y _ _ (execution_up d (Wakes d p (settled d r (suc t))) (settled d r (suc t)) evaluated.entry (λ x bits k. sym k.2) agree (body_at d p)) wide)))
+          (s.step, subst (IsWindow dump) (sym s.at) window, (evaluated.entry, settling_scored (process_at d p) d r s.step p evaluated.entry not_clocked (evaluated.earlier, listed) (c, wake, over), upto_in (Wakes d p (settled d r (suc t))) y _ (up_visits (Wakes d p (settled d r (suc t))) y _ _ (execution_up d (Wakes d p (settled d r (suc t))) (settled d r (suc t)) evaluated.entry (λ x bits k. sym k.2) agree (body_at d p)) wide)))
 
   -- it acts last in the step, on values with the settled values of its wake cells
   pub settled_acts : (t p : ℕ) → IsWindow dump (suc t) → IsNotClocked d p → HasChangedWakeBit d dump (suc t) p → (k : StepOf r) × InWindow dump r k × (entry : Values Bit) × IsScoredOf (process_at d p) d r k p entry × ((b : Cell) → IsWakeCell (machine d) p b → entry b ≡ settled d r (suc t) b)
-  settled_acts t p window settling stirred = go (step_here d h r is_run t)
+  settled_acts t p window not_clocked changed_bit = go (step_here d h r is_run t)
     where
       c : Cell
-      c = stirred.0
+      c = changed_bit.0
 
       both : IsShown dump t × IsShown dump (suc t)
       both = window_shown d lawful h dump fits r is_run shows laws.net laws.no_wake laws.write laws.edge t window
 
       value : (u : ℕ) → IsShown dump u → settled d r u c ≡ dump.values u c
-      value u now = at_time d lawful h dump fits r is_run shows laws.net laws.no_wake laws.write laws.edge u now c stirred.2 stirred.1.1
+      value u now = at_time d lawful h dump fits r is_run shows laws.net laws.no_wake laws.write laws.edge u now c changed_bit.2 changed_bit.1.1
 
       last : suc t - 1 ≡ t
       last = omega arith
 
       changes : settled d r (suc t) c ≢ settled d r t c
-      changes e = stirred.3 (ap (λ u. dump.values u c) last ∙ sym (value t both.0) ∙ sym e ∙ value (suc t) both.1)
+      changes e = changed_bit.3 (ap (λ u. dump.values u c) last ∙ sym (value t both.0) ∙ sym e ∙ value (suc t) both.1)
 
       wake : IsWakeCell (machine d) p c
-      wake = stirred.1.2
+      wake = changed_bit.1.2
 
       go : (settled d r (suc t) ≡ settled d r t) ⊎ StepHere d h r t → (k : StepOf r) × InWindow dump r k × (entry : Values Bit) × IsScoredOf (process_at d p) d r k p entry × ((b : Cell) → IsWakeCell (machine d) p b → entry b ≡ settled d r (suc t) b)
       go (inl same) = absurd (changes (ap (λ f. f c) same))
@@ -125,9 +125,9 @@ module _ (d : Design) (lawful : IsLawfulDesign d) (h : Habit) (laws : StepLaws (
           let evaluated : EvaluatesSettled (machine d) p s.to.start s.to.events = settled_law h s.to.start s.to.events s.to.is_step p c wake (λ e. changes (sym (ap (λ f. f c) s.to.ends) ∙ e ∙ ap (λ f. f c) s.to.starts)) in
           let listed : evaluations (machine d) p (start_of d r s.step) s.step.step.events ≡ evaluated.earlier ++ evaluated.entry ∷ [] = ap (λ es. evaluations (machine d) p (start_of d r s.step) es) (sym s.events) ∙ ap (λ u. evaluations (machine d) p u s.to.events) (sym s.start) ∙ evaluated.evaluated in
           let over : ChangesOver d r s.step c = λ e. changes (sym (ap (λ f. f c) s.to.ends) ∙ ap (λ es. (end_state (machine d) s.to.start es).values c) s.events ∙ ap (λ u. (end_state (machine d) u s.step.step.events).values c) s.start ∙ sym e ∙ ap (λ u. u.values c) (sym s.start) ∙ ap (λ f. f c) s.to.starts) in
-          (s.step, subst (IsWindow dump) (sym s.at) window, evaluated.entry, settling_scored (process_at d p) d r s.step p evaluated.entry settling (evaluated.earlier, listed) (c, wake, over), (λ b w. evaluated.settled b w ∙ ap (λ f. f b) s.to.ends))
+          (s.step, subst (IsWindow dump) (sym s.at) window, evaluated.entry, settling_scored (process_at d p) d r s.step p evaluated.entry not_clocked (evaluated.earlier, listed) (c, wake, over), (λ b w. evaluated.settled b w ∙ ap (λ f. f b) s.to.ends))
 
   -- so the points that it visits up to its first read outside are hit
-  pub settled_hits : (t p : ℕ) (x : Point) (y : Visit) → IsWindow dump t → IsBlock d x p → IsNotClocked d p → HasChangedWakeBit d dump t p → IsVisitOf x y → VisitsFrom d (AtEnd d h dump t p) (body_at d p) y → IsHit d dump r x
-  settled_hits zero p x y window is_block settling stirred is from = absurd (no_window d lawful h dump fits r is_run shows laws.net laws.no_wake laws.write laws.edge window)
-  settled_hits (suc t) p x y window is_block settling stirred is from = let v = settled_visits t p y window settling stirred from in hit_of d dump r x p y v.0 v.1 is_block is v.2
+  pub settled_hits : (t p : ℕ) (x : Point) (y : Visit) → IsWindow dump t → IsBlock d x p → IsNotClocked d p → HasChangedWakeBit d dump t p → IsVisitOf x y → VisitsFrom d (KnownAtEnd d h dump t p) (body_at d p) y → IsHit d dump r x
+  settled_hits zero p x y window is_block not_clocked changed_bit is from = absurd (no_window d lawful h dump fits r is_run shows laws.net laws.no_wake laws.write laws.edge window)
+  settled_hits (suc t) p x y window is_block not_clocked changed_bit is from = let v = settled_visits t p y window not_clocked changed_bit from in hit_of d dump r x p y v.0 v.1 is_block is v.2

@@ -6,7 +6,7 @@ use Rattle.std.proofs.lemmas.Bool.{and_parts, ltb-true, leb-true, cases_Bool, fa
 use Rattle.std.specs.List.{range_with_len}
 use Rattle.std.specs.Prelude.{slice_index_or}
 use Rattle.event_machine.specs.Cell.{Cell, Update, UpdatesCell, Values, Write, WritesCell, join, put_all}
-use Rattle.event_machine.specs.Machine.{IsTarget, output, wakes}
+use Rattle.event_machine.specs.Machine.{IsTarget, output}
 use Rattle.event_machine.specs.State.{State}
 use Rattle.event_machine.specs.Event.{Event, end_state}
 use Rattle.event_machine.specs.Habit.{Habit}
@@ -53,7 +53,7 @@ pick u v s n (suc k) (suc j) e h =
     let same : (n + 1) + j ≡ n + suc j = omega arith in
     subst (λ y. u (cell s y) ≡ v (cell s y)) same (pick u v s (n + 1) k j (ap tail_of e) (omega arith))
 
-pick_cell : (d : Design) (u v : Values Bit) (c : Cell) → signal_bits d u c.thing ≡ signal_bits d v c.thing → c.place < (signal_at d c.thing).width → u c ≡ v c
+pub pick_cell : (d : Design) (u v : Values Bit) (c : Cell) → signal_bits d u c.thing ≡ signal_bits d v c.thing → c.place < (signal_at d c.thing).width → u c ≡ v c
 pick_cell d u v c e h =
     let same : 0 + c.place ≡ c.place = omega arith in
     subst (λ y. u (cell c.thing y) ≡ v (cell c.thing y)) same (pick u v c.thing 0 (signal_at d c.thing).width c.place e h)
@@ -94,7 +94,7 @@ UpdatesCell-join (u ∷ us) c h = ⊎_elim (λ a. inl a) (λ b. inr (UpdatesCell
     halves : (us ws : List (Write Bit)) (c : Cell) → WritesCell (us ++ ws) c → WritesCell us c ⊎ WritesCell ws c
     halves us ws c h = WritesCell-halves us ws c h
 
-module _ (d : Design) (lawful : IsLawfulDesign d) (h : Habit) (dump : BoundDump) (fits : IsDumpOf d dump) (r : Run) (is_run : IsRun d h r) (shows : Shows d dump r) (net_law : NetLaw (machine d)) (sleep_law : NoWakeLaw (machine d)) (write_law : WriteLaw (machine d)) (edge_law : EdgeLaw (machine d) h) where
+module _ (d : Design) (lawful : IsLawfulDesign d) (h : Habit) (dump : BoundDump) (fits : IsDumpOf d dump) (r : Run) (is_run : IsRun d h r) (shows : Shows d dump r) (net_law : NetLaw (machine d)) (no_wake_law : NoWakeLaw (machine d)) (write_law : WriteLaw (machine d)) (edge_law : EdgeLaw (machine d) h) where
   abbrev pub values_at : ℕ → Values Bit
   values_at t = settled d r t
 
@@ -144,11 +144,11 @@ module _ (d : Design) (lawful : IsLawfulDesign d) (h : Habit) (dump : BoundDump)
 
   -- what Clocked p writes stays over a time at which p cannot wake
   kept_sound : (t p : ℕ) (x : Thing) → IsShown dump t → IsShown dump (suc t) → IsClockedTarget d p x → (CanWakeSome d dump (suc t) p → ⊥) → thing_bits d (values_at (suc t)) x ≡ thing_bits d (values_at t) x
-  kept_sound t p x now next target asleep = cells_eq d (values_at (suc t)) (values_at t) x (λ c is. ⊎_elim (λ same. ap (λ f. f c) same) (λ s. sym (ap (λ f. f c) s.ends) ∙ over s c is ∙ ap (λ f. f c) s.starts) (step_or t))
+  kept_sound t p x now next target cannot_wake = cells_eq d (values_at (suc t)) (values_at t) x (λ c is. ⊎_elim (λ same. ap (λ f. f c) same) (λ s. sym (ap (λ f. f c) s.ends) ∙ over s c is ∙ ap (λ f. f c) s.starts) (step_or t))
     where
       over : (s : StepAt t) (c : Cell) → c.thing ≡ owner x → (end_state (machine d) s.start s.events).values c ≡ s.start.values c
       over s c is =
-          let none : evaluations (machine d) p s.start s.events ≡ [] = sleep_law 0 h (told_at dump (suc t)) s.start s.events s.is_step (as_told t now next s) p (no_level (process_at d p) target.is_clocked) (λ b wakes. asleep (b, wakes)) in
+          let none : evaluations (machine d) p s.start s.events ≡ [] = no_wake_law 0 h (told_at dump (suc t)) s.start s.events s.is_step (as_told t now next s) p (no_level (process_at d p) target.is_clocked) (λ b wakes. cannot_wake (b, wakes)) in
           ⊎_elim (λ at. write_law h s.start s.events s.is_step p c at ∙ ap (λ vs. put_all s.start.values (outputs (machine d) p vs) c) none) (λ n. other_stays p x c target is n s.start s.events s.is_step) (target_or p c)
 
   -- over a time at which a block is clean the settled values change
@@ -248,7 +248,7 @@ module _ (d : Design) (lawful : IsLawfulDesign d) (h : Habit) (dump : BoundDump)
     by_rule t start K now agrees k w x bits (of_dump s w0 is_shown bound is_signal is) = shows.shows t is_shown s bound ∙ sym is
     by_rule t start K now agrees k w x bits (of_assigns s w0 unbound is) = net_sound t s K w0 agrees is
     by_rule t start K now agrees k w x bits (of_comb p s w0 unbound is) = comb_sound t p s K w0 now agrees is
-    by_rule t start K now agrees k w x bits (of_unwoken p x0 w0 window unbound target asleep old) = k p x0 w0 window target asleep old
+    by_rule t start K now agrees k w x bits (of_unwoken p x0 w0 window unbound target cannot_wake old) = k p x0 w0 window target cannot_wake old
     by_rule t start K now agrees k w x bits (of_clean p c x0 w0 window unbound is) = w p c x0 w0 window is
 
     rounds_sound : (t : ℕ) (start : Known) → IsShown dump t → ((p : ℕ) (x : Thing) (bits : List Bit) → IsWindow dump t → IsClockedTarget d p x → (CanWakeSome d dump t p → ⊥) → start x bits → thing_bits d (values_at t) x ≡ bits) → ((p : ℕ) (c : Cell) (x : Thing) (bits : List Bit) → IsWindow dump t → IsWrittenValue d h dump t start p c x bits → thing_bits d (values_at t) x ≡ bits) → (n : ℕ) → Agrees d (clear_in d h dump t start n) (values_at t)
@@ -260,5 +260,5 @@ module _ (d : Design) (lawful : IsLawfulDesign d) (h : Habit) (dump : BoundDump)
     clear_sound zero now x bits is = rounds_sound zero nothing_known now (λ p y w window. absurd (no_window window)) (λ p c y w window. absurd (no_window window)) is.0 x bits is.1
     clear_sound (suc t) now x bits is =
         rounds_sound (suc t) (clear d h dump t) now
-        (λ p y w window target asleep old. kept_sound t p y (window_shown t window).0 now target asleep ∙ clear_sound t (window_shown t window).0 y w old)
+        (λ p y w window target cannot_wake old. kept_sound t p y (window_shown t window).0 now target cannot_wake ∙ clear_sound t (window_shown t window).0 y w old)
         (λ p c y w window value. written_sound t p c y w (window_shown t window).0 now (clear_sound t (window_shown t window).0) value) is.0 x bits is.1

@@ -19,14 +19,14 @@ pub record StepTo {V : Type 0} (m : Machine V) (h : Habit) (before later : Value
   pub ends : (end_state m start events).values ≡ later
 
 module _ {V : Type 0} (m : Machine V) (h : Habit) where
-  passed : (t : ℕ) (s : State V) (x : Timed V) (xs : List (Timed V)) → x.time ≤ t → state_at m t s (x ∷ xs) ≡ state_at m t (step_start (end_state m s x.events)) xs
+  pub passed : (t : ℕ) (s : State V) (x : Timed V) (xs : List (Timed V)) → x.time ≤ t → state_at m t s (x ∷ xs) ≡ state_at m t (step_start (end_state m s x.events)) xs
   passed t s x xs le = ap (λ b. if b then state_at m t (step_start (end_state m s x.events)) xs else s) (le-leb x.time t le)
 
-  waiting : (t : ℕ) (s : State V) (x : Timed V) (xs : List (Timed V)) → t < x.time → state_at m t s (x ∷ xs) ≡ s
+  pub waiting : (t : ℕ) (s : State V) (x : Timed V) (xs : List (Timed V)) → t < x.time → state_at m t s (x ∷ xs) ≡ s
   waiting t s x xs lt = ap (λ b. if b then state_at m t (step_start (end_state m s x.events)) xs else s) (lt-leb x.time t lt)
 
   -- before its first step a run stands at its start
-  still_there : (now t : ℕ) (s : State V) (xs : List (Timed V)) → AreSteps m h now s xs → t ≤ now → state_at m t s xs ≡ s
+  pub still_there : (now t : ℕ) (s : State V) (xs : List (Timed V)) → AreSteps m h now s xs → t ≤ now → state_at m t s xs ≡ s
   still_there now t s [] steps le = refl
   still_there now t s (x ∷ xs) steps le = waiting t s x xs (omega (arith, le, steps.0))
 

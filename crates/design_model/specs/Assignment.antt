@@ -13,6 +13,7 @@ writes_to [] bs = []
 writes_to (c ∷ cs) [] = []
 writes_to (c ∷ cs) (b ∷ bs) = record { cell = c; value = b } ∷ writes_to cs bs
 
+-- the cell at a place of signal s, if there is one
 abbrev pub option_cell : ℕ → Option ℕ → List Cell
 option_cell s None = []
 option_cell s (Some k) = cell s k ∷ []
@@ -22,17 +23,21 @@ abbrev pub bit_writes : ℕ → ℕ → ℤ → List Bit → List (Write Bit)
 bit_writes s n from [] = []
 bit_writes s n from (b ∷ bs) = writes_to (option_cell s (within n from)) (b ∷ []) ++ bit_writes s n (from +ℤ pos 1) bs
 
+-- the same from an offset, if there is one
 abbrev pub bit_writes_option : ℕ → ℕ → Option ℤ → List Bit → List (Write Bit)
 bit_writes_option s n None bs = []
 bit_writes_option s n (Some from) bs = bit_writes s n from bs
 
+-- the writes of these bits to a word, if there is one
 abbrev pub word_writes : Design → ℕ → Option ℕ → List Bit → List (Write Bit)
 word_writes d m None bs = []
 word_writes d m (Some i) bs = writes_to (word_cells d m i) bs
 
+-- the declared range of a signal
 abbrev pub signal_range : Design → ℕ → Range
 signal_range d s = record { high = (signal_at d s).high; low = (signal_at d s).low }
 
+-- how many bits a target has
 abbrev mutual
   pub target_width : Design → Target → ℕ
   target_width d (all_of s) = (signal_at d s).width

@@ -119,6 +119,11 @@ abbrev pub clear : Design → Habit → BoundDump → ℕ → Known
 clear d h dump zero = clear_from d h dump 0 nothing_known
 clear d h dump (suc t) = clear_from d h dump (suc t) (clear d h dump t)
 
+-- from what the rules at t begin: nothing at 0, else what is clear the moment before
+abbrev pub clear_start : Design → Habit → BoundDump → ℕ → Known
+clear_start d h dump zero = nothing_known
+clear_start d h dump (suc t) = clear d h dump t
+
 -- what is clear at the start of t
 abbrev pub clear_before : Design → Habit → BoundDump → ℕ → Known
 clear_before d h dump t = clear d h dump (t - 1)

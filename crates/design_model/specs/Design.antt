@@ -1,9 +1,8 @@
 -- The elaborated design: its signals, memories and processes, and the cells of its machine that hold their bits.
-use Rattle.std.specs.Prelude.{◌≡◌, ◌⊎◌, ◌+◌, ◌-◌, ◌*◌, ◌<◌, ◌≤◌, ◌&&◌, ◌∷◌, if◌then◌else◌, ℕ, Bool, true, false, List, [], map, length, min, max, nat_le, nat_lt, slice_index_or, ⊤}
+use Rattle.std.specs.Prelude.{◌≡◌, ◌⊎◌, ◌+◌, ◌-◌, ◌*◌, ◌<◌, ◌≤◌, ◌&&◌, ◌∷◌, ◌++◌, if◌then◌else◌, ℕ, Bool, true, false, List, [], map, length, min, max, nat_le, nat_lt, slice_index_or, ⊤}
 use Rattle.std.specs.List.{range_with_len}
 use Rattle.cov_host.specs.declared.place.Place.{Place}
 use Rattle.event_machine.specs.Cell.{Cell, Values}
-use Rattle.event_machine.specs.Machine.{wakes}
 use Rattle.four_state.specs.declared.bit.Bit.{Bit}
 use Rattle.design_model.specs.Tree.{Process, Stmt, assign, clocked, comb, empty, set}
 pub use Rattle.design_model.specs.declared.design.Instance.{Instance}
@@ -77,6 +76,7 @@ abbrev pub owner : Thing → ℕ
 owner (a_signal s) = s
 owner (a_word m i) = m
 
+-- the bits of a thing
 abbrev pub thing_bits : Design → Values Bit → Thing → List Bit
 thing_bits d v x = map v (cells d x)
 
@@ -113,17 +113,19 @@ is_assign (assign i x t counted) = true
 is_assign (comb i wakes s) = false
 is_assign (clocked i events s) = false
 
--- the process is an Assign, a Comb, a Clocked
+-- the process is an Assign
 abbrev pub IsAssign : Process → Type 0
 IsAssign (assign i x t counted) = ⊤
 IsAssign (comb i wakes s) = ⊥
 IsAssign (clocked i events s) = ⊥
 
+-- the process is a Comb
 abbrev pub IsComb : Process → Type 0
 IsComb (assign i x t counted) = ⊥
 IsComb (comb i wakes s) = Unit {0}
 IsComb (clocked i events s) = ⊥
 
+-- the process is a Clocked
 abbrev pub IsClocked : Process → Type 0
 IsClocked (assign i x t counted) = ⊥
 IsClocked (comb i wakes s) = ⊥
@@ -133,3 +135,32 @@ IsClocked (clocked i events s) = ⊤
 abbrev pub In : {A : Type 0} → A → List A → Type 0
 In x [] = ⊥
 In x (y ∷ ys) = (y ≡ x) ⊎ In x ys
+
+-- no element stands in the list twice
+abbrev pub AreDistinct : {A : Type 0} → List A → Type 0
+AreDistinct [] = ⊤
+AreDistinct (x ∷ xs) = (In x xs → ⊥) × AreDistinct xs
+
+-- what stands for an instance that a design does not have
+abbrev pub no_instance : Instance
+no_instance = record { path = []; «module» = [] }
+
+-- the path of what stands in an instance: that of the instance, a dot and the name
+abbrev pub path_in : Design → ℕ → List ℕ → List ℕ
+path_in d i name = (slice_index_or d.instances i no_instance).path ++ 46 ∷ name
+
+-- the path of a signal or memory
+abbrev pub path_of : Design → ℕ → List ℕ
+path_of d x = if nat_lt x (length d.signals) then path_in d (signal_at d x).instance (signal_at d x).name else path_in d (memory_at d x).instance (memory_at d x).name
+
+-- the number is that of a signal or of a memory
+abbrev pub is_number : Design → ℕ → Bool
+is_number d x = nat_lt x (length d.signals + length d.memories)
+
+-- a name with the number of its instance
+abbrev pub Named : Type 0
+Named = ℕ × List ℕ
+
+-- the names of a design
+abbrev pub names_of : Design → List Named
+names_of d = map (λ s. (s.instance, s.name)) d.signals ++ map (λ m. (m.instance, m.name)) d.memories ++ map (λ c. (c.instance, c.name)) d.constants ++ map (λ a. (a.instance, a.name)) d.aliases

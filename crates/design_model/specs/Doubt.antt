@@ -12,16 +12,17 @@ use Rattle.design_model.specs.Points.{IsBlock, Point, arc_point, state_point, to
 use Rattle.design_model.specs.MayMove.{CanWakeAt, CanWakeSome, IsCleanAt, MayMoveAt}
 use Rattle.design_model.specs.Early.{IsEarlyAt}
 use Rattle.design_model.specs.Clear.{clear, clear_before}
-use Rattle.design_model.specs.Open.{AtEnd, IsNotClean, IsNotClocked, IsOpenFor, IsWakeBit, OnEntry}
+use Rattle.design_model.specs.Open.{KnownAtEnd, IsNotClean, IsNotClocked, IsOpenFor, IsWakeBit, KnownOnEntry}
 
 -- x is not clear at the start or the end of t
 abbrev pub IsUnclear : Design → Habit → BoundDump → ℕ → Thing → Type 0
 IsUnclear d h dump t x = (HasValue (clear_before d h dump t) x → ⊥) ⊎ (HasValue (clear d h dump t) x → ⊥)
 
--- where t is not listed, x may move, or the block mentions or lists a thing that may move
+-- where t is not listed, x may move
 abbrev pub MayMoveUnlisted : Design → BoundDump → ℕ → ℕ → Type 0
 MayMoveUnlisted d dump t s = IsListed dump t ⊎ MayMoveAt d dump t s
 
+-- where t is not listed, the block mentions or lists a thing that may move
 abbrev pub MayWakeUnlisted : Design → BoundDump → ℕ → ℕ → Type 0
 MayWakeUnlisted d dump t p = IsListed dump t ⊎ ((s : ℕ) × (is_level (process_at d p) s ≡ true) × MayMoveAt d dump t s)
 
@@ -34,11 +35,11 @@ IsPointOn _ q = ⊥
 
 -- why signal or memory s is in doubt for block p at t
 pub data BlockDoubt (d : Design) (h : Habit) (dump : BoundDump) (t : ℕ) (s p : ℕ) : Type 0 where
-  unclear_at_start : (x : Thing) → owner x ≡ s → CanWakeSome d dump t p → ReadsFrom d (OnEntry d h dump t p) (body_at d p) x → ((c : Cell) → IsCleanAt d dump t p c → x ≢ a_signal c.thing) → (HasValue (clear_before d h dump t) x → ⊥) → BlockDoubt d h dump t s p
-  early : (x : Thing) (c : Cell) → owner x ≡ s → IsCleanAt d dump t p c → ReadsFrom d (OnEntry d h dump t p) (body_at d p) x → IsEarlyAt d h dump t p c s → BlockDoubt d h dump t s p
+  unclear_at_start : (x : Thing) → owner x ≡ s → CanWakeSome d dump t p → ReadsFrom d (KnownOnEntry d h dump t p) (body_at d p) x → ((c : Cell) → IsCleanAt d dump t p c → x ≢ a_signal c.thing) → (HasValue (clear_before d h dump t) x → ⊥) → BlockDoubt d h dump t s p
+  early : (x : Thing) (c : Cell) → owner x ≡ s → IsCleanAt d dump t p c → ReadsFrom d (KnownOnEntry d h dump t p) (body_at d p) x → IsEarlyAt d h dump t p c s → BlockDoubt d h dump t s p
   not_clean : (c : Cell) → c.thing ≡ s → CanWakeAt d dump t c p → IsNotClean d dump t p → BlockDoubt d h dump t s p
   unclear_signal : (k : ℕ) → IsNotClocked d p → MayWakeUnlisted d dump t p → IsWakeBit d p (cell s k) → IsUnclear d h dump t (a_signal s) → BlockDoubt d h dump t s p
-  unclear_word : (k : ℕ) → IsNotClocked d p → MayWakeUnlisted d dump t p → body_mentions s (body_at d p) ≡ true → IsThing d (a_word s k) → IsUnclear d h dump t (a_word s k) → ReadsFrom d (AtEnd d h dump t p) (body_at d p) (a_word s k) ⊎ MayMoveAt d dump t s → BlockDoubt d h dump t s p
+  unclear_word : (k : ℕ) → IsNotClocked d p → MayWakeUnlisted d dump t p → body_mentions s (body_at d p) ≡ true → IsThing d (a_word s k) → IsUnclear d h dump t (a_word s k) → ReadsFrom d (KnownAtEnd d h dump t p) (body_at d p) (a_word s k) ⊎ MayMoveAt d dump t s → BlockDoubt d h dump t s p
   own_target : IsComb (process_at d p) → MayWakeUnlisted d dump t p → body_assigns s (body_at d p) ≡ true → reads_before_writing d (body_at d p) s ≡ true → BlockDoubt d h dump t s p
 
 -- signal or memory s is in doubt for the point at window time t

@@ -17,20 +17,24 @@ use Rattle.design_model.specs.Assignment.{target_width, target_writes}
 pub use Rattle.design_model.specs.declared.point.NodeCase.{NodeCase}
 pub use Rattle.design_model.specs.declared.point.NodeCase.TheVariants.{ValueFalse, ValueTrue, LeftFalse, RightFalse, LeftTrue, RightTrue, BothFalse, FalseTrue, TrueFalse, BothTrue}
 
+-- what an execution visits
 pub data Visit : Type 0 where
   at_line : ℕ → Visit  -- a line point reached
   at_node : ℕ → NodeCase → Visit  -- a counted node evaluated with this case
   reads : Thing → Bool → Visit  -- a thing read; with true after the execution has written it whole by blocking writes
   writes_word : ℕ → ℕ → Visit  -- a memory word written
 
+-- the case, if this truth is true
 abbrev pub if_true : Truth → NodeCase → List NodeCase
 if_true True c = c ∷ []
 if_true _ c = []
 
+-- the case, if this truth is false
 abbrev pub if_false : Truth → NodeCase → List NodeCase
 if_false False c = c ∷ []
 if_false _ c = []
 
+-- the cases of two operands that are each true or false
 abbrev pub four_cases : Truth → Truth → List NodeCase
 four_cases False False = BothFalse ∷ []
 four_cases False True = FalseTrue ∷ []
@@ -38,10 +42,12 @@ four_cases True False = TrueFalse ∷ []
 four_cases True True = BothTrue ∷ []
 four_cases _ _ = []
 
+-- the cases of an and
 abbrev pub and_cases : Truth → Truth → List NodeCase
 and_cases True True = BothTrue ∷ []
 and_cases a b = if_false a LeftFalse ++ if_false b RightFalse
 
+-- the cases of an or
 abbrev pub or_cases : Truth → Truth → List NodeCase
 or_cases False False = BothFalse ∷ []
 or_cases a b = if_true a LeftTrue ++ if_true b RightTrue
@@ -77,6 +83,7 @@ abbrev pub node_visits : Option ℕ → List NodeCase → List Visit
 node_visits None cs = []
 node_visits (Some n) cs = map (at_node n) cs
 
+-- the read of a word, if the index names one
 abbrev pub word_read : (Thing → Bool) → ℕ → Option ℕ → List Visit
 word_read inner m None = []
 word_read inner m (Some i) = reads (a_word m i) (inner (a_word m i)) ∷ []
@@ -113,6 +120,7 @@ abbrev mutual
   indexes_visits d v inner no_targets = []
   indexes_visits d v inner (a_target t ts) = index_visits d v inner t ++ indexes_visits d v inner ts
 
+-- the write of a word, if the index names one
 abbrev pub word_written : ℕ → Option ℕ → List Visit
 word_written m None = []
 word_written m (Some i) = writes_word m i ∷ []
@@ -136,6 +144,7 @@ pub record Execution : Type 0 where
   pub nonblocking : List (Update Bit)  -- one for each assignment
   pub visits : List Visit
 
+-- nothing has been executed yet
 abbrev pub execution_start : Values Bit → Execution
 execution_start v = record { values = v; blocking = []; nonblocking = []; visits = [] }
 
@@ -147,6 +156,7 @@ covers ws cs = list_all (λ c. list_any (λ w. same_cell w.cell c) ws) cs
 abbrev pub is_inner : Design → Execution → Thing → Bool
 is_inner d r x = covers r.blocking (cells d x)
 
+-- these visits come next
 abbrev pub with_visits : Execution → List Visit → Execution
 with_visits r vs = record r { visits = r.visits ++ vs }
 
@@ -154,9 +164,11 @@ with_visits r vs = record r { visits = r.visits ++ vs }
 abbrev pub evaluate : Design → Term → Execution → Execution
 evaluate d t r = with_visits r (visits_of d r.values (is_inner d r) t)
 
+-- a blocking assignment makes these writes at once (IEEE 1364-2001, 9.2.1)
 abbrev pub write_now : List (Write Bit) → Execution → Execution
 write_now ws r = record r { values = put_all r.values ws; blocking = r.blocking ++ ws }
 
+-- a nonblocking assignment schedules this update (IEEE 1364-2001, 9.2.2)
 abbrev pub queue_update : Update Bit → Execution → Execution
 queue_update u r = record r { nonblocking = r.nonblocking ++ u ∷ [] }
 
@@ -164,6 +176,7 @@ queue_update u r = record r { nonblocking = r.nonblocking ++ u ∷ [] }
 abbrev pub assignment_visits : Design → ℕ → Target → Term → Execution → List Visit
 assignment_visits d n x t r = (at_line n ∷ index_visits d r.values (is_inner d r) x) ++ visits_of d r.values (is_inner d r) t ++ words_written d r.values x
 
+-- the writes of an assignment: its value, cut or extended to the target
 abbrev pub assignment_writes : Design → Target → Term → Execution → List (Write Bit)
 assignment_writes d x t r = target_writes d r.values x (extend (target_width d x) (head t).signed (value d r.values t))
 
@@ -178,11 +191,13 @@ abbrev pub some_match : Design → CaseKind → List Bit → Values Bit → Term
 some_match d kind on v no_terms = false
 some_match d kind on v (a_term t ts) = matches kind on (value d v t) || some_match d kind on v ts
 
+-- the visits of labels, up to the one that matches
 abbrev pub label_visits : Design → CaseKind → List Bit → Execution → Terms → List Visit
 label_visits d kind on r no_terms = []
 label_visits d kind on r (a_term t ts) =
     visits_of d r.values (is_inner d r) t ++ (if matches kind on (value d r.values t) then [] else label_visits d kind on r ts)
 
+-- an arm without labels
 abbrev pub is_default : Terms → Bool
 is_default no_terms = true
 is_default (a_term t ts) = false

@@ -1,22 +1,29 @@
 -- Lawful designs.
-use Rattle.std.specs.Prelude.{◌≡◌, ◌+◌, ◌-◌, ◌<◌, ◌≤◌, ◌==◌, ◌&&◌, ◌||◌, ◌∷◌, ◌++◌, ℕ, Bool, true, false, not, List, [], length, min, max, nat_le, nat_lt, sum_by}
+use Rattle.std.specs.Prelude.{◌≡◌, ◌+◌, ◌-◌, ◌<◌, ◌≤◌, ◌==◌, ◌&&◌, ◌||◌, ◌∷◌, ℕ, Bool, true, false, not, List, [], map, length, min, max, nat_le, nat_lt, sum_by, count_by}
 use Rattle.std.specs.List.{list_all}
-use Rattle.cov_host.specs.declared.place.Place.{Place}
 use Rattle.event_machine.specs.Cell.{Cell, Write}
-use Rattle.event_machine.specs.Machine.{wakes}
+use Rattle.four_state.specs.Arithmetic.{natural}
+use Rattle.four_state.specs.Parts.{index}
+use Rattle.four_state.specs.Vector.{fill}
 use Rattle.four_state.specs.declared.bit.Bit.{Bit}
+use Rattle.four_state.specs.declared.bit.Bit.TheVariants.{X}
 use Rattle.design_model.specs.Tree.{Arms, Process, Stmt, Stmts, Target, Targets, Term, Terms, a_stmt, a_target, a_term, all_of, arm, assign, binary, bit, bits_of, block, branch, choice, clocked, comb, concat, empty, no_arms, no_stmts, no_targets, no_terms, number, part, repeat, select, set, several, sign, signal, slide, turns, unary, word, word_of}
-use Rattle.design_model.specs.Design.{Design, In, IsAssign, IsComb, Memory, Signal, body, body_at, process_at, signal_at}
-use Rattle.design_model.specs.Value.{part_width, value}
+use Rattle.design_model.specs.Design.{Alias, AreDistinct, Design, In, Instance, IsAssign, IsComb, Memory, Signal, body_at, is_number, names_of, path_of, process_at, signal_at}
+use Rattle.design_model.specs.Value.{head, part_width, slide_offset, value}
+use Rattle.design_model.specs.Assignment.{bit_writes_option, signal_range}
 use Rattle.design_model.specs.Mentions.{any_set, blank, body_assigns, body_blocks, body_queues, has_cell, is_constant, may_write, static_writes}
+use Rattle.design_model.specs.Numbered.{LineAt, NodeAt, lines_of, nodes_of}
 use Rattle.design_model.specs.Machine.{events_of}
-use Rattle.design_model.specs.Points.{Assign, Case, For, If, LineWord}
 use Rattle.design_model.specs.Shape.{is_body}
 
 -- the term is a signal
 abbrev pub is_plain : Term → Bool
 is_plain (signal h s) = true
 is_plain _ = false
+
+-- writes to the bits that a part of signal s by a constant base and a width names
+abbrev pub slide_writes : Design → ℕ → Bool → Term → ℕ → List (Write Bit)
+slide_writes d s up b w = bit_writes_option s (signal_at d s).width (slide_offset (signal_range d s) up w (index (head b).signed (value d blank b))) (fill w X)
 
 -- a bit that a term may read; by an index that is not constant any bit of the signal
 abbrev mutual
@@ -26,7 +33,7 @@ abbrev mutual
   may_read d (word h m i) c = (c.thing == m) || may_read d i c
   may_read d (bit h t i) c = may_read d i c || (may_read d t c && (not (is_plain t && is_constant i) || has_cell (static_writes d (bits_of c.thing i 1)) c))
   may_read d (part h t i j) c = may_read d t c && (not (is_plain t) || has_cell (static_writes d (bits_of c.thing j (part_width (value d blank i) (value d blank j)))) c)
-  may_read d (slide h t b w up) c = may_read d b c || may_read d t c
+  may_read d (slide h t b w up) c = may_read d b c || (may_read d t c && (not (is_plain t && is_constant b) || has_cell (slide_writes d c.thing up b (natural (value d blank w))) c))
   may_read d (unary h op t) c = may_read d t c
   may_read d (binary h op t u) c = may_read d t c || may_read d u c
   may_read d (choice h x t u) c = may_read d x c || (may_read d t c || may_read d u c)
@@ -55,6 +62,7 @@ abbrev pub each_once : List (Write Bit) → Bool
 each_once [] = true
 each_once (w ∷ ws) = not (has_cell ws w.cell) && each_once ws
 
+-- an Assign names each bit once and by constant indexes, and a Comb has no nonblocking assignment
 abbrev pub target_once : Process → Design → Bool
 target_once (assign i x t counted) d = is_fixed_target x && each_once (static_writes d x)
 target_once (comb i wakes s) d = not (any_set (λ blocking x t. not blocking) s)
@@ -63,7 +71,7 @@ target_once (clocked i events s) d = true
 -- the number of statements, with loops unrolled
 abbrev mutual
   pub size : Stmt → ℕ
-  size (block p ss) = sizes ss
+  size (block p ss) = 1 + sizes ss
   size (branch p n t s other) = 1 + size s + sizes other
   size (select p n kind t arms) = 1 + arm_sizes arms
   size (turns p n ss) = 1 + sizes ss
@@ -78,37 +86,19 @@ abbrev mutual
   arm_sizes no_arms = 0
   arm_sizes (arm labels s arms) = size s + arm_sizes arms
 
--- a line point in a text
-pub record LineAt : Type 0 where
-  pub line : ℕ
-  pub place : Place
-  pub of_word : LineWord
+-- the statements of a process; an Assign has none
+abbrev pub size_of : Process → ℕ
+size_of (assign i x t counted) = 0
+size_of (comb i wakes s) = size s
+size_of (clocked i events s) = size s
 
-abbrev pub line_at : ℕ → Place → LineWord → LineAt
-line_at n p w = record { line = n; place = p; of_word = w }
-
-abbrev mutual
-  pub lines : Stmt → List LineAt
-  lines (block p ss) = all_lines ss
-  lines (branch p n t s other) = line_at n p If ∷ lines s ++ all_lines other
-  lines (select p n kind t arms) = line_at n p Case ∷ arm_lines arms
-  lines (turns p n ss) = line_at n p For ∷ all_lines ss
-  lines (set p n blocking x t) = line_at n p Assign ∷ []
-  lines (empty p) = []
-
-  pub all_lines : Stmts → List LineAt
-  all_lines no_stmts = []
-  all_lines (a_stmt s ss) = lines s ++ all_lines ss
-
-  pub arm_lines : Arms → List LineAt
-  arm_lines no_arms = []
-  arm_lines (arm labels s arms) = lines s ++ arm_lines arms
-
+-- the instance that a process stands in
 abbrev pub instance_of : Process → ℕ
 instance_of (assign i x t counted) = i
 instance_of (comb i wakes s) = i
 instance_of (clocked i events s) = i
 
+-- how many numbers a range has
 abbrev pub span : ℕ → ℕ → ℕ
 span a b = max a b - min a b + 1
 
@@ -116,26 +106,48 @@ span a b = max a b - min a b + 1
 abbrev pub is_signal : Design → Signal → Bool
 is_signal d s = nat_lt s.instance (length d.instances) && nat_le 1 s.width && nat_le s.width 128 && (s.width == span s.high s.low) && (s.ranged || ((s.high == 0) && (s.low == 0)))
 
+-- a memory of at most 65,536 words of 1 to 128 bits
 abbrev pub is_memory_of : Design → Memory → Bool
 is_memory_of d m = nat_lt m.instance (length d.instances) && nat_le 1 m.width && nat_le m.width 128 && nat_le (span m.first m.last) 65536 && (m.width == span m.high m.low) && (m.ranged || ((m.high == 0) && (m.low == 0)))
 
--- an Assign's body has no line point
-abbrev pub lines_of : Process → List LineAt
-lines_of (assign i x t counted) = []
-lines_of (comb i wakes s) = lines s
-lines_of (clocked i events s) = lines s
+-- the list of names of a Comb
+abbrev pub wakes_of : Process → List ℕ
+wakes_of (assign i x t counted) = []
+wakes_of (comb i wakes s) = wakes
+wakes_of (clocked i events s) = []
 
+-- a path of at most 64 names
+abbrev pub is_shallow : List ℕ → Bool
+is_shallow path = nat_lt (count_by (λ b. b == 46) path) 64
+
+-- an instance whose path has at most 64 names and 256 bytes
+abbrev pub is_instance : Instance → Bool
+is_instance i = is_shallow i.path && nat_le (length i.path) 256
+
+-- an alias stands in an instance and names a signal
+abbrev pub is_alias : Design → Alias → Bool
+is_alias d a = nat_lt a.instance (length d.instances) && nat_lt a.signal (length d.signals)
+
+-- what the laws of runs, and each stage after elaboration, take for granted of a design
 pub record IsLawfulDesign (d : Design) : Type 0 where
   pub signals : list_all (is_signal d) d.signals ≡ true
   pub memories : list_all (is_memory_of d) d.memories ≡ true
   pub instances : list_all (λ p. nat_lt (instance_of p) (length d.instances)) d.processes ≡ true
   pub bodies : (p : ℕ) → is_body d (body_at d p) ≡ true
+  pub constants : list_all (λ c. nat_lt c.instance (length d.instances)) d.constants ≡ true
+  pub aliases : list_all (is_alias d) d.aliases ≡ true
+  pub lists : (p : ℕ) → list_all (is_number d) (wakes_of (process_at d p)) ≡ true
+  pub instance_paths : AreDistinct (map (λ i. i.path) d.instances)
+  pub names : AreDistinct (names_of d)  -- the names in one instance differ
+  pub short_instances : list_all is_instance d.instances ≡ true
+  pub short_paths : (x : ℕ) → is_number d x ≡ true → length (path_of d x) ≤ 256
   pub few_signals : length d.signals ≤ 65536
   pub few_processes : length d.processes ≤ 65536
   pub few_words : sum_by (λ m. span m.first m.last) d.memories ≤ 262144
   pub few_instances : length d.instances ≤ 65536
-  pub few_statements : sum_by (λ p. size (body p)) d.processes ≤ 1048576
+  pub few_statements : sum_by size_of d.processes ≤ 1048576
   pub lines_once : (p q : ℕ) (x y : LineAt) → In x (lines_of (process_at d p)) → In y (lines_of (process_at d q)) → instance_of (process_at d p) ≡ instance_of (process_at d q) → x.line ≡ y.line → (p ≡ q) × (x ≡ y)
+  pub nodes_once : (p q : ℕ) (x y : NodeAt) → In x (nodes_of (process_at d p)) → In y (nodes_of (process_at d q)) → instance_of (process_at d p) ≡ instance_of (process_at d q) → x.node ≡ y.node → (p ≡ q) × (x ≡ y)
   pub one_writer : (p q x : ℕ) → (IsAssign (process_at d p) → ⊥) → (IsAssign (process_at d q) → ⊥) → body_assigns x (body_at d p) ≡ true → body_assigns x (body_at d q) ≡ true → p ≡ q
   pub one_driver : (p q : ℕ) (c : Cell) → IsAssign (process_at d p) → IsAssign (process_at d q) → any_set (λ b x t. may_write d x c) (body_at d p) ≡ true → any_set (λ b x t. may_write d x c) (body_at d q) ≡ true → p ≡ q
   pub apart : (p q x : ℕ) → IsAssign (process_at d p) → body_assigns x (body_at d p) ≡ true → body_assigns x (body_at d q) ≡ true → IsAssign (process_at d q)

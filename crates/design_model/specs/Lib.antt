@@ -4,11 +4,13 @@ pub mod Value
 pub mod Assignment
 pub mod Mentions
 pub mod Execution
+pub mod Numbered
 pub mod Paths
 pub mod Reads
 pub mod Machine
 pub mod Run
 pub mod Shows
+pub mod ToggleLaw
 pub mod Scored
 pub mod Points
 pub mod MayMove
@@ -20,3 +22,8 @@ pub mod Shape
 pub mod Lawful
 pub mod Laws
 pub mod View
+pub mod ExampleParts
+pub mod FlipFlop
+pub mod Gate
+pub mod Pipe
+pub mod Ram

@@ -2,7 +2,6 @@
 use Rattle.std.specs.Prelude.{◌==◌, ◌&&◌, ◌||◌, ℕ, Bool, true, false, List, [], nat_lt}
 use Rattle.std.specs.List.{list_any}
 use Rattle.event_machine.specs.Cell.{Cell}
-use Rattle.event_machine.specs.Machine.{Edge as MachineEdge, Posedge, Negedge, Machine}
 use Rattle.four_state.specs.Edges.{falls, rises}
 use Rattle.four_state.specs.Vector.{same_bit}
 use Rattle.four_state.specs.declared.bit.Bit.{Bit}
@@ -12,12 +11,12 @@ use Rattle.design_model.specs.Tree.{Process, assign, clocked, comb}
 use Rattle.design_model.specs.Design.{Design, body, body_at, is_assign, process_at, signal_at}
 use Rattle.design_model.specs.Mentions.{blocking_target, body_mentions, nonblocking_target}
 use Rattle.design_model.specs.Execution.{execution}
-use Rattle.design_model.specs.Paths.{preceded_by}
+use Rattle.event_machine.specs.Machine.{Edge as MachineEdge, Posedge, Negedge, Machine}
 
 -- the edges of a bit (IEEE 1364-2001, 9.7.2)
 abbrev pub is_edge : MachineEdge → Bit → Bit → Bool
-is_edge Posedge before preceded_by = rises before preceded_by
-is_edge Negedge before preceded_by = falls before preceded_by
+is_edge Posedge before after = rises before after
+is_edge Negedge before after = falls before after
 
 -- whether an edge in a list is this edge of the machine
 abbrev pub same_edge : Edge → MachineEdge → Bool

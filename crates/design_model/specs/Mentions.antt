@@ -1,5 +1,5 @@
 -- What a text mentions and what it may write, whatever the values are.
-use Rattle.std.specs.Prelude.{◌==◌, ◌&&◌, ◌||◌, ◌++◌, if◌then◌else◌, ℕ, Bool, true, false, not, List, [], length, nat_le, nat_lt}
+use Rattle.std.specs.Prelude.{◌==◌, ◌&&◌, ◌||◌, ◌∷◌, ◌++◌, if◌then◌else◌, ℕ, Bool, true, false, not, List, [], length, nat_le, nat_lt}
 use Rattle.std.specs.List.{list_any}
 use Rattle.event_machine.specs.Cell.{Cell, Values, Write, same_cell}
 use Rattle.four_state.specs.Vector.{fill}
@@ -65,6 +65,7 @@ abbrev mutual
 abbrev pub blank : Values Bit
 blank c = X
 
+-- the list writes the cell
 abbrev pub has_cell : List (Write Bit) → Cell → Bool
 has_cell ws c = list_any (λ w. same_cell w.cell c) ws
 
@@ -114,10 +115,11 @@ abbrev mutual
   any_set_in f no_arms = false
   any_set_in f (arm labels s arms) = any_set f s || any_set_in f arms
 
--- a body may write the cell by a blocking assignment, or by a nonblocking one
+-- a body may write the cell by a blocking assignment
 abbrev pub blocking_target : Design → Stmt → Cell → Bool
 blocking_target d s c = any_set (λ blocking x t. blocking && may_write d x c) s
 
+-- a body may write the cell by a nonblocking assignment
 abbrev pub nonblocking_target : Design → Stmt → Cell → Bool
 nonblocking_target d s c = any_set (λ blocking x t. not blocking && may_write d x c) s
 
@@ -155,9 +157,60 @@ abbrev mutual
 abbrev pub body_assigns : ℕ → Stmt → Bool
 body_assigns x b = any_set (λ blocking y t. target_names x y) b
 
--- the body assigns x by a blocking assignment, or by a nonblocking one
+-- the body assigns x by a blocking assignment
 abbrev pub body_blocks : ℕ → Stmt → Bool
 body_blocks x b = any_set (λ blocking y t. blocking && target_names x y) b
 
+-- the body assigns x by a nonblocking assignment
 abbrev pub body_queues : ℕ → Stmt → Bool
 body_queues x b = any_set (λ blocking y t. not blocking && target_names x y) b
+
+-- a term and all terms in it
+abbrev mutual
+  pub subterms : Term → List Term
+  subterms (number h n) = number h n ∷ []
+  subterms (signal h s) = signal h s ∷ []
+  subterms (word h m i) = word h m i ∷ subterms i
+  subterms (bit h t i) = bit h t i ∷ subterms t ++ subterms i
+  subterms (part h t i j) = part h t i j ∷ subterms t ++ subterms i ++ subterms j
+  subterms (slide h t b w up) = slide h t b w up ∷ subterms t ++ subterms b ++ subterms w
+  subterms (unary h op t) = unary h op t ∷ subterms t
+  subterms (binary h op t u) = binary h op t u ∷ subterms t ++ subterms u
+  subterms (choice h c t u) = choice h c t u ∷ subterms c ++ subterms t ++ subterms u
+  subterms (concat h ts) = concat h ts ∷ all_subterms ts
+  subterms (repeat h n ts) = repeat h n ts ∷ subterms n ++ all_subterms ts
+  subterms (sign h s t) = sign h s t ∷ subterms t
+
+  pub all_subterms : Terms → List Term
+  all_subterms no_terms = []
+  all_subterms (a_term t ts) = subterms t ++ all_subterms ts
+
+-- the terms in the indexes of a target
+abbrev mutual
+  pub index_terms : Target → List Term
+  index_terms (all_of s) = []
+  index_terms (bits_of s low w) = subterms low
+  index_terms (word_of m i) = subterms i
+  index_terms (several ts) = all_index_terms ts
+
+  pub all_index_terms : Targets → List Term
+  all_index_terms no_targets = []
+  all_index_terms (a_target t ts) = index_terms t ++ all_index_terms ts
+
+-- the terms of a body, with loops unrolled
+abbrev mutual
+  pub body_terms : Stmt → List Term
+  body_terms (block p ss) = all_body_terms ss
+  body_terms (branch p n t s other) = subterms t ++ body_terms s ++ all_body_terms other
+  body_terms (select p n kind t arms) = subterms t ++ arm_terms arms
+  body_terms (turns p n ss) = all_body_terms ss
+  body_terms (set p n blocking x t) = index_terms x ++ subterms t
+  body_terms (empty p) = []
+
+  pub all_body_terms : Stmts → List Term
+  all_body_terms no_stmts = []
+  all_body_terms (a_stmt s ss) = body_terms s ++ all_body_terms ss
+
+  pub arm_terms : Arms → List Term
+  arm_terms no_arms = []
+  arm_terms (arm labels s arms) = all_subterms labels ++ body_terms s ++ arm_terms arms

@@ -8,10 +8,10 @@ use Rattle.four_state.specs.Vector.{truth}
 use Rattle.four_state.specs.declared.bit.Bit.{Bit}
 use Rattle.four_state.specs.declared.truth.Truth.{Truth}
 use Rattle.four_state.specs.declared.truth.Truth.TheVariants.{False, True}
-use Rattle.design_model.specs.Tree.{Head, Stmt, Target, Targets, Term, Terms, a_target, a_term, all_of, binary, bit, bits_of, choice, concat, no_targets, no_terms, number, part, repeat, several, sign, signal, slide, unary, word, word_of}
+use Rattle.design_model.specs.Tree.{Head, Stmt, Target, Targets, Term, a_target, all_of, binary, bits_of, no_targets, several, word, word_of}
 use Rattle.design_model.specs.Design.{Design, In, IsClocked, Thing, a_word, body_at, owner, process_at, signal_at}
 use Rattle.design_model.specs.Value.{head, value, word_named}
-use Rattle.design_model.specs.Mentions.{body_assigns, body_blocks, mentions}
+use Rattle.design_model.specs.Mentions.{body_assigns, body_blocks, index_terms, mentions, subterms}
 use Rattle.design_model.specs.Execution.{BothFalse, BothTrue, FalseTrue, LeftFalse, LeftTrue, NodeCase, RightFalse, RightTrue, TrueFalse, ValueFalse, ValueTrue, Visit, at_line, at_node, node_cases, reads, visits_of, writes_word}
 use Rattle.design_model.specs.Paths.{Action, Path, PathStep, assigns, compares, paths, reaches, selects, tests}
 use Rattle.design_model.specs.Reads.{Agrees, AllInside, Known, VisitsFrom}
@@ -21,6 +21,7 @@ use Rattle.design_model.specs.Points.{IsBlock, Point, line_point, logic_point, w
 use Rattle.design_model.specs.MayMove.{CanWakeSome, IsCleanAt}
 use Rattle.design_model.specs.Clear.{EntryFrom, clear, clear_before}
 
+-- no thing has been written yet
 abbrev pub outer : Thing → Bool
 outer x = false
 
@@ -33,6 +34,7 @@ pub record IsFixed (d : Design) (K : Known) (b : Stmt) (t : Term) : Type 0 where
 abbrev pub OnAll : Design → Known → (Values Bit → Type 0) → Type 0
 OnAll d K P = (v : Values Bit) → Agrees d K v → P v
 
+-- whether a truth is true
 abbrev pub is_true : Truth → Bool
 is_true True = true
 is_true _ = false
@@ -55,38 +57,7 @@ pub record IsOpenPath (d : Design) (K : Known) (b : Stmt) (path : Path) : Type 0
   pub is_path : In path (paths [] b)
   pub follows : FollowsAll d K b path
 
--- a term and all terms in it
-abbrev mutual
-  pub subterms : Term → List Term
-  subterms (number h n) = number h n ∷ []
-  subterms (signal h s) = signal h s ∷ []
-  subterms (word h m i) = word h m i ∷ subterms i
-  subterms (bit h t i) = bit h t i ∷ subterms t ++ subterms i
-  subterms (part h t i j) = part h t i j ∷ subterms t ++ subterms i ++ subterms j
-  subterms (slide h t b w up) = slide h t b w up ∷ subterms t ++ subterms b ++ subterms w
-  subterms (unary h op t) = unary h op t ∷ subterms t
-  subterms (binary h op t u) = binary h op t u ∷ subterms t ++ subterms u
-  subterms (choice h c t u) = choice h c t u ∷ subterms c ++ subterms t ++ subterms u
-  subterms (concat h ts) = concat h ts ∷ all_subterms ts
-  subterms (repeat h n ts) = repeat h n ts ∷ subterms n ++ all_subterms ts
-  subterms (sign h s t) = sign h s t ∷ subterms t
-
-  pub all_subterms : Terms → List Term
-  all_subterms no_terms = []
-  all_subterms (a_term t ts) = subterms t ++ all_subterms ts
-
-abbrev mutual
-  pub index_terms : Target → List Term
-  index_terms (all_of s) = []
-  index_terms (bits_of s low w) = subterms low
-  index_terms (word_of m i) = subterms i
-  index_terms (several ts) = all_index_terms ts
-
-  pub all_index_terms : Targets → List Term
-  all_index_terms no_targets = []
-  all_index_terms (a_target t ts) = index_terms t ++ all_index_terms ts
-
--- the terms that a deed evaluates
+-- the terms that an action evaluates
 abbrev pub action_terms : Action → List Term
 action_terms (reaches n) = []
 action_terms (tests t taken) = subterms t
@@ -106,25 +77,29 @@ abbrev mutual
   SomeTargetWord m no_targets i = ⊥
   SomeTargetWord m (a_target t ts) i = TargetWord m t i ⊎ SomeTargetWord m ts i
 
+-- the action writes a word of memory m by this index
 abbrev pub ActionWrites : ℕ → Action → Term → Type 0
 ActionWrites m (assigns blocking x t) i = TargetWord m x i
 ActionWrites m _ i = ⊥
 
+-- the action reads a word of memory m by this index
 abbrev pub ActionReads : ℕ → Action → Term → Type 0
 ActionReads m x i = (h : Head) × In (word h m i) (action_terms x)
 
+-- the action writes, or reads, a word of memory m by this index
 abbrev pub ActionOnWord : Bool → ℕ → Action → Term → Type 0
 ActionOnWord true m x i = ActionWrites m x i
 ActionOnWord false m x i = ActionReads m x i
 
--- the path has at this place a deed with P
+-- the path has at this place an action with P
 abbrev pub HasAction : (Action → Type 0) → List ℕ → Path → Type 0
 HasAction P at path = (x : PathStep) × In x path × (x.at ≡ at) × P x.action
 
--- P on some open path; P at the same place on every open path
+-- P on some open path
 abbrev pub OnSomePath : Design → Known → Stmt → (Action → Type 0) → Type 0
 OnSomePath d K b P = (path : Path) × IsOpenPath d K b path × ((at : List ℕ) × HasAction P at path)
 
+-- P at the same place on every open path
 abbrev pub OnEachPath : Design → Known → Stmt → (Action → Type 0) → Type 0
 OnEachPath d K b P = (at : List ℕ) × ((path : Path) → IsOpenPath d K b path → HasAction P at path)
 
@@ -133,6 +108,7 @@ pub record Asked : Type 0 where
   pub operand : Term
   pub is : Truth
 
+-- an operand with the truth that is asked
 abbrev pub asked : Term → Truth → Asked
 asked t x = record { operand = t; is = x }
 
@@ -154,19 +130,21 @@ asks _ _ = []
 abbrev pub HasTruth : Design → Known → Asked → Type 0
 HasTruth d K a = OnAll d K (λ v. truth (value d v a.operand) ≡ a.is)
 
--- each operand that is fixed has the truth that is asked; each is fixed and has it
+-- each operand that is fixed has the truth that is asked
 abbrev pub MayBeAsked : Design → Known → Stmt → List Asked → Type 0
 MayBeAsked d K b [] = ⊤
 MayBeAsked d K b (a ∷ as') = (IsFixed d K b a.operand → HasTruth d K a) × MayBeAsked d K b as'
 
+-- each operand is fixed and has the truth that is asked
 abbrev pub AreAsked : Design → Known → Stmt → List Asked → Type 0
 AreAsked d K b [] = ⊤
 AreAsked d K b (a ∷ as') = IsFixed d K b a.operand × HasTruth d K a × AreAsked d K b as'
 
 -- the index names this word
-abbrev pub Names : Design → Known → ℕ → ℕ → Term → Type 0
-Names d K m k i = OnAll d K (λ v. word_named d v m i ≡ Some k)
+abbrev pub NamesWord : Design → Known → ℕ → ℕ → Term → Type 0
+NamesWord d K m k i = OnAll d K (λ v. word_named d v m i ≡ Some k)
 
+-- the action evaluates the term, which is node n
 abbrev pub IsNode : ℕ → Action → Term → Type 0
 IsNode n x t = In t (action_terms x) × ((head t).node ≡ Some n)
 
@@ -174,34 +152,36 @@ IsNode n x t = In t (action_terms x) × ((head t).node ≡ Some n)
 abbrev pub IsOpen : Design → Known → Stmt → Point → Type 0
 IsOpen d K b (line_point p n at w) = OnSomePath d K b (λ x. x ≡ reaches n)
 IsOpen d K b (logic_point p n at op c) = OnSomePath d K b (λ x. (t : Term) × IsNode n x t × MayBeAsked d K b (asks c t))
-IsOpen d K b (word_point m k w) = OnSomePath d K b (λ x. (i : Term) × ActionOnWord w m x i × (IsFixed d K b i → Names d K m k i))
+IsOpen d K b (word_point m k w) = OnSomePath d K b (λ x. (i : Term) × ActionOnWord w m x i × (IsFixed d K b i → NamesWord d K m k i))
 IsOpen d K b _ = ⊥
 
 -- the point is surely open: every open path does so, at the same copy
 abbrev pub IsSurelyOpen : Design → Known → Stmt → Point → Type 0
 IsSurelyOpen d K b (line_point p n at w) = OnEachPath d K b (λ x. x ≡ reaches n)
 IsSurelyOpen d K b (logic_point p n at op c) = (t : Term) × In c (node_cases t) × AreAsked d K b (asks c t) × OnEachPath d K b (λ x. IsNode n x t)
-IsSurelyOpen d K b (word_point m k w) = (i : Term) × IsFixed d K b i × Names d K m k i × OnEachPath d K b (λ x. ActionOnWord w m x i)
+IsSurelyOpen d K b (word_point m k w) = (i : Term) × IsFixed d K b i × NamesWord d K m k i × OnEachPath d K b (λ x. ActionOnWord w m x i)
 IsSurelyOpen d K b _ = ⊥
 
 -- what Clocked p knows on entry at t: nothing where it is not clean
-abbrev pub OnEntry : Design → Habit → BoundDump → ℕ → ℕ → Known
-OnEntry d h dump t p x bits = (c : Cell) × IsCleanAt d dump t p c × EntryFrom d h dump t (clear_before d h dump t) p c x bits
+abbrev pub KnownOnEntry : Design → Habit → BoundDump → ℕ → ℕ → Known
+KnownOnEntry d h dump t p x bits = (c : Cell) × IsCleanAt d dump t p c × EntryFrom d h dump t (clear_before d h dump t) p c x bits
 
 -- what Assign or Comb p knows at t: what is clear, without its own targets
-abbrev pub AtEnd : Design → Habit → BoundDump → ℕ → ℕ → Known
-AtEnd d h dump t p x bits = (body_assigns (owner x) (body_at d p) ≡ false) × clear d h dump t x bits
+abbrev pub KnownAtEnd : Design → Habit → BoundDump → ℕ → ℕ → Known
+KnownAtEnd d h dump t p x bits = (body_assigns (owner x) (body_at d p) ≡ false) × clear d h dump t x bits
 
+-- Clocked p is not clean at t
 abbrev pub IsNotClean : Design → BoundDump → ℕ → ℕ → Type 0
 IsNotClean d dump t p = (c : Cell) → IsCleanAt d dump t p c → ⊥
 
+-- process p is an Assign or a Comb
 abbrev pub IsNotClocked : Design → ℕ → Type 0
 IsNotClocked d p = IsClocked (process_at d p) → ⊥
 
 -- the point is open for block p at t; for a Clocked that can wake and is not clean each is
 abbrev pub IsOpenFor : Design → Habit → BoundDump → ℕ → ℕ → Point → Type 0
 IsOpenFor d h dump t p x =
-    (CanWakeSome d dump t p × (IsNotClean d dump t p ⊎ IsOpen d (OnEntry d h dump t p) (body_at d p) x)) ⊎ (IsNotClocked d p × IsOpen d (AtEnd d h dump t p) (body_at d p) x)
+    (CanWakeSome d dump t p × (IsNotClean d dump t p ⊎ IsOpen d (KnownOnEntry d h dump t p) (body_at d p) x)) ⊎ (IsNotClocked d p × IsOpen d (KnownAtEnd d h dump t p) (body_at d p) x)
 
 -- a bit of a signal that p mentions or lists and does not itself assign
 abbrev pub IsWakeBit : Design → ℕ → Cell → Type 0
@@ -226,4 +206,4 @@ ReachesFrom d K b x = ((y : Visit) × IsVisitOf x y × VisitsFrom d K b y) ⊎ I
 -- block p reaches the point at window time t
 abbrev pub IsReached : Design → Habit → BoundDump → ℕ → ℕ → Point → Type 0
 IsReached d h dump t p x =
-    IsWindow dump t × IsBlock d x p × (((c : Cell) × IsCleanAt d dump t p c × ReachesFrom d (OnEntry d h dump t p) (body_at d p) x) ⊎ (IsNotClocked d p × HasChangedWakeBit d dump t p × ReachesFrom d (AtEnd d h dump t p) (body_at d p) x))
+    IsWindow dump t × IsBlock d x p × (((c : Cell) × IsCleanAt d dump t p c × ReachesFrom d (KnownOnEntry d h dump t p) (body_at d p) x) ⊎ (IsNotClocked d p × HasChangedWakeBit d dump t p × ReachesFrom d (KnownAtEnd d h dump t p) (body_at d p) x))

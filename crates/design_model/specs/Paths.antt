@@ -17,14 +17,16 @@ pub data Action : Type 0 where
   compares : CaseKind → Term → Term → Bool → Action  -- selector and label, and whether the path takes them as matching
   assigns : Bool → Target → Term → Action
 
--- a deed with the place of its copy in the body, whose loops are unrolled
+-- an action with the place of its copy in the body, whose loops are unrolled
 pub record PathStep : Type 0 where
   pub at : List ℕ
   pub action : Action
 
+-- the actions of a path, in order
 abbrev pub Path : Type 0
 Path = List PathStep
 
+-- an action at a place
 abbrev pub step : List ℕ → Action → PathStep
 step at x = record { at = at; action = x }
 
@@ -73,7 +75,7 @@ abbrev mutual
   paths_default at k no_arms = [] ∷ []
   paths_default at k (arm labels s arms) = if is_default labels then paths (0 ∷ k ∷ at) s else paths_default at (suc k) arms
 
--- a deed evaluates a term that mentions x
+-- an action evaluates a term that mentions x
 abbrev pub action_mentions : ℕ → Action → Bool
 action_mentions x (reaches n) = false
 action_mentions x (tests t b) = mentions x t
@@ -81,15 +83,17 @@ action_mentions x (selects t) = mentions x t
 action_mentions x (compares kind on t b) = mentions x t
 action_mentions x (assigns blocking y t) = index_mentions x y || mentions x t
 
--- what a deed surely writes, by a blocking assignment or by any
+-- what an action surely writes
 abbrev pub action_writes : Design → Action → List (Write Bit)
 action_writes d (assigns blocking y t) = sure_writes d y
 action_writes d _ = []
 
+-- what an action surely writes by a blocking assignment
 abbrev pub action_blocking_writes : Design → Action → List (Write Bit)
 action_blocking_writes d (assigns blocking y t) = if blocking then sure_writes d y else []
 action_blocking_writes d _ = []
 
+-- what a path surely writes
 abbrev pub path_writes : Design → Path → List (Write Bit)
 path_writes d [] = []
 path_writes d (x ∷ xs) = action_writes d x.action ++ path_writes d xs

@@ -1,20 +1,21 @@
 -- Coverage points, and where they are hit.
-use Rattle.std.specs.Prelude.{◌≡◌, ◌≢◌, ◌⊎◌, if◌then◌else◌, ℕ, Bool, true, false, List, pos, Option, Some, None}
+use Rattle.std.specs.Prelude.{◌≡◌, ◌≢◌, ◌⊎◌, ◌<◌, ◌≤◌, if◌then◌else◌, ℕ, Bool, true, false, List, length, pos, Option, Some, None, min, max, slice_index_or}
 use Rattle.event_machine.specs.Cell.{Cell}
-use Rattle.four_state.specs.Parts.{within}
+use Rattle.four_state.specs.Parts.{extended_vector, within}
+use Rattle.four_state.specs.Vector.{Vector}
 use Rattle.four_state.specs.declared.bit.Bit.{Bit}
 use Rattle.four_state.specs.declared.bit.Bit.TheVariants.{One, Zero}
-use Rattle.design_model.specs.Design.{Design, a_word, body_at, cell, signal_at, signal_bits}
-use Rattle.design_model.specs.Value.{offset}
+use Rattle.design_model.specs.Tree.{Term}
+use Rattle.design_model.specs.Design.{Alias, Constant, Design, In, IsThing, a_word, body_at, cell, no_instance, process_at, signal_at, signal_bits}
+use Rattle.design_model.specs.Value.{head, offset}
 use Rattle.design_model.specs.Assignment.{signal_range}
 use Rattle.design_model.specs.Mentions.{body_mentions}
-use Rattle.design_model.specs.Execution.{at_line, at_node, reads, writes_word}
+use Rattle.design_model.specs.Execution.{at_line, at_node, node_cases, reads, writes_word}
+use Rattle.design_model.specs.Numbered.{counted_terms, line_at, lines_of, node_at}
 use Rattle.design_model.specs.Machine.{machine}
 use Rattle.design_model.specs.Run.{Run, StepOf, end_of, settled, start_of}
 use Rattle.design_model.specs.Shows.{BoundDump, InWindow, IsListed, IsWindow}
 use Rattle.design_model.specs.Scored.{VisitsIn}
-pub use Rattle.design_model.specs.declared.point.LineWord.{LineWord}
-pub use Rattle.design_model.specs.declared.point.LineWord.TheVariants.{If, Case, For, Assign}
 pub use Rattle.design_model.specs.declared.point.Point.{Point}
 pub use Rattle.design_model.specs.declared.point.Point.TheVariants.{Line as line_point, Logic as logic_point, Toggle as toggle_point, State as state_point, Arc as arc_point, Word as word_point}
 
@@ -73,3 +74,41 @@ IsBlock d (state_point i name s state x) q = ⊥
 IsBlock d (arc_point i name s from to x y) q = ⊥
 IsBlock d (word_point m i true) q = (c : Cell) × (c.thing ≡ m) × (((machine d).blocking q c ≡ true) ⊎ ((machine d).nonblocking q c ≡ true))
 IsBlock d (word_point m i false) q = body_mentions m (body_at d q) ≡ true
+
+-- the index is one of the range
+abbrev pub IsWithin : ℕ → ℕ → ℕ → Type 0
+IsWithin high low i = (min high low ≤ i) × (i ≤ max high low)
+
+-- a state machine that is named by words: a module, a variable of it, and the parameters that are its states
+pub record StateNames : Type 0 where
+  pub of_module : List ℕ
+  pub variable : List ℕ
+  pub names : List (List ℕ)
+
+-- instance i is of this module
+abbrev pub IsInstanceOf : Design → ℕ → List ℕ → Type 0
+IsInstanceOf d i name = (i < length d.instances) × ((slice_index_or d.instances i no_instance).«module» ≡ name)
+
+-- in instance i the name is that of signal s, or of an alias of it
+abbrev pub IsNameOf : Design → ℕ → List ℕ → ℕ → Type 0
+IsNameOf d i name s =
+    ((s < length d.signals) × ((signal_at d s).instance ≡ i) × ((signal_at d s).name ≡ name)) ⊎ ((a : Alias) × In a d.aliases × (a.instance ≡ i) × (a.name ≡ name) × (a.signal ≡ s))
+
+-- a state by its name and its value: a constant of instance i, in the width of signal s
+abbrev pub IsStateValue : Design → ℕ → ℕ → List ℕ → Vector → Type 0
+IsStateValue d i s state x =
+    (c : Constant) × In c d.constants × (c.instance ≡ i) × (c.name ≡ state) × (x ≡ extended_vector (signal_at d s).width (signal_at d s).signed c.value)
+
+-- in instance i the machine's variable is signal s, by this name
+abbrev pub IsMachineAt : Design → StateNames → ℕ → List ℕ → ℕ → Type 0
+IsMachineAt d m i name s = IsInstanceOf d i m.of_module × (name ≡ m.variable) × IsNameOf d i name s
+
+-- the coverage points of a design with these state machines
+abbrev pub IsPoint : Design → List StateNames → Point → Type 0
+IsPoint d machines (line_point p n at w) = In (line_at n at w) (lines_of (process_at d p))
+IsPoint d machines (logic_point p n at op c) = (t : Term) × In t (counted_terms (process_at d p)) × In (record { node = n; place = at; op = op }) (node_at (head t).node t) × In c (node_cases t)
+IsPoint d machines (toggle_point s i rise) = (s < length d.signals) × IsWithin (signal_at d s).high (signal_at d s).low i
+IsPoint d machines (state_point i name s state x) = (m : StateNames) × In m machines × IsMachineAt d m i name s × In state m.names × IsStateValue d i s state x
+IsPoint d machines (arc_point i name s from to x y) =
+    (m : StateNames) × In m machines × IsMachineAt d m i name s × In from m.names × In to m.names × (from ≢ to) × IsStateValue d i s from x × IsStateValue d i s to y
+IsPoint d machines (word_point m i write) = IsThing d (a_word m i)

@@ -11,9 +11,11 @@ use Rattle.design_model.specs.Execution.{Visit, at_line, at_node, execution, rea
 abbrev pub Known : Type 1
 Known = Thing → List Bit → Type 0
 
+-- the map has a value of x
 abbrev pub HasValue : Known → Thing → Type 0
 HasValue K x = (bits : List Bit) × K x bits
 
+-- the empty map
 abbrev pub nothing_known : Known
 nothing_known x bits = ⊥
 
@@ -29,6 +31,7 @@ IsInside K (reads x true) = ⊤
 IsInside K (reads x false) = HasValue K x
 IsInside K (writes_word m i) = ⊤
 
+-- none of the visits is such a read
 abbrev pub AllInside : Known → List Visit → Type 0
 AllInside K [] = ⊤
 AllInside K (x ∷ xs) = IsInside K x × AllInside K xs

@@ -1,5 +1,5 @@
 -- The width and sign of each term, by its context (IEEE 1364-2001, 4.4 and 4.5).
-use Rattle.std.specs.Prelude.{◌+◌, ◌*◌, ◌==◌, ◌&&◌, if◌then◌else◌, ℕ, Bool, true, false, not, length, max, nat_lt}
+use Rattle.std.specs.Prelude.{◌+◌, ◌*◌, ◌==◌, ◌&&◌, if◌then◌else◌, ℕ, Bool, true, false, not, length, max, nat_le, nat_lt}
 use Rattle.four_state.specs.Arithmetic.{natural}
 use Rattle.four_state.specs.declared.operator.Binary.{Binary}
 use Rattle.four_state.specs.declared.operator.Binary.TheVariants.{Add, ArithmeticShiftLeft, ArithmeticShiftRight, BitwiseAnd, BitwiseNxor, BitwiseOr, BitwiseXnor, BitwiseXor, Divide, Modulus, Multiply, ShiftLeft, ShiftRight, Subtract}
@@ -11,6 +11,7 @@ use Rattle.design_model.specs.Value.{part_width, value}
 use Rattle.design_model.specs.Assignment.{target_width}
 use Rattle.design_model.specs.Mentions.{blank, is_constant}
 
+-- whether two flags are equal
 abbrev pub same_bool : Bool → Bool → Bool
 same_bool true b = b
 same_bool false b = not b
@@ -22,6 +23,7 @@ is_wide_unary Negative = true
 is_wide_unary BitwiseNot = true
 is_wide_unary _ = false
 
+-- both operands have the width and sign of the context
 abbrev pub is_wide_binary : Binary → Bool
 is_wide_binary Multiply = true
 is_wide_binary Divide = true
@@ -35,6 +37,7 @@ is_wide_binary BitwiseNxor = true
 is_wide_binary BitwiseOr = true
 is_wide_binary _ = false
 
+-- the operator shifts
 abbrev pub is_shift : Binary → Bool
 is_shift ShiftLeft = true
 is_shift ShiftRight = true
@@ -42,6 +45,7 @@ is_shift ArithmeticShiftLeft = true
 is_shift ArithmeticShiftRight = true
 is_shift _ = false
 
+-- the operator takes truths
 abbrev pub is_logic : Binary → Bool
 is_logic Binary.LogicalAnd = true
 is_logic Binary.LogicalOr = true
@@ -78,8 +82,9 @@ own_sign d (choice h c t u) = own_sign d t && own_sign d u
 own_sign d (sign h s t) = s
 own_sign d _ = false
 
+-- a width from 1 to 128, and a sign
 abbrev pub has_shape : ℕ → Bool → Head → Bool
-has_shape w s h = (h.width == w) && same_bool h.signed s
+has_shape w s h = (h.width == w) && (same_bool h.signed s && (nat_le 1 w && nat_le w 128))
 
 -- the term has the width and sign that this context gives to it and to the terms in it, and its numbers name things of the design
 abbrev mutual
@@ -106,10 +111,11 @@ abbrev mutual
 abbrev pub is_alone : Design → Term → Bool
 is_alone d t = is_shaped d (own_width d t) (own_sign d t) t
 
+-- the target names signals and memories of the design, and its indexes have their shapes
 abbrev mutual
   pub is_target : Design → Target → Bool
   is_target d (all_of s) = nat_lt s (length d.signals)
-  is_target d (bits_of s low w) = nat_lt s (length d.signals) && is_alone d low
+  is_target d (bits_of s low w) = nat_lt s (length d.signals) && is_alone d low && nat_le 1 w
   is_target d (word_of m i) = is_memory d m && is_alone d i
   is_target d (several ts) = are_targets d ts
 
@@ -122,18 +128,22 @@ abbrev pub widest : Design → ℕ → Terms → ℕ
 widest d w no_terms = w
 widest d w (a_term t ts) = widest d (max w (own_width d t)) ts
 
+-- whether a selector and these labels are all signed
 abbrev pub all_signed : Design → Bool → Terms → Bool
 all_signed d s no_terms = s
 all_signed d s (a_term t ts) = all_signed d (s && own_sign d t) ts
 
+-- the greatest width of a selector and the labels of these arms
 abbrev pub widest_of : Design → ℕ → Arms → ℕ
 widest_of d w no_arms = w
 widest_of d w (arm labels x arms) = widest_of d (widest d w labels) arms
 
+-- whether a selector and the labels of these arms are all signed
 abbrev pub all_signed_of : Design → Bool → Arms → Bool
 all_signed_of d s no_arms = s
 all_signed_of d s (arm labels x arms) = all_signed_of d (all_signed d s labels) arms
 
+-- each term has the shape that this context gives it
 abbrev pub are_shaped : Design → ℕ → Bool → Terms → Bool
 are_shaped d w s no_terms = true
 are_shaped d w s (a_term t ts) = is_shaped d w s t && are_shaped d w s ts

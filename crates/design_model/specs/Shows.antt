@@ -25,6 +25,7 @@ pub record IsDumpOf (d : Design) (p : BoundDump) : Type 0 where
   pub inputs : (c : Cell) → (machine d).is_input c ≡ true → p.bound c.thing ≡ true
   pub stays : (t : ℕ) → (In (suc t) p.times → ⊥) → p.values (suc t) ≡ p.values t
 
+-- the last of these times
 abbrev pub last_time : ℕ → List ℕ → ℕ
 last_time t [] = t
 last_time t (u ∷ us) = last_time u us
@@ -43,6 +44,7 @@ abbrev pub IsShownOf : List ℕ → ℕ → Type 0
 IsShownOf [] t = ⊥
 IsShownOf (u ∷ us) t = (u ≤ t) × (t < last_time u us)
 
+-- the time is from the dump's first on and before its last
 abbrev pub IsShown : BoundDump → ℕ → Type 0
 IsShown p t = IsShownOf p.times t
 
@@ -51,9 +53,11 @@ abbrev pub IsWindowOf : List ℕ → ℕ → Type 0
 IsWindowOf [] t = ⊥
 IsWindowOf (u ∷ us) t = (u < t) × (t < last_time u us)
 
+-- the time is after the dump's first and before its last
 abbrev pub IsWindow : BoundDump → ℕ → Type 0
 IsWindow p t = IsWindowOf p.times t
 
+-- the dump lists the time
 abbrev pub IsListed : BoundDump → ℕ → Type 0
 IsListed p t = In t p.times
 
@@ -66,10 +70,12 @@ StartsAt (u ∷ us) t = t ≡ u
 abbrev pub SameBound : Design → BoundDump → Values Bit → ℕ → Type 0
 SameBound d p v t = (s : ℕ) → p.bound s ≡ true → signal_bits d v s ≡ signal_bits d (p.values t) s
 
+-- the run shows the dump up to a time
 pub record ShowsUpTo (d : Design) (p : BoundDump) (r : Run) (end : ℕ) : Type 0 where
   pub starts : StartsAt p.times r.begins
   pub shows : (t : ℕ) → IsShown p t → t ≤ end → SameBound d p (settled d r t) t
 
+-- the run shows the dump
 pub record Shows (d : Design) (p : BoundDump) (r : Run) : Type 0 where
   pub starts : StartsAt p.times r.begins
   pub shows : (t : ℕ) → IsShown p t → SameBound d p (settled d r t) t

@@ -34,6 +34,7 @@ mutual
     no_terms : Terms
     a_term : Term → Terms → Terms
 
+-- what an assignment is to (IEEE 1364-2001, clause 6)
 mutual
   pub data Target : Type 0 where
     all_of : ℕ → Target  -- a whole signal

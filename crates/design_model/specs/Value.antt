@@ -10,6 +10,7 @@ use Rattle.four_state.specs.declared.bit.Bit.TheVariants.{X}
 use Rattle.design_model.specs.Tree.{Head, Term, Terms, a_term, binary, bit, choice, concat, no_terms, number, part, repeat, sign, signal, slide, unary, word}
 use Rattle.design_model.specs.Design.{Design, Memory, memory_at, signal_at, signal_bits, word_bits}
 
+-- what every term has
 abbrev pub head : Term → Head
 head (number h n) = h
 head (signal h s) = h
@@ -44,6 +45,7 @@ abbrev pub bits_from_option : List Bit → Option ℤ → ℕ → List Bit
 bits_from_option bs None w = fill w X
 bits_from_option bs (Some from) w = bits_from bs from w
 
+-- the offset of an index, if it is known
 abbrev pub offset_option : Range → Option ℤ → Option ℤ
 offset_option r None = None
 offset_option r (Some i) = Some (offset r i)
@@ -65,10 +67,12 @@ named_word m None = None
 named_word m (Some (negsuc k)) = None
 named_word m (Some (pos k)) = if nat_le (min m.first m.last) k && nat_le k (max m.first m.last) then Some k else None
 
+-- the bits of a word, all x if there is none
 abbrev pub option_word : Design → Values Bit → ℕ → Option ℕ → List Bit
 option_word d v m None = fill (memory_at d m).width X
 option_word d v m (Some i) = word_bits d v m i
 
+-- so many copies, one after the other
 abbrev pub copies : ℕ → List Bit → List Bit
 copies zero bs = []
 copies (suc n) bs = bs ++ copies n bs

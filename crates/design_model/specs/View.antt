@@ -16,14 +16,17 @@ use Rattle.design_model.specs.declared.tree.StmtForm.TheOpen.{StmtForm-F}
 use Rattle.design_model.specs.declared.tree.Process.{Process}
 use Rattle.design_model.specs.declared.tree.Process.TheVariants.{Assign, Comb, Clocked}
 
+-- a list of terms
 abbrev pub terms_of : List t.Term → t.Terms
 terms_of [] = t.no_terms
 terms_of (x ∷ xs) = t.a_term x (terms_of xs)
 
+-- a list of targets
 abbrev pub targets_of : List t.Target → t.Targets
 targets_of [] = t.no_targets
 targets_of (x ∷ xs) = t.a_target x (targets_of xs)
 
+-- a list of statements
 abbrev pub stmts_of : List t.Stmt → t.Stmts
 stmts_of [] = t.no_stmts
 stmts_of (x ∷ xs) = t.a_stmt x (stmts_of xs)
@@ -43,6 +46,7 @@ form_step (Form-F.Concat v) h = t.concat h (terms_of v.items)
 form_step (Form-F.Repeat n v) h = t.repeat h n.value (terms_of v.items)
 form_step (Form-F.Sign s x) h = t.sign h s x.value
 
+-- one level of a term
 abbrev pub term_step : Term-F (t.Head → t.Term) t.Term → t.Term
 term_step x = x.form (record { place = x.place; width = x.width; signed = x.signed; node = x.node })
 
@@ -50,6 +54,7 @@ term_step x = x.form (record { place = x.place; width = x.width; signed = x.sign
 abbrev pub term_view : Term → t.Term
 term_view = fold-Term (t.Head → t.Term) t.Term form_step term_step
 
+-- one level of a target
 abbrev pub target_step : Target-F t.Target → t.Target
 target_step (Target-F.Whole s) = t.all_of s
 target_step (Target-F.Part s low w) = t.bits_of s (term_view low) w
@@ -64,10 +69,12 @@ target_view = fold-Target t.Target target_step
 abbrev pub Arm : Type 0
 Arm = t.Terms × t.Stmt
 
+-- a list of arms
 abbrev pub arms_of : List Arm → t.Arms
 arms_of [] = t.no_arms
 arms_of (x ∷ xs) = t.arm x.0 x.1 (arms_of xs)
 
+-- the else branch, if there is one
 abbrev pub else_of : Option (Box t.Stmt Global) → t.Stmts
 else_of None = t.no_stmts
 else_of (Some s) = t.a_stmt s.value t.no_stmts
@@ -81,9 +88,11 @@ stmt_form_step (StmtForm-F.Turns n v) p = t.turns p n (stmts_of v.items)
 stmt_form_step (StmtForm-F.Set n b x y) p = t.set p n b (target_view x) (term_view y)
 stmt_form_step StmtForm-F.Empty p = t.empty p
 
+-- one level of a statement
 abbrev pub stmt_step : Stmt-F (Place → t.Stmt) Arm t.Stmt → t.Stmt
 stmt_step s = s.form s.place
 
+-- one level of an arm
 abbrev pub arm_step : CaseArm-F (Place → t.Stmt) Arm t.Stmt → Arm
 arm_step a = (terms_of (map term_view a.labels.items), a.body)
 

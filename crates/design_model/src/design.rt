@@ -1,6 +1,9 @@
+ghost use Rattle.std.specs.Prelude.{◌≡◌, ◌∷◌, ◌++◌, true, IfOk};
+
 use crate::tree::Process;
-use cov_host::{Name, Sequence};
+use cov_host::{Name, NoMemory, Sequence};
 use four_state::Four;
+use std::alloc::Global;
 
 /// A design after elaboration, without hierarchy.
 #[derive(Debug, Drop)]
@@ -19,6 +22,45 @@ pub struct Design {
     pub constants: Sequence<Constant>,
     /// The ports that go by the signal they are joined to.
     pub aliases: Sequence<Alias>,
+}
+
+impl Design {
+    ghost use Rattle.design_model.specs.Design.{is_number, path_in, path_of};
+    ghost use Rattle.design_model.specs.View.{design_view};
+
+    /// The path of a signal or memory: that of its instance, a dot and its name.
+    pub fn path(&self, alloc: Global, thing: u32) -> Result<Name, NoMemory>
+        requires { is_number (design_view self.now) thing ≡ true }
+        ensures { IfOk result (λ path. path ≡ path_of (design_view self.now) thing) }
+    {
+        match self.signals.get(thing as usize) {
+            Some(signal) => self.path_in(alloc, signal.instance, &signal.name),
+            None => match self.memories.get(thing as usize - self.signals.len()) {
+                Some(memory) => self.path_in(alloc, memory.instance, &memory.name),
+                None => unreachable!(),
+            },
+        }
+    }
+
+    /// The path of what stands in an instance, by its name.
+    fn path_in(&self, alloc: Global, instance: u32, name: &Name) -> Result<Name, NoMemory>
+        ensures { IfOk result (λ path. path ≡ path_in (design_view self.now) instance name.now) }
+    {
+        match self.instances.get(instance as usize) {
+            Some(instance) => joined(alloc, instance.path.as_slice(), name.as_slice()),
+            None => joined(alloc, &[], name.as_slice()),
+        }
+    }
+}
+
+/// Two names with a dot between them.
+fn joined(alloc: Global, path: &[u8], name: &[u8]) -> Result<Name, NoMemory>
+    ensures { IfOk result (λ joined. joined ≡ path.now ++ 46 ∷ name.now) }
+{
+    let mut bytes = Vec::from_slice(alloc, path)?;
+    bytes.push(b'.')?;
+    bytes.extend_from_slice(name)?;
+    Ok(Name::from_vec(bytes))
 }
 
 /// An instance of a module.
@@ -86,4 +128,74 @@ pub struct Alias {
     pub name: Name,
     /// The signal that it names.
     pub signal: u32,
+}
+
+#[cfg(test)]
+mod tests {
+    use super::*;
+
+    fn name(alloc: Global, text: &str) -> Result<Name, NoMemory> {
+        Ok(Name::from_vec(Vec::from_slice(alloc, text.as_bytes())?))
+    }
+
+    // A counter with a memory, inside a top module.
+    fn counter(alloc: Global) -> Result<Design, NoMemory> {
+        let mut design = Design {
+            top: name(alloc, "top")?,
+            instances: Sequence::new(alloc),
+            signals: Sequence::new(alloc),
+            memories: Sequence::new(alloc),
+            processes: Sequence::new(alloc),
+            constants: Sequence::new(alloc),
+            aliases: Sequence::new(alloc),
+        };
+        design.instances.push(Instance {
+            path: name(alloc, "top")?,
+            module: name(alloc, "top")?,
+        })?;
+        design.instances.push(Instance {
+            path: name(alloc, "top.count")?,
+            module: name(alloc, "counter")?,
+        })?;
+        design.signals.push(Signal {
+            instance: 0,
+            name: name(alloc, "clk")?,
+            high: 0,
+            low: 0,
+            ranged: false,
+            width: 1,
+            signed: false,
+            input: true,
+        })?;
+        design.memories.push(Memory {
+            instance: 1,
+            name: name(alloc, "words")?,
+            first: 0,
+            last: 3,
+            high: 7,
+            low: 0,
+            ranged: true,
+            width: 8,
+            signed: false,
+        })?;
+        Ok(design)
+    }
+
+    fn has_path(alloc: Global, thing: u32, path: &[u8]) -> Result<bool, NoMemory> {
+        let design = counter(alloc)?;
+        if thing as usize >= design.signals.len() + design.memories.len() {
+            return Ok(false);
+        }
+        Ok(design.path(alloc, thing)?.as_slice() == path)
+    }
+
+    #[test]
+    fn paths_of_a_signal_and_a_memory(rt: HostRuntime) {
+        for (thing, path) in [(0, "top.clk"), (1, "top.count.words")] {
+            assert!(rt;
+                matches!(has_path(rt.alloc(), thing, path.as_bytes()), Ok(true)),
+                "path {path}"
+            );
+        }
+    }
 }

@@ -6,13 +6,16 @@ ghost use Rattle.event_machine.specs.Machine.{IsLawful};
 ghost use Rattle.design_model.specs.Design.{Design as DesignTree};
 ghost use Rattle.design_model.specs.Machine.{machine};
 ghost use Rattle.design_model.specs.Lawful.{IsLawfulDesign};
-ghost use Rattle.design_model.specs.Laws.{ClearLaw, ForcedLaw, ReachedLaw};
+ghost use Rattle.design_model.specs.ToggleLaw.{ToggleLaw};
+ghost use Rattle.design_model.specs.Laws.{ClearLaw, ForcedLaw, ClearValueLaw, ClearRoundsLaw, ClearLeastLaw, ReachedLaw};
 
 mod design;
+mod examples;
 mod point;
 mod tree;
 
 pub use design::{Alias, Constant, Design, Instance, Memory, Signal};
+pub use examples::{memory_word, moving_input, steady_register, undumped_net, undumped_register};
 pub use point::{LineWord, NodeCase, Point};
 pub use tree::{CaseArm, Form, Process, Stmt, StmtForm, Target, Term};
 
@@ -25,6 +28,18 @@ pub fn lawful_machine()
 pub fn clear_law()
     ensures clear { (d : DesignTree) (h : Habit) → IsLawfulDesign d → ClearLaw d h }
     ensures forced { (d : DesignTree) (h : Habit) → IsLawfulDesign d → ForcedLaw d h }
+    ensures one_value { (d : DesignTree) (h : Habit) → IsLawfulDesign d → ClearValueLaw d h }
+{}
+
+/// What is clear grows from round to round, and is the least map that is closed under its rules.
+pub fn clear_rounds_law()
+    ensures rounds { (d : DesignTree) (h : Habit) → ClearRoundsLaw d h }
+    ensures least { (d : DesignTree) (h : Habit) → ClearLeastLaw d h }
+{}
+
+/// In a run that shows the dump, a toggle point of a signal that the dump has is hit exactly where the dump toggles it.
+pub fn toggle_law()
+    ensures { (d : DesignTree) (h : Habit) → ToggleLaw d h }
 {}
 
 /// Each point that a block of it reaches at a window time is hit in each run that shows the dump.

@@ -6,6 +6,7 @@ pub record Cell : Type 0 where
   pub thing : ℕ
   pub place : ℕ
 
+-- whether two cells are the same
 abbrev pub same_cell : Cell → Cell → Bool
 same_cell c d = (c.thing == d.thing) && (c.place == d.place)
 

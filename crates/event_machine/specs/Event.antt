@@ -4,16 +4,19 @@ use Rattle.event_machine.specs.Cell.{Cell, Values, Write, Update, same_cell, put
 use Rattle.event_machine.specs.Machine.{Machine, wakes}
 use Rattle.event_machine.specs.State.{State, IsQuiet}
 
+-- what happens in a step
 pub data Event (V : Type 0) : Type 0 where
   Move : List (Write V) → Event V  -- the environment changes some input cells
   Evaluate : ℕ → Event V  -- a woken process is evaluated whole
   Activate : Event V  -- the queued updates become active
   Apply : Event V  -- the first active update is written
 
+-- the first update, or none
 abbrev pub first : {V : Type 0} → List (Update V) → Update V
 first [] = []
 first (u ∷ us) = u
 
+-- all but the first
 abbrev pub rest : {A : Type 0} → List A → List A
 rest [] = []
 rest (x ∷ xs) = xs
@@ -32,12 +35,14 @@ is_evaluation p (Move ws) = false
 is_evaluation p Activate = false
 is_evaluation p Apply = false
 
+-- the active updates after an event
 abbrev pub active_after : {V : Type 0} → State V → Event V → List (Update V)
 active_after s (Move ws) = s.active
 active_after s (Evaluate p) = s.active
 active_after s Activate = s.queued
 active_after s Apply = rest s.active
 
+-- the queued updates after an event
 abbrev pub queued_after : {V : Type 0} → Machine V → State V → Event V → List (Update V)
 queued_after m s (Move ws) = s.queued
 queued_after m s (Evaluate p) = s.queued ++ (m.evaluate p s.values).nonblocking
@@ -48,10 +53,12 @@ queued_after m s Apply = s.queued
 unfoldable pub mark : {V : Type 0} → (Cell → Bool) → Write V → Cell → Bool
 mark moved w c = same_cell w.cell c || moved c
 
+-- the cells that have moved once these have
 abbrev pub mark_all : {V : Type 0} → (Cell → Bool) → List (Write V) → Cell → Bool
 mark_all moved [] = moved
 mark_all moved (w ∷ ws) = mark_all (mark moved w) ws
 
+-- the cells that have moved after an event
 abbrev pub moved_after : {V : Type 0} → State V → Event V → Cell → Bool
 moved_after s (Move ws) = mark_all s.moved ws
 moved_after s (Evaluate p) = s.moved

@@ -15,13 +15,16 @@ use Rattle.event_machine.specs.Laws.{EvaluatesOnce}
 abbrev pub bit : ℕ → Cell
 bit x = record { thing = x; place = 0 }
 
+-- whether the cell is the one bit of thing x
 abbrev pub is : Cell → ℕ → Bool
 is c x = (c.thing == x) && (c.place == 0)
 
+-- whether two values are equal
 abbrev pub same : Bool → Bool → Bool
 same true y = y
 same false y = not y
 
+-- the edges of a truth value
 abbrev pub is_edge : Edge → Bool → Bool → Bool
 is_edge Posedge x y = not x && y
 is_edge Negedge x y = x && not y
@@ -39,11 +42,13 @@ target zero c = is c 2
 target (suc zero) c = is c 3
 target (suc (suc p)) c = false
 
+-- process 0 inverts h, and process 1 copies d to q
 abbrev pub evaluate : ℕ → Values Bool → Outcome Bool
 evaluate zero v = record { blocking = []; nonblocking = (record { cell = bit 2; value = not (v (bit 2)) } ∷ []) ∷ [] }
 evaluate (suc zero) v = record { blocking = []; nonblocking = (record { cell = bit 3; value = v (bit 1) } ∷ []) ∷ [] }
 evaluate (suc (suc p)) v = record { blocking = []; nonblocking = [] }
 
+-- the design as a machine
 abbrev pub divider : Machine Bool
 divider =
     record {
@@ -67,6 +72,7 @@ start = record { values = λ c. is c 1; woken = λ p. false; active = []; queued
 abbrev pub told : Told Bool
 told = record { is_told = λ x. true; old = λ c. is c 1; new = λ c. is c 0 || (is c 1 || (is c 2 || is c 3)) }
 
+-- the events of the step
 abbrev pub events : List (Event Bool)
 events = Move (record { cell = bit 0; value = true } ∷ []) ∷ Evaluate 0 ∷ Activate ∷ Apply ∷ Evaluate 1 ∷ Activate ∷ Apply ∷ []
 

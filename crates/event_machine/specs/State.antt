@@ -10,6 +10,7 @@ pub record State (V : Type 0) : Type 0 where
   pub queued : List (Update V)  -- the updates that nonblocking assignments have scheduled
   pub moved : Cell → Bool  -- the input cells that have moved in this step
 
+-- no process is to be evaluated
 abbrev pub NoneWoken : {V : Type 0} → State V → Type 0
 NoneWoken s = (p : ℕ) → s.woken p ≡ false
 

@@ -5,11 +5,13 @@ use Rattle.event_machine.specs.Machine.{Machine, IsTarget}
 use Rattle.event_machine.specs.State.{State}
 use Rattle.event_machine.specs.Event.{Event, end_state}
 
+-- which things are told, and their values at the start and the end
 pub record Told (V : Type 0) : Type 0 where
   pub is_told : ℕ → Bool
   pub old : Values V
   pub new : Values V
 
+-- a told input cell
 abbrev pub IsToldInput : {V : Type 0} → Machine V → Told V → Cell → Type 0
 IsToldInput m t c = (m.is_input c ≡ true) × (t.is_told c.thing ≡ true)
 

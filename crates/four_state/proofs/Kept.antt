@@ -45,14 +45,14 @@ module _ (w a b : ℕ) (s : Bool) (v : Vector) (same : record { bits = bits_of_m
       mask_is is_one (bit_and a (2 ^ 128 - 1 - b)) v.bits
       (rw (← kept_width) (lt_of_le_of_lt (and_le_l a (2 ^ 128 - 1 - b)) fits.ones_inside))
       (λ i l. let h : i < w = omega (arith, kept_width) in
-      is_set-and a (2 ^ 128 - 1 - b) i ∙ ap (λ q. is_set a i && q) (is_set-not b i (below_all b fits.strange_inside) (omega (arith, fits.at_most))) ∙ one_in (is_set a i) (is_set b i) ∙ ap is_one (kept_at i h))
+      is_set-and a (2 ^ 128 - 1 - b) i ∙ ap (λ q. is_set a i && q) (is_set-not 128 b i (below_all b fits.strange_inside) (omega (arith, fits.at_most))) ∙ one_in (is_set a i) (is_set b i) ∙ ap is_one (kept_at i h))
 
   pub kept_known_zeros : bit_and (2 ^ w - 1) (2 ^ 128 - 1 - bit_or a b) ≡ mask_of is_zero v.bits
   kept_known_zeros =
       mask_is is_zero (bit_and (2 ^ w - 1) (2 ^ 128 - 1 - bit_or a b)) v.bits
       (rw (← kept_width) (lt_of_le_of_lt (and_le_l (2 ^ w - 1) (2 ^ 128 - 1 - bit_or a b)) (ones_lt w)))
       (λ i l. let h : i < w = omega (arith, kept_width) in
-      is_set-and (2 ^ w - 1) (2 ^ 128 - 1 - bit_or a b) i ∙ ap (λ p. p && is_set (2 ^ 128 - 1 - bit_or a b) i) (is_set-ones w i h) ∙ ap (λ q. true && q) (is_set-not (bit_or a b) i (or_lt 128 a b (below_all a fits.ones_inside) (below_all b fits.strange_inside)) (omega (arith, fits.at_most)) ∙ ap not (is_set-or a b i)) ∙ zero_in (is_set a i) (is_set b i) ∙ ap is_zero (kept_at i h))
+      is_set-and (2 ^ w - 1) (2 ^ 128 - 1 - bit_or a b) i ∙ ap (λ p. p && is_set (2 ^ 128 - 1 - bit_or a b) i) (is_set-ones w i h) ∙ ap (λ q. true && q) (is_set-not 128 (bit_or a b) i (or_lt 128 a b (below_all a fits.ones_inside) (below_all b fits.strange_inside)) (omega (arith, fits.at_most)) ∙ ap not (is_set-or a b i)) ∙ zero_in (is_set a i) (is_set b i) ∙ ap is_zero (kept_at i h))
 
   pub kept_bit : (i : ℕ) → i < length v.bits → slice_get v.bits i ≡ Some (bit_in_masks (is_set a i) (is_set b i))
   kept_bit i l = slice_get-get_or v.bits i X l ∙ ap Some (sym (kept_at i (omega (arith, kept_width))))

@@ -12,8 +12,8 @@ use Rattle.four_state.proofs.Places.{is_set-lowest, is_set-suc, same_from_places
 pub get_or-bits_of_masks : (w a b i : ℕ) (d : Bit) → i < w → get_or (bits_of_masks w a b) i d ≡ bit_in_masks (is_set a i) (is_set b i)
 unfolding bits_of_masks
 get_or-bits_of_masks zero a b i d h = absurd (omega arith)
-get_or-bits_of_masks (suc w) a b zero d h = rw (is_set-lowest, is_set-lowest)
-get_or-bits_of_masks (suc w) a b (suc i) d h = rw (is_set-suc, is_set-suc) (get_or-bits_of_masks w (a / 2) (b / 2) i d (omega arith))
+get_or-bits_of_masks (suc w) a b zero d h = rw (is_set-lowest a, is_set-lowest b)
+get_or-bits_of_masks (suc w) a b (suc i) d h = rw (is_set-suc a i, is_set-suc b i) (get_or-bits_of_masks w (a / 2) (b / 2) i d (omega arith))
 
 test_of_digit : (p : Bool) (m : ℕ) → (((if p then 1 else 0) + 2 * m) % 2 == 1) ≡ p
 test_of_digit false m = grind (arith, nat_tests)

@@ -1,9 +1,10 @@
 -- Which places a number has, after each operation on whole words.
-use Rattle.std.proofs.Common.{◌≡◌, ℕ, suc, ◌+◌, ◌-◌, ◌*◌, ◌/◌, ◌%◌, ◌^◌, ◌<◌, ◌≤◌, ◌==◌, Bool, true, false, not, ◌&&◌, ◌||◌, min, max, bit_and, bit_or, bit_xor, ap, arith, sym, ◌∙◌, add-zero}
+use Rattle.std.proofs.Common.{◌≡◌, ℕ, zero, suc, ◌+◌, ◌-◌, ◌*◌, ◌/◌, ◌%◌, ◌^◌, ◌<◌, ◌≤◌, ◌==◌, Bool, true, false, not, ◌&&◌, ◌||◌, min, max, bit_and, bit_or, bit_xor, ap, arith, sym, ◌∙◌, add-zero}
 use Rattle.std.proofs.lemmas.Bool.Decides.{nat_tests}
 use Rattle.std.proofs.lemmas.Nat.{pow_pos, shr-shr, shr_split}
-use Rattle.std.proofs.lemmas.Nat.Bits.{bit_at_and, bit_at_or, bit_at_xor, bit_at-lt, bit_at_lowest, bit_at-suc, bit_at-zero, bit_at_ones, bit_at_above, bit_at_cat_low, bit_at_cat_high, same_from_bits_below, bit_at_not}
-use Rattle.std.specs.Int.{bit_at, w128}
+use Rattle.std.proofs.lemmas.Nat.Bits.{bit_at_and, bit_at_or, bit_at_xor, bit_at-lt, bit_at_lowest, bit_at-suc, bit_at-zero, bit_at_ones, bit_at_above, bit_at_cat_low, bit_at_cat_high, same_from_bits_below}
+use Rattle.std.proofs.Math.Nat.{pow-succ'}
+use Rattle.std.specs.Int.{bit_at}
 use Rattle.four_state.specs.Masks.{is_set}
 
 -- exclusive or of two tests
@@ -20,9 +21,6 @@ either_digit m n p q = grind (arith, nat_tests)
 one_digit : (m n : ℕ) → m < 2 → n < 2 → ((m + n) % 2 == 1) ≡ differ (m == 1) (n == 1)
 one_digit m n p q = grind (arith, nat_tests)
 
-other_digit : (m : ℕ) → m < 2 → (1 - m == 1) ≡ not (m == 1)
-other_digit m p = grind (arith, nat_tests)
-
 pub is_set-and : (a b i : ℕ) → is_set (bit_and a b) i ≡ (is_set a i && is_set b i)
 unfolding is_set
 is_set-and a b i = ap (λ n. n == 1) (bit_at_and a b i) ∙ both_digits _ _ (bit_at-lt a i) (bit_at-lt b i)
@@ -35,10 +33,6 @@ pub is_set-xor : (a b i : ℕ) → is_set (bit_xor a b) i ≡ differ (is_set a i
 unfolding is_set
 is_set-xor a b i = ap (λ n. n == 1) (bit_at_xor a b i) ∙ one_digit _ _ (bit_at-lt a i) (bit_at-lt b i)
 
-pub is_set-not : (a i : ℕ) → a < 2 ^ 128 → i < 128 → is_set (2 ^ 128 - 1 - a) i ≡ not (is_set a i)
-unfolding is_set
-is_set-not a i p q = ap (λ n. n == 1) (bit_at_not w128 a i p q) ∙ other_digit _ (bit_at-lt a i)
-
 pub is_set-zero : (i : ℕ) → is_set 0 i ≡ false
 unfolding is_set
 is_set-zero i = ap (λ n. n == 1) (bit_at-zero i)
@@ -50,6 +44,20 @@ is_set-lowest a = ap (λ n. n == 1) (bit_at_lowest a)
 pub is_set-suc : (a i : ℕ) → is_set a (suc i) ≡ is_set (a / 2) i
 unfolding is_set
 is_set-suc a i = ap (λ n. n == 1) (bit_at-suc a i)
+
+even_complement : (p n : ℕ) → n < 2 * p → ((2 * p - 1 - n) % 2 == 1) ≡ not (n % 2 == 1)
+even_complement p n h = grind (arith, nat_tests)
+
+half_complement : (p n : ℕ) → n < 2 * p → (2 * p - 1 - n) / 2 ≡ p - 1 - n / 2
+half_complement p n h = omega arith
+
+-- the places below w that a number lacks
+pub is_set-not : (w a i : ℕ) → a < 2 ^ w → i < w → is_set (2 ^ w - 1 - a) i ≡ not (is_set a i)
+is_set-not zero a i p q = absurd (omega arith)
+is_set-not (suc w) a zero p q =
+    is_set-lowest _ ∙ ap (λ n. (n - 1 - a) % 2 == 1) (pow-succ' 2 w) ∙ even_complement (2 ^ w) a (rw pow-succ' at p) ∙ ap not (sym (is_set-lowest a))
+is_set-not (suc w) a (suc i) p q =
+    is_set-suc _ i ∙ ap (λ n. is_set n i) (ap (λ n. (n - 1 - a) / 2) (pow-succ' 2 w) ∙ half_complement (2 ^ w) a (rw pow-succ' at p)) ∙ is_set-not w (a / 2) i (let h : a < 2 * 2 ^ w = rw pow-succ' at p in omega arith) (omega arith) ∙ ap not (sym (is_set-suc a i))
 
 pub is_set-ones : (w i : ℕ) → i < w → is_set (2 ^ w - 1) i ≡ true
 unfolding is_set

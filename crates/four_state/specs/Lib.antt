@@ -5,3 +5,4 @@ pub mod Parts
 pub mod Edges
 pub mod Masks
 pub mod Stored
+pub mod Examples

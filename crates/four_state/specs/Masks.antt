@@ -1,5 +1,5 @@
 -- Vectors as two masks: a 1 bit is in the first, x in the second, z in both.
-use Rattle.std.specs.Prelude.{ℕ, zero, suc, ◌+◌, ◌*◌, ◌/◌, ◌%◌, ◌^◌, ◌<◌, ◌≤◌, ◌==◌, Bool, true, false, not, if◌then◌else◌, List, [], ◌∷◌}
+use Rattle.std.specs.Prelude.{ℕ, zero, suc, ◌+◌, ◌-◌, ◌*◌, ◌/◌, ◌%◌, ◌^◌, ◌<◌, ◌≤◌, ◌==◌, Bool, true, false, not, if◌then◌else◌, bit_or, List, [], ◌∷◌, ℤ, pos, negsuc}
 use Rattle.four_state.specs.Vector.{Bit, Zero, One, X, Z, is_known}
 
 -- the bit that is in these masks
@@ -24,6 +24,10 @@ unfoldable pub bits_of_masks : ℕ → ℕ → ℕ → List Bit
 bits_of_masks zero ones strange = []
 bits_of_masks (suc w) ones strange = bit_in_masks (ones % 2 == 1) (strange % 2 == 1) ∷ bits_of_masks w (ones / 2) (strange / 2)
 
+-- the w bits that are 1 in the first mask, 0 in the second, and else x
+abbrev pub bits_of_known : ℕ → ℕ → ℕ → List Bit
+bits_of_known w ones zeros = bits_of_masks w ones (2 ^ w - 1 - bit_or ones zeros)
+
 -- the mask of the places whose bits pass a test
 unfoldable pub mask_of : (Bit → Bool) → List Bit → ℕ
 mask_of p [] = 0
@@ -39,3 +43,14 @@ pub record FitsMasks (width ones strange : ℕ) : Type 0 where
 -- whether the number has this place
 unfoldable pub is_set : ℕ → ℕ → Bool
 is_set n place = n / 2 ^ place % 2 == 1
+
+-- the bits of two masks at the places of a third one, over other bits
+unfoldable pub bits_over : List Bit → ℕ → ℕ → ℕ → List Bit
+bits_over [] inside ones strange = []
+bits_over (b ∷ bs) inside ones strange =
+    (if inside % 2 == 1 then bit_in_masks (ones % 2 == 1) (strange % 2 == 1) else b) ∷ bits_over bs (inside / 2) (ones / 2) (strange / 2)
+
+-- whether the number has this place; none has one below the first
+abbrev pub is_set_at : ℕ → ℤ → Bool
+is_set_at n (pos place) = is_set n place
+is_set_at n (negsuc below) = false

@@ -10,6 +10,10 @@ pub record Vector : Type 0 where
   pub bits : List Bit
   pub signed : Bool
 
+-- a vector of these bits, with the sign of another
+abbrev pub with_bits : Vector → List Bit → Vector
+with_bits v bs = record { bits = bs; signed = v.signed }
+
 -- the width is from 1 to 128
 abbrev pub HasWidth : Vector → Type 0
 HasWidth v = (1 ≤ length v.bits) × (length v.bits ≤ 128)

@@ -1,6 +1,8 @@
-ghost use Rattle.std.specs.Prelude.{◌≡◌, ◌^◌, ◌<◌, ◌≤◌, length, slice_get, Some};
-ghost use Rattle.four_state.specs.Vector.{HasWidth, fill as copies, is_one, is_zero};
-ghost use Rattle.four_state.specs.Masks.{bits_of_masks, mask_of, is_one_or_z, is_strange};
+ghost use Rattle.std.specs.Prelude.{◌≡◌, ◌^◌, ◌<◌, ◌≤◌, ◌&&◌, ◌++◌, if◌then◌else◌, length, slice_get, Some};
+ghost use Rattle.std.specs.List.{list_any};
+ghost use Rattle.four_state.specs.Vector.{HasWidth, fill as copies, is_one, is_zero, all_known, top as top_bit, with_bits};
+ghost use Rattle.four_state.specs.Arithmetic.{natural};
+ghost use Rattle.four_state.specs.Masks.{bits_of_masks, bits_over, mask_of, is_one_or_z, is_strange};
 
 use crate::Bit;
 use crate::mask::{has_place, low_mask};
@@ -44,7 +46,8 @@ impl Four {
         requires at_most { width ≤ 128 }
         requires ones_inside { ones < 2 ^ width }
         requires strange_inside { strange < 2 ^ width }
-        ensures { result ≡ record { bits = bits_of_masks width ones strange; signed = signed } }
+        ensures value { result ≡ record { bits = bits_of_masks width ones strange; signed = signed } }
+        ensures width { length result.bits ≡ width }
     {
         Four {
             ones,
@@ -94,29 +97,95 @@ impl Four {
 
     /// The mask of the bits that are 1 or z.
     pub fn ones(&self) -> u128
-        ensures { result ≡ mask_of is_one_or_z self.now.bits }
+        ensures within { HasWidth self.now }
+        ensures value { result ≡ mask_of is_one_or_z self.now.bits }
+        ensures inside { result < 2 ^ length self.now.bits }
     {
         self.ones
     }
 
     /// The mask of the bits that are x or z.
     pub fn strange(&self) -> u128
-        ensures { result ≡ mask_of is_strange self.now.bits }
+        ensures value { result ≡ mask_of is_strange self.now.bits }
+        ensures inside { result < 2 ^ length self.now.bits }
     {
         self.strange
     }
 
     /// The mask of the bits that are 1.
     pub fn known_ones(&self) -> u128
-        ensures { result ≡ mask_of is_one self.now.bits }
+        ensures value { result ≡ mask_of is_one self.now.bits }
+        ensures number { result ≡ natural self.now.bits }
+        ensures inside { result < 2 ^ length self.now.bits }
     {
         self.ones & !self.strange
     }
 
     /// The mask of the bits that are 0.
     pub fn known_zeros(&self) -> u128
-        ensures { result ≡ mask_of is_zero self.now.bits }
+        ensures value { result ≡ mask_of is_zero self.now.bits }
+        ensures inside { result < 2 ^ length self.now.bits }
     {
         low_mask(self.width) & !(self.ones | self.strange)
+    }
+
+    /// Whether no bit is x or z.
+    pub fn is_known(&self) -> bool
+        ensures { result ≡ all_known self.now.bits }
+    {
+        self.strange == 0
+    }
+
+    /// Whether no bit of both vectors is x or z.
+    pub(crate) fn are_known(a: &Four, b: &Four) -> bool
+        ensures { result ≡ all_known (a.now.bits ++ b.now.bits) }
+    {
+        a.is_known() && b.is_known()
+    }
+
+    /// Whether some bit is 1.
+    pub(crate) fn has_one(&self) -> bool
+        ensures { result ≡ list_any is_one self.now.bits }
+    {
+        self.known_ones() != 0
+    }
+
+    /// Whether some bit is 0.
+    pub(crate) fn has_zero(&self) -> bool
+        ensures { result ≡ list_any is_zero self.now.bits }
+    {
+        self.known_zeros() != 0
+    }
+
+    /// The highest bit.
+    pub fn top(&self) -> Bit
+        ensures { result ≡ top_bit self.now.bits }
+    {
+        self.bit(self.width - 1)
+    }
+
+    /// The bit that fills the vector up where it is extended or shifted to the right with its sign.
+    pub(crate) fn filler(&self) -> Bit
+        ensures { result ≡ (if self.now.signed then top_bit self.now.bits else Bit.Zero) }
+    {
+        if self.signed { self.top() } else { Bit::Zero }
+    }
+
+    /// Whether the vector is signed and its highest bit is 1.
+    pub(crate) fn is_negative(&self) -> bool
+        ensures { result ≡ (self.now.signed && is_one (top_bit self.now.bits)) }
+    {
+        self.signed && self.top() == Bit::One
+    }
+
+    /// The bits of two masks at the places of `inside`, over this vector.
+    pub(crate) fn overlaid(&self, inside: u128, ones: u128, strange: u128) -> Four
+        ensures value { result ≡ with_bits self.now (bits_over self.now.bits inside ones strange) }
+        ensures within { HasWidth self.now }
+    {
+        let inside = inside & low_mask(self.width());
+        let ones = self.ones() & !inside | ones & inside;
+        let strange = self.strange() & !inside | strange & inside;
+        Four::make(self.width(), self.is_signed(), ones, strange)
     }
 }

@@ -1,3 +1,5 @@
+ghost use Rattle.std.specs.Prelude.{◌≡◌};
+
 /// An operator with one operand (IEEE 1364-2001, clause 4.1).
 #[derive(Clone, Copy, Debug, PartialEq, Eq)]
 pub enum Unary {
@@ -76,6 +78,25 @@ pub enum Binary {
     LogicalAnd,
     /// `||`
     LogicalOr,
+}
+
+impl Binary {
+    ghost use Rattle.four_state.specs.Operators.{takes_same_shape as takes};
+
+    /// Whether the operands are to have equal widths and signs: not of a shift, `&&` and `||`.
+    pub fn takes_same_shape(self) -> bool
+        ensures { result ≡ takes self }
+    {
+        !matches!(
+            self,
+            Binary::ShiftLeft
+                | Binary::ShiftRight
+                | Binary::ArithmeticShiftLeft
+                | Binary::ArithmeticShiftRight
+                | Binary::LogicalAnd
+                | Binary::LogicalOr
+        )
+    }
 }
 
 /// How the labels of a case statement match (IEEE 1364-2001, clause 9.5.1).

@@ -1,4 +1,4 @@
-ghost use Rattle.std.specs.Prelude.{◌≡◌, ◌≢◌, ◌<◌, ◌≤◌, ◌^◌, [], ◌++◌, true, vec_len, OnOk, OnErr, IfOk, IfErr, IfSome, IsSomeAnd};
+ghost use Rattle.std.specs.Prelude.{◌≡◌, ◌≢◌, ◌<◌, ◌≤◌, ◌^◌, [], ◌++◌, true, false, vec_len, OnOk, OnErr, IfOk, IfErr, IfSome, IsSomeAnd};
 ghost use Rattle.cov_host.specs.Outside.{AppendsTo, HasFile, IsOpened, KeepsOutput, KeepsStreams, Told};
 ghost use Rattle.whole_files.specs.Effects.{AppendsFront, CountsUp, HasTarget, HoldsFront, OnlyReads};
 ghost use Rattle.whole_files.specs.declared.files.FileFault.TheVariants as file_fault;
@@ -97,6 +97,7 @@ fn read_some<H: Host>(host: &mut H, piece: &mut [u8], bytes: &mut Vec<u8>) -> Re
 pub fn write_file<H: Host>(host: &mut H, name: &str, text: &[u8]) -> Result<(), FileFault>
     ensures written { OnOk result (Told (HasFile name.now text.now) (H.outside host.old).files (H.outside host.new).files) }
     ensures front { OnErr result (Told (HoldsFront name.now text.now) (H.outside host.old).files (H.outside host.new).files) }
+    ensures closed { OnOk result ((H.outside host.new).writing ≡ false) }
     ensures refused { IfErr result (IsWriteFault (H.outside host.old) (H.outside host.new)) }
     ensures streams { KeepsStreams (H.outside host.old) (H.outside host.new) }
     ensures counts { CountsUp (H.outside host.old) (H.outside host.new) }

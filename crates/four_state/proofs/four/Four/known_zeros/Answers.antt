@@ -1,5 +1,9 @@
+use Rattle.four_state.proofs.Lifted.{mask_below}
 use Rattle.four_state.proofs.Kept.{kept_known_zeros}
 use Rattle.four_state.proofs.four.Four.known_zeros.Goals as goal
 
-pub returns : goal.returns
-returns c = rw c.low_mask.ensures (kept_known_zeros c.self.inside.width c.self.inside.ones c.self.inside.strange c.self.inside.signed c.args.self.now c.self.view_is c.self.invariant)
+pub returns-clause-value : goal.returns-clause-value
+returns-clause-value c = rw c.low_mask.ensures (kept_known_zeros c.self.inside.width c.self.inside.ones c.self.inside.strange c.self.inside.signed c.args.self.now c.self.view_is c.self.invariant)
+
+pub returns-clause-inside : goal.returns-clause-inside
+returns-clause-inside c = let e = returns-clause-value c in rw e (mask_below _ c.args.self.now.bits)

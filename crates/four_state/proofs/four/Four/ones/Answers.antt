@@ -1,5 +1,13 @@
-use Rattle.four_state.proofs.Kept.{kept_ones}
+use Rattle.four_state.proofs.Lifted.{mask_below}
+use Rattle.four_state.proofs.Kept.{kept_ones, kept_width}
 use Rattle.four_state.proofs.four.Four.ones.Goals as goal
 
-pub returns : goal.returns
-returns c = kept_ones c.self.inside.width c.self.inside.ones c.self.inside.strange c.self.inside.signed c.args.self.now c.self.view_is c.self.invariant
+pub returns-clause-value : goal.returns-clause-value
+returns-clause-value c = kept_ones c.self.inside.width c.self.inside.ones c.self.inside.strange c.self.inside.signed c.args.self.now c.self.view_is c.self.invariant
+
+pub returns-clause-inside : goal.returns-clause-inside
+returns-clause-inside c = let e = returns-clause-value c in rw e (mask_below _ c.args.self.now.bits)
+
+pub returns-clause-within : goal.returns-clause-within
+returns-clause-within c =
+    rw (← kept_width c.self.inside.width c.self.inside.ones c.self.inside.strange c.self.inside.signed c.args.self.now c.self.view_is c.self.invariant) (c.self.invariant.at_least, c.self.invariant.at_most)

@@ -1,0 +1,28 @@
+# make example   builds the program, scores the example and shows its database
+# make test      the gate: proves every crate, tries the edits that must fail, runs the tests and the program
+# make rows      runs the example cases of the stage that is reached, where they are at hand
+# make install   puts the program into $(PREFIX)/bin
+
+PREFIX ?= /usr/local
+PROGRAM = crates/covered/out/covered
+STAGE = inputs
+ROWS ?= $(firstword $(wildcard ../*/rows))
+
+.PHONY: example test rows install
+
+$(PROGRAM): FORCE
+	cd crates/covered && rt run -- score > /dev/null 2> out/build.log || test -x out/covered
+
+FORCE:
+
+example: $(PROGRAM)
+	cd examples/pads && ../../$(PROGRAM) score -t pads -i tb.dut -v pads.v -vcd pads.vcd -o pads.db && cat pads.db
+
+test:
+	bash .ci/run
+
+rows: $(PROGRAM)
+	if test -f '$(ROWS)/run.py'; then python3 '$(ROWS)/run.py' $(PROGRAM) --stage $(STAGE); fi
+
+install: $(PROGRAM)
+	install -D $(PROGRAM) $(DESTDIR)$(PREFIX)/bin/covered

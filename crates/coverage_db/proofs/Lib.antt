@@ -1,0 +1,11 @@
+pub mod Lines
+pub mod Differences
+pub mod Splits
+pub mod Numbers
+pub mod Orders
+pub mod Lacking
+pub mod Things
+pub mod Parts
+pub mod Stages
+pub mod StopLemmas
+pub mod FieldLaws

@@ -1,0 +1,19 @@
+-- The lines before the points, as they are written one after the other.
+use Rattle.std.proofs.Common.{◌≡◌, ℕ, List, [], ◌∷◌, ◌++◌, map, sym, ap, ◌∙◌, append_assoc}
+use Rattle.std.specs.Prelude.{codes}
+use Rattle.std.proofs.lemmas.List.Concat.{flat_map-append}
+use Rattle.coverage_db.specs.declared.db.Db.{Db}
+use Rattle.coverage_db.specs.Text.{top_line, ended, text_of_lines, source_lines, instance_line, head_lines}
+
+regrouped : (old version feed top sources instances : List ℕ) →
+    ((((old ++ (version ++ feed)) ++ top) ++ feed) ++ sources) ++ instances ≡ old ++ ((version ++ feed) ++ ((top ++ feed) ++ (sources ++ instances)))
+regrouped old version feed top sources instances = simp append_assoc
+
+-- the lines before the count
+pub head_written : (db : Db) (old one two three four : List ℕ) → one ≡ old ++ (codes "covered-db 1" ++ 10 ∷ []) → two ≡ one ++ top_line db.top → three ≡ two ++ 10 ∷ [] → four ≡ three ++ text_of_lines (source_lines 1 db.sources) →
+    four ++ text_of_lines (map instance_line db.instances) ≡ old ++ text_of_lines (head_lines db)
+head_written db old one two three four a b c d =
+    let sources : List ℕ = text_of_lines (source_lines 1 db.sources) in
+    let instances : List ℕ = text_of_lines (map instance_line db.instances) in
+    rw (d, c, b, a) (regrouped old (codes "covered-db 1") (10 ∷ []) (top_line db.top) sources instances
+    ∙ ap (λ (rest : List ℕ). old ++ ((codes "covered-db 1" ++ 10 ∷ []) ++ ((top_line db.top ++ 10 ∷ []) ++ rest))) (sym (flat_map-append ended (source_lines 1 db.sources) (map instance_line db.instances))))

@@ -1,0 +1,8 @@
+pub mod Words
+pub mod Order
+pub mod Table
+pub mod Text
+pub mod Merge
+pub mod Fields
+pub mod Reading
+pub mod Stops

@@ -1,0 +1,116 @@
+-- The text of a table.
+use Rattle.std.specs.Prelude.{ℕ, ◌+◌, List, [], ◌∷◌, ◌++◌, length, map, codes, decimal, Bool, true, false, Option, Some, None, unwrap_or, slice_get}
+use Rattle.std.specs.List.{flat_map, join_with_byte}
+use Rattle.std.specs.Option.{option_map}
+use Rattle.coverage_db.specs.declared.address.Address.{Address}
+use Rattle.coverage_db.specs.declared.address.SourceLine.{SourceLine}
+use Rattle.coverage_db.specs.declared.address.Subject.{Subject}
+use Rattle.coverage_db.specs.declared.address.Subject.TheVariants.{Line, Logic, Toggle, State, Arc, Word}
+use Rattle.coverage_db.specs.declared.db.Db.{Db}
+use Rattle.coverage_db.specs.declared.db.DbInstance.{DbInstance}
+use Rattle.coverage_db.specs.declared.db.DbPoint.{DbPoint}
+use Rattle.coverage_db.specs.declared.verdict.DbVerdict.{DbVerdict}
+use Rattle.coverage_db.specs.declared.verdict.DbVerdict.TheVariants.{Hit, Missed, Undetermined}
+use Rattle.coverage_db.specs.Words.{line_word_text, node_case_text, operator_text}
+
+-- a line ends in one line feed
+abbrev pub ended : List ℕ → List ℕ
+ended line = line ++ 10 ∷ []
+
+-- fields are separated by one space
+abbrev pub spaced : List (List ℕ) → List ℕ
+spaced fields = join_with_byte 32 fields
+
+-- a source and its line
+abbrev pub place_text : SourceLine → List ℕ
+place_text at = decimal at.source ++ 58 ∷ decimal at.line
+
+-- the index as declared, `-` for a signal without a range
+abbrev pub index_text : Option ℕ → List ℕ
+index_text None = codes "-"
+index_text (Some index) = decimal index
+
+-- from 0 to 1, or from 1 to 0
+abbrev pub rise_text : Bool → List ℕ
+rise_text true = codes "01"
+rise_text false = codes "10"
+
+-- read, or written
+abbrev pub write_text : Bool → List ℕ
+write_text false = codes "r"
+write_text true = codes "w"
+
+-- l, c, t, f or m
+abbrev pub letter : Subject → ℕ
+letter (Line number at word) = 108
+letter (Logic number at operator case) = 99
+letter (Toggle name index rise) = 116
+letter (State name state) = 102
+letter (Arc name from to) = 102
+letter (Word name index write) = 109
+
+-- the fields of an address after its instance
+abbrev pub subject_fields : Subject → List (List ℕ)
+subject_fields (Line number at word) = decimal number ∷ place_text at ∷ line_word_text word ∷ []
+subject_fields (Logic number at operator case) = decimal number ∷ place_text at ∷ operator_text operator ∷ node_case_text case ∷ []
+subject_fields (Toggle name index rise) = name ∷ index_text index ∷ rise_text rise ∷ []
+subject_fields (State name state) = name ∷ state ∷ []
+subject_fields (Arc name from to) = name ∷ from ∷ to ∷ []
+subject_fields (Word name index write) = name ∷ decimal index ∷ write_text write ∷ []
+
+-- the path of the instance at a place
+abbrev pub path_at : List DbInstance → ℕ → List ℕ
+path_at instances place = unwrap_or (option_map (λ instance. instance.path) (slice_get instances place)) []
+
+-- a letter, the instance and the other fields
+abbrev pub address_fields : List DbInstance → Address → List (List ℕ)
+address_fields instances address = (letter address.subject ∷ []) ∷ path_at instances address.instance ∷ subject_fields address.subject
+
+abbrev pub address_text : List DbInstance → Address → List ℕ
+address_text instances address = spaced (address_fields instances address)
+
+-- hit, missed, or a question mark with a time and a path
+abbrev pub verdict_fields : DbVerdict → List (List ℕ)
+verdict_fields Hit = codes "hit" ∷ []
+verdict_fields Missed = codes "missed" ∷ []
+verdict_fields (Undetermined time path) = codes "?" ∷ decimal time ∷ path ∷ []
+
+abbrev pub verdict_text : DbVerdict → List ℕ
+verdict_text verdict = spaced (verdict_fields verdict)
+
+-- an address and its verdict
+abbrev pub point_line : List DbInstance → DbPoint → List ℕ
+point_line instances point = address_text instances point.address ++ codes " = " ++ verdict_text point.verdict
+
+abbrev pub top_line : List ℕ → List ℕ
+top_line top = codes "top " ++ top
+
+abbrev pub source_line : ℕ → List ℕ → List ℕ
+source_line number name = codes "source " ++ decimal number ++ 32 ∷ name
+
+-- the sources are numbered in order
+abbrev pub source_lines : ℕ → List (List ℕ) → List (List ℕ)
+source_lines number [] = []
+source_lines number (name ∷ names) = source_line number name ∷ source_lines (number + 1) names
+
+abbrev pub instance_line : DbInstance → List ℕ
+instance_line instance = codes "instance " ++ instance.path ++ 32 ∷ instance.module
+
+abbrev pub count_line : ℕ → List ℕ
+count_line count = codes "points " ++ decimal count
+
+-- the lines before the count of the points
+abbrev pub head_lines : Db → List (List ℕ)
+head_lines db = codes "covered-db 1" ∷ top_line db.top ∷ source_lines 1 db.sources ++ map instance_line db.instances
+
+-- all lines, with a count of the points
+abbrev pub lines_with_count : ℕ → Db → List (List ℕ)
+lines_with_count count db = head_lines db ++ count_line count ∷ map (point_line db.instances) db.points ++ codes "end" ∷ []
+
+-- each line with its line feed
+abbrev pub text_of_lines : List (List ℕ) → List ℕ
+text_of_lines lines = flat_map ended lines
+
+-- the text of a table
+abbrev pub text_of : Db → List ℕ
+text_of db = text_of_lines (lines_with_count (length db.points) db)

@@ -1,0 +1,127 @@
+-- The words of the database text.
+use Rattle.std.specs.Prelude.{ℕ, List, codes, Bool, true, false, ◌||◌}
+use Rattle.coverage_db.specs.declared.line_word.LineWord.{LineWord}
+use Rattle.coverage_db.specs.declared.line_word.LineWord.TheVariants as line
+use Rattle.coverage_db.specs.declared.node_case.NodeCase.{NodeCase}
+use Rattle.coverage_db.specs.declared.node_case.NodeCase.TheVariants as case
+use Rattle.coverage_db.specs.declared.operator.Operator.{Operator}
+use Rattle.coverage_db.specs.declared.operator.Operator.TheVariants as operator
+
+-- the kind of a statement
+abbrev pub line_word_text : LineWord → List ℕ
+line_word_text line.If = codes "if"
+line_word_text line.Case = codes "case"
+line_word_text line.For = codes "for"
+line_word_text line.Assign = codes "assign"
+
+-- the truths that a case asks of a node or of its operands
+abbrev pub node_case_text : NodeCase → List ℕ
+node_case_text case.False = codes "0"
+node_case_text case.True = codes "1"
+node_case_text case.LeftFalse = codes "0-"
+node_case_text case.RightFalse = codes "-0"
+node_case_text case.LeftTrue = codes "1-"
+node_case_text case.RightTrue = codes "-1"
+node_case_text case.FalseFalse = codes "00"
+node_case_text case.FalseTrue = codes "01"
+node_case_text case.TrueFalse = codes "10"
+node_case_text case.TrueTrue = codes "11"
+
+-- the place of a case in the order of point lines
+abbrev pub node_case_rank : NodeCase → ℕ
+node_case_rank case.False = 0
+node_case_rank case.True = 1
+node_case_rank case.LeftFalse = 2
+node_case_rank case.RightFalse = 3
+node_case_rank case.LeftTrue = 4
+node_case_rank case.RightTrue = 5
+node_case_rank case.FalseFalse = 6
+node_case_rank case.FalseTrue = 7
+node_case_rank case.TrueFalse = 8
+node_case_rank case.TrueTrue = 9
+
+-- the operator as it is written (IEEE 1364-2001 clause 4.1)
+abbrev pub operator_text : Operator → List ℕ
+operator_text operator.Value = codes "value"
+operator_text operator.LogicalNot = codes "!"
+operator_text operator.BitwiseNot = codes "~"
+operator_text operator.ReduceNand = codes "~&"
+operator_text operator.ReduceNor = codes "~|"
+operator_text operator.And = codes "&"
+operator_text operator.Or = codes "|"
+operator_text operator.LogicalAnd = codes "&&"
+operator_text operator.LogicalOr = codes "||"
+operator_text operator.Plus = codes "+"
+operator_text operator.Minus = codes "-"
+operator_text operator.Xor = codes "^"
+operator_text operator.Xnor = codes "~^"
+operator_text operator.Nxor = codes "^~"
+operator_text operator.Multiply = codes "*"
+operator_text operator.Divide = codes "/"
+operator_text operator.Modulus = codes "%"
+operator_text operator.ShiftLeft = codes "<<"
+operator_text operator.ShiftRight = codes ">>"
+operator_text operator.ArithmeticShiftLeft = codes "<<<"
+operator_text operator.ArithmeticShiftRight = codes ">>>"
+operator_text operator.LessThan = codes "<"
+operator_text operator.LessOrEqual = codes "<="
+operator_text operator.GreaterThan = codes ">"
+operator_text operator.GreaterOrEqual = codes ">="
+operator_text operator.Equal = codes "=="
+operator_text operator.NotEqual = codes "!="
+operator_text operator.CaseEqual = codes "==="
+operator_text operator.CaseNotEqual = codes "!=="
+
+-- the operator can stand before one operand, or is the value of a condition
+abbrev pub is_unary : Operator → Bool
+is_unary operator.Value = true
+is_unary operator.LogicalNot = true
+is_unary operator.BitwiseNot = true
+is_unary operator.ReduceNand = true
+is_unary operator.ReduceNor = true
+is_unary operator.And = true
+is_unary operator.Or = true
+is_unary operator.Plus = true
+is_unary operator.Minus = true
+is_unary operator.Xor = true
+is_unary operator.Xnor = true
+is_unary operator.Nxor = true
+is_unary _ = false
+
+-- one false operand decides the operator
+abbrev pub is_and : Operator → Bool
+is_and operator.And = true
+is_and operator.LogicalAnd = true
+is_and _ = false
+
+-- one true operand decides the operator
+abbrev pub is_or : Operator → Bool
+is_or operator.Or = true
+is_or operator.LogicalOr = true
+is_or _ = false
+
+-- the operator can stand between two operands, and neither of them decides it alone
+abbrev pub is_plain : Operator → Bool
+is_plain operator.Value = false
+is_plain operator.LogicalNot = false
+is_plain operator.BitwiseNot = false
+is_plain operator.ReduceNand = false
+is_plain operator.ReduceNor = false
+is_plain operator.And = false
+is_plain operator.Or = false
+is_plain operator.LogicalAnd = false
+is_plain operator.LogicalOr = false
+is_plain _ = true
+
+-- a node of the operator has the case
+abbrev pub can_have : Operator → NodeCase → Bool
+can_have op case.False = is_unary op
+can_have op case.True = is_unary op
+can_have op case.LeftFalse = is_and op
+can_have op case.RightFalse = is_and op
+can_have op case.LeftTrue = is_or op
+can_have op case.RightTrue = is_or op
+can_have op case.FalseFalse = is_or op || is_plain op
+can_have op case.FalseTrue = is_plain op
+can_have op case.TrueFalse = is_plain op
+can_have op case.TrueTrue = is_and op || is_plain op

@@ -1,0 +1,30 @@
+use crate::{Address, DbVerdict};
+use cov_host::{Name, Sequence};
+
+/// A database: the points of a design, and how each came out.
+#[derive(Debug, Drop)]
+pub struct Db {
+    /// The top module.
+    pub top: Name,
+    /// The names of the source files: the first is number 1.
+    pub sources: Sequence<Name>,
+    /// The instances, in rising order of the bytes of their paths.
+    pub instances: Sequence<DbInstance>,
+    /// The points, in their order (`Address::compare`).
+    pub points: Sequence<DbPoint>,
+}
+
+/// An instance of a module.
+#[derive(Debug, Drop)]
+pub struct DbInstance {
+    /// The names from the top module's down to its own, joined by dots.
+    pub path: Name,
+    pub module: Name,
+}
+
+/// A point with its verdict.
+#[derive(Debug, Drop)]
+pub struct DbPoint {
+    pub address: Address,
+    pub verdict: DbVerdict,
+}

@@ -1,0 +1,63 @@
+ghost use Rattle.std.specs.Prelude.{◌≡◌};
+ghost use Rattle.coverage_db.specs.declared.fault.DbFault.TheVariants as db_fault;
+ghost use Rattle.coverage_db.specs.declared.fault.MergeFault.TheVariants as merge_fault;
+
+use cov_host::{Name, NoMemory};
+use thiserror::Error;
+
+/// What is wrong with a database text.
+#[derive(Clone, Copy, Debug, PartialEq, Eq)]
+pub enum DbKind {
+    /// The line does not fit.
+    BadLine,
+    /// The text is of another version.
+    WrongVersion,
+    /// There are not as many points as the line says.
+    WrongCount,
+    /// The text is longer than 2,147,483,648 bytes.
+    DbTooLong,
+}
+
+/// Why a database was not read.
+#[derive(Clone, Copy, Debug, PartialEq, Eq, Error)]
+pub enum DbFault {
+    #[error("memory ran out")]
+    NoMemory,
+    #[error("the text is no database")]
+    At {
+        kind: DbKind,
+        /// The number of the line, from 1. None where the text is too long.
+        line: Option<u32>,
+    },
+}
+
+impl From<NoMemory> for DbFault {
+    ghost from_gives = { λ _ fault. fault ≡ db_fault.NoMemory };
+
+    fn from(_: NoMemory) -> Self {
+        DbFault::NoMemory
+    }
+}
+
+/// Why two databases were not merged.
+#[derive(Debug, Drop, Error)]
+pub enum MergeFault {
+    #[error("memory ran out")]
+    NoMemory,
+    /// The databases are of different designs. Of the lines of their texts, each up to its verdict, this is the first that differs.
+    #[error("the designs differ")]
+    DesignsDiffer {
+        /// The number of the line, from 1.
+        line: u32,
+        left: Name,
+        right: Name,
+    },
+}
+
+impl From<NoMemory> for MergeFault {
+    ghost from_gives = { λ _ fault. fault ≡ merge_fault.NoMemory };
+
+    fn from(_: NoMemory) -> Self {
+        MergeFault::NoMemory
+    }
+}

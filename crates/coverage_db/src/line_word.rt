@@ -1,0 +1,35 @@
+ghost use Rattle.std.specs.Prelude.{◌≡◌};
+ghost use Rattle.coverage_db.specs.Words.{line_word_text};
+
+/// What stands at a line point: the kind of its statement (IEEE 1364-2001 clause 9).
+#[derive(Clone, Copy, Debug, PartialEq, Eq)]
+pub enum LineWord {
+    If,
+    /// `case`, `casez` or `casex`.
+    Case,
+    For,
+    /// A blocking or nonblocking assignment.
+    Assign,
+}
+
+impl LineWord {
+    /// All kinds.
+    pub const ALL: [LineWord; 4] = [
+        LineWord::If,
+        LineWord::Case,
+        LineWord::For,
+        LineWord::Assign,
+    ];
+
+    /// The word of the database text.
+    pub fn text(self) -> &'static str
+        ensures { result.now ≡ line_word_text self }
+    {
+        match self {
+            LineWord::If => "if",
+            LineWord::Case => "case",
+            LineWord::For => "for",
+            LineWord::Assign => "assign",
+        }
+    }
+}

@@ -1,0 +1,73 @@
+ghost use Rattle.std.specs.Prelude.{◌≡◌};
+ghost use Rattle.coverage_db.specs.Words.{node_case_text, node_case_rank};
+
+/// One case of a counted node: the truths of its operands, or of the node itself.
+#[derive(Clone, Copy, Debug, PartialEq, Eq)]
+pub enum NodeCase {
+    /// `0`: the node itself is false.
+    False,
+    /// `1`: the node itself is true.
+    True,
+    /// `0-`: the left operand is false.
+    LeftFalse,
+    /// `-0`: the right operand is false.
+    RightFalse,
+    /// `1-`: the left operand is true.
+    LeftTrue,
+    /// `-1`: the right operand is true.
+    RightTrue,
+    /// `00`: both operands are false.
+    FalseFalse,
+    /// `01`: the left operand is false and the right one true.
+    FalseTrue,
+    /// `10`: the left operand is true and the right one false.
+    TrueFalse,
+    /// `11`: both operands are true.
+    TrueTrue,
+}
+
+impl NodeCase {
+    /// All cases, in the order of point lines.
+    #[rattlefmt::skip]
+    pub const ALL: [NodeCase; 10] = [
+        NodeCase::False, NodeCase::True,
+        NodeCase::LeftFalse, NodeCase::RightFalse, NodeCase::LeftTrue, NodeCase::RightTrue,
+        NodeCase::FalseFalse, NodeCase::FalseTrue, NodeCase::TrueFalse, NodeCase::TrueTrue,
+    ];
+
+    /// The field of the database text.
+    pub fn text(self) -> &'static str
+        ensures { result.now ≡ node_case_text self }
+    {
+        match self {
+            NodeCase::False => "0",
+            NodeCase::True => "1",
+            NodeCase::LeftFalse => "0-",
+            NodeCase::RightFalse => "-0",
+            NodeCase::LeftTrue => "1-",
+            NodeCase::RightTrue => "-1",
+            NodeCase::FalseFalse => "00",
+            NodeCase::FalseTrue => "01",
+            NodeCase::TrueFalse => "10",
+            NodeCase::TrueTrue => "11",
+        }
+    }
+
+    /// The place of the case in the order of point lines, from 0.
+    pub fn rank(self) -> u8
+        ensures { result ≡ node_case_rank self }
+    {
+        match self {
+            NodeCase::False => 0,
+            NodeCase::True => 1,
+            NodeCase::LeftFalse => 2,
+            NodeCase::RightFalse => 3,
+            NodeCase::LeftTrue => 4,
+            NodeCase::RightTrue => 5,
+            NodeCase::FalseFalse => 6,
+            NodeCase::FalseTrue => 7,
+            NodeCase::TrueFalse => 8,
+            NodeCase::TrueTrue => 9,
+        }
+    }
+}

@@ -1,0 +1,11 @@
+use Rattle.covered_cli.proofs.Causes.{IfErr-map, OnOk-intro, is_some_command, keeps_unnamed, stands_in_call}
+use Rattle.covered_cli.proofs.top_call.run.Goals as goal
+
+pub returns-in-Ok-clause-command : goal.returns-in-Ok-clause-command
+returns-in-Ok-clause-command g c = OnOk-intro c.run_command.result (is_some_command _ _ c.in-Ok.ensures.command)
+
+pub returns-in-Ok-clause-fault : goal.returns-in-Ok-clause-fault
+returns-in-Ok-clause-fault g c = IfErr-map c.run_command.result (stands_in_call _ _ _ _ c.in-Ok.ensures.command) c.run_command.ensures.fault
+
+pub returns-in-Ok-clause-others : goal.returns-in-Ok-clause-others
+returns-in-Ok-clause-others g c = keeps_unnamed _ _ _ _ c.in-Ok.ensures.command c.run_command.ensures.others

@@ -1,0 +1,100 @@
+-- Why a command ends with a status above 0, and the line that says so.
+use Rattle.std.specs.Prelude.{◌≡◌, ◌⊎◌, ℕ, List, [], ◌∷◌, ◌++◌, codes}
+use Rattle.command_line.specs.CommandWords.{IsScore, ScoreValues, score_values}
+use Rattle.command_line.specs.UsageFault.{HasUsageFault, usage_text}
+use Rattle.command_line.specs.declared.command.Command.{Command}
+use Rattle.command_line.specs.declared.command.Command.TheVariants.{Score}
+use Rattle.cov_host.specs.Outside.{Outside, IsCounted}
+use Rattle.whole_files.specs.Call.{call_name}
+use Rattle.whole_files.specs.Effects.{IsMissing}
+use Rattle.whole_files.specs.declared.call.Call.{Call}
+use Rattle.whole_files.specs.declared.call.Call.TheVariants.{OpenRead, Read, OpenWrite, Write, CloseWrite}
+use Rattle.covered_cli.specs.declared.fault.Fault.{Fault}
+use Rattle.covered_cli.specs.declared.fault.Fault.TheVariants as fault
+use Rattle.covered_cli.specs.declared.status.Status.{Status}
+use Rattle.covered_cli.specs.declared.status.Status.TheVariants as status
+
+-- the status with which a fault ends
+abbrev pub status_of : Fault → Status
+status_of (fault.Usage usage) = status.Usage
+status_of fault.SourceNotYet = status.Source
+status_of fault.DumpNotYet = status.Dump
+status_of (fault.Files call file) = status.Files
+status_of fault.Memory = status.Memory
+
+-- the line that is warned
+abbrev pub line_of : Fault → List ℕ
+line_of (fault.Usage usage) = codes "covered: usage: " ++ usage_text usage ++ codes "\n"
+line_of fault.SourceNotYet = codes "covered: source: early 1 NotYet\n"
+line_of fault.DumpNotYet = codes "covered: dump: early 1 NotYet\n"
+line_of (fault.Files call file) = codes "covered: files: " ++ call_name call ++ codes " " ++ file.now ++ codes "\n"
+line_of fault.Memory = codes "covered: memory\n"
+
+-- the command names the file for this call
+abbrev pub NamesFile : ScoreValues → Call → List ℕ → Type 0
+NamesFile score OpenRead file = (file ≡ score.source) ⊎ (file ≡ score.dump)
+NamesFile score Read file = (file ≡ score.source) ⊎ (file ≡ score.dump)
+NamesFile score call file = file ≡ score.output
+
+-- the call on the file gave nothing: it failed, or the file that was to be read is not there
+abbrev pub IsRefused : Call → List ℕ → Outside → Outside → Type 0
+IsRefused OpenRead file before after = IsCounted before.faults after.faults ⊎ IsMissing file before after
+IsRefused call file before after = IsCounted before.faults after.faults
+
+-- the fault stands in the work of this command between two outsides
+abbrev pub StandsIn : ScoreValues → Outside → Outside → Fault → Type 0
+StandsIn score before after (fault.Usage usage) = ⊥
+StandsIn score before after fault.SourceNotYet = Unit {0}
+StandsIn score before after fault.DumpNotYet = Unit {0}
+StandsIn score before after (fault.Files call file) = NamesFile score call file.now × IsRefused call file.now before after
+StandsIn score before after fault.Memory = Unit {0}
+
+-- the file that the command writes
+abbrev pub output_of : Command → List ℕ
+output_of (Score score) = score.output.now
+
+-- the fault stands in the work of this command
+abbrev pub StandsInWork : Command → Outside → Outside → Fault → Type 0
+StandsInWork (Score score) before after fault = StandsIn (score_values score) before after fault
+
+-- the fault stands in a call of the program with these words between two outsides
+abbrev pub Stands : List (List ℕ) → Outside → Outside → Fault → Type 0
+Stands words before after (fault.Usage usage) = HasUsageFault words usage
+Stands words before after other = (score : ScoreValues) × IsScore words score × StandsIn score before after other
+
+-- the fault comes before the output is opened
+abbrev pub IsEarly : Fault → Type 0
+IsEarly (fault.Files OpenWrite file) = ⊥
+IsEarly (fault.Files Write file) = ⊥
+IsEarly (fault.Files CloseWrite file) = ⊥
+IsEarly fault.Memory = ⊥
+IsEarly other = Unit {0}
+
+-- a file was not read
+abbrev pub IsReadingFault : List ℕ → Outside → Outside → Fault → Type 0
+IsReadingFault name before after (fault.Files OpenWrite file) = ⊥
+IsReadingFault name before after (fault.Files Write file) = ⊥
+IsReadingFault name before after (fault.Files CloseWrite file) = ⊥
+IsReadingFault name before after (fault.Files call file) = (file.now ≡ name) × IsRefused call file.now before after
+IsReadingFault name before after fault.Memory = Unit {0}
+IsReadingFault name before after other = ⊥
+
+-- a file was not written
+abbrev pub IsWritingFault : List ℕ → Outside → Outside → Fault → Type 0
+IsWritingFault name before after (fault.Files OpenRead file) = ⊥
+IsWritingFault name before after (fault.Files Read file) = ⊥
+IsWritingFault name before after (fault.Files call file) = (file.now ≡ name) × IsRefused call file.now before after
+IsWritingFault name before after fault.Memory = Unit {0}
+IsWritingFault name before after other = ⊥
+
+-- the source was not read into a design
+abbrev pub IsSourceFault : Fault → Type 0
+IsSourceFault fault.SourceNotYet = Unit {0}
+IsSourceFault fault.Memory = Unit {0}
+IsSourceFault other = ⊥
+
+-- the dump was not read, or does not fit the design
+abbrev pub IsDumpFault : Fault → Type 0
+IsDumpFault fault.DumpNotYet = Unit {0}
+IsDumpFault fault.Memory = Unit {0}
+IsDumpFault other = ⊥

@@ -1,0 +1,4 @@
+pub mod Covered
+pub mod Effects
+pub mod Fault
+pub mod Status

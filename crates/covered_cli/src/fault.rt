@@ -1,0 +1,34 @@
+ghost use Rattle.std.specs.Prelude.{◌≡◌};
+ghost use Rattle.covered_cli.specs.Fault.{status_of};
+
+use crate::Status;
+use command_line::UsageFault;
+use whole_files::Call;
+
+/// Why a command ends with a status above 0.
+#[derive(Clone, Copy, Debug, PartialEq, Eq)]
+pub(crate) enum Fault<'a> {
+    Usage(UsageFault<'a>),
+    /// The source is not in the form that is read so far.
+    SourceNotYet,
+    /// The dump is not in the form that is read so far, or does not fit the design.
+    DumpNotYet,
+    /// A call on the host gave nothing.
+    Files { call: Call, file: &'a str },
+    Memory,
+}
+
+impl Fault<'_> {
+    /// The status with which the fault ends.
+    pub(crate) fn status(&self) -> Status
+        ensures { result ≡ status_of self.now }
+    {
+        match self {
+            Fault::Usage(_) => Status::Usage,
+            Fault::SourceNotYet => Status::Source,
+            Fault::DumpNotYet => Status::Dump,
+            Fault::Files { .. } => Status::Files,
+            Fault::Memory => Status::Memory,
+        }
+    }
+}

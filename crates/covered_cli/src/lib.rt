@@ -1,0 +1,14 @@
+//! The program over a host: it reads the words of a command, does the work, and answers with a status.
+#![tactic(auto)]
+
+mod fault;
+mod message;
+mod score;
+mod status;
+mod top_call;
+
+pub use status::Status;
+pub use top_call::covered;
+
+#[cfg(test)]
+mod tests;

@@ -1,0 +1,58 @@
+ghost use Rattle.std.specs.Prelude.{◌≡◌, ◌++◌, codes};
+ghost use Rattle.std.specs.List.{flat_map};
+ghost use Rattle.command_line.specs.UsageFault.{usage_text};
+ghost use Rattle.cov_host.specs.Outside.{KeepsFiles};
+ghost use Rattle.whole_files.specs.Call.{call_name};
+ghost use Rattle.whole_files.specs.Effects.{CountsUp};
+ghost use Rattle.covered_cli.specs.Effects.{WarnsLine};
+ghost use Rattle.covered_cli.specs.Fault.{line_of};
+
+use crate::fault::Fault;
+use command_line::UsageFault;
+use cov_host::Host;
+use whole_files::Call;
+
+/// Warns of a fault by its line, piece by piece and without memory. Where the host refuses a piece, the pieces
+/// after it are left out.
+pub(crate) fn warn_of<H: Host>(host: &mut H, fault: &Fault<'_>)
+    ensures line { WarnsLine (line_of fault.now) (H.outside host.old) (H.outside host.new) }
+    ensures printed { (H.outside host.new).printed ≡ (H.outside host.old).printed }
+    ensures files { KeepsFiles (H.outside host.old) (H.outside host.new) }
+    ensures counts { CountsUp (H.outside host.old) (H.outside host.new) }
+{
+    for piece in pieces_of(fault) {
+        match host.warn(piece.as_bytes()) {
+            Ok(()) => {}
+            Err(_) => return,
+        }
+    }
+}
+
+/// The pieces of a fault's line in order.
+fn pieces_of<'a>(fault: &Fault<'a>) -> [&'a str; 5]
+    ensures { flat_map (λ piece. piece.now) result ≡ line_of fault.now }
+{
+    match fault {
+        Fault::Usage(usage) => usage_pieces(usage),
+        Fault::SourceNotYet => ["covered: source: early 1 NotYet\n", "", "", "", ""],
+        Fault::DumpNotYet => ["covered: dump: early 1 NotYet\n", "", "", "", ""],
+        Fault::Files { call, file } => file_pieces(*call, file),
+        Fault::Memory => ["covered: memory\n", "", "", "", ""],
+    }
+}
+
+/// The pieces of the line of a usage fault in order.
+fn usage_pieces<'a>(usage: &UsageFault<'a>) -> [&'a str; 5]
+    ensures { flat_map (λ piece. piece.now) result ≡ codes "covered: usage: " ++ usage_text usage.now ++ codes "\n" }
+{
+    let [before, word, after] = usage.pieces();
+    ["covered: usage: ", before, word, after, "\n"]
+}
+
+/// The pieces of the line of a call on a file in order.
+fn file_pieces<'a>(call: Call, file: &'a str) -> [&'a str; 5]
+    ensures { flat_map (λ piece. piece.now) result ≡ codes "covered: files: " ++ call_name call ++ codes " " ++ file.now ++ codes "\n" }
+{
+    let name: &'a str = call.name();
+    ["covered: files: ", name, " ", file, "\n"]
+}

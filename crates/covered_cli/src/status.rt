@@ -1,0 +1,32 @@
+ghost use Rattle.std.specs.Prelude.{◌≡◌};
+ghost use Rattle.covered_cli.specs.Status.{code_of};
+
+/// How a command ended.
+#[derive(Clone, Copy, Debug, PartialEq, Eq)]
+pub enum Status {
+    /// The command's file was written whole.
+    Done,
+    /// The words are no command.
+    Usage,
+    /// A fault stands in the sources.
+    Source,
+    /// A fault stands in the dump, or the dump does not fit the design.
+    Dump,
+    /// No run of the design shows the dump.
+    Contradiction,
+    /// A call on the host failed, or a file that is to be read is absent.
+    Files,
+    /// Memory ran out.
+    Memory,
+    /// A fault stands in a database.
+    Database,
+}
+
+impl Status {
+    /// The number that the program ends with, from 0 to 7.
+    pub fn code(&self) -> u8
+        ensures { result ≡ code_of self.now }
+    {
+        *self as u8
+    }
+}

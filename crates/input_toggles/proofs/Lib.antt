@@ -1,0 +1,5 @@
+pub mod ListLemmas
+pub mod NameOrder
+pub mod PointOrder
+pub mod TableLemmas
+pub mod ReplayLemmas

@@ -1,0 +1,4 @@
+pub mod InputDesign
+pub mod Points
+pub mod Watched
+pub mod PointList

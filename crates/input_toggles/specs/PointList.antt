@@ -1,0 +1,50 @@
+-- The table of signals as a whole: their points in the order of the signals, with the verdicts.
+use Rattle.std.specs.Prelude.{ℕ, min, Bool, true, false, Option, Some, None, if◌then◌else◌, List, [], ◌∷◌}
+use Rattle.std.specs.List.{flat_map, range_with_len}
+use Rattle.coverage_db.specs.declared.db.Db.{Db}
+use Rattle.coverage_db.specs.declared.db.DbInstance.{DbInstance}
+use Rattle.coverage_db.specs.declared.db.DbPoint.{DbPoint}
+use Rattle.coverage_db.specs.declared.verdict.DbVerdict.{DbVerdict}
+use Rattle.coverage_db.specs.declared.verdict.DbVerdict.TheVariants.{Hit, Missed}
+use Rattle.design_model.specs.declared.design.Signal.{Signal}
+use Rattle.input_toggles.specs.Points.{place_of, toggle_address}
+use Rattle.input_toggles.specs.Watched.{has_toggle}
+use Rattle.input_toggles.specs.declared.watched.Watched.{Watched}
+
+-- the index as it is declared
+abbrev pub declared_index : Signal → ℕ → Option ℕ
+declared_index signal index = if signal.ranged then Some index else None
+
+-- the verdict of a bit that toggled, or of one that did not
+abbrev pub verdict_of : Bool → DbVerdict
+verdict_of true = Hit
+verdict_of false = Missed
+
+-- the point of a bit in a direction
+abbrev pub point_of : Watched → ℕ → Bool → DbPoint
+point_of w index rise =
+    let signal = w.signal.now in
+    record {
+      address = toggle_address signal (declared_index signal index) rise;
+      verdict = verdict_of (has_toggle w.toggles (place_of signal (Some index)) rise);
+    }
+
+-- the two points of a bit
+abbrev pub bit_points : Watched → ℕ → List DbPoint
+bit_points w index = point_of w index true ∷ point_of w index false ∷ []
+
+-- the points of a signal
+abbrev pub signal_points : Watched → List DbPoint
+signal_points w = flat_map (bit_points w) (range_with_len (min w.signal.now.high w.signal.now.low) w.signal.now.width)
+
+-- the points of signals
+abbrev pub points_of : List Watched → List DbPoint
+points_of watched = flat_map signal_points watched
+
+-- the instance of the top module
+abbrev pub top_instance : List ℕ → DbInstance
+top_instance top = record { path = top; «module» = top }
+
+-- the table of a top module from one source, with the points of its signals
+abbrev pub table : List ℕ → List ℕ → List Watched → Db
+table top source watched = record { top = top; sources = source ∷ []; instances = top_instance top ∷ []; points = points_of watched }

@@ -1,0 +1,37 @@
+ghost use Rattle.std.specs.Prelude.{◌≡◌, ◌<◌};
+ghost use Rattle.input_toggles.specs.Watched.{has_toggle};
+
+use four_state::Four;
+
+/// The bits of a signal that toggled, at their places from the lowest bit on.
+#[derive(Clone, Copy, Debug)]
+pub(crate) struct Toggles {
+    /// The bits that went from 0 to 1.
+    rises: u128,
+    /// The bits that went from 1 to 0.
+    falls: u128,
+}
+
+impl Toggles {
+    /// No toggle.
+    pub(crate) fn none() -> Self {
+        Toggles { rises: 0, falls: 0 }
+    }
+
+    /// Whether the bit at this place toggled in this direction.
+    pub(crate) fn has(&self, place: u8, rise: bool) -> bool
+        requires { place < 128 }
+        ensures { result ≡ has_toggle self.now place rise }
+    {
+        let bits = if rise { self.rises } else { self.falls };
+        bits >> place & 1 == 1
+    }
+
+    /// With the toggles of one step more, which goes from the old value to the new one.
+    pub(crate) fn with_step(&self, old: &Four, new: &Four) -> Self {
+        Toggles {
+            rises: self.rises | old.known_zeros() & new.known_ones(),
+            falls: self.falls | old.known_ones() & new.known_zeros(),
+        }
+    }
+}
