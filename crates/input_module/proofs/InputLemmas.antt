@@ -1,15 +1,13 @@
 -- What holds of the design of a source.
-use Rattle.std.proofs.Common.{◌≡◌, ℕ, ◌+◌, ◌*◌, ◌≤◌, true, List, [], ◌∷◌, length, map, Option, Some, None, refl, ap, subst, sym, ◌∙◌, arith}
+use Rattle.std.proofs.Common.{◌≡◌, ℕ, true, List, [], ◌∷◌, Option, Some, None, refl, subst, sym, arith}
 use Rattle.std.specs.Prelude.{IfSome}
 use Rattle.std.specs.List.{AllByRecursion}
 use Rattle.std.proofs.lemmas.List.{length-map}
 use Rattle.std.proofs.lemmas.List.Elements.{All-from_recursion}
-use Rattle.cov_host.specs.Decimal.{decimal_value}
 use Rattle.cov_host.specs.Identifier.{is_identifier}
 use Rattle.design_model.specs.declared.design.Design.{Design}
-use Rattle.design_model.specs.declared.design.Signal.{Signal}
-use Rattle.input_module.specs.Port.{Bounds, IsPort, IsRange, Port, declaration_of, signal_of, width_between}
-use Rattle.input_module.specs.SourceForm.{AreDistinct, IsSource, design_with, signals_of}
+use Rattle.input_module.specs.Port.{Bounds, IsPort, IsRange, Port, declaration_of, signal_of}
+use Rattle.input_module.specs.SourceForm.{AreDistinct, IsSource, signals_of}
 use Rattle.input_module.specs.InputDesign.{IsInput, IsInputDesign}
 use Rattle.input_module.proofs.PortLemmas.{bound_within}
 use Rattle.input_module.proofs.SourceLemmas.{names-signals_of}
@@ -17,29 +15,29 @@ use Rattle.input_module.proofs.TextLength.{module_length}
 
 input_of : (name : List ℕ) (range : Option Bounds) → is_identifier name ≡ true → IfSome range IsRange → IsInput (signal_of (declaration_of (record { name = name; range = range })))
 input_of name None is_name is_range = record {
-    instance = refl;
-    name = is_name;
-    high = omega arith;
-    low = omega arith;
-    width = refl;
-    some = omega arith;
-    narrow = omega arith;
-    without_range = λ _. (refl, refl);
-    signed = refl;
-    input = refl;
-  }
+  instance = refl;
+  name = is_name;
+  high = omega arith;
+  low = omega arith;
+  width = refl;
+  some = omega arith;
+  narrow = omega arith;
+  without_range = λ _. (refl, refl);
+  signed = refl;
+  input = refl;
+}
 input_of name (Some bounds) is_name is_range = record {
-    instance = refl;
-    name = is_name;
-    high = bound_within is_range.high;
-    low = bound_within is_range.low;
-    width = refl;
-    some = omega arith;
-    narrow = is_range.narrow;
-    without_range = λ no. absurd cc;
-    signed = refl;
-    input = refl;
-  }
+  instance = refl;
+  name = is_name;
+  high = bound_within is_range.high;
+  low = bound_within is_range.low;
+  width = refl;
+  some = omega arith;
+  narrow = is_range.narrow;
+  without_range = λ no. absurd cc;
+  signed = refl;
+  input = refl;
+}
 
 inputs_of : (ports : List Port) → AllByRecursion IsPort ports → AllByRecursion IsInput (signals_of ports)
 inputs_of [] each = tt
@@ -48,13 +46,13 @@ inputs_of (port ∷ ports) each = (input_of port.name port.range each.0.name eac
 -- the design of a source is one of inputs alone
 pub IsInputDesign-source : (text top : List ℕ) (design : Design) → IsSource text top design → IsInputDesign text design
 IsInputDesign-source text top design is = subst (IsInputDesign text) (sym is.design_is) (record {
-    top = is.name;
-    instances = refl;
-    signals = All-from_recursion IsInput (signals_of is.ports) (inputs_of is.ports is.of_form.each);
-    names = subst AreDistinct (sym (names-signals_of is.ports)) is.distinct;
-    few = omega (arith, module_length text top is.ports is.of_form, length-map is.ports (λ port. signal_of (declaration_of port)));
-    memories = refl;
-    processes = refl;
-    constants = refl;
-    aliases = refl;
-  })
+  top = is.name;
+  instances = refl;
+  signals = All-from_recursion IsInput (signals_of is.ports) (inputs_of is.ports is.of_form.each);
+  names = subst AreDistinct (sym (names-signals_of is.ports)) is.distinct;
+  few = omega (arith, module_length text top is.ports is.of_form, length-map is.ports (λ port. signal_of (declaration_of port)));
+  memories = refl;
+  processes = refl;
+  constants = refl;
+  aliases = refl;
+})

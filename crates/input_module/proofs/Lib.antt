@@ -7,3 +7,4 @@ pub mod NameLemmas
 pub mod TextLength
 pub mod SourceLemmas
 pub mod InputLemmas
+pub mod Example

@@ -1,12 +1,12 @@
 -- A module, read from its tokens.
-use Rattle.std.proofs.Common.{◌≡◌, ℕ, List, [], ◌∷◌, ◌++◌, map, Option, Some, None, refl, sym, true, false, ap, subst, ◌∙◌}
+use Rattle.std.proofs.Common.{◌≡◌, ℕ, List, [], ◌∷◌, ◌++◌, map, Option, Some, None, refl, true, false, ap, subst, ◌∙◌}
 use Rattle.std.specs.Prelude.{Bool, codes, is_some, not}
 use Rattle.std.specs.Str.{byte}
 use Rattle.design_model.specs.declared.design.Signal.{Signal}
 use Rattle.input_module.specs.Tokens.{Token, word, mark}
 use Rattle.input_module.specs.Port.{Port, declaration_of}
-use Rattle.input_module.specs.Reading.{◌>>=◌, DeclaresSignals, NoPortList, Takes, end_at, front_at, mark_at, word_at}
-use Rattle.input_module.specs.SourceForm.{IsModule, IsPortList, list_tokens, module_tokens, signals_of}
+use Rattle.input_module.specs.Reading.{◌>>=◌, DeclaresSignals, IsModuleWith, IsPortList, NoModule, NoPortList, Takes, end_at, front_at, mark_at, word_at}
+use Rattle.input_module.specs.SourceForm.{IsModule, list_tokens, module_tokens}
 use Rattle.input_module.proofs.PortLists.{IsPortList-once}
 use Rattle.input_module.proofs.PortReading.{bind_some, mark_at-read, word_at-again, word_at-read}
 
@@ -57,23 +57,23 @@ list_behind tokens name ports is =
     let behind : List Token = list_tokens ports ++ mark (byte ")") ∷ end_tokens in
     (behind, ap (front_at name) is.spelled ∙ front_at-again name behind, record { some = is.some; each = is.each; spelled = refl })
 
-pub no_front : (tokens : List Token) (name : List ℕ) → front_at name tokens ≡ None → (ports : List Port) → IsModule tokens name ports → ⊥
+pub no_front : (tokens : List Token) (name : List ℕ) → front_at name tokens ≡ None → NoModule tokens name
 no_front tokens name none ports is = let list = list_behind tokens name ports is in cc (none, list.1)
 
-pub no_list : (tokens behind : List Token) (name : List ℕ) → front_at name tokens ≡ Some behind → NoPortList behind → (ports : List Port) → IsModule tokens name ports → ⊥
+pub no_list : (tokens behind : List Token) (name : List ℕ) → front_at name tokens ≡ Some behind → NoPortList behind → NoModule tokens name
 no_list tokens behind name front none ports is =
     let list = list_behind tokens name ports is in
     let same : list.0 ≡ behind = cc (front, list.1) in
     none ports end_tokens (subst (λ (ts : List Token). IsPortList ts ports end_tokens) same list.2)
 
-pub no_end : (tokens behind rest : List Token) (name : List ℕ) (signals : List Signal) → front_at name tokens ≡ Some behind → DeclaresSignals behind signals rest → (end_at rest ≡ Some [] → ⊥) → (ports : List Port) → IsModule tokens name ports → ⊥
+pub no_end : (tokens behind rest : List Token) (name : List ℕ) (signals : List Signal) → front_at name tokens ≡ Some behind → DeclaresSignals behind signals rest → (end_at rest ≡ Some [] → ⊥) → NoModule tokens name
 no_end tokens behind rest name signals front found not_closed ports is =
     let list = list_behind tokens name ports is in
     let same : list.0 ≡ behind = cc (front, list.1) in
     let once = IsPortList-once behind rest end_tokens found.0 ports found.1 (subst (λ (ts : List Token). IsPortList ts ports end_tokens) same list.2) in
     not_closed (ap end_at once.1 ∙ end_at-again)
 
-pub whole_module : (tokens behind rest : List Token) (name : List ℕ) (signals : List Signal) → front_at name tokens ≡ Some behind → DeclaresSignals behind signals rest → end_at rest ≡ Some [] → (ports : List Port) × IsModule tokens name ports × (signals ≡ signals_of ports)
+pub whole_module : (tokens behind rest : List Token) (name : List ℕ) (signals : List Signal) → front_at name tokens ≡ Some behind → DeclaresSignals behind signals rest → end_at rest ≡ Some [] → IsModuleWith tokens name signals
 whole_module tokens behind rest name signals front found closed =
     let spelled : tokens ≡ module_tokens name found.0 = front_at-read name tokens behind front ∙ ap (λ (ts : List Token). word (codes "module") ∷ word name ∷ mark (byte "(") ∷ ts) (found.1.spelled ∙ ap (λ (ts : List Token). list_tokens found.0 ++ mark (byte ")") ∷ ts) (end_at-read rest closed)) in
     (found.0, record { some = found.1.some; each = found.1.each; spelled = spelled }, found.2)

@@ -1,5 +1,5 @@
 -- Names that are found once.
-use Rattle.std.proofs.Common.{◌≡◌, ℕ, ◌+◌, ◌<◌, ◌≤◌, Bool, true, false, cond, List, [], ◌∷◌, ◌++◌, length, get_or, take, map, BTreeSet, refl, sym, ap, ◌∙◌, arith}
+use Rattle.std.proofs.Common.{◌≡◌, ℕ, ◌+◌, ◌<◌, Bool, true, false, cond, List, [], ◌∷◌, ◌++◌, length, get_or, take, map, BTreeSet, refl, sym, ap, ◌∙◌, arith}
 use Rattle.std.specs.Prelude.{◌||◌, ◌≢◌, not}
 use Rattle.std.specs.Borrow.{Bor}
 use Rattle.std.specs.BTreeSet.{contains}
@@ -40,14 +40,14 @@ cond_or false false = refl
 pub HasNames-more : (names longer : BTreeSet (Bor (List ℕ))) (so_far : List (List ℕ)) (key : Bor (List ℕ)) (name : List ℕ) → key.now ≡ name → HasNames names so_far → contains by_bytes names key ≡ false
     → ((q : Bor (List ℕ)) → contains by_bytes longer q ≡ cond (is_at (by_bytes key) q) true (contains by_bytes names q)) → HasNames longer (so_far ++ name ∷ [])
 HasNames-more names longer so_far key name is so_far_has new updates = record {
-    distinct = all_pairs_push (λ x y. x ≢ y) so_far name so_far_has.distinct (λ k d below same.
-        let there : list_any (bytes_eq key.now) so_far ≡ true = list_any_at (bytes_eq key.now) so_far k d below ((bytes_eq-Decides key.now (get_or so_far k d)).1 (is ∙ sym same)) in
-        let apart : true ≡ false = sym there ∙ sym (so_far_has.has key) ∙ new in
-        cc);
-    has = λ q.
-        let same : is_at (by_bytes key) q ≡ bytes_eq q.now name = is_eq-slice_cmp key.now q.now ∙ nat_list_eq_equiv.symm key.now q.now ∙ ap (bytes_eq q.now) is in
-        updates q ∙ rw (same, so_far_has.has q, list_any-append (bytes_eq q.now) so_far (name ∷ [])) (cond_or (bytes_eq q.now name) (list_any (bytes_eq q.now) so_far));
-  }
+  distinct = all_pairs_push (λ x y. x ≢ y) so_far name so_far_has.distinct (λ k d below same.
+      let there : list_any (bytes_eq key.now) so_far ≡ true = list_any_at (bytes_eq key.now) so_far k d below ((bytes_eq-Decides key.now (get_or so_far k d)).1 (is ∙ sym same)) in
+      let apart : true ≡ false = sym there ∙ sym (so_far_has.has key) ∙ new in
+      cc);
+  has = λ q.
+      let same : is_at (by_bytes key) q ≡ bytes_eq q.now name = is_eq-slice_cmp key.now q.now ∙ nat_list_eq_equiv.symm key.now q.now ∙ ap (bytes_eq q.now) is in
+      updates q ∙ rw (same, so_far_has.has q, list_any-append (bytes_eq q.now) so_far (name ∷ [])) (cond_or (bytes_eq q.now name) (list_any (bytes_eq q.now) so_far));
+}
 
 -- a name that was there
 pub HasNames-twice : (names : BTreeSet (Bor (List ℕ))) (all : List (List ℕ)) (i : ℕ) (key : Bor (List ℕ)) → i < length all → ((d : List ℕ) → key.now ≡ get_or all i d) → HasNames names (take i all) → contains by_bytes names key ≡ true → AreDistinct all → ⊥

@@ -1,5 +1,5 @@
 -- Reading a port, and the ports that are read so.
-use Rattle.std.proofs.Common.{◌≡◌, ℕ, ◌<◌, ◌≤◌, ◌^◌, Bool, true, false, List, [], ◌∷◌, length, Option, Some, None, refl, arith, inl, inr}
+use Rattle.std.proofs.Common.{◌≡◌, ℕ, ◌<◌, ◌≤◌, Bool, true, false, List, ◌∷◌, length, Some, None, refl, arith, inl, inr}
 use Rattle.std.specs.Prelude.{nat_le, nat_lt, ◌&&◌}
 use Rattle.std.specs.Str.{all_ascii_digits}
 use Rattle.std.specs.Str.Parse.{digits_value}
@@ -7,7 +7,7 @@ use Rattle.std.proofs.lemmas.Bool.{cases_Bool}
 use Rattle.std.proofs.lemmas.Bool.Decides.{nat_tests}
 use Rattle.std.proofs.lemmas.Str.Parse.{IsNumeralModel, digits_value_short, numerals_by_value, tells_all_ascii_digits}
 use Rattle.cov_host.specs.Decimal.{IsDecimal, decimal_value}
-use Rattle.input_module.specs.Tokens.{Token, word, mark}
+use Rattle.input_module.specs.Tokens.{Token, word}
 use Rattle.input_module.specs.Port.{IsBound}
 use Rattle.input_module.specs.Reading.{is_bound, bound_at}
 

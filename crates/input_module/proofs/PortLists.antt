@@ -1,15 +1,14 @@
 -- Lists of ports, read port by port.
-use Rattle.std.proofs.Common.{◌≡◌, ℕ, suc, ◌+◌, ◌<◌, Bool, true, false, cond, eqb, List, [], ◌∷◌, ◌++◌, length, map, Option, Some, None, refl, sym, ap, subst, ◌∙◌, append_assoc, arith, inl, inr}
-use Rattle.std.specs.List.{AllByRecursion}
+use Rattle.std.proofs.Common.{◌≡◌, ℕ, ◌<◌, Bool, true, false, cond, eqb, List, [], ◌∷◌, ◌++◌, length, map, Option, Some, None, refl, sym, ap, subst, ◌∙◌, append_assoc, arith}
 use Rattle.std.specs.Str.{byte}
 use Rattle.std.proofs.lemmas.Bool.{eqb-true}
 use Rattle.std.proofs.lemmas.List.{length-append, map-append}
 use Rattle.design_model.specs.declared.design.Signal.{Signal}
 use Rattle.input_module.specs.Tokens.{Token, word, mark}
 use Rattle.input_module.specs.Port.{Declaration, IsPort, Port, declaration_of, port_tokens, signal_of}
-use Rattle.input_module.specs.Reading.{DeclaresSignals, NoPortList, port_at, separator_at}
-use Rattle.input_module.specs.SourceForm.{IsPortList, list_tokens, signals_of}
-use Rattle.input_module.proofs.PortReading.{ReadsPort, found_both, port_at-again, port_at-read}
+use Rattle.input_module.specs.Reading.{DeclaresSignals, IsPortList, NoPortList, port_at, separator_at}
+use Rattle.input_module.specs.SourceForm.{list_tokens, signals_of}
+use Rattle.input_module.proofs.PortReading.{found_both, port_at-again, port_at-read}
 
 -- how reading goes through a list of ports
 pub data Begins : List Token → List Port → List Token → Type 0 where
@@ -31,10 +30,10 @@ IsPortList-last tokens rest port is_port spelled = record { some = omega arith; 
 IsPortList-more : (tokens next rest : List Token) (port : Port) (ports : List Port) → IsPort port → tokens ≡ port_tokens port ++ mark (byte ",") ∷ next → IsPortList next ports rest → IsPortList tokens (port ∷ ports) rest
 IsPortList-more tokens next rest port [] is_port spelled is = absurd (omega (arith, is.some))
 IsPortList-more tokens next rest port (second ∷ ports) is_port spelled is = record {
-    some = omega arith;
-    each = (is_port, is.each);
-    spelled = spelled ∙ ap (λ (ts : List Token). port_tokens port ++ mark (byte ",") ∷ ts) is.spelled ∙ sym (append_assoc (port_tokens port) (mark (byte ",") ∷ list_tokens (second ∷ ports)) (mark (byte ")") ∷ rest));
-  }
+  some = omega arith;
+  each = (is_port, is.each);
+  spelled = spelled ∙ ap (λ (ts : List Token). port_tokens port ++ mark (byte ",") ∷ ts) is.spelled ∙ sym (append_assoc (port_tokens port) (mark (byte ",") ∷ list_tokens (second ∷ ports)) (mark (byte ")") ∷ rest));
+}
 
 -- two ways to read one list of tokens give the same
 reads_once : (tokens : List Token) (a b : Declaration) (x y : List Token) → port_at tokens ≡ Some (a, x) → port_at tokens ≡ Some (b, y) → (a ≡ b) × (x ≡ y)

@@ -5,7 +5,8 @@ use Rattle.cov_host.specs.Identifier.{is_identifier}
 use Rattle.design_model.specs.declared.design.Design.{Design}
 use Rattle.design_model.specs.declared.design.Signal.{Signal}
 use Rattle.input_module.specs.Tokens.{tokens_of}
-use Rattle.input_module.specs.Port.{Declaration, Port, declaration_of, signal_of}
+use Rattle.input_module.specs.Port.{Port, declaration_of, signal_of}
+use Rattle.input_module.specs.Reading.{IsModuleWith}
 use Rattle.input_module.specs.SourceForm.{AreDistinct, IsModule, IsSource, design_with, signals_of}
 use Rattle.input_module.proofs.ModuleReading.{IsModule-once}
 
@@ -22,24 +23,20 @@ signals_of-declared (port ∷ ports) = ap (λ signals. signal_of (declaration_of
 signals_once : (text name : List ℕ) (ports others : List Port) → IsModule (tokens_of text) name ports → IsModule (tokens_of text) name others → signals_of ports ≡ signals_of others
 signals_once text name ports others left right = signals_of-declared ports ∙ ap (map signal_of) (IsModule-once (tokens_of text) name ports others left right) ∙ sym (signals_of-declared others)
 
--- the text is a module whose ports declare these signals
-abbrev pub Declares : List ℕ → List ℕ → List Signal → Type 0
-Declares text top signals = (ports : List Port) × IsModule (tokens_of text) top ports × (signals ≡ signals_of ports)
-
 -- what a module with distinct names stands for
-pub source_found : (text top : List ℕ) (signals given : List Signal) (distinct : Bool) (design : Design) → length text ≤ 67108864 → is_identifier top ≡ true → Declares text top signals → given ≡ signals
+pub source_found : (text top : List ℕ) (signals given : List Signal) (distinct : Bool) (design : Design) → length text ≤ 67108864 → is_identifier top ≡ true → IsModuleWith (tokens_of text) top signals → given ≡ signals
     → (IsTrue distinct ↔ AreDistinct (map (λ signal. signal.name) given)) → distinct ≡ true → design ≡ design_with top signals → IsSource text top design
 source_found text top signals given distinct design short name found same tested test is = record {
-    short = short;
-    name = name;
-    ports = found.0;
-    of_form = found.1;
-    distinct = subst AreDistinct (names-signals_of found.0) (subst (λ (ss : List Signal). AreDistinct (map (λ signal. signal.name) ss)) (same ∙ found.2) (tested.0 test));
-    design_is = is ∙ ap (design_with top) found.2;
-  }
+  short = short;
+  name = name;
+  ports = found.0;
+  of_form = found.1;
+  distinct = subst AreDistinct (names-signals_of found.0) (subst (λ (ss : List Signal). AreDistinct (map (λ signal. signal.name) ss)) (same ∙ found.2) (tested.0 test));
+  design_is = is ∙ ap (design_with top) found.2;
+}
 
 -- where the names of the ports of a module are not distinct, there is no source
-pub source_twice : (text top : List ℕ) (signals given : List Signal) (distinct : Bool) → Declares text top signals → given ≡ signals
+pub source_twice : (text top : List ℕ) (signals given : List Signal) (distinct : Bool) → IsModuleWith (tokens_of text) top signals → given ≡ signals
     → (IsTrue distinct ↔ AreDistinct (map (λ signal. signal.name) given)) → distinct ≡ false → (design : Design) → IsSource text top design → ⊥
 source_twice text top signals given distinct found same tested none design is =
     let known : signals_of is.ports ≡ given = signals_once text top is.ports found.0 is.of_form found.1 ∙ sym found.2 ∙ sym same in

@@ -48,12 +48,12 @@ has_room (b ∷ bs) =
     elim (cases_Bool (is_white_space b)) [
       | inl white ↦ room_for (b ∷ bs) (tokens_of bs) (tokens_of-white b bs white) (omega (arith, rest.whole)) (λ none. omega (arith, rest.whole, small))
       | inr black ↦ elim (cases_Bool (continues_name b)) [
-          | inl inside ↦ elim (cases_Bool (begins_word bs)) [
-              | inl next ↦ room_for (b ∷ bs) (joined b (tokens_of bs)) (word_step b bs inside ∙ rw next refl) (omega (arith, rest.whole, bytes_of-joined b (tokens_of bs))) (λ none. absurd (let apart : true ≡ false = sym inside ∙ none in cc))
-              | inr last ↦ room_for (b ∷ bs) (word (b ∷ []) ∷ tokens_of bs) (word_step b bs inside ∙ rw last refl) (omega (arith, rest.apart last)) (λ none. absurd (let apart : true ≡ false = sym inside ∙ none in cc))
-            ]
-          | inr outside ↦ room_for (b ∷ bs) (mark b ∷ tokens_of bs) (tokens_of-mark b bs black outside) (omega (arith, rest.whole)) (λ none. omega (arith, rest.whole))
+        | inl inside ↦ elim (cases_Bool (begins_word bs)) [
+          | inl next ↦ room_for (b ∷ bs) (joined b (tokens_of bs)) (word_step b bs inside ∙ rw next refl) (omega (arith, rest.whole, bytes_of-joined b (tokens_of bs))) (λ none. absurd (let apart : true ≡ false = sym inside ∙ none in cc))
+          | inr last ↦ room_for (b ∷ bs) (word (b ∷ []) ∷ tokens_of bs) (word_step b bs inside ∙ rw last refl) (omega (arith, rest.apart last)) (λ none. absurd (let apart : true ≡ false = sym inside ∙ none in cc))
         ]
+        | inr outside ↦ room_for (b ∷ bs) (mark b ∷ tokens_of bs) (tokens_of-mark b bs black outside) (omega (arith, rest.whole)) (λ none. omega (arith, rest.whole))
+      ]
     ]
 
 -- an identifier has a byte

@@ -1,11 +1,11 @@
 -- The tokens of a text, read from its front.
-use Rattle.std.proofs.Common.{◌≡◌, ℕ, ◌+◌, ◌<◌, Bool, true, false, cond, List, [], ◌∷◌, length, take, drop, refl, sym, ap, ◌∙◌, arith, inl, inr, one-add}
+use Rattle.std.proofs.Common.{◌≡◌, ℕ, ◌<◌, Bool, true, false, cond, List, [], ◌∷◌, length, take, drop, refl, sym, ap, ◌∙◌, arith, inl, inr, one-add}
 use Rattle.std.specs.List.{prefix_len}
 use Rattle.std.proofs.lemmas.Bool.{cases_Bool, cases_lt}
 use Rattle.std.proofs.lemmas.Bool.Decides.{nat_tests}
 use Rattle.std.proofs.lemmas.List.Folds.{length-prefix_len}
 use Rattle.cov_host.specs.Identifier.{continues_name}
-use Rattle.input_module.specs.Tokens.{Token, word, mark, is_white_space, begins_word, joined, tokens_of}
+use Rattle.input_module.specs.Tokens.{word, mark, is_white_space, begins_word, joined, tokens_of}
 
 -- how much white space the text begins with
 abbrev pub space_len : List ℕ → ℕ

@@ -1,3 +1,4 @@
+pub mod Example
 pub mod Tokens
 pub mod Port
 pub mod SourceForm

@@ -47,11 +47,12 @@ pub record IsPort (port : Port) : Type 0 where
   pub name : IsTrue (is_identifier port.name)
   pub range : IfSome port.range IsRange
 
--- what a port says: its name, and the numbers of its range
+-- a name, and the numbers of a range
 pub record Declaration : Type 0 where
   pub name : List ℕ
   pub range : Option (ℕ × ℕ)
 
+-- what the port says
 abbrev pub declaration_of : Port → Declaration
 declaration_of port = record { name = port.name; range = option_map (λ bounds. (decimal_value bounds.high, decimal_value bounds.low)) port.range }
 

@@ -24,12 +24,6 @@ pub record IsModule (tokens : List Token) (name : List ℕ) (ports : List Port) 
   pub each : AllByRecursion IsPort ports
   pub spelled : tokens ≡ module_tokens name ports
 
--- the tokens begin with one or more ports and the `)` that ends them, and these are behind it
-pub record IsPortList (tokens : List Token) (ports : List Port) (rest : List Token) : Type 0 where
-  pub some : 0 < length ports
-  pub each : AllByRecursion IsPort ports
-  pub spelled : tokens ≡ list_tokens ports ++ mark (byte ")") ∷ rest
-
 -- no two are the same
 abbrev pub AreDistinct : List (List ℕ) → Type 0
 AreDistinct names = AllPairs (λ x y. x ≢ y) names

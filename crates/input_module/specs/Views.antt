@@ -1,5 +1,5 @@
 -- What contracts see of the types of the code.
-use Rattle.std.specs.Prelude.{ℕ, Option}
+use Rattle.std.specs.Prelude.{ℕ}
 use Rattle.std.specs.Option.{option_map}
 use Rattle.input_module.specs.declared.port.Port.{Port as PortRow}
 use Rattle.input_module.specs.declared.port.Range.{Range as RangeRow}

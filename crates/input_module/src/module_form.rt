@@ -1,7 +1,5 @@
-ghost use Rattle.std.specs.Prelude.{◌≡◌, ◌↔◌, List, [], IfNone, IfOk, IfSome, IsTrue};
-ghost use Rattle.input_module.specs.Port.{Port};
-ghost use Rattle.input_module.specs.Reading.{DeclaresSignals, NoPortList, Reads, Takes, end_at, front_at, separator_at};
-ghost use Rattle.input_module.specs.SourceForm.{IsModule, signals_of};
+ghost use Rattle.std.specs.Prelude.{◌≡◌, ◌↔◌, [], IfNone, IfOk, IfSome, IsTrue};
+ghost use Rattle.input_module.specs.Reading.{DeclaresSignals, IsModuleWith, NoModule, NoPortList, Reads, Takes, end_at, front_at, separator_at};
 ghost use Rattle.input_module.specs.Tokens.{tokens_of};
 
 use crate::port_form::read_port;
@@ -18,9 +16,9 @@ pub(crate) fn read_module(
     name: &str,
 ) -> Result<Option<Sequence<Signal>>, NoMemory>
     ensures found { IfOk result (λ found. IfSome found (λ signals.
-        (ports : List Port) × IsModule (tokens_of source.now) name.now ports × (signals ≡ signals_of ports))) }
+        IsModuleWith (tokens_of source.now) name.now signals)) }
     ensures none { IfOk result (λ found. IfNone found (
-        (ports : List Port) → IsModule (tokens_of source.now) name.now ports → ⊥)) }
+        NoModule (tokens_of source.now) name.now)) }
 {
     let mut tokens = Tokens::new(source);
     if open_module(&mut tokens, name).is_none() {
@@ -47,11 +45,9 @@ fn open_module(tokens: &mut Tokens<'_>, name: &str) -> Option<()>
 }
 
 /// Takes the ports, and the `)` that ends them.
-fn read_ports(
-    alloc: Global,
-    tokens: &mut Tokens<'_>,
-) -> Result<Option<Sequence<Signal>>, NoMemory>
-    ensures found { IfOk result (λ found. IfSome found (λ signals. DeclaresSignals tokens.old signals tokens.new)) }
+fn read_ports(alloc: Global, tokens: &mut Tokens<'_>) -> Result<Option<Sequence<Signal>>, NoMemory>
+    ensures found { IfOk result (λ found. IfSome found (λ signals.
+        DeclaresSignals tokens.old signals tokens.new)) }
     ensures none { IfOk result (λ found. IfNone found (NoPortList tokens.old)) }
 {
     let mut signals = Sequence::new(alloc);

@@ -8,7 +8,8 @@ use std::collections::BTreeSet;
 
 /// Whether no two of the signals have one name.
 pub(crate) fn have_distinct_names(alloc: Global, signals: &[Signal]) -> Result<bool, NoMemory>
-    ensures { IfOk result (λ distinct. IsTrue distinct ↔ AreDistinct (map (λ signal. signal.name) signals.now)) }
+    ensures { IfOk result (λ distinct.
+        IsTrue distinct ↔ AreDistinct (map (λ signal. signal.name) signals.now)) }
 {
     let mut names = BTreeSet::new(alloc);
     for signal in signals {

@@ -11,19 +11,20 @@ use std::alloc::Global;
 /// The longest source, in bytes.
 const LONGEST_SOURCE: usize = 67_108_864;
 
-/// The design of a source that is one module with inputs alone:
+/// The design of a source that is one module `top` with inputs alone (IEEE 1364-2001, 12.1 and 12.3):
 ///
 /// `module NAME ( PORT , .. ) ; endmodule`, where a PORT is `input NAME` or `input [ A : B ] NAME`.
 ///
-/// None where the source is not of this form, or its module is not `top`.
-pub fn read_source(
-    alloc: Global,
-    source: &[u8],
-    top: &str,
-) -> Result<Option<Design>, NoMemory>
-    ensures design { IfOk result (λ found. IfSome found (λ design. IsSource source.now top.now design)) }
-    ensures none { IfOk result (λ found. IfNone found ((design : Design) → IsSource source.now top.now design → ⊥)) }
-    ensures inputs { IfOk result (λ found. IfSome found (λ design. IsInputDesign source.now design)) }
+/// None where the source is not of this form. The module and each port have an identifier as their name, no two
+/// ports the same. A and B are decimals of one to three digits and span at most 128 bits. White space stands
+/// where two words would join, and the source has at most 67,108,864 bytes.
+pub fn read_source(alloc: Global, source: &[u8], top: &str) -> Result<Option<Design>, NoMemory>
+    ensures design { IfOk result (λ found. IfSome found (λ design.
+        IsSource source.now top.now design)) }
+    ensures none { IfOk result (λ found. IfNone found (
+        (design : Design) → IsSource source.now top.now design → ⊥)) }
+    ensures inputs { IfOk result (λ found. IfSome found (λ design.
+        IsInputDesign source.now design)) }
 {
     if source.len() > LONGEST_SOURCE || !is_identifier(top.as_bytes()) {
         return Ok(None);

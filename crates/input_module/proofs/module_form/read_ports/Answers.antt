@@ -1,5 +1,5 @@
-use Rattle.std.proofs.Common.{◌≡◌, List, [], ◌∷◌, ◌++◌, Some, true, false}
-use Rattle.input_module.specs.Reading.{port_at, separator_at}
+use Rattle.std.proofs.Common.{◌≡◌, Some, true, false}
+use Rattle.input_module.specs.Reading.{separator_at}
 use Rattle.input_module.specs.Views.{declared}
 use Rattle.input_module.proofs.PortLists.{Continues-no_port, Continues-no_separator, turn_last, turn_more, turn_shorter}
 use Rattle.input_module.proofs.module_form.read_ports.Goals as goal

@@ -1,4 +1,3 @@
-use Rattle.std.proofs.Common.{◌≡◌, true, false}
 use Rattle.input_module.proofs.NameLemmas.{turn_new, turn_old}
 use Rattle.input_module.proofs.names.have_distinct_names.Goals as goal
 

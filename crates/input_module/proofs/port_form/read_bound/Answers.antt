@@ -1,4 +1,4 @@
-use Rattle.std.proofs.Common.{◌≡◌, ◌∷◌, ap, sym, ◌∙◌}
+use Rattle.std.proofs.Common.{◌≡◌, ◌∷◌}
 use Rattle.input_module.specs.Tokens.{word}
 use Rattle.input_module.proofs.PortLemmas.{bound_at-none, bound_at-some}
 use Rattle.input_module.proofs.port_form.read_bound.Goals as goal

@@ -1,0 +1,96 @@
+use crate::read_source;
+use design_model::{Design, Signal};
+
+/// An input that a source declares: its name, its bounds where it has a range, and its width.
+struct Input(&'static str, Option<(u32, u32)>, u8);
+
+/// Sources with their top module and the inputs that they declare.
+const ACCEPTED: [(&str, &str, &[Input]); 7] = [
+    (
+        "pads",
+        "module pads(input clk, input [1:0] a);\nendmodule\n",
+        &[Input("clk", None, 1), Input("a", Some((1, 0)), 2)],
+    ),
+    (
+        "m",
+        "\n\tmodule m (\n  input a ,\n  input\n[ 1 : 0 ]\nb ,input c\n) ;\nendmodule\n\n",
+        &[
+            Input("a", None, 1),
+            Input("b", Some((1, 0)), 2),
+            Input("c", None, 1),
+        ],
+    ),
+    ("m", "module m(input a);endmodule", &[Input("a", None, 1)]),
+    (
+        "_m$1",
+        "module _m$1(input _, input a$b);\nendmodule\n",
+        &[Input("_", None, 1), Input("a$b", None, 1)],
+    ),
+    (
+        "m",
+        "module m(input [0:0] a, input [7:7] b);\nendmodule\n",
+        &[Input("a", Some((0, 0)), 1), Input("b", Some((7, 7)), 1)],
+    ),
+    (
+        "m",
+        "module m(input [2:5] a);\nendmodule\n",
+        &[Input("a", Some((2, 5)), 4)],
+    ),
+    (
+        "m",
+        "module m(input [127:0] a);\nendmodule\n",
+        &[Input("a", Some((127, 0)), 128)],
+    ),
+];
+
+/// Sources that are not of the form, or of another top module than `m`.
+const REFUSED: [&str; 16] = [
+    "",
+    "module n(input a); endmodule",
+    "module m(input a) endmodule",
+    "module m(input a);",
+    "module m(input [128:0] a); endmodule",
+    "module m(input a, output y); assign y = a; endmodule",
+    "module m(input a); wire b; endmodule",
+    "module m(input a); assign y = a; endmodule",
+    "module m(input a); initial #5 ; endmodule",
+    "module m(input \\a ); endmodule",
+    "// one line\nmodule m(input a);\nendmodule\n",
+    "`define TOP 3\nmodule m(input [`TOP:0] a);\nendmodule\n",
+    "module m(input a, input a); endmodule",
+    "module m(input wire); endmodule",
+    "module m(); endmodule",
+    "module m(input a); endmodule module n(input a); endmodule",
+];
+
+fn is_declared(signal: &Signal, input: &Input) -> bool {
+    let range = if signal.ranged {
+        Some((signal.high, signal.low))
+    } else {
+        None
+    };
+    signal.name.as_slice() == input.0.as_bytes() && range == input.1 && signal.width == input.2
+}
+
+fn has_inputs(design: &Design, inputs: &[Input]) -> bool {
+    let signals = design.signals.as_slice();
+    signals.len() == inputs.len()
+        && signals
+            .iter()
+            .zip(inputs)
+            .all(|(signal, input)| is_declared(signal, input))
+}
+
+#[test]
+fn reads_the_source_form(rt: HostRuntime) {
+    let alloc = rt.alloc();
+    for (top, source, inputs) in &ACCEPTED {
+        let found = read_source(alloc, source.as_bytes(), top);
+        let declared = matches!(&found, Ok(Some(design)) if has_inputs(design, inputs));
+        assert!(rt; declared, "at {source}");
+    }
+    for source in &REFUSED {
+        let found = read_source(alloc, source.as_bytes(), "m");
+        assert!(rt; matches!(&found, Ok(None)), "at {source}");
+    }
+}
