@@ -1,0 +1,4 @@
+pub mod Run
+pub mod Operator
+pub mod Number
+pub mod Based
