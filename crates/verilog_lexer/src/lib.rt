@@ -2,6 +2,13 @@
 #![tactic(auto)]
 
 mod based;
+mod define_text;
+mod directive;
+mod fault;
 mod number;
 mod operator;
 mod run;
+mod token;
+
+pub use fault::{LexFault, LexKind};
+pub use token::{Token, TokenKind, Tokens};

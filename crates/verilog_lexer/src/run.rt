@@ -1,4 +1,4 @@
-ghost use Rattle.std.specs.Prelude.{◌≡◌, ◌&&◌, ◌==◌, ◌≤◌, length, false, slice_index, drop, take};
+ghost use Rattle.std.specs.Prelude.{◌≡◌, ◌&&◌, ◌==◌, ◌+◌, ◌<◌, ◌≤◌, IfSome, length, false, slice_index, drop, take};
 ghost use Rattle.cov_host.specs.Identifier.{continues_name};
 ghost use Rattle.verilog_lexer.specs.Run.{is_white, is_blank, is_within_line, run, through_pair, closes, takes_next, through_quote};
 
@@ -77,7 +77,8 @@ pub(crate) fn name_length(text: &[u8]) -> usize
 /// How many bytes there are up to the end of the first such pair of bytes.
 #[tactic(auto, using(crate::proofs::Texts::texts))]
 pub(crate) fn through_pair(first: u8, second: u8, text: &[u8]) -> Option<usize>
-    ensures { result ≡ through_pair first second 0 text.now }
+    ensures value { result ≡ through_pair first second 0 text.now }
+    ensures within { IfSome result (λ n. n ≤ length text.now + 1) }
 {
     for (i, byte) in text.iter().enumerate() {
         if is_pair_at(first, second, *byte, byte_at(text, i + 1)) {
@@ -97,7 +98,9 @@ fn is_pair_at(first: u8, second: u8, byte: u8, next: u8) -> bool
 /// How many bytes there are up to the end of the first quote on the line. A backslash takes the next byte with it.
 #[tactic(auto, using(crate::proofs::Texts::texts))]
 pub(crate) fn through_quote(text: &[u8]) -> Option<usize>
-    ensures { result ≡ through_quote 0 false text.now }
+    ensures value { result ≡ through_quote 0 false text.now }
+    ensures within { IfSome result (λ n. n ≤ length text.now) }
+    ensures some { IfSome result (λ n. 0 < n) }
 {
     let mut taken = false;
     for (i, byte) in text.iter().enumerate() {
