@@ -1,3 +1,5 @@
 pub mod Texts
 pub mod Numbers
 pub mod DefineTexts
+pub mod MacroLemmas
+pub mod SourceLemmas

@@ -4,3 +4,9 @@ pub mod Number
 pub mod Based
 pub mod DefineText
 pub mod Directive
+pub mod Piece
+pub mod PieceView
+pub mod Sources
+pub mod SourcesInside
+pub mod Defines
+pub mod MacrosView

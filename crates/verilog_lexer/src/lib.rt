@@ -3,12 +3,18 @@
 
 mod based;
 mod define_text;
+mod defines;
 mod directive;
 mod fault;
+mod macros;
 mod number;
 mod operator;
+mod piece;
 mod run;
+mod sources;
 mod token;
 
+pub use defines::Defines;
 pub use fault::{LexFault, LexKind};
+pub use sources::Sources;
 pub use token::{Token, TokenKind, Tokens};
