@@ -10,3 +10,5 @@ pub mod Sources
 pub mod SourcesInside
 pub mod Defines
 pub mod MacrosView
+pub mod Answer
+pub mod Conditions

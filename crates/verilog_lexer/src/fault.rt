@@ -1,4 +1,4 @@
-ghost use Rattle.std.specs.Prelude.{◌≡◌};
+ghost use Rattle.std.specs.Prelude.{◌≡◌, Some, None};
 ghost use Rattle.verilog_lexer.specs.declared.fault.LexFault.TheVariants as lex_fault;
 
 use cov_host::{Name, NoMemory, Place};
@@ -33,6 +33,19 @@ pub enum LexFault {
         place: Option<Place>,
         detail: Option<Name>,
     },
+}
+
+impl LexFault {
+    /// A fault at a place, without detail.
+    pub(crate) fn at(kind: LexKind, place: Place) -> Self
+        ensures { result ≡ lex_fault.At kind (Some place) None }
+    {
+        LexFault::At {
+            kind,
+            place: Some(place),
+            detail: None,
+        }
+    }
 }
 
 impl From<AllocError> for LexFault {

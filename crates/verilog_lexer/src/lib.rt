@@ -2,6 +2,7 @@
 #![tactic(auto)]
 
 mod based;
+mod condition;
 mod define_text;
 mod defines;
 mod directive;
