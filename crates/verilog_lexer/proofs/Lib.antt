@@ -3,3 +3,4 @@ pub mod Numbers
 pub mod DefineTexts
 pub mod MacroLemmas
 pub mod SourceLemmas
+pub mod Spots

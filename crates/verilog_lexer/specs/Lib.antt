@@ -12,3 +12,4 @@ pub mod Defines
 pub mod MacrosView
 pub mod Answer
 pub mod Conditions
+pub mod Spot

@@ -13,6 +13,7 @@ mod operator;
 mod piece;
 mod run;
 mod sources;
+mod spot;
 mod token;
 
 pub use defines::Defines;
