@@ -1,7 +1,7 @@
 -- Places behind bytes.
-use Rattle.std.proofs.Common.{◌≡◌, ◌<◌, ◌+◌, Bool, true, false, ℕ, suc, List, [], ◌∷◌, length, get_or, drop, drop-cons, add-one, refl}
+use Rattle.std.proofs.Common.{◌≡◌, ◌<◌, ◌≤◌, ◌+◌, arith, Bool, true, false, ℕ, suc, List, [], ◌∷◌, length, get_or, drop, drop-cons, add-one, refl}
 use Rattle.cov_host.specs.declared.place.Place.{Place}
-use Rattle.verilog_lexer.specs.Spot.{next_place, after, after_all}
+use Rattle.verilog_lexer.specs.Spot.{next_place, after, after_all, IsInRange}
 use Rattle.verilog_lexer.specs.declared.spot.Spot.{Spot}
 
 -- one byte more
@@ -14,3 +14,10 @@ after_all-inside place [] = refl
 after_all-inside place (byte ∷ bytes) = after_all-inside place bytes
 
 pub ruleset spots = (after_all-drop, after_all-inside)
+
+-- fewer bytes stay in range too
+pub IsInRange-less : (spot : Spot) (less bytes : ℕ) → IsInRange spot bytes → less ≤ bytes → IsInRange spot less
+IsInRange-less spot less bytes range fewer = record {
+  line = λ outside. omega (arith, range.line outside);
+  column = λ outside. omega (arith, range.column outside);
+}

@@ -13,3 +13,5 @@ pub mod MacrosView
 pub mod Answer
 pub mod Conditions
 pub mod Spot
+pub mod Tokens
+pub mod TokenView

@@ -15,6 +15,7 @@ mod run;
 mod sources;
 mod spot;
 mod token;
+mod tokens;
 
 pub use defines::Defines;
 pub use fault::{LexFault, LexKind};
