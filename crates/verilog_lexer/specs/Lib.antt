@@ -15,3 +15,5 @@ pub mod Conditions
 pub mod Spot
 pub mod Tokens
 pub mod TokenView
+pub mod Reading
+pub mod ReadingView

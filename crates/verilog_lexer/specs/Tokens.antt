@@ -81,13 +81,14 @@ sound_number (Some place) = fault_at BadNumber place
 abbrev pub room_for_one : List Lexeme → Place → Answer (Unit {0})
 room_for_one tokens place = if length tokens == 4194304 then fault_at TooManyTokens place else Ok tt
 
-abbrev pub short_enough : Spot → TokenKind → List ℕ → Answer (Unit {0})
-short_enough spot kind text = if is_too_long kind text then fault_at BadByte (after_all spot (take 255 text)).place else Ok tt
+-- the fault stands at the 256th byte of the text, which begins with the token
+abbrev pub short_enough : Spot → (text : List ℕ) → TokenKind → List ℕ → Answer (Unit {0})
+short_enough spot text kind word = if is_too_long kind word then fault_at BadByte (after_all spot (take 255 text)).place else Ok tt
 
--- the tokens with one more at their end
-abbrev pub with_token : Spot → TokenKind → List ℕ → List Lexeme → Answer (List Lexeme)
-with_token spot kind text tokens =
-  sound_number (bad_number tokens kind text spot.place) >>= λ _.
+-- the tokens with one more at their end, with which the text begins
+abbrev pub with_token : Spot → (text : List ℕ) → TokenKind → List ℕ → List Lexeme → Answer (List Lexeme)
+with_token spot text kind word tokens =
+  sound_number (bad_number tokens kind word spot.place) >>= λ _.
   room_for_one tokens spot.place >>= λ _.
-  short_enough spot kind text >>= λ _.
-  Ok (tokens ++ record { kind = kind; text = text; place = spot.place } ∷ [])
+  short_enough spot text kind word >>= λ _.
+  Ok (tokens ++ record { kind = kind; text = word; place = spot.place } ∷ [])

@@ -1,4 +1,4 @@
-ghost use Rattle.std.specs.Prelude.{◌≡◌, OnOk};
+ghost use Rattle.std.specs.Prelude.{◌≡◌, OnOk, IfErr};
 ghost use Rattle.std.specs.Option.{option_copied};
 
 use crate::{Defines, LexFault};
@@ -33,7 +33,8 @@ impl<'a> Macros<'a> {
 
     /// Defines a macro, in place of an earlier one of the same name.
     pub(crate) fn define(&mut self, name: &'a [u8], text: &'a [u8]) -> Result<(), LexFault>
-        ensures { OnOk result (macros_view self.new ≡ with_macro (macros_view self.old) name.now text.now) }
+        ensures fault { IfErr result (λ fault. fault ≡ LexFault.NoMemory) }
+        ensures ok { OnOk result (macros_view self.new ≡ with_macro (macros_view self.old) name.now text.now) }
     {
         self.texts.insert(name, text)?;
         Ok(())
@@ -48,7 +49,8 @@ impl<'a> Macros<'a> {
 
     /// Defines these macros, one after the other.
     pub(crate) fn define_all(&mut self, defines: &'a Defines) -> Result<(), LexFault>
-        ensures { OnOk result (macros_view self.new ≡ with_macros (macros_view self.old) defines.now) }
+        ensures fault { IfErr result (λ fault. fault ≡ LexFault.NoMemory) }
+        ensures ok { OnOk result (macros_view self.new ≡ with_macros (macros_view self.old) defines.now) }
     {
         for define in defines.as_slice() {
             self.define(define.name(), define.text())?;

@@ -18,24 +18,25 @@ const MOST_TOKENS: usize = 4_194_304;
 /// The longest identifier, in bytes.
 const LONGEST_IDENTIFIER: usize = 255;
 
-/// Adds a token at the end, where it makes no bad number, is no identifier that is too long, and there are not
-/// too many tokens.
+/// Adds a token with which the text begins at the end, where it makes no bad number, is no identifier that is too
+/// long, and there are not too many tokens.
 pub(crate) fn push_token<'a>(
     tokens: &mut Vec<Token<'a>>,
     spot: Spot,
+    text: &[u8],
     kind: TokenKind,
-    text: &'a [u8],
+    word: &'a [u8],
 ) -> Result<(), LexFault>
     requires { IsInRange spot (length text.now) }
-    ensures ok { OnOk result (with_token spot kind text.now (lexemes tokens.old.items) ≡ Ok (lexemes tokens.new.items)) }
-    ensures fault { IfErr result (IsFault (with_token spot kind text.now (lexemes tokens.old.items))) }
+    ensures ok { OnOk result (with_token spot text.now kind word.now (lexemes tokens.old.items) ≡ Ok (lexemes tokens.new.items)) }
+    ensures fault { IfErr result (IsFault (with_token spot text.now kind word.now (lexemes tokens.old.items))) }
 {
-    sound_number(bad_number(tokens.as_slice(), kind, text, spot.place))?;
+    sound_number(bad_number(tokens.as_slice(), kind, word, spot.place))?;
     room_for_one(tokens.as_slice(), spot.place)?;
-    short_enough(spot, kind, text)?;
+    short_enough(spot, text, kind, word)?;
     tokens.push(Token {
         kind,
-        text,
+        text: word,
         place: spot.place,
     })?;
     Ok(())
@@ -129,13 +130,13 @@ fn room_for_one(tokens: &[Token<'_>], place: Place) -> Result<(), LexFault>
     }
 }
 
-/// The token is no identifier that is too long.
-fn short_enough(spot: Spot, kind: TokenKind, text: &[u8]) -> Result<(), LexFault>
+/// The token with which the text begins is no identifier that is too long.
+fn short_enough(spot: Spot, text: &[u8], kind: TokenKind, word: &[u8]) -> Result<(), LexFault>
     requires { IsInRange spot (length text.now) }
-    ensures ok { OnOk result (short_enough spot kind text.now ≡ Ok tt) }
-    ensures fault { IfErr result (IsFault (short_enough spot kind text.now)) }
+    ensures ok { OnOk result (short_enough spot text.now kind word.now ≡ Ok tt) }
+    ensures fault { IfErr result (IsFault (short_enough spot text.now kind word.now)) }
 {
-    if is_too_long(kind, text) {
+    if is_too_long(kind, word) {
         let last = spot.after_all(front(text, LONGEST_IDENTIFIER));
         Err(LexFault::at(LexKind::BadByte, last.place))
     } else {

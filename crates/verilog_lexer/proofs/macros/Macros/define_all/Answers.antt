@@ -7,4 +7,4 @@ pub loop-define-preserved : goal.loop-define-preserved
 loop-define-preserved c =
     let within : c.loop-define.define-index < length c.as_slice-define-items.result.now = omega arith in
     let more = with_macros_more (macros_view c.loop-define.self) c.as_slice-define-items.result.now c.loop-define.define-index c.define-item.result within in
-    rw (c.in_ok-define.ensures, c.name.ensures, c.text.ensures) (sym (rw (← c.define-item.is) at more) ∙ c.loop-define.invariant)
+    rw (c.in_ok-define.ensures.ok, c.name.ensures, c.text.ensures) (sym (rw (← c.define-item.is) at more) ∙ c.loop-define.invariant)

@@ -1,0 +1,32 @@
+ghost use Rattle.std.specs.Prelude.{length};
+ghost use Rattle.verilog_lexer.specs.Spot.{IsInRange};
+
+use crate::condition::Conditions;
+use crate::spot::Spot;
+use cov_host::Place;
+
+/// What is left of a text: where it stands, and, for a file, the open conditions of what is round it.
+#[derive(Drop)]
+pub(crate) struct Passage<'a> {
+    pub(crate) text: &'a [u8],
+    pub(crate) spot: Spot,
+    pub(crate) ending: Option<Conditions>,
+    ghost in_range: { IsInRange spot (length text.now) },
+}
+
+impl Default for Passage<'_> {
+    fn default() -> Self {
+        Passage {
+            text: &[],
+            spot: Spot {
+                place: Place {
+                    source: 0,
+                    line: 0,
+                    column: 0,
+                },
+                inside: true,
+            },
+            ending: None,
+        }
+    }
+}
