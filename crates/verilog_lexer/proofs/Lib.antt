@@ -4,3 +4,5 @@ pub mod DefineTexts
 pub mod MacroLemmas
 pub mod SourceLemmas
 pub mod Spots
+pub mod Works
+pub mod Stands

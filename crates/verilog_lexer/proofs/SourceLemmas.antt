@@ -3,6 +3,7 @@ use Rattle.std.proofs.Common.{◌≡◌, ◌<◌, ◌≤◌, ◌+◌, Bool, cond
 use Rattle.std.proofs.lemmas.List.{length-map}
 use Rattle.std.proofs.lemmas.Option.{slice_get_within, get_or_from_slice_get}
 use Rattle.std.proofs.lemmas.List.Sums.{get_or-le-sum_by}
+use Rattle.std.proofs.lemmas.List.Quantifiers.{position-Some}
 use Rattle.std.specs.List.{prefix_len, position, sum_by, slice_get}
 use Rattle.std.specs.Option.{option_map, IfSome}
 use Rattle.std.specs.Borrow.{Bor}
@@ -29,3 +30,9 @@ length_within sources place source is =
 pub within_by : (sources : List SourceText) (place : ℕ) (found : Option (Bor Source)) → option_map (λ source. source_view source.now) found ≡ slice_get sources place → total_length sources ≤ 67108864 → IfSome found (λ source. length source.now.bytes ≤ 67108864)
 within_by sources place None is within = tt
 within_by sources place (Some source) is within = omega (arith, length_within sources place (source_view source.now) (sym is))
+
+-- the place of an include is one of at most 256
+pub place_within : (slice : List Source) (p : Source → Bool) (found : Option ℕ) → found ≡ position p slice → length slice ≤ 256 → IfSome found (λ place. place < 256)
+place_within slice p None is within = tt
+place_within [] p (Some place) is within = absurd (cc)
+place_within (source ∷ others) p (Some place) is within = omega (arith, (position-Some p (source ∷ others) place source (sym is)).0)

@@ -17,3 +17,4 @@ pub mod Tokens
 pub mod TokenView
 pub mod Reading
 pub mod ReadingView
+pub mod Stand

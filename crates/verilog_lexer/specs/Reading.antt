@@ -121,9 +121,9 @@ abbrev pub read_passage : List SourceText → PassageText → Reading → Answer
 read_passage sources passage reading = scan_passage (inner_at 64 sources) passage reading
 
 -- a file that is read by itself
-abbrev pub root_passage : (number : ℕ) → SourceText → PassageText
-root_passage number source = record {
-  text = source.bytes;
+abbrev pub root_passage : (number : ℕ) → (text : List ℕ) → PassageText
+root_passage number text = record {
+  text = text;
   spot = record { place = record { source = number; line = 1; column = 1 }; inside = false };
   ending = Some [];
 }
@@ -132,7 +132,7 @@ root_passage number source = record {
 unfoldable pub read_roots : (number : ℕ) → (all left : List SourceText) → Reading → Answer Reading
 read_roots number all [] reading = Ok reading
 read_roots number all (source ∷ others) reading =
-  if source.root then (read_passage all (root_passage number source) reading >>= λ next. read_roots (number + 1) all others next)
+  if source.root then (read_passage all (root_passage number source.bytes) reading >>= λ next. read_roots (number + 1) all others next)
   else read_roots (number + 1) all others reading
 
 -- nothing is read yet, and these macros are defined

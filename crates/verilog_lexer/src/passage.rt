@@ -1,7 +1,8 @@
-ghost use Rattle.std.specs.Prelude.{length};
+ghost use Rattle.std.specs.Prelude.{◌≡◌, length};
 ghost use Rattle.verilog_lexer.specs.Spot.{IsInRange};
 
 use crate::condition::Conditions;
+use crate::run::{front, tail};
 use crate::spot::Spot;
 use cov_host::Place;
 
@@ -12,6 +13,22 @@ pub(crate) struct Passage<'a> {
     pub(crate) spot: Spot,
     pub(crate) ending: Option<Conditions>,
     ghost in_range: { IsInRange spot (length text.now) },
+}
+
+impl<'a> Passage<'a> {
+    ghost use Rattle.verilog_lexer.specs.ReadingView.{passage_view};
+    ghost use Rattle.verilog_lexer.specs.Stand.{advanced};
+
+    /// Passes over the first bytes of the text.
+    pub(crate) fn advance(&mut self, length: usize)
+        ensures { passage_view self.new ≡ advanced length (passage_view self.old) }
+    {
+        let passed = front(self.text, length);
+        let spot = self.spot.after_all(passed);
+        let text = tail(self.text, length);
+        self.spot = spot;
+        self.text = text;
+    }
 }
 
 impl Default for Passage<'_> {

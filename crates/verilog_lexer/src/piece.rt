@@ -1,4 +1,4 @@
-ghost use Rattle.std.specs.Prelude.{◌≡◌, ◌+◌, ◌^◌, ◌<◌, ◌≤◌, ◌&&◌, nat_le, length};
+ghost use Rattle.std.specs.Prelude.{◌≡◌, ◌+◌, ◌-◌, ◌^◌, ◌<◌, ◌≤◌, ◌&&◌, nat_le, length};
 ghost use Rattle.std.specs.List.{list_all};
 ghost use Rattle.verilog_lexer.specs.Run.{run};
 ghost use Rattle.verilog_lexer.specs.Piece.{piece_length, word_piece, quoted_piece, based_piece, system_piece, operator_piece, comment_piece, slash_piece, parenthesis_piece, name_in, name_behind, name_end, define_piece, is_file_name, file_piece, include_piece, condition_piece, other_piece, directive_word, accent_piece, mark_piece, read_piece, is_plain, left_out_slash, left_out_quote, left_out_accent, left_out_piece, token_of, fault};
@@ -48,8 +48,15 @@ pub(crate) enum Piece<'a> {
 }
 
 impl<'a> Piece<'a> {
+    /// How many bytes are passed over with the piece: at least one.
+    pub(crate) fn bytes(&self) -> usize
+        ensures { result ≡ piece_length (piece_view self.now) - 1 + 1 }
+    {
+        self.len().saturating_sub(1) + 1
+    }
+
     /// How many bytes the piece has.
-    pub(crate) fn len(&self) -> usize
+    fn len(&self) -> usize
         ensures { result ≡ piece_length (piece_view self.now) }
     {
         match *self {

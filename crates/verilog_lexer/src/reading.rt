@@ -1,4 +1,5 @@
-ghost use Rattle.std.specs.Prelude.{◌≡◌, ℕ, Some, Ok, Err, IfOk, OnOk, IfErr, length};
+ghost use Rattle.std.specs.Prelude.{◌≡◌, ℕ, [], Some, Ok, Err, IfOk, OnOk, IfErr, length};
+ghost use Rattle.std.specs.Option.{option_map};
 ghost use Rattle.verilog_lexer.specs.Answer.{IsFault};
 ghost use Rattle.verilog_lexer.specs.Spot.{IsInRange};
 ghost use Rattle.verilog_lexer.specs.PieceView.{piece_view};
@@ -13,6 +14,7 @@ use crate::tokens::push_token;
 use crate::{Defines, LexFault, LexKind, Token};
 use cov_host::Name;
 use std::alloc::Global;
+use std::mem;
 
 /// What is to be read in the place of a directive or a macro.
 #[derive(Clone, Copy, Debug)]
@@ -25,18 +27,20 @@ pub(crate) enum Entry<'a> {
 #[derive(Drop)]
 pub(crate) struct Reading<'a> {
     alloc: Global,
-    pub(crate) tokens: Vec<Token<'a>>,
+    tokens: Vec<Token<'a>>,
     macros: Macros<'a>,
-    pub(crate) conditions: Conditions,
+    conditions: Conditions,
 }
 
 impl<'a> Reading<'a> {
-    ghost use Rattle.verilog_lexer.specs.Reading.{meaning, expanded, front_piece, beginning, Step};
+    ghost use Rattle.verilog_lexer.specs.Reading.{meaning, expanded, front_piece, beginning, ended, Step};
     ghost use Rattle.verilog_lexer.specs.ReadingView.{reading_view, entry_view, entry_option};
+    ghost use Rattle.verilog_lexer.specs.TokenView.{lexemes};
 
     /// Nothing yet, under the macros that are defined before.
     pub(crate) fn new(alloc: Global, defines: &'a Defines) -> Result<Self, LexFault>
-        ensures { IfOk result (λ reading. reading_view reading ≡ beginning defines.now) }
+        ensures ok { IfOk result (λ reading. reading_view reading ≡ beginning defines.now) }
+        ensures fault { IfErr result (λ fault. fault ≡ LexFault.NoMemory) }
     {
         let mut macros = Macros::new(alloc);
         macros.define_all(defines)?;
@@ -96,6 +100,52 @@ impl<'a> Reading<'a> {
                 Err(LexFault::at(kind, behind.place))
             }
         }
+    }
+
+    /// Ends a text: where it is a file, all its conditions are closed, and those round it count again.
+    pub(crate) fn end_text(&mut self, ending: Option<Conditions>, spot: Spot) -> Result<(), LexFault>
+        ensures ok { OnOk result (ended (option_map (λ outer. outer.items) ending) spot (reading_view self.old) ≡ Ok (reading_view self.new)) }
+        ensures fault { IfErr result (IsFault (ended (option_map (λ outer. outer.items) ending) spot (reading_view self.old))) }
+    {
+        match ending {
+            Some(outer) => self.end_file(outer, spot),
+            None => Ok(()),
+        }
+    }
+
+    /// Ends a file.
+    fn end_file(&mut self, outer: Conditions, spot: Spot) -> Result<(), LexFault>
+        ensures ok { OnOk result (ended (Some outer.items) spot (reading_view self.old) ≡ Ok (reading_view self.new)) }
+        ensures fault { IfErr result (IsFault (ended (Some outer.items) spot (reading_view self.old))) }
+    {
+        if self.conditions.is_empty() {
+            self.conditions = outer;
+            Ok(())
+        } else {
+            Err(LexFault::at(LexKind::OpenCondition, spot.place))
+        }
+    }
+
+    /// Begins a file, which has no conditions of its own yet. Gives the conditions round it.
+    pub(crate) fn begin_file(&mut self) -> Conditions
+        ensures outer { result.items ≡ (reading_view self.old).conditions }
+        ensures new { reading_view self.new ≡ record (reading_view self.old) { conditions = [] } }
+    {
+        let none = Conditions::new(self.alloc);
+        mem::replace(&mut self.conditions, none)
+    }
+
+    /// The tokens that have been read.
+    pub(crate) fn into_tokens(self) -> Vec<Token<'a>>
+        ensures { lexemes result.items ≡ (reading_view self.entry).tokens }
+    {
+        let Reading {
+            alloc: _,
+            tokens,
+            macros: _,
+            conditions: _,
+        } = self;
+        tokens
     }
 
     /// The text of the macro that is used.

@@ -132,7 +132,8 @@ impl Sources {
 
     /// The place of the first source that is included by this name.
     pub(crate) fn include_place(&self, name: &[u8]) -> Option<usize>
-        ensures { result ≡ include_place self.now name.now }
+        ensures value { result ≡ include_place self.now name.now }
+        ensures within { IfSome result (λ place. place < 256) }
     {
         include_place(self.sources.as_slice(), name)
     }
