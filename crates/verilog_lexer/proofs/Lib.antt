@@ -6,3 +6,4 @@ pub mod SourceLemmas
 pub mod Spots
 pub mod Works
 pub mod Stands
+pub mod Roots

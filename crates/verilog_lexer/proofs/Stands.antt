@@ -4,7 +4,7 @@ use Rattle.verilog_lexer.specs.Answer.{Answer, ◌>>=◌, IsFault, fault_at}
 use Rattle.verilog_lexer.specs.Sources.{SourceText}
 use Rattle.verilog_lexer.specs.Spot.{after, after_all}
 use Rattle.verilog_lexer.specs.Piece.{piece_length}
-use Rattle.verilog_lexer.specs.Reading.{Reading, Entry, Step, PassageText, Inner, Opened, meaning, front_piece, entered, ended, scan, scan_passage, opened, inner_at}
+use Rattle.verilog_lexer.specs.Reading.{Reading, Entry, Step, PassageText, Inner, Opened, meaning, front_piece, entered, ended, scan, scan_passage, opened, inner_at, read_passage, root_passage}
 use Rattle.verilog_lexer.specs.Stand.{Stand, resumed, outward, outcome, advanced, Enters, Proceeds}
 use Rattle.verilog_lexer.proofs.Works.{work-advanced, work-entered, work-ended}
 use Rattle.verilog_lexer.specs.declared.spot.Spot.{Spot}
@@ -184,3 +184,15 @@ pub entered_depth : (sources : List SourceText) (spot : Spot) (entry : Entry) (o
 entered_depth sources spot entry old new enters =
   let count : length new.waiting ≡ length old.waiting + 1 = ap length enters.waiting ∙ omega (arith, length-append old.waiting (old.passage ∷ [])) in
   omega (arith, enters.room)
+
+-- where no text waits, what is left is the text alone
+pub outcome-alone : (sources : List SourceText) (stand : Stand) → stand.waiting ≡ [] → outcome sources stand ≡ read_passage sources stand.passage stand.reading
+unfolding outcome outward
+outcome-alone sources stand none = rw none refl
+
+-- a file that is read by itself, where no text waits
+pub root_outcome : (sources : List SourceText) (waiting : List PassageText) (number : ℕ) (text : List ℕ) (reading : Reading) (conditions : List Condition) → waiting ≡ [] → conditions ≡ [] →
+  outcome sources (record { waiting = waiting; passage = record { text = text; spot = record { place = record { source = number; line = 1; column = 1 }; inside = false }; ending = Some conditions }; reading = reading }) ≡ read_passage sources (root_passage number text) reading
+root_outcome sources waiting number text reading conditions none empty =
+  ap (λ round. outcome sources (record { waiting = waiting; passage = record { text = text; spot = record { place = record { source = number; line = 1; column = 1 }; inside = false }; ending = Some round }; reading = reading })) empty
+  ∙ outcome-alone sources (record { waiting = waiting; passage = root_passage number text; reading = reading }) none

@@ -128,12 +128,14 @@ root_passage number text = record {
   ending = Some [];
 }
 
+-- a file is read where it is one that is read by itself
+abbrev pub read_source : (all : List SourceText) → (number : ℕ) → SourceText → Reading → Answer Reading
+read_source all number source reading = if source.root then read_passage all (root_passage number source.bytes) reading else Ok reading
+
 -- the files that are read by themselves, one after the other, from the source with this number on
-unfoldable pub read_roots : (number : ℕ) → (all left : List SourceText) → Reading → Answer Reading
-read_roots number all [] reading = Ok reading
-read_roots number all (source ∷ others) reading =
-  if source.root then (read_passage all (root_passage number source.bytes) reading >>= λ next. read_roots (number + 1) all others next)
-  else read_roots (number + 1) all others reading
+unfoldable pub read_roots : (all : List SourceText) → (number : ℕ) → (left : List SourceText) → Reading → Answer Reading
+read_roots all number [] reading = Ok reading
+read_roots all number (source ∷ others) reading = read_source all number source reading >>= λ next. read_roots all (number + 1) others next
 
 -- nothing is read yet, and these macros are defined
 abbrev pub beginning : List DefineText → Reading
@@ -141,4 +143,4 @@ beginning defines = record { tokens = []; macros = with_macros no_macros defines
 
 -- the tokens of sources under defines, or the fault that stands first
 unfoldable pub tokens_of : List SourceText → List DefineText → Answer (List Lexeme)
-tokens_of sources defines = read_roots 1 sources sources (beginning defines) >>= λ reading. Ok reading.tokens
+tokens_of sources defines = read_roots sources 1 sources (beginning defines) >>= λ reading. Ok reading.tokens

@@ -7,6 +7,7 @@ mod define_text;
 mod defines;
 mod directive;
 mod fault;
+mod lexing;
 mod macros;
 mod number;
 mod opened;
@@ -23,5 +24,6 @@ mod tokens;
 
 pub use defines::Defines;
 pub use fault::{LexFault, LexKind};
+pub use lexing::lex;
 pub use sources::Sources;
 pub use token::{Token, TokenKind, Tokens};

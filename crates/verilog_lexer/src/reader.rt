@@ -1,4 +1,4 @@
-ghost use Rattle.std.specs.Prelude.{◌≡◌, ◌-◌, ◌≤◌, ◌<◌, [], Ok, IfOk, OnOk, IfErr, length};
+ghost use Rattle.std.specs.Prelude.{◌≡◌, ◌+◌, ◌-◌, ◌≤◌, ◌<◌, [], Ok, IfOk, OnOk, IfErr, IfSome, length, slice_get};
 ghost use Rattle.std.specs.Bool.{OnTrue, OnFalse};
 ghost use Rattle.verilog_lexer.specs.Answer.{IsFault};
 
@@ -27,7 +27,7 @@ pub(crate) struct Reader<'a> {
 }
 
 impl<'a> Reader<'a> {
-    ghost use Rattle.verilog_lexer.specs.Reading.{beginning, root_passage, read_passage, inner_at};
+    ghost use Rattle.verilog_lexer.specs.Reading.{beginning, root_passage, read_passage, read_source, inner_at};
     ghost use Rattle.verilog_lexer.specs.ReadingView.{reading_view, entry_view};
     ghost use Rattle.verilog_lexer.specs.Stand.{stand_of, outcome, Proceeds, Enters};
     ghost use Rattle.verilog_lexer.specs.TokenView.{lexemes};
@@ -55,6 +55,26 @@ impl<'a> Reader<'a> {
         ensures { lexemes result.items ≡ (reading_view self.entry.reading).tokens }
     {
         self.reading.into_tokens()
+    }
+
+    /// Reads the source at a place, where it is one that is read by itself.
+    pub(crate) fn read_source(&mut self, place: usize) -> Result<(), LexFault>
+        requires within { place < length self.old.sources.now }
+        requires none_waits { self.old.waiting.items ≡ [] }
+        ensures ok { OnOk result (IfSome (slice_get self.old.sources.now place) (λ source. read_source self.old.sources.now (place + 1) source (reading_view self.old.reading) ≡ Ok (reading_view self.new.reading))) }
+        ensures fault { IfErr result (λ fault. IfSome (slice_get self.old.sources.now place) (λ source. IsFault (read_source self.old.sources.now (place + 1) source (reading_view self.old.reading)) fault)) }
+        ensures sources { self.new.sources.now ≡ self.old.sources.now }
+        ensures none_waits { OnOk result (self.new.waiting.items ≡ []) }
+    {
+        let _count = self.sources.len();
+        let Some(source) = self.sources.get(place) else {
+            return Ok(());
+        };
+        if source.is_root() {
+            self.read_root(place as u32 + 1, source.bytes())
+        } else {
+            Ok(())
+        }
     }
 
     /// Reads a file that is read by itself.
