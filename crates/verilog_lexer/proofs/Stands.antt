@@ -1,5 +1,6 @@
 -- One turn of the reading leaves what is said the same.
 use Rattle.std.proofs.Common.{◌≡◌, ◌<◌, ◌≤◌, ◌+◌, ◌-◌, ◌*◌, ◌^◌, ℕ, zero, suc, Bool, true, false, List, [], ◌∷◌, ◌++◌, Option, None, Some, Result, Ok, Err, length, take, drop, refl, sym, ap, ◌∙◌, arith, length-append}
+use Rattle.std.specs.Prelude.{is_none}
 use Rattle.verilog_lexer.specs.Answer.{Answer, ◌>>=◌, IsFault, fault_at}
 use Rattle.verilog_lexer.specs.Sources.{SourceText}
 use Rattle.verilog_lexer.specs.Spot.{after, after_all}
@@ -46,12 +47,12 @@ scan-skip inner ending (suc left) spot [] reading = refl
 scan-skip inner ending (suc left) spot (byte ∷ others) reading = scan-skip inner ending left (after spot byte) others reading
 
 -- the reading of a text is the meaning of its first piece, and then the reading of the rest
-pub scan-piece : (inner : Inner) (ending : Option (List Condition)) (spot : Spot) (text : List ℕ) (reading : Reading) (bytes : ℕ) → 0 < length text → bytes ≡ suc (piece_length (front_piece reading.conditions text) - 1) →
-  scan inner ending 0 spot text reading ≡ (meaning spot text (front_piece reading.conditions text) reading >>= λ step. entered inner spot step.entry step.reading >>= λ next. scan inner ending 0 (after_all spot (take bytes text)) (drop bytes text) next)
+pub scan-piece : (inner : Inner) (ending : Option (List Condition)) (spot : Spot) (text : List ℕ) (reading : Reading) (bytes : ℕ) → 0 < length text → bytes ≡ suc (piece_length (front_piece (is_none ending) reading.conditions text) - 1) →
+  scan inner ending 0 spot text reading ≡ (meaning spot text (front_piece (is_none ending) reading.conditions text) reading >>= λ step. entered inner spot step.entry step.reading >>= λ next. scan inner ending 0 (after_all spot (take bytes text)) (drop bytes text) next)
 unfolding scan
 scan-piece inner ending spot [] reading bytes some is = absurd (omega arith)
 scan-piece inner ending spot (byte ∷ others) reading bytes some is =
-  rw is (bind-ext (meaning spot (byte ∷ others) (front_piece reading.conditions (byte ∷ others)) reading) _ _ (λ step. bind-ext (entered inner spot step.entry step.reading) _ _ (λ next. scan-skip inner ending (piece_length (front_piece reading.conditions (byte ∷ others)) - 1) (after spot byte) others next)))
+  rw is (bind-ext (meaning spot (byte ∷ others) (front_piece (is_none ending) reading.conditions (byte ∷ others)) reading) _ _ (λ step. bind-ext (entered inner spot step.entry step.reading) _ _ (λ next. scan-skip inner ending (piece_length (front_piece (is_none ending) reading.conditions (byte ∷ others)) - 1) (after spot byte) others next)))
 
 -- an inner text may be entered where fewer than 64 wait
 pub inner_at-room : (sources : List SourceText) (waiting : ℕ) (spot : Spot) (entry : Entry) (reading : Reading) → waiting < 64 → inner_at (64 - waiting) sources spot entry reading ≡ (opened sources spot entry reading >>= λ inside. scan_passage (inner_at (64 - suc waiting) sources) inside.passage inside.reading)
@@ -71,23 +72,23 @@ outcome-push sources waiting outer passage reading =
   let count : length (waiting ++ outer ∷ []) ≡ suc (length waiting) = omega (arith, length-append waiting (outer ∷ [])) in
   outward-push 64 sources waiting outer (resumed (64 - length (waiting ++ outer ∷ [])) sources passage reading) ∙ ap (λ n. outward 64 sources waiting (resumed (64 - n) sources passage reading >>= resumed (64 - length waiting) sources outer)) count
 
-module _ (sources : List SourceText) (waiting : List PassageText) (passage : PassageText) (reading : Reading) (bytes : ℕ) (some : 0 < length passage.text) (is : bytes ≡ suc (piece_length (front_piece reading.conditions passage.text) - 1)) where
+module _ (sources : List SourceText) (waiting : List PassageText) (passage : PassageText) (reading : Reading) (bytes : ℕ) (some : 0 < length passage.text) (is : bytes ≡ suc (piece_length (front_piece (is_none passage.ending) reading.conditions passage.text) - 1)) where
   -- what is left, by the first piece of the text
-  outcome-piece : outcome sources (record { waiting = waiting; passage = passage; reading = reading }) ≡ outward 64 sources waiting (meaning passage.spot passage.text (front_piece reading.conditions passage.text) reading >>= λ step. entered (inner_at (64 - length waiting) sources) passage.spot step.entry step.reading >>= λ next. resumed (64 - length waiting) sources (advanced bytes passage) next)
+  outcome-piece : outcome sources (record { waiting = waiting; passage = passage; reading = reading }) ≡ outward 64 sources waiting (meaning passage.spot passage.text (front_piece (is_none passage.ending) reading.conditions passage.text) reading >>= λ step. entered (inner_at (64 - length waiting) sources) passage.spot step.entry step.reading >>= λ next. resumed (64 - length waiting) sources (advanced bytes passage) next)
   unfolding outcome
   outcome-piece = ap (outward 64 sources waiting) (scan-piece (inner_at (64 - length waiting) sources) passage.ending passage.spot passage.text reading bytes some is)
 
   -- a fault of the piece is the fault of all that is left
-  pub meaning_faults : (fault : LexFault) → IsFault (meaning passage.spot passage.text (front_piece reading.conditions passage.text) reading) fault → IsFault (outcome sources (record { waiting = waiting; passage = passage; reading = reading })) fault
+  pub meaning_faults : (fault : LexFault) → IsFault (meaning passage.spot passage.text (front_piece (is_none passage.ending) reading.conditions passage.text) reading) fault → IsFault (outcome sources (record { waiting = waiting; passage = passage; reading = reading })) fault
   meaning_faults = fault_through _ _ (λ fault faults. rw (outcome-piece, faults) (outward-fault 64 sources waiting fault))
 
   -- a piece behind which nothing is entered
-  pub goes_on_same : (next : Reading) → meaning passage.spot passage.text (front_piece reading.conditions passage.text) reading ≡ Ok (record { reading = next; entry = None }) →
+  pub goes_on_same : (next : Reading) → meaning passage.spot passage.text (front_piece (is_none passage.ending) reading.conditions passage.text) reading ≡ Ok (record { reading = next; entry = None }) →
     outcome sources (record { waiting = waiting; passage = passage; reading = reading }) ≡ outcome sources (record { waiting = waiting; passage = advanced bytes passage; reading = next })
   unfolding outcome
   goes_on_same next means = rw (outcome-piece, means) refl
 
-  module _ (next : Reading) (entry : Entry) (means : meaning passage.spot passage.text (front_piece reading.conditions passage.text) reading ≡ Ok (record { reading = next; entry = Some entry })) where
+  module _ (next : Reading) (entry : Entry) (means : meaning passage.spot passage.text (front_piece (is_none passage.ending) reading.conditions passage.text) reading ≡ Ok (record { reading = next; entry = Some entry })) where
     outcome-entry : outcome sources (record { waiting = waiting; passage = passage; reading = reading }) ≡ outward 64 sources waiting (inner_at (64 - length waiting) sources passage.spot entry next >>= resumed (64 - length waiting) sources (advanced bytes passage))
     outcome-entry = rw (outcome-piece, means) refl
 
@@ -129,21 +130,21 @@ module _ (sources : List SourceText) (passage : PassageText) (reading : Reading)
   end_faults waiting = fault_through _ _ (λ fault faults. ap (outward 64 sources waiting) (scan-end (inner_at (64 - length waiting) sources) passage.ending passage.spot passage.text reading empty ∙ faults) ∙ outward-fault 64 sources waiting fault)
 
 -- over a stand as a whole
-module _ (sources : List SourceText) (stand : Stand) (bytes : ℕ) (some : 0 < length stand.passage.text) (is : bytes ≡ piece_length (front_piece stand.reading.conditions stand.passage.text) - 1 + 1) where
-  passed : bytes ≡ suc (piece_length (front_piece stand.reading.conditions stand.passage.text) - 1)
+module _ (sources : List SourceText) (stand : Stand) (bytes : ℕ) (some : 0 < length stand.passage.text) (is : bytes ≡ piece_length (front_piece (is_none stand.passage.ending) stand.reading.conditions stand.passage.text) - 1 + 1) where
+  passed : bytes ≡ suc (piece_length (front_piece (is_none stand.passage.ending) stand.reading.conditions stand.passage.text) - 1)
   passed = omega (arith, is)
 
-  pub read_faults : (fault : LexFault) → IsFault (meaning stand.passage.spot stand.passage.text (front_piece stand.reading.conditions stand.passage.text) stand.reading) fault → IsFault (outcome sources stand) fault
+  pub read_faults : (fault : LexFault) → IsFault (meaning stand.passage.spot stand.passage.text (front_piece (is_none stand.passage.ending) stand.reading.conditions stand.passage.text) stand.reading) fault → IsFault (outcome sources stand) fault
   read_faults = meaning_faults sources stand.waiting stand.passage stand.reading bytes some passed
 
-  pub read_goes_on : (next : Reading) (passage : PassageText) → meaning stand.passage.spot stand.passage.text (front_piece stand.reading.conditions stand.passage.text) stand.reading ≡ Ok (record { reading = next; entry = None }) → passage ≡ advanced bytes stand.passage →
+  pub read_goes_on : (next : Reading) (passage : PassageText) → meaning stand.passage.spot stand.passage.text (front_piece (is_none stand.passage.ending) stand.reading.conditions stand.passage.text) stand.reading ≡ Ok (record { reading = next; entry = None }) → passage ≡ advanced bytes stand.passage →
     Proceeds sources stand (record { waiting = stand.waiting; passage = passage; reading = next })
   read_goes_on next passage means advances = record {
     same = rw advances (goes_on_same sources stand.waiting stand.passage stand.reading bytes some passed next means);
     less = rw advances (work-advanced stand next bytes some (omega (arith, is)));
   }
 
-  module _ (next : Reading) (entry : Entry) (passage : PassageText) (means : meaning stand.passage.spot stand.passage.text (front_piece stand.reading.conditions stand.passage.text) stand.reading ≡ Ok (record { reading = next; entry = Some entry })) (advances : passage ≡ advanced bytes stand.passage) where
+  module _ (next : Reading) (entry : Entry) (passage : PassageText) (means : meaning stand.passage.spot stand.passage.text (front_piece (is_none stand.passage.ending) stand.reading.conditions stand.passage.text) stand.reading ≡ Ok (record { reading = next; entry = Some entry })) (advances : passage ≡ advanced bytes stand.passage) where
     pub read_entry_faults : (fault : LexFault) → IsFault (inner_at (64 - length stand.waiting) sources stand.passage.spot entry next) fault → IsFault (outcome sources stand) fault
     read_entry_faults = entry_faults sources stand.waiting stand.passage stand.reading bytes some passed next entry means
 

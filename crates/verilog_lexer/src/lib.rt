@@ -27,3 +27,6 @@ pub use fault::{LexFault, LexKind};
 pub use lexing::lex;
 pub use sources::Sources;
 pub use token::{Token, TokenKind, Tokens};
+
+#[cfg(test)]
+mod tests;

@@ -1,4 +1,4 @@
-ghost use Rattle.std.specs.Prelude.{◌≡◌, length};
+ghost use Rattle.std.specs.Prelude.{◌≡◌, length, is_none};
 ghost use Rattle.verilog_lexer.specs.Spot.{IsInRange};
 
 use crate::condition::Conditions;
@@ -18,6 +18,16 @@ pub(crate) struct Passage<'a> {
 impl<'a> Passage<'a> {
     ghost use Rattle.verilog_lexer.specs.ReadingView.{passage_view};
     ghost use Rattle.verilog_lexer.specs.Stand.{advanced};
+
+    /// Whether the text is that of a macro.
+    pub(crate) fn is_macro_text(&self) -> bool
+        ensures { result ≡ is_none (passage_view self.now).ending }
+    {
+        match &self.ending {
+            Some(_) => false,
+            None => true,
+        }
+    }
 
     /// Passes over the first bytes of the text.
     pub(crate) fn advance(&mut self, length: usize)

@@ -170,7 +170,8 @@ impl<'a> Reader<'a> {
     {
         let spot = self.passage.spot;
         let text = self.passage.text;
-        let piece = self.reading.front_piece(text);
+        let in_macro = self.passage.is_macro_text();
+        let piece = self.reading.front_piece(in_macro, text);
         let entry = self.reading.obey(spot, text, piece)?;
         self.passage.advance(piece.bytes());
         match entry {

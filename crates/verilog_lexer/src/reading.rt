@@ -1,6 +1,7 @@
 ghost use Rattle.std.specs.Prelude.{◌≡◌, ℕ, [], Some, Ok, Err, IfOk, OnOk, IfErr, length};
 ghost use Rattle.std.specs.Option.{option_map};
 ghost use Rattle.verilog_lexer.specs.Answer.{IsFault};
+ghost use Rattle.verilog_lexer.specs.Reading.{is_continuation};
 ghost use Rattle.verilog_lexer.specs.Spot.{IsInRange};
 ghost use Rattle.verilog_lexer.specs.PieceView.{piece_view};
 ghost use Rattle.verilog_lexer.specs.declared.fault.LexFault.TheVariants as lex_fault;
@@ -8,7 +9,7 @@ ghost use Rattle.verilog_lexer.specs.declared.fault.LexFault.TheVariants as lex_
 use crate::condition::{Conditions, is_left_out, named, obey};
 use crate::macros::Macros;
 use crate::piece::{Piece, left_out_piece, read_piece};
-use crate::run::front;
+use crate::run::{byte_at, front};
 use crate::spot::Spot;
 use crate::tokens::push_token;
 use crate::{Defines, LexFault, LexKind, Token};
@@ -53,10 +54,12 @@ impl<'a> Reading<'a> {
     }
 
     /// The piece at the front of a text.
-    pub(crate) fn front_piece(&self, text: &'a [u8]) -> Piece<'a>
-        ensures { piece_view result ≡ front_piece (reading_view self.now).conditions text.now }
+    pub(crate) fn front_piece(&self, in_macro: bool, text: &'a [u8]) -> Piece<'a>
+        ensures { piece_view result ≡ front_piece in_macro (reading_view self.now).conditions text.now }
     {
-        if is_left_out(&self.conditions) {
+        if in_macro && is_continuation(text) {
+            Piece::Blank { length: 2 }
+        } else if is_left_out(&self.conditions) {
             left_out_piece(text)
         } else {
             read_piece(text)
@@ -158,6 +161,13 @@ impl<'a> Reading<'a> {
             None => Err(named_fault(self.alloc, LexKind::UnknownMacro, spot, name)),
         }
     }
+}
+
+/// Whether a backslash before the end of a line stands at the front.
+fn is_continuation(text: &[u8]) -> bool
+    ensures { result ≡ is_continuation text.now }
+{
+    byte_at(text, 0) == b'\\' && byte_at(text, 1) == b'\n'
 }
 
 /// A fault at a spot, with a name.
