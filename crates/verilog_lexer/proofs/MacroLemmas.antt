@@ -1,5 +1,5 @@
 -- The macros that are kept, as a function.
-use Rattle.std.proofs.Common.{◌≡◌, ◌<◌, ◌+◌, Bool, true, false, cond, Option, None, Some, List, [], ◌∷◌, ℕ, suc, refl, map, length, drop, drop-cons, get_or, add-one}
+use Rattle.std.proofs.Common.{◌≡◌, ◌<◌, ◌+◌, Bool, true, false, cond, Option, None, Some, List, ℕ, refl, map, length, drop, drop-cons, get_or, add-one}
 use Rattle.std.specs.Option.{option_map}
 use Rattle.verilog_lexer.specs.Defines.{Macros, with_macro, with_macros, define_view}
 use Rattle.verilog_lexer.specs.declared.defines.Define.{Define}
@@ -19,5 +19,5 @@ option_map-cond_none f false o = refl
 
 -- one definition more
 pub with_macros_more : (macros : Macros) (defines : List Define) (i : ℕ) (d : Define) → i < length defines →
-  with_macros macros (map define_view (drop i defines)) ≡ with_macros (with_macro macros (define_view (get_or defines i d)).name (define_view (get_or defines i d)).text) (map define_view (drop (i + 1) defines))
+    with_macros macros (map define_view (drop i defines)) ≡ with_macros (with_macro macros (define_view (get_or defines i d)).name (define_view (get_or defines i d)).text) (map define_view (drop (i + 1) defines))
 with_macros_more macros defines i d within = rw (drop-cons defines i d within, add-one i) refl

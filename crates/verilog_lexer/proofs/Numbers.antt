@@ -1,5 +1,5 @@
 -- One digit more of a number that is read from left to right.
-use Rattle.std.proofs.Common.{◌≡◌, ◌<◌, ◌≤◌, ◌+◌, ℕ, suc, cond, List, [], ◌∷◌, length, get_or, drop, drop-cons, add-one, refl, arith, ◌==◌}
+use Rattle.std.proofs.Common.{◌≡◌, ◌<◌, ◌≤◌, ◌+◌, ℕ, List, [], ◌∷◌, length, get_or, drop, drop-cons, add-one, refl, arith}
 use Rattle.verilog_lexer.specs.Number.{number, with_digit}
 
 pub number-drop : (read : ℕ) (digits : List ℕ) (i : ℕ) → i < length digits → number read (drop i digits) ≡ number (with_digit read (get_or digits i 0)) (drop (i + 1) digits)

@@ -1,11 +1,10 @@
 -- The sources one after the other.
-use Rattle.std.proofs.Common.{◌≡◌, ◌<◌, ◌≤◌, ◌+◌, ℕ, zero, suc, List, [], ◌∷◌, Result, Ok, Err, length, drop, refl, arith, ◌∙◌, ap, add-one}
+use Rattle.std.proofs.Common.{◌≡◌, ◌<◌, ◌≤◌, ◌+◌, ℕ, zero, suc, List, [], ◌∷◌, Ok, length, drop, refl, arith, add-one}
 use Rattle.std.proofs.lemmas.List.{drop_all}
 use Rattle.std.specs.List.{slice_get}
 use Rattle.std.specs.Option.{IfSome}
-use Rattle.verilog_lexer.specs.Answer.{Answer, ◌>>=◌, IsFault}
+use Rattle.verilog_lexer.specs.Answer.{Answer, IsFault}
 use Rattle.verilog_lexer.specs.Sources.{SourceText}
-use Rattle.verilog_lexer.specs.Tokens.{Lexeme}
 use Rattle.verilog_lexer.specs.Reading.{Reading, read_source, read_roots, tokens_of, beginning}
 use Rattle.verilog_lexer.specs.Defines.{DefineText}
 use Rattle.verilog_lexer.specs.declared.fault.LexFault.{LexFault}

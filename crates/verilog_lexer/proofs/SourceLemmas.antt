@@ -1,10 +1,10 @@
 -- The sources that are kept, as a list.
-use Rattle.std.proofs.Common.{◌≡◌, ◌<◌, ◌≤◌, ◌+◌, Bool, cond, not, Option, None, Some, List, [], ◌∷◌, ℕ, zero, suc, refl, ap, map, length, get_or, arith, sym}
+use Rattle.std.proofs.Common.{◌≡◌, ◌<◌, ◌≤◌, ◌+◌, Bool, cond, not, Option, None, Some, List, [], ◌∷◌, ℕ, refl, ap, map, length, get_or, arith, sym}
 use Rattle.std.proofs.lemmas.List.{length-map}
 use Rattle.std.proofs.lemmas.Option.{slice_get_within, get_or_from_slice_get}
 use Rattle.std.proofs.lemmas.List.Sums.{get_or-le-sum_by}
 use Rattle.std.proofs.lemmas.List.Quantifiers.{position-Some}
-use Rattle.std.specs.List.{prefix_len, position, sum_by, slice_get}
+use Rattle.std.specs.List.{prefix_len, position, slice_get}
 use Rattle.std.specs.Option.{option_map, IfSome}
 use Rattle.std.specs.Borrow.{Bor}
 use Rattle.verilog_lexer.specs.Sources.{SourceText, total_length, source_view, is_include, include_place}

@@ -32,8 +32,8 @@ next_in_range place byte n line column = by_end (byte == 10) where
 after_in_range : (place : Place) (inside : Bool) (byte n : ℕ) → IsInRange (record { place = place; inside = inside }) (suc n) → IsInRange (after (record { place = place; inside = inside }) byte) n
 after_in_range place true byte n range = record { line = λ outside. absurd (cc); column = λ outside. absurd (cc) }
 after_in_range place false byte n range =
-  let next = next_in_range place byte n (range.line refl) (range.column refl) in
-  record { line = λ outside. next.0; column = λ outside. next.1 }
+    let next = next_in_range place byte n (range.line refl) (range.column refl) in
+    record { line = λ outside. next.0; column = λ outside. next.1 }
 
 -- what is left of a text stays in range
 pub after_all_in_range : (text : List ℕ) (bytes : ℕ) (spot : Spot) → IsInRange spot (length text) → IsInRange (after_all spot (take bytes text)) (length (drop bytes text))

@@ -1,5 +1,5 @@
 -- Based numbers (IEEE 1364-2001 clause 2.5.1).
-use Rattle.std.specs.Prelude.{ℕ, ◌+◌, ◌^◌, ◌-◌, nat_le, is_some, Bool, true, false, not, ◌&&◌, ◌||◌, ◌==◌, List, [], ◌∷◌, Option, None, Some, if◌then◌else◌, slice_index, drop, take}
+use Rattle.std.specs.Prelude.{ℕ, ◌+◌, ◌^◌, ◌-◌, nat_le, is_some, Bool, true, false, not, ◌&&◌, ◌||◌, ◌==◌, List, Option, None, Some, if◌then◌else◌, slice_index, drop}
 use Rattle.std.specs.List.{list_any}
 use Rattle.std.specs.Char.{is_ascii_digit}
 use Rattle.verilog_lexer.specs.Run.{is_white, run}
@@ -10,11 +10,11 @@ use Rattle.verilog_lexer.specs.declared.based.Base.TheVariants.{Binary, Octal, D
 -- the base that a letter names, in either case
 abbrev pub base_of : ℕ → Option Base
 base_of letter =
-  if letter == 98 || letter == 66 then Some Binary
-  else if letter == 111 || letter == 79 then Some Octal
-  else if letter == 100 || letter == 68 then Some Decimal
-  else if letter == 104 || letter == 72 then Some Hexadecimal
-  else None
+    if letter == 98 || letter == 66 then Some Binary
+    else if letter == 111 || letter == 79 then Some Octal
+    else if letter == 100 || letter == 68 then Some Decimal
+    else if letter == 104 || letter == 72 then Some Hexadecimal
+    else None
 
 -- x, z or ?, in either case
 abbrev pub is_strange : ℕ → Bool
@@ -41,9 +41,9 @@ is_decimal_part byte = is_ascii_digit byte || is_underscore byte
 -- how many bytes at the front are decimal digits, or one x, z or ? alone, with underscores
 abbrev pub decimal_digits_length : List ℕ → ℕ
 decimal_digits_length text =
-  if is_strange (slice_index text (run is_underscore text))
-  then run is_underscore text + 1 + run is_underscore (drop (run is_underscore text + 1) text)
-  else run is_decimal_part text
+    if is_strange (slice_index text (run is_underscore text))
+    then run is_underscore text + 1 + run is_underscore (drop (run is_underscore text + 1) text)
+    else run is_decimal_part text
 
 -- how many bytes at the front are digits of the base with underscores
 abbrev pub digits_length : Base → List ℕ → ℕ

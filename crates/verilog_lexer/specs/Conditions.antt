@@ -1,5 +1,5 @@
 -- Conditional compilation (IEEE 1364-2001 clause 19.4).
-use Rattle.std.specs.Prelude.{ℕ, ◌-◌, ◌==◌, Bool, true, false, not, List, [], ◌∷◌, ◌++◌, Option, None, Some, Result, Ok, Err, if◌then◌else◌, length, slice_get, take, is_some}
+use Rattle.std.specs.Prelude.{ℕ, ◌-◌, ◌==◌, Bool, true, false, not, List, [], ◌∷◌, ◌++◌, Option, None, Some, Ok, if◌then◌else◌, length, slice_get, take, is_some}
 use Rattle.cov_host.specs.declared.place.Place.{Place}
 use Rattle.verilog_lexer.specs.Answer.{Answer, ◌>>=◌, fault_at}
 use Rattle.verilog_lexer.specs.Defines.{Macros}
@@ -66,6 +66,6 @@ abbrev pub after_test : Place → Macros → Test → List Condition → Answer 
 after_test place macros (if_defined name) conditions = named place name >>= λ _. Ok (with_opened conditions (is_some (macros name)))
 after_test place macros (if_undefined name) conditions = named place name >>= λ _. Ok (with_opened conditions (not (is_some (macros name))))
 after_test place macros (else_if_defined name) conditions =
-  going_on place (innermost conditions) >>= λ condition. named place name >>= λ _. Ok (with_next conditions condition (is_some (macros name)) false)
+    going_on place (innermost conditions) >>= λ condition. named place name >>= λ _. Ok (with_next conditions condition (is_some (macros name)) false)
 after_test place macros otherwise conditions = going_on place (innermost conditions) >>= λ condition. Ok (with_next conditions condition true true)
 after_test place macros end_of_condition conditions = closing place (innermost conditions) >>= λ _. Ok (outer conditions)

@@ -29,7 +29,7 @@ is_single first = list_any (λ byte. byte == first) singles
 -- how many bytes the longest operator at the front has, 0 where none stands there
 unfoldable pub operator_length : List ℕ → ℕ
 operator_length text =
-  if is_triple (slice_index text 0) (slice_index text 1) (slice_index text 2) then 3
-  else if is_pair (slice_index text 0) (slice_index text 1) then 2
-  else if is_single (slice_index text 0) then 1
-  else 0
+    if is_triple (slice_index text 0) (slice_index text 1) (slice_index text 2) then 3
+    else if is_pair (slice_index text 0) (slice_index text 1) then 2
+    else if is_single (slice_index text 0) then 1
+    else 0

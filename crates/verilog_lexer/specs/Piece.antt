@@ -1,5 +1,5 @@
 -- What stands at the front of a text: a token, or a directive with what belongs to it (IEEE 1364-2001 clauses 2 and 19).
-use Rattle.std.specs.Prelude.{ℕ, ◌+◌, ◌-◌, nat_le, nat_eq, Bool, true, false, not, ◌&&◌, ◌||◌, ◌==◌, List, [], ◌∷◌, Option, None, Some, if◌then◌else◌, slice_index, take, drop, length}
+use Rattle.std.specs.Prelude.{ℕ, ◌+◌, ◌-◌, nat_le, Bool, false, not, ◌&&◌, ◌||◌, ◌==◌, List, [], Option, None, Some, if◌then◌else◌, slice_index, take, drop, length}
 use Rattle.std.specs.List.{list_all}
 use Rattle.std.specs.Char.{is_ascii_digit}
 use Rattle.cov_host.specs.Identifier.{is_reserved, is_identifier, begins_name, continues_name}
@@ -81,15 +81,15 @@ comment_piece first second text = up_to (λ n. blank (n + 2)) (fault OpenComment
 -- a comment to the end of the line, one between marks, or a quotient
 abbrev pub slash_piece : List ℕ → Piece
 slash_piece text =
-  if slice_index text 1 == 47 then blank (run is_within_line text)
-  else if slice_index text 1 == 42 then comment_piece 42 47 text
-  else operator_piece text
+    if slice_index text 1 == 47 then blank (run is_within_line text)
+    else if slice_index text 1 == 42 then comment_piece 42 47 text
+    else operator_piece text
 
 -- an attribute (clause 2.8), unless it is the star in parentheses that stands for all events
 abbrev pub parenthesis_piece : List ℕ → Piece
 parenthesis_piece text =
-  if slice_index text 1 == 42 && not (slice_index (drop 2 text) (run is_white (drop 2 text)) == 41) then comment_piece 42 41 text
-  else operator_piece text
+    if slice_index text 1 == 42 && not (slice_index (drop 2 text) (run is_white (drop 2 text)) == 41) then comment_piece 42 41 text
+    else operator_piece text
 
 -- the name behind blanks, empty where none stands there
 abbrev pub name_in : List ℕ → List ℕ
@@ -105,9 +105,9 @@ name_end text = run is_blank text + length (name_behind text)
 -- the definition of a macro; a macro with arguments is refused
 abbrev pub define_piece : (start : ℕ) → List ℕ → Piece
 define_piece start text =
-  if is_identifier (name_behind text) && not (slice_index text (name_end text) == 40)
-  then define (name_behind text) (take (define_text_length (drop (name_end text) text)) (drop (name_end text) text)) (start + name_end text + define_text_length (drop (name_end text) text))
-  else fault UnknownDirective 0
+    if is_identifier (name_behind text) && not (slice_index text (name_end text) == 40)
+    then define (name_behind text) (take (define_text_length (drop (name_end text) text)) (drop (name_end text) text)) (start + name_end text + define_text_length (drop (name_end text) text))
+    else fault UnknownDirective 0
 
 -- one or more bytes from 32 to 126
 abbrev pub is_file_name : List ℕ → Bool
@@ -119,9 +119,9 @@ file_piece before name = if is_file_name name then inclusion name (before + leng
 
 abbrev pub include_piece : (start : ℕ) → List ℕ → Piece
 include_piece start text =
-  if slice_index text (run is_blank text) == 34
-  then up_to (λ n. file_piece (start + run is_blank text + 1) (take (n - 1) (drop (run is_blank text + 1) text))) (fault BadByte (start + run is_blank text)) (through_quote 0 false (drop (run is_blank text + 1) text))
-  else fault UnknownDirective 0
+    if slice_index text (run is_blank text) == 34
+    then up_to (λ n. file_piece (start + run is_blank text + 1) (take (n - 1) (drop (run is_blank text + 1) text))) (fault BadByte (start + run is_blank text)) (through_quote 0 false (drop (run is_blank text + 1) text))
+    else fault UnknownDirective 0
 
 -- a directive of conditions, with where its name ends
 abbrev pub condition_piece : Directive → (start : ℕ) → List ℕ → Option Piece
@@ -162,28 +162,28 @@ directive_word text = name_in (drop 1 text)
 -- the directive or the use of a macro at a grave accent
 unfoldable pub accent_piece : List ℕ → Piece
 accent_piece text =
-  if length (directive_word text) == 0 then fault BadByte 0
-  else or_piece (condition_piece (directive_of (directive_word text)) (length (directive_word text) + 1) (drop (length (directive_word text) + 1) text))
+    if length (directive_word text) == 0 then fault BadByte 0
+    else or_piece (condition_piece (directive_of (directive_word text)) (length (directive_word text) + 1) (drop (length (directive_word text) + 1) text))
     (other_piece (directive_of (directive_word text)) (directive_word text) (length (directive_word text) + 1) (drop (length (directive_word text) + 1) text))
 
 -- what begins with a mark
 abbrev pub mark_piece : List ℕ → Piece
 mark_piece text =
-  if slice_index text 0 == 47 then slash_piece text
-  else if slice_index text 0 == 40 then parenthesis_piece text
-  else if slice_index text 0 == 34 then quoted_piece text
-  else if slice_index text 0 == 96 then accent_piece text
-  else if slice_index text 0 == 39 then based_piece text
-  else if slice_index text 0 == 36 then system_piece text
-  else operator_piece text
+    if slice_index text 0 == 47 then slash_piece text
+    else if slice_index text 0 == 40 then parenthesis_piece text
+    else if slice_index text 0 == 34 then quoted_piece text
+    else if slice_index text 0 == 96 then accent_piece text
+    else if slice_index text 0 == 39 then based_piece text
+    else if slice_index text 0 == 36 then system_piece text
+    else operator_piece text
 
 -- what stands at the front of a text that is read
 unfoldable pub read_piece : List ℕ → Piece
 read_piece text =
-  if is_white (slice_index text 0) then blank (run is_white text)
-  else if begins_name (slice_index text 0) then word_piece text
-  else if is_ascii_digit (slice_index text 0) then token_of kind.Decimal text (run is_decimal_part text)
-  else mark_piece text
+    if is_white (slice_index text 0) then blank (run is_white text)
+    else if begins_name (slice_index text 0) then word_piece text
+    else if is_ascii_digit (slice_index text 0) then token_of kind.Decimal text (run is_decimal_part text)
+    else mark_piece text
 
 -- the byte begins no comment, string or directive
 abbrev pub is_plain : ℕ → Bool
@@ -191,21 +191,21 @@ is_plain byte = not (byte == 47 || byte == 34 || byte == 96)
 
 abbrev pub left_out_slash : List ℕ → Piece
 left_out_slash text =
-  if slice_index text 1 == 47 then blank (run is_within_line text)
-  else if slice_index text 1 == 42 then comment_piece 42 47 text
-  else blank 1
+    if slice_index text 1 == 47 then blank (run is_within_line text)
+    else if slice_index text 1 == 42 then comment_piece 42 47 text
+    else blank 1
 
 abbrev pub left_out_quote : List ℕ → Piece
 left_out_quote text = up_to (λ n. blank (n + 1)) (blank 1) (through_quote 0 false (drop 1 text))
 
 abbrev pub left_out_accent : List ℕ → Piece
 left_out_accent text =
-  or_piece (condition_piece (directive_of (directive_word text)) (length (directive_word text) + 1) (drop (length (directive_word text) + 1) text)) (blank 1)
+    or_piece (condition_piece (directive_of (directive_word text)) (length (directive_word text) + 1) (drop (length (directive_word text) + 1) text)) (blank 1)
 
 -- what stands at the front of a text that a condition leaves out: only directives of conditions are read there
 unfoldable pub left_out_piece : List ℕ → Piece
 left_out_piece text =
-  if slice_index text 0 == 47 then left_out_slash text
-  else if slice_index text 0 == 34 then left_out_quote text
-  else if slice_index text 0 == 96 then left_out_accent text
-  else blank (run is_plain (drop 1 text) + 1)
+    if slice_index text 0 == 47 then left_out_slash text
+    else if slice_index text 0 == 34 then left_out_quote text
+    else if slice_index text 0 == 96 then left_out_accent text
+    else blank (run is_plain (drop 1 text) + 1)

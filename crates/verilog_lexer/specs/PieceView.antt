@@ -1,5 +1,5 @@
 -- The pieces of the program as the pieces of the definition.
-use Rattle.std.specs.Prelude.{ℕ, Option, None, Some}
+use Rattle.std.specs.Prelude.{Option, None, Some}
 use Rattle.verilog_lexer.specs.Piece.{Piece, blank, token, define, undefine, condition, inclusion, expansion, fault, Test, if_defined, if_undefined, else_if_defined, otherwise, end_of_condition}
 use Rattle.verilog_lexer.specs.declared.piece.Piece.{Piece as CodePiece}
 use Rattle.verilog_lexer.specs.declared.piece.Piece.TheVariants as code

@@ -1,5 +1,5 @@
 -- What sources say: their tokens under definitions, or the fault that stands first (IEEE 1364-2001 clause 19).
-use Rattle.std.specs.Prelude.{ℕ, zero, suc, ◌+◌, ◌-◌, Bool, true, false, ◌==◌, List, [], ◌∷◌, Option, None, Some, Result, Ok, Err, if◌then◌else◌, length, slice_get, slice_index, is_none, ◌&&◌, take}
+use Rattle.std.specs.Prelude.{ℕ, zero, suc, ◌+◌, ◌-◌, Bool, false, ◌==◌, List, [], ◌∷◌, Option, None, Some, Ok, Err, if◌then◌else◌, length, slice_get, slice_index, is_none, ◌&&◌, take}
 use Rattle.cov_host.specs.declared.place.Place.{Place}
 use Rattle.verilog_lexer.specs.Answer.{Answer, ◌>>=◌, fault_at}
 use Rattle.verilog_lexer.specs.Spot.{after, after_all, within_macro, file_spot}
@@ -10,7 +10,6 @@ use Rattle.verilog_lexer.specs.Piece.{Piece, blank, token, define, undefine, con
 use Rattle.verilog_lexer.specs.Sources.{SourceText, include_place}
 use Rattle.verilog_lexer.specs.declared.spot.Spot.{Spot}
 use Rattle.verilog_lexer.specs.declared.condition.Condition.{Condition}
-use Rattle.verilog_lexer.specs.declared.fault.LexFault.{LexFault}
 use Rattle.verilog_lexer.specs.declared.fault.LexFault.TheVariants as lex_fault
 use Rattle.verilog_lexer.specs.declared.fault.LexKind.TheVariants.{OpenCondition, UnknownMacro, MacroDepth, IncludeMissing}
 
@@ -58,9 +57,9 @@ is_continuation text = slice_index text 0 == 92 && slice_index text 1 == 10
 -- the piece at the front, which is another one where a condition leaves the text out
 abbrev pub front_piece : (in_macro : Bool) → List Condition → List ℕ → Piece
 front_piece in_macro conditions text =
-  if in_macro && is_continuation text then blank 2
-  else if is_left_out conditions then left_out_piece text
-  else read_piece text
+    if in_macro && is_continuation text then blank 2
+    else if is_left_out conditions then left_out_piece text
+    else read_piece text
 
 -- what is left of a text: where it stands, and, for a file, the open conditions of what is round it
 pub record PassageText : Type 0 where
@@ -86,9 +85,9 @@ unfoldable pub scan : Inner → (ending : Option (List Condition)) → (left : �
 scan inner ending left spot [] reading = ended ending spot reading
 scan inner ending (suc left) spot (byte ∷ others) reading = scan inner ending left (after spot byte) others reading
 scan inner ending zero spot (byte ∷ others) reading =
-  meaning spot (byte ∷ others) (front_piece (is_none ending) reading.conditions (byte ∷ others)) reading >>= λ step.
-  entered inner spot step.entry step.reading >>= λ next.
-  scan inner ending (piece_length (front_piece (is_none ending) reading.conditions (byte ∷ others)) - 1) (after spot byte) others next
+    meaning spot (byte ∷ others) (front_piece (is_none ending) reading.conditions (byte ∷ others)) reading >>= λ step.
+    entered inner spot step.entry step.reading >>= λ next.
+    scan inner ending (piece_length (front_piece (is_none ending) reading.conditions (byte ∷ others)) - 1) (after spot byte) others next
 
 -- what is entered, with what has been read: the text of a macro, or a file with no conditions of its own yet
 pub record Opened : Type 0 where
@@ -121,7 +120,7 @@ scan_passage inner passage reading = scan inner passage.ending 0 passage.spot pa
 unfoldable pub inner_at : ℕ → List SourceText → Inner
 inner_at zero sources spot entry reading = fault_at MacroDepth spot.place
 inner_at (suc depth) sources spot entry reading =
-  opened sources spot entry reading >>= λ inside. scan_passage (inner_at depth sources) inside.passage inside.reading
+    opened sources spot entry reading >>= λ inside. scan_passage (inner_at depth sources) inside.passage inside.reading
 
 -- uses of macros and inclusions nest at most 64 deep
 abbrev pub read_passage : List SourceText → PassageText → Reading → Answer Reading

@@ -1,10 +1,9 @@
 -- What the program has read, as the definition sees it.
-use Rattle.std.specs.Prelude.{List, map, Option, None, Some}
+use Rattle.std.specs.Prelude.{Option}
 use Rattle.std.specs.Option.{option_map}
 use Rattle.verilog_lexer.specs.TokenView.{lexemes}
 use Rattle.verilog_lexer.specs.MacrosView.{macros_view}
 use Rattle.verilog_lexer.specs.Reading.{Reading, Entry, macro_text, file, PassageText}
-use Rattle.verilog_lexer.specs.declared.condition.Condition.{Condition}
 use Rattle.verilog_lexer.specs.declared.reading.Reading.{Reading as CodeReading}
 use Rattle.verilog_lexer.specs.declared.reading.Entry.{Entry as CodeEntry}
 use Rattle.verilog_lexer.specs.declared.reading.Entry.TheVariants as code

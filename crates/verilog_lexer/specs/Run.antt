@@ -1,5 +1,5 @@
 -- Runs of bytes at the front of a text (IEEE 1364-2001 clause 2).
-use Rattle.std.specs.Prelude.{ℕ, ◌+◌, nat_le, Bool, true, false, not, ◌&&◌, ◌||◌, ◌==◌, List, [], ◌∷◌, Option, None, Some, if◌then◌else◌, slice_index}
+use Rattle.std.specs.Prelude.{ℕ, ◌+◌, nat_le, Bool, not, ◌&&◌, ◌||◌, ◌==◌, List, [], ◌∷◌, Option, None, Some, if◌then◌else◌, slice_index}
 use Rattle.std.specs.List.{prefix_len}
 
 -- space, tab, line feed, vertical tab, form feed, carriage return
@@ -22,7 +22,7 @@ run passes text = prefix_len passes text
 abbrev pub through_pair : (first second passed : ℕ) → List ℕ → Option ℕ
 through_pair first second passed [] = None
 through_pair first second passed (byte ∷ others) =
-  if byte == first && slice_index others 0 == second then Some (passed + 2) else through_pair first second (passed + 1) others
+    if byte == first && slice_index others 0 == second then Some (passed + 2) else through_pair first second (passed + 1) others
 
 -- the byte is a quote that no backslash takes with it
 abbrev pub closes : (byte : ℕ) (taken : Bool) → Bool
@@ -36,6 +36,6 @@ takes_next byte taken = byte == 92 && not taken
 abbrev pub through_quote : (passed : ℕ) (taken : Bool) → List ℕ → Option ℕ
 through_quote passed taken [] = None
 through_quote passed taken (byte ∷ others) =
-  if byte == 10 then None
-  else if closes byte taken then Some (passed + 1)
-  else through_quote (passed + 1) (takes_next byte taken) others
+    if byte == 10 then None
+    else if closes byte taken then Some (passed + 1)
+    else through_quote (passed + 1) (takes_next byte taken) others

@@ -1,5 +1,5 @@
 -- The sources of a design: files to be read one after the other, and files that they include.
-use Rattle.std.specs.Prelude.{ℕ, ◌≡◌, ◌≤◌, ◌+◌, ◌-◌, nat_lt, Bool, not, ◌&&◌, ◌==◌, List, [], ◌∷◌, Option, None, Some, if◌then◌else◌, length, map, slice_get, position, string_bytes, sum_by}
+use Rattle.std.specs.Prelude.{ℕ, ◌≡◌, ◌≤◌, ◌+◌, ◌-◌, nat_lt, Bool, not, ◌&&◌, ◌==◌, List, Option, None, Some, if◌then◌else◌, length, slice_get, position, string_bytes, sum_by}
 use Rattle.std.specs.Option.{option_map}
 use Rattle.std.specs.Str.{bytes_eq}
 use Rattle.verilog_lexer.specs.declared.sources.Source.{Source}
@@ -28,9 +28,9 @@ pub record AreWithinLimits (sources : List SourceText) : Type 0 where
 -- why a file of this name and length is not added, if it is not
 abbrev pub refusal_of : List SourceText → (name : List ℕ) → (bytes : ℕ) → Option LexFault
 refusal_of sources name bytes =
-  if nat_lt 67108864 (total_length sources + bytes) then Some (lex_fault.At lex_kind.SourcesTooLong None (Some name))
-  else if length sources == 256 then Some (lex_fault.At lex_kind.TooManySources None (Some name))
-  else None
+    if nat_lt 67108864 (total_length sources + bytes) then Some (lex_fault.At lex_kind.SourcesTooLong None (Some name))
+    else if length sources == 256 then Some (lex_fault.At lex_kind.TooManySources None (Some name))
+    else None
 
 -- a fault is this one, if it is not want of memory
 abbrev pub IsRefusal : Option LexFault → LexFault → Type 0

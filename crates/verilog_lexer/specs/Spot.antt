@@ -1,13 +1,13 @@
 -- Where in the sources something stands.
-use Rattle.std.specs.Prelude.{ℕ, ◌≡◌, ◌+◌, ◌^◌, ◌<◌, Bool, true, false, ◌==◌, List, [], ◌∷◌, if◌then◌else◌}
+use Rattle.std.specs.Prelude.{ℕ, ◌≡◌, ◌+◌, ◌^◌, ◌<◌, true, false, ◌==◌, List, [], ◌∷◌, if◌then◌else◌}
 use Rattle.cov_host.specs.declared.place.Place.{Place}
 use Rattle.verilog_lexer.specs.declared.spot.Spot.{Spot}
 
 -- the place behind a byte: the next column, or behind a line feed the next line
 abbrev pub next_place : Place → ℕ → Place
 next_place place byte =
-  if byte == 10 then record place { line = place.line + 1; column = 1 }
-  else record place { column = place.column + 1 }
+    if byte == 10 then record place { line = place.line + 1; column = 1 }
+    else record place { column = place.column + 1 }
 
 -- the same, but within a macro everything stands where the macro is used
 abbrev pub after : Spot → ℕ → Spot

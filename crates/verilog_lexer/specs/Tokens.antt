@@ -1,5 +1,5 @@
 -- Tokens one after the other, and what is wrong with one (IEEE 1364-2001 clause 2).
-use Rattle.std.specs.Prelude.{ℕ, ◌+◌, ◌-◌, ◌^◌, nat_lt, Bool, true, false, not, ◌&&◌, ◌==◌, List, [], ◌∷◌, ◌++◌, Option, None, Some, Result, Ok, Err, if◌then◌else◌, length, slice_get, take, is_some}
+use Rattle.std.specs.Prelude.{ℕ, ◌-◌, ◌^◌, nat_lt, Bool, true, false, not, ◌&&◌, ◌==◌, List, [], ◌∷◌, ◌++◌, Option, None, Some, Ok, if◌then◌else◌, length, slice_get, take, is_some}
 use Rattle.cov_host.specs.declared.place.Place.{Place}
 use Rattle.verilog_lexer.specs.Answer.{Answer, ◌>>=◌, fault_at}
 use Rattle.verilog_lexer.specs.Number.{number_within}
@@ -88,7 +88,7 @@ short_enough spot text kind word = if is_too_long kind word then fault_at BadByt
 -- the tokens with one more at their end, with which the text begins
 abbrev pub with_token : Spot → (text : List ℕ) → TokenKind → List ℕ → List Lexeme → Answer (List Lexeme)
 with_token spot text kind word tokens =
-  sound_number (bad_number tokens kind word spot.place) >>= λ _.
-  room_for_one tokens spot.place >>= λ _.
-  short_enough spot text kind word >>= λ _.
-  Ok (tokens ++ record { kind = kind; text = word; place = spot.place } ∷ [])
+    sound_number (bad_number tokens kind word spot.place) >>= λ _.
+    room_for_one tokens spot.place >>= λ _.
+    short_enough spot text kind word >>= λ _.
+    Ok (tokens ++ record { kind = kind; text = word; place = spot.place } ∷ [])

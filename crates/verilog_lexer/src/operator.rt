@@ -37,9 +37,7 @@ pub(crate) fn operator_length(text: &[u8]) -> usize
 fn is_triple(first: u8, second: u8, third: u8) -> bool
     ensures { result ≡ is_triple first second third }
 {
-    TRIPLES
-        .iter()
-        .any(|word| word[0] == first && word[1] == second && word[2] == third)
+    TRIPLES.iter().any(|word| word[0] == first && word[1] == second && word[2] == third)
 }
 
 /// Whether the two bytes are an operator.

@@ -29,7 +29,9 @@ pub(crate) enum Test<'a> {
 #[derive(Clone, Copy, Debug)]
 pub(crate) enum Piece<'a> {
     /// White space, a comment, an attribute or what is passed over.
-    Blank { length: usize },
+    Blank {
+        length: usize,
+    },
     Token {
         kind: TokenKind,
         text: &'a [u8],
@@ -39,12 +41,27 @@ pub(crate) enum Piece<'a> {
         text: &'a [u8],
         length: usize,
     },
-    Undefine { name: &'a [u8], length: usize },
-    Condition { test: Test<'a>, length: usize },
-    Inclusion { name: &'a [u8], length: usize },
-    Expansion { name: &'a [u8], length: usize },
+    Undefine {
+        name: &'a [u8],
+        length: usize,
+    },
+    Condition {
+        test: Test<'a>,
+        length: usize,
+    },
+    Inclusion {
+        name: &'a [u8],
+        length: usize,
+    },
+    Expansion {
+        name: &'a [u8],
+        length: usize,
+    },
     /// A fault behind so many bytes.
-    Fault { kind: LexKind, before: usize },
+    Fault {
+        kind: LexKind,
+        before: usize,
+    },
 }
 
 impl<'a> Piece<'a> {

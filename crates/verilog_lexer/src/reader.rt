@@ -3,8 +3,8 @@ ghost use Rattle.std.specs.Bool.{OnTrue, OnFalse};
 ghost use Rattle.verilog_lexer.specs.Answer.{IsFault};
 
 use crate::condition::Conditions;
-use crate::passage::Passage;
 use crate::opened::opened;
+use crate::passage::Passage;
 use crate::reading::{Entry, Reading};
 use crate::spot::Spot;
 use crate::{Defines, LexFault, LexKind, Sources, Token};

@@ -106,7 +106,11 @@ impl<'a> Reading<'a> {
     }
 
     /// Ends a text: where it is a file, all its conditions are closed, and those round it count again.
-    pub(crate) fn end_text(&mut self, ending: Option<Conditions>, spot: Spot) -> Result<(), LexFault>
+    pub(crate) fn end_text(
+        &mut self,
+        ending: Option<Conditions>,
+        spot: Spot,
+    ) -> Result<(), LexFault>
         ensures ok { OnOk result (ended (option_map (λ outer. outer.items) ending) spot (reading_view self.old) ≡ Ok (reading_view self.new)) }
         ensures fault { IfErr result (IsFault (ended (option_map (λ outer. outer.items) ending) spot (reading_view self.old))) }
     {

@@ -71,7 +71,9 @@ pub(crate) fn name_length(text: &[u8]) -> usize
     ensures value { result ≡ run continues_name text.now }
     ensures within { result ≤ length text.now }
 {
-    text.iter().take_while(|byte| continues_name(**byte)).count()
+    text.iter()
+        .take_while(|byte| continues_name(**byte))
+        .count()
 }
 
 /// How many bytes there are up to the end of the first such pair of bytes.

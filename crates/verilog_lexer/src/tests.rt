@@ -252,16 +252,25 @@ fn tokens_of_sources(rt: HostRuntime) -> Result<(), Fail> {
 fn assert_refusal(rt: &impl Abort, alloc: Global, refusal: &Refusal) -> Result<(), Fail> {
     let sources = one_root(alloc, refusal.source)?;
     let defines = Defines::new(alloc);
-    let Err(LexFault::At {
-        kind,
-        place: Some(place),
-        detail,
-    }) = lex(alloc, &sources, &defines)
+    let Err(
+        LexFault::At {
+            kind,
+            place: Some(place),
+            detail,
+        },
+    ) = lex(alloc, &sources, &defines)
     else {
         return Err(Fail::new("no fault at a place"));
     };
     assert_eq!(rt; kind, refusal.kind);
-    assert_eq!(rt; place, Place { source: 1, line: refusal.line, column: refusal.column });
+    assert_eq!(rt;
+        place,
+        Place {
+            source: 1,
+            line: refusal.line,
+            column: refusal.column
+        }
+    );
     match detail {
         Some(name) => assert!(rt; name.as_slice() == refusal.detail.as_bytes()),
         None => assert!(rt; refusal.detail.is_empty()),
@@ -295,10 +304,24 @@ fn tokens_stand_in_their_files(rt: HostRuntime) -> Result<(), Fail> {
     let texts = texts(rt.alloc(), &tokens)?;
     assert!(&rt; texts.as_slice() == b"x`y`a`c`d`b`c`d".as_slice());
     let places = [
-        (1, 1, 1), (1, 1, 1), (1, 1, 4), (2, 1, 1), (2, 2, 2), (1, 2, 18), (2, 1, 1), (2, 2, 2),
+        (1, 1, 1),
+        (1, 1, 1),
+        (1, 1, 4),
+        (2, 1, 1),
+        (2, 2, 2),
+        (1, 2, 18),
+        (2, 1, 1),
+        (2, 2, 2),
     ];
     for (token, (source, line, column)) in tokens.as_slice().iter().zip(places) {
-        assert_eq!(&rt; token.place, Place { source, line, column });
+        assert_eq!(&rt;
+            token.place,
+            Place {
+                source,
+                line,
+                column
+            }
+        );
     }
     assert_eq!(&rt; sources.name(1), Some("m.v"));
     assert_eq!(&rt; sources.name(2), Some("x.vh"));
@@ -317,7 +340,14 @@ fn conditions_close_in_their_files(rt: HostRuntime) -> Result<(), Fail> {
         return Err(Fail::new("no fault"));
     };
     assert_eq!(&rt; kind, LexKind::OpenCondition);
-    assert_eq!(&rt; place, Some(Place { source: 2, line: 1, column: 1 }));
+    assert_eq!(&rt;
+        place,
+        Some(Place {
+            source: 2,
+            line: 1,
+            column: 1
+        })
+    );
     Ok(())
 }
 

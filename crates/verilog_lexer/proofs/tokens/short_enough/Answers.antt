@@ -1,4 +1,4 @@
-use Rattle.std.proofs.Common.{◌≤◌, length, arith, take, length-take}
+use Rattle.std.proofs.Common.{◌≤◌, length, arith, length-take}
 use Rattle.verilog_lexer.proofs.Spots.{IsInRange-less}
 use Rattle.verilog_lexer.proofs.tokens.short_enough.Goals as goal
 

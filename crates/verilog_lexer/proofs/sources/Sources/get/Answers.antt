@@ -1,4 +1,4 @@
-use Rattle.std.proofs.Common.{◌≤◌, arith}
+use Rattle.std.proofs.Common.{◌≤◌}
 use Rattle.verilog_lexer.specs.Sources.{total_length}
 use Rattle.verilog_lexer.proofs.SourceLemmas.{within_by}
 use Rattle.verilog_lexer.proofs.sources.Sources.get.Goals as goal

@@ -1,4 +1,4 @@
-use Rattle.std.proofs.Common.{◌≡◌, ◌≤◌, ◌∙◌, ap, map, length, arith}
+use Rattle.std.proofs.Common.{◌≤◌, ◌∙◌, length, arith}
 use Rattle.std.proofs.lemmas.List.{length-map}
 use Rattle.verilog_lexer.specs.Sources.{is_include, source_view}
 use Rattle.verilog_lexer.proofs.SourceLemmas.{include_place_by, place_within}
