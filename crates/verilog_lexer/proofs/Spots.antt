@@ -1,7 +1,7 @@
 -- Places behind bytes.
-use Rattle.std.proofs.Common.{◌≡◌, ◌<◌, ◌≤◌, ◌+◌, arith, Bool, true, false, ℕ, suc, List, [], ◌∷◌, zero, cond, ◌==◌, ◌^◌, length, get_or, take, drop, drop-cons, add-one, refl}
+use Rattle.std.proofs.Common.{◌≡◌, ◌<◌, ◌≤◌, ◌+◌, arith, Bool, true, false, ℕ, suc, List, [], ◌∷◌, zero, cond, ◌==◌, ◌^◌, length, get_or, take, drop, drop-cons, add-one, refl, inl, inr, ◌∙◌, ◌⊎◌}
 use Rattle.cov_host.specs.declared.place.Place.{Place}
-use Rattle.verilog_lexer.specs.Spot.{next_place, after, after_all, IsInRange}
+use Rattle.verilog_lexer.specs.Spot.{next_place, after, after_all, IsInRange, IsBefore}
 use Rattle.verilog_lexer.specs.declared.spot.Spot.{Spot}
 
 -- one byte more
@@ -40,3 +40,24 @@ pub after_all_in_range : (text : List ℕ) (bytes : ℕ) (spot : Spot) → IsInR
 after_all_in_range text zero spot range = range
 after_all_in_range [] (suc bytes) spot range = range
 after_all_in_range (byte ∷ others) (suc bytes) spot range = after_all_in_range others bytes (after spot byte) (after_in_range spot.place spot.inside byte (length others) range)
+
+-- a byte stands before what is behind it
+next_is_behind : (place : Place) (byte : ℕ) → IsBefore place (next_place place byte)
+next_is_behind place byte = by_end (byte == 10) where
+  by_end : (ends : Bool) → IsBefore place (cond ends (record place { line = place.line + 1; column = 1 }) (record place { column = place.column + 1 }))
+  by_end true = record { source = refl; order = inl (omega arith) }
+  by_end false = record { source = refl; order = inr (refl, omega arith) }
+
+IsBefore-trans : (first second third : Place) → IsBefore first second → IsBefore second third → IsBefore first third
+IsBefore-trans first second third before after_ = record { source = before.source ∙ after_.source; order = later before.order after_.order } where
+  later : ((first.line < second.line) ⊎ ((first.line ≡ second.line) × (first.column < second.column))) → ((second.line < third.line) ⊎ ((second.line ≡ third.line) × (second.column < third.column))) → (first.line < third.line) ⊎ ((first.line ≡ third.line) × (first.column < third.column))
+  later (inl line) (inl next) = inl (omega arith)
+  later (inl line) (inr next) = inl (omega (arith, next.0))
+  later (inr column) (inl next) = inl (omega (arith, column.0))
+  later (inr column) (inr next) = inr (column.0 ∙ next.0, omega (arith, column.1, next.1))
+
+-- outside of macros places rise
+pub places_rise : (bytes : List ℕ) (place : Place) → 0 < length bytes → IsBefore place (after_all (record { place = place; inside = false }) bytes).place
+places_rise [] place some = absurd (omega arith)
+places_rise (byte ∷ []) place some = next_is_behind place byte
+places_rise (byte ∷ next ∷ others) place some = IsBefore-trans place (next_place place byte) _ (next_is_behind place byte) (places_rise (next ∷ others) (next_place place byte) (omega arith))

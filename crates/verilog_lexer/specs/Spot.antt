@@ -1,5 +1,5 @@
 -- Where in the sources something stands.
-use Rattle.std.specs.Prelude.{ℕ, ◌≡◌, ◌+◌, ◌^◌, ◌<◌, true, false, ◌==◌, List, [], ◌∷◌, if◌then◌else◌}
+use Rattle.std.specs.Prelude.{ℕ, ◌≡◌, ◌⊎◌, length, ◌+◌, ◌^◌, ◌<◌, true, false, ◌==◌, List, [], ◌∷◌, if◌then◌else◌}
 use Rattle.cov_host.specs.declared.place.Place.{Place}
 use Rattle.verilog_lexer.specs.declared.spot.Spot.{Spot}
 
@@ -30,3 +30,16 @@ within_macro spot = record spot { inside = true }
 -- where the file with this number begins, seen from the directive that includes it
 abbrev pub file_spot : Spot → (number : ℕ) → Spot
 file_spot spot number = if spot.inside then spot else record { place = record { source = number; line = 1; column = 1 }; inside = false }
+
+-- a place stands before another one of the same source
+pub record IsBefore (first second : Place) : Type 0 where
+  pub source : first.source ≡ second.source
+  pub order : (first.line < second.line) ⊎ ((first.line ≡ second.line) × (first.column < second.column))
+
+-- outside of macros what stands behind bytes stands behind what stands before them
+abbrev pub PlacesRise : Type 0
+PlacesRise = (place : Place) (bytes : List ℕ) → 0 < length bytes → IsBefore place (after_all (record { place = place; inside = false }) bytes).place
+
+-- within a macro everything stands where the macro is used
+abbrev pub PlacesStay : Type 0
+PlacesStay = (place : Place) (bytes : List ℕ) → (after_all (record { place = place; inside = true }) bytes).place ≡ place

@@ -14,6 +14,7 @@ mod opened;
 mod operator;
 mod passage;
 mod piece;
+mod places;
 mod reader;
 mod reading;
 mod run;
@@ -25,6 +26,7 @@ mod tokens;
 pub use defines::Defines;
 pub use fault::{LexFault, LexKind};
 pub use lexing::lex;
+pub use places::places_rise;
 pub use sources::Sources;
 pub use token::{Token, TokenKind, Tokens};
 
