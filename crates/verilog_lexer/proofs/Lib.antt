@@ -1,0 +1,9 @@
+pub mod Texts
+pub mod Numbers
+pub mod DefineTexts
+pub mod MacroLemmas
+pub mod SourceLemmas
+pub mod Spots
+pub mod Works
+pub mod Stands
+pub mod Roots

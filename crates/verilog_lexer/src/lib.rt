@@ -1,0 +1,34 @@
+//! From sources to tokens: the lexical rules and the compiler directives of Verilog.
+#![tactic(auto)]
+
+mod based;
+mod condition;
+mod define_text;
+mod defines;
+mod directive;
+mod fault;
+mod lexing;
+mod macros;
+mod number;
+mod opened;
+mod operator;
+mod passage;
+mod piece;
+mod places;
+mod reader;
+mod reading;
+mod run;
+mod sources;
+mod spot;
+mod token;
+mod tokens;
+
+pub use defines::Defines;
+pub use fault::{LexFault, LexKind};
+pub use lexing::lex;
+pub use places::places_rise;
+pub use sources::Sources;
+pub use token::{Token, TokenKind, Tokens};
+
+#[cfg(test)]
+mod tests;
