@@ -1,2 +1,11 @@
 pub mod WordLemmas
 pub mod MaskLemmas
+pub mod ExampleDump
+pub mod DecimalTests
+pub mod Took
+pub mod SectionLaws
+pub mod CodeLemmas
+pub mod Paths
+pub mod Declares
+pub mod Fronts
+pub mod HeaderLaws

@@ -1,2 +1,10 @@
 pub mod Words
+pub mod Spelling
+pub mod Codes
+pub mod Values
+pub mod Header
+pub mod Body
+pub mod Dump
+pub mod Reading
 pub mod Views
+pub mod Example

@@ -1,5 +1,11 @@
+ghost use Rattle.std.specs.Prelude.{◌≡◌, ℕ, ◌<◌, ◌≤◌, ◌^◌, List, [], map, length, IfOk, OnOk, IsErrOf};
+ghost use Rattle.std.specs.List.{join_with_byte};
+ghost use Rattle.vcd_reader.specs.Words.{Word};
+ghost use Rattle.vcd_reader.specs.Header.{Header as SpecHeader, IsHeader, scope as scope_section, upscope};
+ghost use Rattle.vcd_reader.specs.Views.{header_of, variable_of, declaration_of, Declares, Refuses};
+
 use crate::codes::Codes;
-use crate::section::{Section, read_section};
+use crate::section::{Declaration, Section, Variable, read_section};
 use crate::words::Words;
 use crate::{DumpFault, Var, Vars};
 use cov_host::{Name, NoMemory, Sequence};
@@ -19,19 +25,31 @@ pub(crate) struct Header {
 }
 
 /// Reads the header at the front of the words.
-pub(crate) fn read_header(alloc: Global, words: &mut Words<'_>) -> Result<Header, DumpFault> {
+pub(crate) fn read_header(alloc: Global, words: &mut Words<'_>) -> Result<Header, DumpFault>
+    ensures header { IfOk result (λ header. IsHeader words.old (header_of header) words.new) }
+    // A header within the limit has fewer codes.
+    ensures not_yet { IsErrOf result DumpFault.NotYet → (header : SpecHeader) (rest : List Word) → IsHeader words.old header rest → 2 ^ 32 ≤ length header.codes }
+{
     let mut declarations = Declarations::new(alloc);
     while let Some(section) = read_section(words) {
-        if let Section::EndDefinitions { end } = section {
-            return if end <= LONGEST {
-                Ok(declarations.header)
-            } else {
-                Err(DumpFault::NotYet)
-            };
+        match section {
+            Section::Declaration(declaration) => declarations.declare(declaration)?,
+            Section::EndDefinitions { end } => return within_limit(declarations.header, end),
         }
-        declarations.declare(section)?;
     }
     Err(DumpFault::NotYet)
+}
+
+/// The header, if it ends within the limit.
+fn within_limit(header: Header, end: usize) -> Result<Header, DumpFault>
+    ensures header { IfOk result (λ same. (same ≡ header) × (end ≤ 67108864)) }
+    ensures not_yet { IsErrOf result DumpFault.NotYet → 67108864 < end }
+{
+    if end <= LONGEST {
+        Ok(header)
+    } else {
+        Err(DumpFault::NotYet)
+    }
 }
 
 /// What the sections so far declare.
@@ -44,7 +62,10 @@ struct Declarations<'a> {
 }
 
 impl<'a> Declarations<'a> {
-    fn new(alloc: Global) -> Self {
+    fn new(alloc: Global) -> Self
+        ensures scopes { result.scopes.items ≡ [] }
+        ensures header { header_of result.header ≡ record { vars = []; codes = [] } }
+    {
         Declarations {
             alloc,
             scopes: Vec::new(alloc),
@@ -56,21 +77,21 @@ impl<'a> Declarations<'a> {
     }
 
     /// Adds what a section declares.
-    fn declare(&mut self, section: Section<'a>) -> Result<(), DumpFault> {
-        match section {
-            Section::Scope { name } => self.open_scope(name),
-            Section::Upscope => self.close_scope(),
-            Section::Variable {
-                kind,
-                size,
-                code,
-                reference,
-            } => self.add_variable(kind, size, code, reference),
-            Section::EndDefinitions { .. } => Ok(()),
+    fn declare(&mut self, declaration: Declaration<'a>) -> Result<(), DumpFault>
+        ensures ok { OnOk result (Declares self.old (declaration_of declaration.entry) self.new) }
+        ensures not_yet { IsErrOf result DumpFault.NotYet → Refuses self.old (declaration_of declaration.entry) }
+    {
+        match declaration {
+            Declaration::Scope(name) => self.open_scope(name),
+            Declaration::Upscope => self.close_scope(),
+            Declaration::Variable(variable) => self.add_variable(variable),
         }
     }
 
-    fn open_scope(&mut self, name: &'a [u8]) -> Result<(), DumpFault> {
+    fn open_scope(&mut self, name: &'a [u8]) -> Result<(), DumpFault>
+        ensures ok { OnOk result (Declares self.old (scope_section name.now) self.new) }
+        ensures not_yet { IsErrOf result DumpFault.NotYet → Refuses self.old (scope_section name.now) }
+    {
         if self.scopes.len() >= DEEPEST {
             return Err(DumpFault::NotYet);
         }
@@ -78,28 +99,28 @@ impl<'a> Declarations<'a> {
         Ok(())
     }
 
-    fn close_scope(&mut self) -> Result<(), DumpFault> {
+    fn close_scope(&mut self) -> Result<(), DumpFault>
+        ensures ok { OnOk result (Declares self.old upscope self.new) }
+        ensures not_yet { IsErrOf result DumpFault.NotYet → Refuses self.old upscope }
+    {
         match self.scopes.pop() {
             Some(_) => Ok(()),
             None => Err(DumpFault::NotYet),
         }
     }
 
-    fn add_variable(
-        &mut self,
-        kind: &[u8],
-        size: u32,
-        code: &[u8],
-        reference: &[u8],
-    ) -> Result<(), DumpFault> {
-        let Some(code) = self.header.codes.add(code, size)? else {
+    fn add_variable(&mut self, variable: Variable<'_>) -> Result<(), DumpFault>
+        ensures ok { OnOk result (Declares self.old (variable_of variable.entry) self.new) }
+        ensures not_yet { IsErrOf result DumpFault.NotYet → Refuses self.old (variable_of variable.entry) }
+    {
+        let Some(code) = self.header.codes.add(variable.code, variable.size)? else {
             return Err(DumpFault::NotYet);
         };
         let var = Var {
             scope: path_of(self.alloc, self.scopes.as_slice())?,
-            kind: name_of(self.alloc, kind)?,
-            name: name_of(self.alloc, before_range(reference))?,
-            size,
+            kind: to_name(self.alloc, variable.kind)?,
+            name: to_name(self.alloc, variable.name)?,
+            size: variable.size,
             code,
         };
         self.header.vars.push(var)?;
@@ -107,8 +128,10 @@ impl<'a> Declarations<'a> {
     }
 }
 
-/// The names of the open scopes, joined by dots.
-fn path_of(alloc: Global, scopes: &[&[u8]]) -> Result<Name, NoMemory> {
+/// The names of scopes, joined by dots.
+fn path_of(alloc: Global, scopes: &[&[u8]]) -> Result<Name, NoMemory>
+    ensures { IfOk result (λ path. path ≡ join_with_byte 46 (map (λ scope. scope.now) scopes.now)) }
+{
     let mut path = Sequence::new(alloc);
     for (depth, scope) in scopes.iter().enumerate() {
         if depth > 0 {
@@ -119,14 +142,8 @@ fn path_of(alloc: Global, scopes: &[&[u8]]) -> Result<Name, NoMemory> {
     Ok(path)
 }
 
-fn name_of(alloc: Global, bytes: &[u8]) -> Result<Name, NoMemory> {
+fn to_name(alloc: Global, bytes: &[u8]) -> Result<Name, NoMemory>
+    ensures { IfOk result (λ name. name ≡ bytes.now) }
+{
     Ok(Name::from_vec(Vec::from_slice(alloc, bytes)?))
-}
-
-/// The reference without the range that is joined to it.
-fn before_range(reference: &[u8]) -> &[u8] {
-    match reference.iter().position(|byte| *byte == b'[') {
-        Some(end) => &reference[..end],
-        None => reference,
-    }
 }

@@ -9,6 +9,7 @@ mod codes;
 mod dump;
 mod fault;
 mod header;
+mod laws;
 mod reader;
 mod section;
 mod steps;
@@ -18,4 +19,8 @@ mod words;
 
 pub use dump::{Change, Changes, Dump, DumpStep, DumpSteps, Var, Vars};
 pub use fault::DumpFault;
+pub use laws::one_dump;
 pub use reader::whole;
+
+#[cfg(test)]
+mod tests;
