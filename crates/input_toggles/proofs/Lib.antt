@@ -2,4 +2,12 @@ pub mod ListLemmas
 pub mod NameOrder
 pub mod PointOrder
 pub mod TableLemmas
-pub mod ReplayLemmas
+pub mod ToggleLemmas
+pub mod ChangeLemmas
+pub mod StandsLemmas
+pub mod InPlace
+pub mod MemberLemmas
+pub mod TimeLemmas
+pub mod ScoredLemmas
+pub mod FollowedLemmas
+pub mod BoundLemmas

@@ -1,18 +1,15 @@
 -- The table of the points of signals has a text.
-use Rattle.std.proofs.Common.{◌≡◌, ◌≢◌, ℕ, ◌<◌, ◌≤◌, ◌^◌, ◌==◌, ◌&&◌, min, Bool, true, false, not, cond, nat_le, Some, None, IfSome, IsTrue, List, [], ◌∷◌, length, refl, sym, ap, subst, ◌∙◌, inl, inr, arith}
+use Rattle.std.proofs.Common.{◌≡◌, ◌≢◌, ℕ, ◌<◌, ◌≤◌, ◌^◌, ◌==◌, ◌&&◌, min, Bool, true, false, not, cond, nat_le, Some, None, IfSome, IsTrue, List, [], ◌∷◌, length, refl, sym, ap, ◌∙◌, inl, inr, arith}
 use Rattle.std.specs.List.{All, list_all, range_with_len}
-use Rattle.std.specs.List.Sorted.{IsPermutation}
 use Rattle.std.proofs.lemmas.Bool.{cases_eq, false≢true}
 use Rattle.std.proofs.lemmas.Bool.Decides.{nat_tests}
 use Rattle.std.proofs.lemmas.List.{length-map}
 use Rattle.std.proofs.lemmas.List.Elements.{All-nil, All-cons, All-weaker}
 use Rattle.std.proofs.lemmas.List.FromFn.{length-range_with_len}
-use Rattle.std.proofs.lemmas.List.Sorted.{All-permutation, length_permutation}
 use Rattle.std.proofs.lemmas.List.Splits.{slice_split_none}
 use Rattle.std.proofs.lemmas.List.Sums.{AllPass-from_list_all}
 use Rattle.cov_host.specs.Identifier.{begins_name, continues_name, has_name_form, is_identifier, is_reserved}
 use Rattle.coverage_db.specs.Table.{IsIdentifier, IsInstance, IsPoint, IsTable, IsVerdict, is_file_name, is_path}
-use Rattle.coverage_db.specs.declared.db.Db.{Db}
 use Rattle.coverage_db.specs.declared.db.DbInstance.{DbInstance}
 use Rattle.coverage_db.specs.declared.db.DbPoint.{DbPoint}
 use Rattle.design_model.specs.declared.design.Design.{Design}
@@ -104,13 +101,3 @@ module _ (design : Design) (ws : List Watched) (d : IsInputDesign design) (e : s
 
   pub number_of : length ws ≤ 2 ^ 23
   number_of = omega (arith, d.number, length-map ws (λ w. w.signal.now), ap length e)
-
-  -- the table of the signals in the order of their names
-  pub sorted_inputs : (sorted : List Watched) → IsPermutation ws sorted → All (λ w. IsInput w.signal.now) sorted
-  sorted_inputs sorted p = All-permutation (λ (w : Watched). IsInput w.signal.now) ws sorted p inputs_of
-
-  pub sorted_table_is : (source top : List ℕ) (sorted listed : List Watched) → IsTrue (is_file_name source) → IsPermutation ws sorted → NamesRise sorted → top ≡ design.top → listed ≡ sorted → (db : Db) → db ≡ table top source listed → IsTable db
-  sorted_table_is source top sorted listed file p rise e' f db g =
-      let few : length sorted ≤ 2 ^ 23 = omega (arith, length_permutation ws sorted p, number_of) in
-      let same : db ≡ table design.top source sorted = g ∙ ap (λ t. table t source listed) e' ∙ ap (table design.top source) f in
-      subst IsTable (sym same) (table_is design source sorted d file (sorted_inputs sorted p) rise few)

@@ -1,14 +1,16 @@
 -- The table of signals as a whole: their points in the order of the signals, with the verdicts.
-use Rattle.std.specs.Prelude.{ℕ, min, Bool, true, false, Option, Some, None, if◌then◌else◌, List, [], ◌∷◌}
+use Rattle.std.specs.Prelude.{◌≡◌, ℕ, min, Bool, true, false, Option, Some, None, if◌then◌else◌, List, [], ◌∷◌}
 use Rattle.std.specs.List.{flat_map, range_with_len}
+use Rattle.std.specs.List.Sorted.{IsPermutation}
 use Rattle.coverage_db.specs.declared.db.Db.{Db}
 use Rattle.coverage_db.specs.declared.db.DbInstance.{DbInstance}
 use Rattle.coverage_db.specs.declared.db.DbPoint.{DbPoint}
 use Rattle.coverage_db.specs.declared.verdict.DbVerdict.{DbVerdict}
 use Rattle.coverage_db.specs.declared.verdict.DbVerdict.TheVariants.{Hit, Missed}
 use Rattle.design_model.specs.declared.design.Signal.{Signal}
+use Rattle.vcd_reader.specs.declared.dump.DumpStep.{DumpStep}
 use Rattle.input_toggles.specs.Points.{place_of, toggle_address}
-use Rattle.input_toggles.specs.Watched.{has_toggle}
+use Rattle.input_toggles.specs.Watched.{EachChanges, Follows, NamesRise, has_toggle}
 use Rattle.input_toggles.specs.declared.watched.Watched.{Watched}
 
 -- the index as it is declared
@@ -48,3 +50,16 @@ top_instance top = record { path = top; «module» = top }
 -- the table of a top module from one source, with the points of its signals
 abbrev pub table : List ℕ → List ℕ → List Watched → Db
 table top source watched = record { top = top; sources = source ∷ []; instances = top_instance top ∷ []; points = points_of watched }
+
+-- the table of these signals in the order of their names
+pub record IsTableOf (top source : List ℕ) (watched : List Watched) (db : Db) : Type 0 where
+  pub sorted : List Watched
+  pub permutation : IsPermutation watched sorted
+  pub rising : NamesRise sorted
+  pub is : db ≡ table top source sorted
+
+-- the table of these signals after they were followed over the closed steps
+pub record IsTableAfter (closed : List DumpStep) (top source : List ℕ) (watched : List Watched) (db : Db) : Type 0 where
+  pub followed : List Watched
+  pub follows : EachChanges (Follows closed) watched followed
+  pub table : IsTableOf top source followed db

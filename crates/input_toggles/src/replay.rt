@@ -1,12 +1,14 @@
-ghost use Rattle.std.specs.Prelude.{◌≡◌};
-ghost use Rattle.input_toggles.specs.Watched.{signals_of, EachCloses};
+ghost use Rattle.std.specs.Prelude.{[], All};
+ghost use Rattle.std.specs.Bool.{MatchBool};
+ghost use Rattle.input_toggles.specs.Watched.{ClosesStep, EachChanges, Follows, HaveFirstValues, LackFirstValue, Stands, without_last};
 
 use crate::watched::Watched;
 use vcd_reader::{Change, DumpStep};
 
 /// Follows signals over the steps of a dump. The last step is left out, since a simulation may stop in its middle.
 pub(crate) fn follow(watched: &mut [Watched<'_>], steps: &[DumpStep])
-    ensures signals { signals_of watched.new ≡ signals_of watched.old }
+    requires { All (Stands []) watched.old }
+    ensures { EachChanges (Follows (without_last steps.now)) watched.old watched.new }
 {
     if let [closed @ .., _last] = steps {
         for step in closed {
@@ -17,7 +19,7 @@ pub(crate) fn follow(watched: &mut [Watched<'_>], steps: &[DumpStep])
 
 /// Closes a step with these changes.
 fn close_step(watched: &mut [Watched<'_>], changes: &[Change])
-    ensures { EachCloses changes.now watched.old watched.new }
+    ensures { EachChanges (ClosesStep changes.now) watched.old watched.new }
 {
     if changes.is_empty() {
         return;
@@ -28,7 +30,9 @@ fn close_step(watched: &mut [Watched<'_>], changes: &[Change])
 }
 
 /// Whether each signal has a value before the second time, if there is a second time.
-pub(crate) fn has_first_values(watched: &[Watched<'_>], steps: &[DumpStep]) -> bool {
+pub(crate) fn has_first_values(watched: &[Watched<'_>], steps: &[DumpStep]) -> bool
+    ensures { MatchBool result (HaveFirstValues steps.now watched.now) (LackFirstValue steps.now watched.now) }
+{
     match steps {
         [first, _, ..] => watched
             .iter()

@@ -1,35 +1,32 @@
-ghost use Rattle.std.specs.Prelude.{◌≡◌, [], ◌∷◌, IfOk, IsTrue, OnOk, All};
+ghost use Rattle.std.specs.Prelude.{◌≡◌, [], ◌∷◌, IfOk, OnOk, All};
 ghost use Rattle.std.specs.List.Sorted.{IsPermutation};
-ghost use Rattle.coverage_db.specs.Table.{IsTable, is_file_name};
-ghost use Rattle.input_toggles.specs.InputDesign.{IsInput, IsInputDesign};
-ghost use Rattle.input_toggles.specs.PointList.{table, top_instance};
-ghost use Rattle.input_toggles.specs.Watched.{signals_of, NamesDiffer, NamesRise};
+ghost use Rattle.input_toggles.specs.InputDesign.{IsInput};
+ghost use Rattle.input_toggles.specs.PointList.{IsTableOf, table, top_instance};
+ghost use Rattle.input_toggles.specs.Watched.{NamesDiffer, NamesRise};
 
 use crate::points::points_of;
 use crate::watched::Watched;
 use cov_host::{Name, NoMemory, Sequence};
 use coverage_db::{Db, DbInstance};
-use design_model::Design;
 use std::alloc::Global;
 
-/// The database of a design of inputs alone, whose signals were followed to the end of the window.
+/// The database of a top module with the points of its signals, in the order of their names.
 pub(crate) fn table_of(
     alloc: Global,
-    design: &Design,
+    top: &[u8],
     source: &str,
     watched: Vec<Watched<'_>>,
 ) -> Result<Db, NoMemory>
-    requires design { IsInputDesign design.now }
-    requires source { IsTrue (is_file_name source.now) }
-    requires signals { signals_of watched.items ≡ design.now.signals }
-    ensures table { IfOk result IsTable }
+    requires inputs { All (λ w. IsInput w.signal.now) watched.items }
+    requires names { NamesDiffer watched.items }
+    ensures { IfOk result (IsTableOf top.now source.now watched.entry.items) }
 {
     let mut watched = watched;
     sort_by_name(&mut watched)?;
-    table_in_order(alloc, design.top.as_slice(), source, &watched)
+    table_in_order(alloc, top, source, &watched)
 }
 
-/// The database of a top module with the points of its signals, in the order of the signals.
+/// The database of a top module with the points of its signals, as they stand.
 fn table_in_order(
     alloc: Global,
     top: &[u8],

@@ -1,4 +1,5 @@
-ghost use Rattle.std.specs.Prelude.{◌≡◌, ◌<◌};
+ghost use Rattle.std.specs.Prelude.{◌≡◌, ◌<◌, ◌||◌, ℕ, Bool, false, Some};
+ghost use Rattle.input_toggles.specs.Toggling.{bit_at, toggles};
 ghost use Rattle.input_toggles.specs.Watched.{has_toggle};
 
 use four_state::Four;
@@ -14,7 +15,9 @@ pub(crate) struct Toggles {
 
 impl Toggles {
     /// No toggle.
-    pub(crate) fn none() -> Self {
+    pub(crate) fn none() -> Self
+        ensures { (place : ℕ) (rise : Bool) → has_toggle result place rise ≡ false }
+    {
         Toggles { rises: 0, falls: 0 }
     }
 
@@ -28,7 +31,10 @@ impl Toggles {
     }
 
     /// With the toggles of one step more, which goes from the old value to the new one.
-    pub(crate) fn with_step(&self, old: &Four, new: &Four) -> Self {
+    pub(crate) fn with_step(&self, old: &Four, new: &Four) -> Self
+        ensures { (place : ℕ) (rise : Bool) → has_toggle result place rise
+            ≡ (has_toggle self.now place rise || toggles rise (bit_at (Some old.now) place) (bit_at (Some new.now) place)) }
+    {
         Toggles {
             rises: self.rises | old.known_zeros() & new.known_ones(),
             falls: self.falls | old.known_ones() & new.known_zeros(),

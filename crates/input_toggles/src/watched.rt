@@ -1,5 +1,7 @@
-ghost use Rattle.std.specs.Prelude.{◌≡◌};
-ghost use Rattle.input_toggles.specs.Watched.{ClosesStep};
+ghost use Rattle.std.specs.Prelude.{◌≡◌, ◌==◌, [], find, is_some, reverse};
+ghost use Rattle.std.specs.Option.{option_copied};
+ghost use Rattle.vcd_reader.specs.Dump.{last_value};
+ghost use Rattle.input_toggles.specs.Watched.{ClosesStep, Stands};
 
 use crate::toggles::Toggles;
 use design_model::Signal;
@@ -22,6 +24,8 @@ impl<'a> Watched<'a> {
     /// A signal before the first step.
     pub(crate) fn new(signal: &'a Signal, code: u32) -> Self
         ensures signal { result.signal.now ≡ signal.now }
+        ensures code { result.code ≡ code }
+        ensures stands { Stands [] result }
     {
         Watched {
             signal,
@@ -32,7 +36,9 @@ impl<'a> Watched<'a> {
     }
 
     /// Whether it changes in a step with these changes.
-    pub(crate) fn changes_in(&self, changes: &[Change]) -> bool {
+    pub(crate) fn changes_in(&self, changes: &[Change]) -> bool
+        ensures { result ≡ is_some (last_value self.now.code changes.now) }
+    {
         last_value(changes, self.code).is_some()
     }
 
@@ -50,7 +56,16 @@ impl<'a> Watched<'a> {
 }
 
 /// The value of the last change of a code.
-fn last_value(changes: &[Change], code: u32) -> Option<Four> {
-    let change = changes.iter().rev().find(|change| change.code == code)?;
+fn last_value(changes: &[Change], code: u32) -> Option<Four>
+    ensures { result ≡ last_value code changes.now }
+{
+    let change = last_change(changes, code)?;
     Some(change.value)
+}
+
+/// The last change of a code.
+fn last_change(changes: &[Change], code: u32) -> Option<&Change>
+    ensures { option_copied result ≡ find (λ change. change.code == code) (reverse changes.now) }
+{
+    changes.iter().rev().find(|change| change.code == code)
 }

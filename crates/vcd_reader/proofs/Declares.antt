@@ -1,5 +1,5 @@
 -- What sections declare.
-use Rattle.std.proofs.Common.{◌≡◌, ℕ, ◌<◌, ◌≤◌, ◌^◌, true, false, cond, List, [], ◌∷◌, ◌++◌, length, Option, Some, None, sym, ap, ◌∙◌, inl, inr, arith}
+use Rattle.std.proofs.Common.{◌≡◌, ℕ, ◌+◌, ◌<◌, ◌≤◌, ◌^◌, true, false, cond, List, [], ◌∷◌, ◌++◌, length, Option, Some, None, sym, ap, ◌∙◌, inl, inr, arith}
 use Rattle.std.specs.Prelude.{nat_lt, is_some, option_map}
 use Rattle.std.proofs.lemmas.Bool.{cases_lt}
 use Rattle.std.proofs.lemmas.List.{length-append}
@@ -11,6 +11,9 @@ use Rattle.vcd_reader.proofs.Took.{some_is, then_is, map_some, and_then_some}
 
 with_code_grows : (table : List Code) (text : List ℕ) (size : ℕ) → length table ≤ length (with_code table text size)
 with_code_grows table text size = elim (is_some (code_of table text)) as (λ v. length table ≤ length (cond v table (table ++ record { text = text; size = size } ∷ []))) [ true ↦ omega arith | false ↦ simp length-append (omega arith) ]
+
+with_code_one : (table : List Code) (text : List ℕ) (size : ℕ) → length (with_code table text size) ≤ length table + 1
+with_code_one table text size = elim (is_some (code_of table text)) as (λ v. length (cond v table (table ++ record { text = text; size = size } ∷ [])) ≤ length table + 1) [ true ↦ omega arith | false ↦ simp length-append (omega arith) ]
 
 -- a variable and the sections behind it
 pub record DeclaresVariable (scopes : List (List ℕ)) (table : List Code) (kind : List ℕ) (size : ℕ) (code name : List ℕ) (sections : List Section) (header : Header) : Type 0 where
@@ -54,3 +57,36 @@ variable_refused vars scopes table kind size code name none sections header e =
       | inl few ↦ absurd (let clash : None ≡ Some v.number = sym (none few) ∙ v.number_is in cc)
       | inr many ↦ omega (arith, grown, kept)
     ]
+
+-- each section brings at most one code
+pub codes_few : (scopes : List (List ℕ)) (table : List Code) (sections : List Section) (header : Header) → declared scopes table sections ≡ Some header → length header.codes ≤ length table + length sections
+codes_few scopes table [] header e = absurd cc
+codes_few scopes table (scope name ∷ sections) header e = omega (arith, codes_few (name ∷ scopes) table sections header (then_is (nat_lt (length scopes) 64) (declared (name ∷ scopes) table sections) header e).1)
+codes_few [] table (upscope ∷ sections) header e = absurd cc
+codes_few (name ∷ scopes) table (upscope ∷ sections) header e = omega (arith, codes_few scopes table sections header e)
+codes_few scopes table (variable kind size code name ∷ sections) header e =
+    let v = declares_variable scopes table kind size code name sections header e in
+    let kept : length v.others.codes ≡ length header.codes = ap (λ (h : Header). length h.codes) v.header_is in
+    omega (arith, with_code_one table code size, codes_few scopes (with_code table code size) sections v.others v.others_are, kept)
+codes_few scopes table (end_definitions ∷ []) header e = let kept : length table ≡ length header.codes = ap (λ (h : Header). length h.codes) (some_is (record { vars = []; codes = table }) header e) in omega (arith, kept)
+codes_few scopes table (end_definitions ∷ section ∷ sections) header e = absurd cc
+
+-- exactly the last section ends the definitions
+abbrev pub AreComplete : List Section → Type 0
+AreComplete [] = ⊥
+AreComplete (end_definitions ∷ []) = Unit {0}
+AreComplete (end_definitions ∷ section ∷ sections) = ⊥
+AreComplete (scope name ∷ sections) = AreComplete sections
+AreComplete (upscope ∷ sections) = AreComplete sections
+AreComplete (variable kind size code name ∷ sections) = AreComplete sections
+
+pub declared_complete : (scopes : List (List ℕ)) (table : List Code) (sections : List Section) (header : Header) → declared scopes table sections ≡ Some header → AreComplete sections
+declared_complete scopes table [] header e = absurd cc
+declared_complete scopes table (scope name ∷ sections) header e = declared_complete (name ∷ scopes) table sections header (then_is (nat_lt (length scopes) 64) (declared (name ∷ scopes) table sections) header e).1
+declared_complete [] table (upscope ∷ sections) header e = absurd cc
+declared_complete (name ∷ scopes) table (upscope ∷ sections) header e = declared_complete scopes table sections header e
+declared_complete scopes table (variable kind size code name ∷ sections) header e =
+    let v = declares_variable scopes table kind size code name sections header e in
+    declared_complete scopes (with_code table code size) sections v.others v.others_are
+declared_complete scopes table (end_definitions ∷ []) header e = tt
+declared_complete scopes table (end_definitions ∷ section ∷ sections) header e = absurd cc

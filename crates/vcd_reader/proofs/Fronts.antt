@@ -4,10 +4,20 @@ use Rattle.vcd_reader.specs.Words.{Word}
 use Rattle.vcd_reader.specs.Spelling.{SpellsAll, first}
 use Rattle.vcd_reader.proofs.Took.{texts_of, Took}
 
+-- a list that is not empty
+pub record IsFilled {X : Type 0} (xs : List X) : Type 0 where
+  pub head : X
+  pub tail : List X
+  pub split : xs ≡ head ∷ tail
+
 -- the front spells the things, and the rest is behind it
 pub record Spelled {X : Type 0} (Spells : List (List ℕ) → X → Type 0) (words front : List Word) (things : List X) (rest : List Word) : Type 0 where
   pub split : words ≡ front ++ rest
   pub spelled : SpellsAll Spells (texts_of front) things
+
+pub front_nil : (a b : List (List ℕ)) → a ++ b ≡ [] → a ≡ []
+front_nil [] b e = refl
+front_nil (text ∷ a) b e = absurd cc
 
 texts_of-append : (a b : List Word) → texts_of (a ++ b) ≡ texts_of a ++ texts_of b
 texts_of-append [] b = refl

@@ -10,7 +10,7 @@ use Rattle.vcd_reader.specs.Header.{Section, end_definitions, SpellsSection, sco
 use Rattle.vcd_reader.specs.Reading.{section_at}
 use Rattle.vcd_reader.specs.Views.{with_vars}
 use Rattle.vcd_reader.proofs.Took.{texts_of, some_is, none_some, begins_with, no_more}
-use Rattle.vcd_reader.proofs.Fronts.{Spelled, First, spelled_first, first_of}
+use Rattle.vcd_reader.proofs.Fronts.{Spelled, First, spelled_first, first_of, IsFilled}
 use Rattle.vcd_reader.proofs.SectionLaws.{section_takes, section_again}
 
 -- ---- words
@@ -20,13 +20,7 @@ end_of-append [] word words = refl
 end_of-append (a ∷ []) word words = refl
 end_of-append (a ∷ b ∷ front) word words = end_of-append (b ∷ front) word words
 
--- a list that is not empty
-pub record IsFilled {X : Type 0} (xs : List X) : Type 0 where
-  pub head : X
-  pub tail : List X
-  pub split : xs ≡ head ∷ tail
-
-no_words : {texts : List (List ℕ)} {section : Section} → SpellsSection texts section → texts ≢ []
+pub no_words : {texts : List (List ℕ)} {section : Section} → SpellsSection texts section → texts ≢ []
 no_words (scope_section kind name) e = cc
 no_words upscope_section e = cc
 no_words (variable_section kind size code reference) e = cc
@@ -185,7 +179,7 @@ rest_end declares words left e within header has =
 abbrev pub EndsThere : (List Section → Option Header) → Type 0
 EndsThere declares = (section : Section) (sections : List Section) → declares (end_definitions ∷ section ∷ sections) ≡ None
 
-nothing_spelled : {texts : List (List ℕ)} {sections : List Section} (front : List Word) → SpellsAll SpellsSection texts sections → sections ≡ [] → texts_of front ≡ texts → front ≡ []
+pub nothing_spelled : {texts : List (List ℕ)} {sections : List Section} (front : List Word) → SpellsAll SpellsSection texts sections → sections ≡ [] → texts_of front ≡ texts → front ≡ []
 nothing_spelled front none e same = no_more front same
 nothing_spelled front (first one more) e same = cc
 

@@ -9,3 +9,8 @@ pub mod Paths
 pub mod Declares
 pub mod Fronts
 pub mod HeaderLaws
+pub mod DigitLemmas
+pub mod ItemTests
+pub mod ItemLaws
+pub mod BodyLaws
+pub mod DumpLaws

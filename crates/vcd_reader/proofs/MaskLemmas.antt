@@ -1,15 +1,76 @@
 -- Masks that grow at their low end.
-use Rattle.std.proofs.Common.{◌≡◌, ℕ, ◌+◌, ◌*◌, ◌^◌, ◌<◌, ◌≤◌, arith, add-one, pow-suc, ◌∙◌, ap, Bool, true, false, cond}
+use Rattle.std.proofs.Common.{◌≡◌, ℕ, zero, suc, ◌+◌, ◌-◌, ◌*◌, ◌/◌, ◌%◌, ◌^◌, ◌<◌, ◌≤◌, Bool, true, false, cond, eqb, List, ◌∷◌, length, replicate, refl, ap, ◌∙◌, arith, pow-suc}
+use Rattle.std.proofs.lemmas.List.{length-replicate}
 use Rattle.std.proofs.Math.Pow.{pow_mono}
+use Rattle.std.proofs.Math.Nat.{mul-add-mod_self_right}
+use Rattle.std.proofs.lemmas.Nat.{div-mul-add, pow_pos}
+use Rattle.four_state.specs.declared.Bit.{Bit}
+use Rattle.four_state.specs.declared.Bit.TheVariants.{Zero, One, X, Z}
+use Rattle.four_state.specs.Vector.{fill}
+use Rattle.four_state.specs.Masks.{bits_of_masks, bit_in_masks, is_one_or_z, is_strange}
+use Rattle.vcd_reader.specs.Masks.{AreMasksOf}
+
+-- a bit of a mask as a number
+abbrev pub digit : Bool → ℕ
+digit true = 1
+digit false = 0
+
+rest_of_mask : (mask : ℕ) (p : Bool) → (mask * 2 + digit p) / 2 ≡ mask
+rest_of_mask mask true = div-mul-add mask 2 1 (omega arith)
+rest_of_mask mask false = div-mul-add mask 2 0 (omega arith)
+
+end_of_mask : (mask : ℕ) (p : Bool) → eqb ((mask * 2 + digit p) % 2) 1 ≡ p
+end_of_mask mask true = rw (mul-add-mod_self_right mask 2 1) refl
+end_of_mask mask false = rw (mul-add-mod_self_right mask 2 0) refl
+
+bit_of_masks : (bit : Bit) → bit_in_masks (is_one_or_z bit) (is_strange bit) ≡ bit
+bit_of_masks Zero = refl
+bit_of_masks One = refl
+bit_of_masks X = refl
+bit_of_masks Z = refl
+
+mask_inside : (mask count : ℕ) (p : Bool) → mask < 2 ^ count → mask * 2 + digit p < 2 ^ suc count
+mask_inside mask count true within = omega (arith, pow-suc 2 count)
+mask_inside mask count false within = omega (arith, pow-suc 2 count)
+
+-- one bit more at the low end
+bits_more : (count ones strange : ℕ) (p q : Bool) → bits_of_masks (suc count) (ones * 2 + digit p) (strange * 2 + digit q) ≡ bit_in_masks p q ∷ bits_of_masks count ones strange
+unfolding bits_of_masks
+bits_more count ones strange p q = rw (end_of_mask ones p, end_of_mask strange q, rest_of_mask ones p, rest_of_mask strange q) refl
+
+pub masks_more : (bits : List Bit) (bit : Bit) (ones strange : ℕ) → AreMasksOf bits (record { ones = ones; strange = strange }) → AreMasksOf (bit ∷ bits) (record { ones = ones * 2 + digit (is_one_or_z bit); strange = strange * 2 + digit (is_strange bit) })
+masks_more bits bit ones strange masks = record {
+  bits_are = bits_more (length bits) ones strange (is_one_or_z bit) (is_strange bit) ∙ rw (bit_of_masks bit, masks.bits_are) refl;
+  ones_inside = mask_inside ones (length bits) (is_one_or_z bit) masks.ones_inside;
+  strange_inside = mask_inside strange (length bits) (is_strange bit) masks.strange_inside;
+}
+
+-- all places or none
+abbrev pub places : Bool → ℕ → ℕ
+places all count = cond all (2 ^ count - 1) 0
+
+places_more : (all : Bool) (count : ℕ) → places all (suc count) ≡ places all count * 2 + digit all
+places_more true count = omega (arith, pow-suc 2 count, pow_pos count)
+places_more false count = refl
+
+places_inside : (all : Bool) (count : ℕ) → places all count < 2 ^ count
+places_inside true count = omega (arith, pow_pos count)
+places_inside false count = omega (arith, pow_pos count)
+
+bits_filled : (count : ℕ) (p q : Bool) → bits_of_masks count (places p count) (places q count) ≡ replicate count (bit_in_masks p q)
+unfolding bits_of_masks
+bits_filled zero p q = refl
+bits_filled (suc count) p q =
+    ap (λ (n : ℕ). bits_of_masks (suc count) n (places q (suc count))) (places_more p count) ∙ ap (λ (n : ℕ). bits_of_masks (suc count) (places p count * 2 + digit p) n) (places_more q count)
+    ∙ bits_more count (places p count) (places q count) p q ∙ ap (λ (bits : List Bit). bit_in_masks p q ∷ bits) (bits_filled count p q)
+
+pub masks_filled : (count : ℕ) (bit : Bit) → AreMasksOf (fill count bit) (record { ones = places (is_one_or_z bit) count; strange = places (is_strange bit) count })
+masks_filled count bit = record {
+  bits_are = rw length-replicate (bits_filled count (is_one_or_z bit) (is_strange bit) ∙ ap (replicate count) (bit_of_masks bit));
+  ones_inside = rw length-replicate (places_inside (is_one_or_z bit) count);
+  strange_inside = rw length-replicate (places_inside (is_strange bit) count);
+}
 
 -- a mask of fewer than 128 places
 pub below_127 : (mask k : ℕ) → mask < 2 ^ k → k ≤ 127 → mask < 2 ^ 127
 below_127 mask k within few = let more : 2 ^ k ≤ 2 ^ 127 = pow_mono few in omega (arith, more)
-
-pow-more : (k : ℕ) → 2 ^ (k + 1) ≡ 2 ^ k * 2
-pow-more k = ap (λ (n : ℕ). 2 ^ n) (add-one k) ∙ pow-suc 2 k
-
--- one more place
-pub place_more : (mask k : ℕ) (bit : Bool) → mask < 2 ^ k → 2 * mask + cond bit 1 0 < 2 ^ (k + 1)
-place_more mask k true within = omega (arith, pow-more k)
-place_more mask k false within = omega (arith, pow-more k)

@@ -1,5 +1,5 @@
 -- The words of a text, read from its front.
-use Rattle.std.proofs.Common.{◌≡◌, ℕ, suc, ◌+◌, ◌<◌, ◌≤◌, Bool, true, false, cond, eqb, List, [], ◌∷◌, length, take, drop, refl, sym, ap, ◌∙◌, arith, inl, inr, add-zero, one-add}
+use Rattle.std.proofs.Common.{◌≡◌, ℕ, suc, ◌+◌, ◌<◌, ◌≤◌, Bool, true, false, cond, eqb, List, [], ◌∷◌, ◌++◌, length, take, drop, refl, sym, ap, ◌∙◌, arith, inl, inr, add-zero, one-add}
 use Rattle.std.specs.Prelude.{not}
 use Rattle.std.specs.List.{prefix_len}
 use Rattle.std.proofs.lemmas.Bool.{cases_Bool, cases_lt}
@@ -7,6 +7,7 @@ use Rattle.std.proofs.lemmas.List.{drop-drop}
 use Rattle.std.proofs.lemmas.List.Folds.{length-prefix_len}
 use Rattle.std.proofs.lemmas.Bool.Decides.{nat_tests}
 use Rattle.vcd_reader.specs.Words.{Word, is_white_space, joined, words_from}
+use Rattle.vcd_reader.specs.Header.{end_of}
 
 -- the bytes of words
 abbrev pub is_word_byte : ℕ → Bool
@@ -29,34 +30,39 @@ words_from-drop_space at (b ∷ bs) =
       | inr black ↦ rw (black, add-zero) (rw black refl)
     ]
 
--- the words begin at or behind this offset
-data BeginFrom : ℕ → List Word → Type 0 where
-  none : {at : ℕ} → BeginFrom at []
-  first : {at : ℕ} {word : Word} {words : List Word} → at ≤ word.at → BeginFrom at (word ∷ words)
+-- the words stand one behind the other from this offset on, and none is empty
+abbrev pub AreInOrder : ℕ → List Word → Type 0
+AreInOrder at [] = Unit {0}
+AreInOrder at (word ∷ words) = (at ≤ word.at) × (1 ≤ length word.bytes) × AreInOrder (word.at + 1) words
 
-BeginFrom-joined : (at b : ℕ) (words : List Word) → BeginFrom at (joined at b words)
-BeginFrom-joined at b [] = first (omega arith)
-BeginFrom-joined at b (word ∷ words) = elim (eqb word.at (at + 1)) as (λ v. BeginFrom at (cond v (record { at = at; bytes = b ∷ word.bytes } ∷ words) (record { at = at; bytes = b ∷ [] } ∷ word ∷ words))) [ true ↦ first (omega arith) | false ↦ first (omega arith) ]
+in_order_further : (low at : ℕ) (words : List Word) → low ≤ at → AreInOrder at words → AreInOrder low words
+in_order_further low at [] h o = tt
+in_order_further low at (word ∷ words) h o = (omega (arith, o.0), o.1, o.2)
 
-BeginFrom-less : (low at : ℕ) (words : List Word) → low ≤ at → BeginFrom at words → BeginFrom low words
-BeginFrom-less low at [] h f = none
-BeginFrom-less low at (word ∷ words) h (first g) = first (omega arith)
+in_order_joined : (at b : ℕ) (words : List Word) → AreInOrder (at + 1) words → AreInOrder at (joined at b words)
+in_order_joined at b [] o = (omega arith, omega arith, tt)
+in_order_joined at b (word ∷ words) o =
+    elim (eqb word.at (at + 1)) as (λ v. AreInOrder at (cond v (record { at = at; bytes = b ∷ word.bytes } ∷ words) (record { at = at; bytes = b ∷ [] } ∷ word ∷ words))) [
+      | true ↦ (omega arith, omega arith, in_order_further (at + 1) (word.at + 1) words (omega (arith, o.0)) o.2)
+      | false ↦ (omega arith, omega arith, o)
+    ]
 
-BeginFrom-words_from : (at : ℕ) (text : List ℕ) → BeginFrom at (words_from at text)
-BeginFrom-words_from at [] = none
-BeginFrom-words_from at (b ∷ bs) = elim (is_white_space b) as (λ v. BeginFrom at (cond v (words_from (at + 1) bs) (joined at b (words_from (at + 1) bs)))) [ true ↦ BeginFrom-less at (at + 1) _ (omega arith) (BeginFrom-words_from (at + 1) bs) | false ↦ BeginFrom-joined at b _ ]
+pub words_in_order : (at : ℕ) (text : List ℕ) → AreInOrder at (words_from at text)
+words_in_order at [] = tt
+words_in_order at (b ∷ bs) =
+    elim (is_white_space b) as (λ v. AreInOrder at (cond v (words_from (at + 1) bs) (joined at b (words_from (at + 1) bs)))) [ true ↦ in_order_further at (at + 1) _ (omega arith) (words_in_order (at + 1) bs) | false ↦ in_order_joined at b _ (words_in_order (at + 1) bs) ]
 
 -- a byte before words that begin further on is a word
-joined-apart : (at b : ℕ) (words : List Word) → BeginFrom (at + 2) words → joined at b words ≡ record { at = at; bytes = b ∷ [] } ∷ words
+joined-apart : (at b : ℕ) (words : List Word) → AreInOrder (at + 2) words → joined at b words ≡ record { at = at; bytes = b ∷ [] } ∷ words
 joined-apart at b [] h = refl
-joined-apart at b (word ∷ words) (first h) = let apart : eqb word.at (at + 1) ≡ false = grind (arith, nat_tests) in rw apart refl
+joined-apart at b (word ∷ words) h = let apart : eqb word.at (at + 1) ≡ false = grind (arith, nat_tests, h.0) in rw apart refl
 
 -- a byte before white space or the end of the text is a word
 words_from-single : (at b : ℕ) (bs : List ℕ) → is_white_space b ≡ false → word_len bs ≡ 0 → words_from at (b ∷ bs) ≡ record { at = at; bytes = b ∷ [] } ∷ words_from (at + 1) bs
 words_from-single at b [] black ends = rw black refl
 words_from-single at b (c ∷ cs) black ends =
     elim (cases_Bool (is_white_space c)) [
-      | inl white ↦ rw (black, white) (joined-apart at b (words_from (at + 1 + 1) cs) (BeginFrom-less (at + 2) (at + 1 + 1) _ (omega arith) (BeginFrom-words_from (at + 1 + 1) cs)))
+      | inl white ↦ rw (black, white) (joined-apart at b (words_from (at + 1 + 1) cs) (in_order_further (at + 2) (at + 1 + 1) _ (omega arith) (words_in_order (at + 1 + 1) cs)))
       | inr other ↦ absurd (omega (arith, rw other at ends))
     ]
 
@@ -115,3 +121,12 @@ one_word text at space bytes found some =
     let rest : drop (word_len left) left ≡ drop (at + space + length bytes) text = ap (λ (k : ℕ). drop k left) (sym long) ∙ drop-drop (length bytes) space (drop at text) ∙ drop-drop (space + length bytes) at text ∙ ap (λ (k : ℕ). drop k text) (omega arith) in
     let end : at + space + word_len left ≡ at + space + length bytes = omega arith in
     behind_space ∙ first ∙ rw (← found.bytes_are, rest, end) refl
+
+bytes_needed : (at : ℕ) (word : Word) (front rest : List Word) → AreInOrder at ((word ∷ front) ++ rest) → at + length (word ∷ front) ≤ end_of (word ∷ front)
+bytes_needed at word [] rest o = omega (arith, o.0, o.1)
+bytes_needed at word (next ∷ front) rest o = omega (arith, o.0, bytes_needed (word.at + 1) next front rest o.2)
+
+-- so many words need as many bytes
+pub words_need_bytes : (at : ℕ) (front rest : List Word) → AreInOrder at (front ++ rest) → length front ≤ end_of front
+words_need_bytes at [] rest o = omega arith
+words_need_bytes at (word ∷ front) rest o = omega (arith, bytes_needed at word front rest o)

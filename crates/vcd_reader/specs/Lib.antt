@@ -6,5 +6,8 @@ pub mod Header
 pub mod Body
 pub mod Dump
 pub mod Reading
+pub mod Masks
+pub mod Keeping
+pub mod Stepping
 pub mod Views
 pub mod Example

@@ -1,9 +1,12 @@
 -- Reading words from left to right: what is read, and the words that are left.
-use Rattle.std.specs.Prelude.{◌≡◌, ◌==◌, ℕ, ◌+◌, nat_le, nat_lt, Bool, ◌&&◌, bytes_eq, if◌then◌else◌, List, [], ◌∷◌, length, codes, Option, Some, None}
+use Rattle.std.specs.Prelude.{◌≡◌, ◌==◌, ℕ, ◌+◌, nat_le, nat_lt, Bool, ◌&&◌, ◌||◌, bytes_eq, if◌then◌else◌, List, [], ◌∷◌, length, codes, Option, Some, None, option_map}
 use Rattle.std.specs.List.{list_all}
 use Rattle.std.specs.Char.{digit_value}
 use Rattle.cov_host.specs.Decimal.{decimal_value}
 use Rattle.vcd_reader.specs.Words.{Word}
+use Rattle.vcd_reader.specs.Codes.{Code, code_of}
+use Rattle.vcd_reader.specs.Values.{is_digit, value_bits}
+use Rattle.vcd_reader.specs.Body.{Item, time, change}
 use Rattle.vcd_reader.specs.Header.{Section, scope, upscope, variable, end_definitions, END, is_printable, name_of}
 
 infixl 10 ◌>>=◌
@@ -77,4 +80,39 @@ section_at (word ∷ words) =
     else if bytes_eq word.bytes (codes "$upscope") then only_at upscope words
     else if bytes_eq word.bytes (codes "$var") then variable_at words
     else if bytes_eq word.bytes (codes "$enddefinitions") then only_at end_definitions words
+    else None
+
+-- a change of the code with this number and size to the value of digits
+abbrev pub change_to : ℕ → ℕ → List ℕ → Option Item
+change_to number size digits =
+    if nat_lt 0 (length digits) && list_all is_digit digits && nat_le (length digits) size then Some (change number (value_bits size digits)) else None
+
+-- a change of a code to the value of digits
+abbrev pub change_of : List Code → List ℕ → List ℕ → Option Item
+change_of table code digits = do
+  found ← code_of table code
+  change_to found.0 found.1 digits
+
+-- the time that digits write
+abbrev pub time_of : List ℕ → Option Item
+time_of digits = do
+  t ← decimal_of 9223372036854775807 digits
+  Some (time t)
+
+-- an item that leaves these words
+abbrev pub leaving : List Word → Option Item → Option (Item × List Word)
+leaving words item = option_map (λ i. (i, words)) item
+
+-- a change to digits, whose code is the next word
+unfoldable pub vector_at : List Code → List ℕ → List Word → Option (Item × List Word)
+vector_at table digits [] = None
+vector_at table digits (word ∷ words) = leaving words (change_of table word.bytes digits)
+
+-- the item that begins with a word of these bytes, and what it leaves of the words behind that
+unfoldable pub item_of : List Code → List ℕ → List Word → Option (Item × List Word)
+item_of table [] words = None
+item_of table (byte ∷ bytes) words =
+    if byte == 35 then leaving words (time_of bytes)
+    else if byte == 98 || byte == 66 then vector_at table bytes words
+    else if is_digit byte then leaving words (change_of table bytes (byte ∷ []))
     else None

@@ -9,6 +9,7 @@ mod codes;
 mod dump;
 mod fault;
 mod header;
+mod item;
 mod laws;
 mod reader;
 mod section;

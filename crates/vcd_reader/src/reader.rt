@@ -1,3 +1,7 @@
+ghost use Rattle.std.specs.Prelude.{IfOk, IsErrOf};
+ghost use Rattle.vcd_reader.specs.declared.dump.Dump.{Dump as SpecDump};
+ghost use Rattle.vcd_reader.specs.Dump.{IsDump};
+
 use crate::body::read_body;
 use crate::header::read_header;
 use crate::words::Words;
@@ -8,8 +12,10 @@ use std::alloc::Global;
 const LONGEST: usize = 1_099_511_627_776;
 
 /// Reads a dump whole: its variables, and its distinct times with their changes.
-/// `NotYet` where the text is not of the small form.
-pub fn whole(alloc: Global, bytes: &[u8]) -> Result<Dump, DumpFault> {
+pub fn whole(alloc: Global, bytes: &[u8]) -> Result<Dump, DumpFault>
+    ensures dump { IfOk result (λ dump. IsDump bytes.now dump) }
+    ensures not_yet { IsErrOf result DumpFault.NotYet → (dump : SpecDump) → IsDump bytes.now dump → ⊥ }
+{
     if bytes.len() > LONGEST {
         return Err(DumpFault::NotYet);
     }

@@ -1,18 +1,21 @@
-use Rattle.std.proofs.Common.{◌≡◌, ◌+◌, ◌-◌, length, arith}
-use Rattle.vcd_reader.proofs.MaskLemmas.{below_127, place_more}
+use Rattle.std.proofs.Common.{◌≡◌, ◌-◌, length, arith, sym, ap, ◌∙◌}
+use Rattle.four_state.specs.Vector.{top}
+use Rattle.vcd_reader.specs.Values.{digit_bits, extension}
+use Rattle.vcd_reader.proofs.MaskLemmas.{below_127}
+use Rattle.vcd_reader.proofs.DigitLemmas.{top_of_digits, length-value_so_far}
 use Rattle.vcd_reader.proofs.value.value_of.Goals as goal
 
-pub with_bit-ones-requires : goal.with_bit-ones-requires
-with_bit-ones-requires c = below_127 _ _ c.loop-digit.invariant.ones_within (omega arith)
+pub loop-digit-init : goal.loop-digit-init
+loop-digit-init c =
+    let filler : c.extension.result ≡ extension (top (digit_bits c.args.digits.now)) = c.extension.ensures ∙ ap extension (c.digit_bit.ensures ∙ sym (top_of_digits c.args.digits.now _ c.requires.some)) in
+    rw (← filler) c.filled-masks.ensures
 
-pub with_bit-strange-requires : goal.with_bit-strange-requires
-with_bit-strange-requires c = below_127 _ _ c.loop-digit.invariant.strange_within (omega arith)
+pub with_bit-masks-requires-clause-ones : goal.with_bit-masks-requires-clause-ones
+with_bit-masks-requires-clause-ones c =
+    let long = length-value_so_far c.loop-digit.digit-index c.args.digits.now (c.args.width - length c.args.digits.now) (extension (top (digit_bits c.args.digits.now))) (omega arith) in
+    below_127 _ _ c.loop-digit.invariant.ones_inside (omega (arith, long))
 
-pub loop-digit-preserved : goal.loop-digit-preserved
-loop-digit-preserved c =
-    let places = c.args.width - length c.args.digits.now + c.loop-digit.digit-index in
-    let next : places + 1 ≡ c.args.width - length c.args.digits.now + (c.loop-digit.digit-index + 1) = omega arith in
-    record {
-      ones_within = rw (c.with_bit-ones.ensures, ← next) (place_more _ places _ c.loop-digit.invariant.ones_within);
-      strange_within = rw (c.with_bit-strange.ensures, ← next) (place_more _ places _ c.loop-digit.invariant.strange_within);
-    }
+pub with_bit-masks-requires-clause-strange : goal.with_bit-masks-requires-clause-strange
+with_bit-masks-requires-clause-strange c =
+    let long = length-value_so_far c.loop-digit.digit-index c.args.digits.now (c.args.width - length c.args.digits.now) (extension (top (digit_bits c.args.digits.now))) (omega arith) in
+    below_127 _ _ c.loop-digit.invariant.strange_inside (omega (arith, long))
