@@ -1,3 +1,4 @@
 pub mod Causes
 pub mod Inputs
 pub mod Lines
+pub mod Scoring

@@ -5,10 +5,12 @@ use Rattle.command_line.specs.UsageFault.{HasUsageFault, usage_text}
 use Rattle.command_line.specs.declared.command.Command.{Command}
 use Rattle.command_line.specs.declared.command.Command.TheVariants.{Score}
 use Rattle.cov_host.specs.Outside.{Outside, IsCounted}
+use Rattle.design_model.specs.declared.design.Design.{Design}
 use Rattle.whole_files.specs.Call.{call_name}
 use Rattle.whole_files.specs.Effects.{IsMissing}
 use Rattle.whole_files.specs.declared.call.Call.{Call}
 use Rattle.whole_files.specs.declared.call.Call.TheVariants.{OpenRead, Read, OpenWrite, Write, CloseWrite}
+use Rattle.covered_cli.specs.Scoring.{HasNoDesign, HasNoDump, HasNoScore, IsRefusedDump, IsRefusedSource}
 use Rattle.covered_cli.specs.declared.fault.Fault.{Fault}
 use Rattle.covered_cli.specs.declared.fault.Fault.TheVariants as fault
 use Rattle.covered_cli.specs.declared.status.Status.{Status}
@@ -44,8 +46,8 @@ IsRefused call file before after = IsCounted before.faults after.faults
 -- the fault stands in the work of this command between two outsides
 abbrev pub StandsIn : ScoreValues → Outside → Outside → Fault → Type 0
 StandsIn score before after (fault.Usage usage) = ⊥
-StandsIn score before after fault.SourceNotYet = Unit {0}
-StandsIn score before after fault.DumpNotYet = Unit {0}
+StandsIn score before after fault.SourceNotYet = IsRefusedSource score before
+StandsIn score before after fault.DumpNotYet = IsRefusedDump score before
 StandsIn score before after (fault.Files call file) = NamesFile score call file.now × IsRefused call file.now before after
 StandsIn score before after fault.Memory = Unit {0}
 
@@ -91,14 +93,20 @@ IsWritingFault name before after (fault.Files call file) = (file.now ≡ name) �
 IsWritingFault name before after fault.Memory = Unit {0}
 IsWritingFault name before after other = ⊥
 
--- the source was not read into a design
-abbrev pub IsSourceFault : Fault → Type 0
-IsSourceFault fault.SourceNotYet = Unit {0}
-IsSourceFault fault.Memory = Unit {0}
-IsSourceFault other = ⊥
+-- no design was read from the text of the source
+abbrev pub IsSourceFault : List ℕ → List ℕ → Fault → Type 0
+IsSourceFault top text fault.SourceNotYet = HasNoDesign top text
+IsSourceFault top text fault.Memory = Unit {0}
+IsSourceFault top text other = ⊥
 
--- the dump was not read, or does not fit the design
-abbrev pub IsDumpFault : Fault → Type 0
-IsDumpFault fault.DumpNotYet = Unit {0}
-IsDumpFault fault.Memory = Unit {0}
-IsDumpFault other = ⊥
+-- no dump was read from the text
+abbrev pub IsDumpFault : List ℕ → Fault → Type 0
+IsDumpFault text fault.DumpNotYet = HasNoDump text
+IsDumpFault text fault.Memory = Unit {0}
+IsDumpFault text other = ⊥
+
+-- the design was not scored by the dump of the text
+abbrev pub IsScoreFault : Design → List ℕ → List ℕ → Fault → Type 0
+IsScoreFault design instance text fault.DumpNotYet = HasNoScore design instance text
+IsScoreFault design instance text fault.Memory = Unit {0}
+IsScoreFault design instance text other = ⊥

@@ -1,4 +1,5 @@
 pub mod Covered
 pub mod Effects
+pub mod Scoring
 pub mod Fault
 pub mod Status

@@ -1,11 +1,14 @@
-ghost use Rattle.std.specs.Prelude.{◌<◌, ◌^◌, IfErr, IfOk, IsTrue};
+ghost use Rattle.std.specs.Prelude.{◌<◌, ◌^◌, IfErr, IfOk, IsTrue, OnOk};
 ghost use Rattle.command_line.specs.CommandWords.{score_values};
-ghost use Rattle.cov_host.specs.Outside.{KeepsFiles, KeepsStreams, Told};
+ghost use Rattle.cov_host.specs.Outside.{HasFile, KeepsFiles, KeepsStreams, Told};
 ghost use Rattle.whole_files.specs.Effects.{CountsUp, OnlyReads};
 ghost use Rattle.coverage_db.specs.Table.{is_file_name};
 ghost use Rattle.input_toggles.specs.InputDesign.{IsInputDesign};
 ghost use Rattle.covered_cli.specs.Covered.{KeepsOthers};
-ghost use Rattle.covered_cli.specs.Fault.{StandsIn, IsEarly, IsReadingFault, IsWritingFault, IsSourceFault, IsDumpFault};
+ghost use Rattle.covered_cli.specs.Fault.{StandsIn, IsEarly, IsReadingFault, IsWritingFault, IsSourceFault, IsDumpFault, IsScoreFault};
+ghost use Rattle.covered_cli.specs.Scoring.{IsDoneIn, IsReadOf, IsScoreText};
+ghost use Rattle.input_module.specs.SourceForm.{IsSource};
+ghost use Rattle.vcd_reader.specs.Dump.{IsDump};
 
 use crate::fault::Fault;
 use command_line::ScoreWords;
@@ -32,6 +35,7 @@ pub(crate) fn run_score<'a, H: Host>(
     host: &mut H,
 ) -> Result<(), Fault<'a>>
     requires { IsTrue (is_file_name words.now.source.now) }
+    ensures done { OnOk result (IsDoneIn (score_values words.now) (H.outside host.old) (H.outside host.new)) }
     ensures fault { IfErr result (StandsIn (score_values words.now) (H.outside host.old) (H.outside host.new)) }
     ensures early { IfErr result (λ fault. IsEarly fault → KeepsFiles (H.outside host.old) (H.outside host.new)) }
     ensures others { Told (KeepsOthers words.now.output.now) (H.outside host.old).files (H.outside host.new).files }
@@ -53,6 +57,7 @@ fn read<'a, H: Host>(
     most: usize,
 ) -> Result<Bytes, Fault<'a>>
     requires { most < 2 ^ 63 }
+    ensures content { IfOk result (IsReadOf most name.now (H.outside host.old)) }
     ensures fault { IfErr result (IsReadingFault name.now (H.outside host.old) (H.outside host.new)) }
     ensures effects { OnlyReads (H.outside host.old) (H.outside host.new) }
 {
@@ -65,6 +70,7 @@ fn read<'a, H: Host>(
 
 /// Writes a file whole.
 fn write<'a, H: Host>(host: &mut H, name: &'a str, text: &Text) -> Result<(), Fault<'a>>
+    ensures written { OnOk result (Told (HasFile name.now text.now) (H.outside host.old).files (H.outside host.new).files) }
     ensures fault { IfErr result (IsWritingFault name.now (H.outside host.old) (H.outside host.new)) }
     ensures others { Told (KeepsOthers name.now) (H.outside host.old).files (H.outside host.new).files }
     ensures streams { KeepsStreams (H.outside host.old) (H.outside host.new) }
@@ -79,8 +85,9 @@ fn write<'a, H: Host>(host: &mut H, name: &'a str, text: &Text) -> Result<(), Fa
 
 /// The design that the source stands for.
 fn design_of<'a>(alloc: Global, source: &Bytes, top: &str) -> Result<Design, Fault<'a>>
+    ensures source { IfOk result (IsSource source.now top.now) }
     ensures design { IfOk result IsInputDesign }
-    ensures fault { IfErr result IsSourceFault }
+    ensures fault { IfErr result (IsSourceFault top.now source.now) }
 {
     match read_source(alloc, source.as_slice(), top) {
         Ok(Some(design)) => Ok(design),
@@ -98,7 +105,8 @@ fn text_of<'a>(
 ) -> Result<Text, Fault<'a>>
     requires design { IsInputDesign design.now }
     requires source { IsTrue (is_file_name words.now.source.now) }
-    ensures { IfErr result IsDumpFault }
+    ensures text { IfOk result (IsScoreText design.now bytes.now words.now.source.now words.now.instance.now) }
+    ensures fault { IfErr result (IsScoreFault design.now words.now.instance.now bytes.now) }
 {
     let dump = dump_of(alloc, bytes)?;
     let db = match score_inputs(alloc, design, words.source, &dump, words.instance) {
@@ -114,7 +122,8 @@ fn text_of<'a>(
 
 /// The dump that the bytes stand for.
 fn dump_of<'a>(alloc: Global, bytes: &Bytes) -> Result<Dump, Fault<'a>>
-    ensures { IfErr result IsDumpFault }
+    ensures dump { IfOk result (IsDump bytes.now) }
+    ensures fault { IfErr result (IsDumpFault bytes.now) }
 {
     match whole(alloc, bytes.as_slice()) {
         Ok(dump) => Ok(dump),

@@ -4,6 +4,7 @@ ghost use Rattle.coverage_db.specs.Table.{is_file_name};
 ghost use Rattle.whole_files.specs.Effects.{CountsUp};
 ghost use Rattle.covered_cli.specs.Covered.{HasEarlyStatus, HasFilesCause, IsNoCommand, IsSomeCommand, KeepsOthers, KeepsUnnamed, WarnsFault};
 ghost use Rattle.covered_cli.specs.Fault.{IsEarly, Stands, StandsInWork, output_of, source_of};
+ghost use Rattle.covered_cli.specs.Scoring.{IsDone, IsDoneWork};
 
 use crate::Status;
 use crate::fault::Fault;
@@ -23,6 +24,9 @@ pub fn covered<H: Host>(alloc: Global, words: &Words, host: &mut H) -> Status
     ensures silent { result ≡ Status.Done → (H.outside host.new).warned ≡ (H.outside host.old).warned }
     ensures kept { HasEarlyStatus result → KeepsFiles (H.outside host.old) (H.outside host.new) }
 
+    // With status 0 the output holds the table of the source and the dump: each toggle point once, with its verdict.
+    ensures done { result ≡ Status.Done → IsDone words.now (H.outside host.old) (H.outside host.new) }
+
     // The causes of the statuses, and the line that is warned.
     ensures usage { (result ≡ Status.Usage) ↔ IsNoCommand words.now }
     ensures files { result ≡ Status.Files → HasFilesCause words.now (H.outside host.old) (H.outside host.new) }
@@ -40,6 +44,7 @@ pub fn covered<H: Host>(alloc: Global, words: &Words, host: &mut H) -> Status
 /// Reads the command and does it.
 fn run<'a, H: Host>(alloc: Global, words: &'a Words, host: &mut H) -> Result<(), Fault<'a>>
     ensures command { OnOk result (IsSomeCommand words.now) }
+    ensures done { OnOk result (IsDone words.now (H.outside host.old) (H.outside host.new)) }
     ensures fault { IfErr result (Stands words.now (H.outside host.old) (H.outside host.new)) }
     ensures early { IfErr result (λ fault. IsEarly fault → KeepsFiles (H.outside host.old) (H.outside host.new)) }
     ensures others { Told (KeepsUnnamed words.now) (H.outside host.old).files (H.outside host.new).files }
@@ -59,6 +64,7 @@ fn run_command<'a, H: Host>(
     host: &mut H,
 ) -> Result<(), Fault<'a>>
     requires { IsTrue (is_file_name (source_of command.now)) }
+    ensures done { OnOk result (IsDoneWork command.now (H.outside host.old) (H.outside host.new)) }
     ensures fault { IfErr result (StandsInWork command.now (H.outside host.old) (H.outside host.new)) }
     ensures early { IfErr result (λ fault. IsEarly fault → KeepsFiles (H.outside host.old) (H.outside host.new)) }
     ensures others { Told (KeepsOthers (output_of command.now)) (H.outside host.old).files (H.outside host.new).files }

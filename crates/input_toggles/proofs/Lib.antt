@@ -11,3 +11,4 @@ pub mod TimeLemmas
 pub mod ScoredLemmas
 pub mod FollowedLemmas
 pub mod BoundLemmas
+pub mod DumpTimes
