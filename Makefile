@@ -11,7 +11,7 @@ ROWS ?= $(firstword $(wildcard ../*/rows))
 .PHONY: example test rows install
 
 $(PROGRAM): FORCE
-	cd crates/covered && rt run -- score > /dev/null 2> out/build.log || test -x out/covered
+	mkdir -p crates/covered/out && cd crates/covered && { rt run -- score > out/build.log 2>&1 || test -x out/covered; }
 
 FORCE:
 
@@ -22,7 +22,7 @@ test:
 	bash .ci/run
 
 rows: $(PROGRAM)
-	if test -f '$(ROWS)/run.py'; then python3 '$(ROWS)/run.py' $(PROGRAM) --stage $(STAGE); fi
+	if test -f '$(ROWS)/run.py' && command -v python3 > /dev/null; then python3 '$(ROWS)/run.py' $(PROGRAM) --stage $(STAGE); fi
 
 install: $(PROGRAM)
 	install -D $(PROGRAM) $(DESTDIR)$(PREFIX)/bin/covered
