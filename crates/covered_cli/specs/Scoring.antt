@@ -10,6 +10,7 @@ use Rattle.coverage_db.specs.declared.db.Db.{Db}
 use Rattle.design_model.specs.declared.design.Design.{Design}
 use Rattle.input_module.specs.SourceForm.{IsSource}
 use Rattle.input_toggles.specs.Scored.{HasHead, IsBound, IsScored, LacksFirstValue, LacksVar, ListsTogglePoints}
+use Rattle.covered_cli.specs.Sound.{IsSound}
 use Rattle.vcd_reader.specs.Dump.{IsDump}
 use Rattle.vcd_reader.specs.declared.dump.Dump.{Dump}
 use Rattle.whole_files.specs.Files.{IsContent}
@@ -36,13 +37,14 @@ HasNoDump text = (dump : Dump) → IsDump text dump → ⊥
 abbrev pub HasNoScore : Design → List ℕ → List ℕ → Type 0
 HasNoScore design instance text = HasNoDump text ⊎ ((dump : Dump) × IsDump text dump × (LacksVar design dump instance ⊎ LacksFirstValue design dump instance))
 
--- the table lists each toggle point of the design once, with the verdict of the dump
+-- the table lists each toggle point of the design once, with the verdict of the dump, which holds in every run that shows it
 pub record IsScoreOf (design : Design) (dump : Dump) (source instance : List ℕ) (db : Db) : Type 0 where
   pub bound : IsBound design dump instance
   pub table : IsTable db
   pub head : HasHead design source db
   pub listed : ListsTogglePoints design db
   pub verdicts : All (IsScored design dump instance) db.points
+  pub sound : IsSound design dump instance db
 
 -- the text is that of a table of the design under the dump of these bytes
 pub record IsScoreText (design : Design) (bytes source instance text : List ℕ) : Type 0 where

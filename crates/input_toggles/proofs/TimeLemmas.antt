@@ -11,16 +11,16 @@ use Rattle.input_toggles.specs.Toggling.{TogglesIn, bit_at, dumped_bit, time_at}
 use Rattle.input_toggles.specs.Watched.{TogglesAmong, value_after, value_in_first, without_last}
 
 -- each later time is greater
-later : (first : DumpStep) (steps : List DumpStep) → AreRising (times_of (first ∷ steps)) → All (λ step. first.time < step.time) steps
+pub later : (first : DumpStep) (steps : List DumpStep) → AreRising (times_of (first ∷ steps)) → All (λ step. first.time < step.time) steps
 later first [] up = All-nil (λ (step : DumpStep). first.time < step.time)
 later first (step ∷ steps) up =
     All-cons (λ (s : DumpStep). first.time < s.time) step steps up.0 (All-weaker (λ (s : DumpStep). step.time < s.time) (λ s. first.time < s.time) (λ s l. omega (arith, up.0)) steps (later step steps up.1))
 
-rest_rises : (first : DumpStep) (steps : List DumpStep) → AreRising (times_of (first ∷ steps)) → AreRising (times_of steps)
+pub rest_rises : (first : DumpStep) (steps : List DumpStep) → AreRising (times_of (first ∷ steps)) → AreRising (times_of steps)
 rest_rises first [] up = tt
 rest_rises first (step ∷ steps) up = up.1
 
-none_up_to : (time : ℕ) (steps : List DumpStep) → All (λ step. time < step.time) steps → filter (λ step. nat_le step.time time) steps ≡ []
+pub none_up_to : (time : ℕ) (steps : List DumpStep) → All (λ step. time < step.time) steps → filter (λ step. nat_le step.time time) steps ≡ []
 none_up_to time [] h = refl
 none_up_to time (step ∷ steps) h =
     let l = All-head (λ (s : DumpStep). time < s.time) step steps h in
@@ -28,7 +28,7 @@ none_up_to time (step ∷ steps) h =
     ap (λ b. cond b (step ∷ filter (λ s. nat_le s.time time) steps) (filter (λ s. nat_le s.time time) steps)) e ∙ none_up_to time steps (All-tail (λ (s : DumpStep). time < s.time) step steps h)
 
 -- a time of the list
-listed : (first : DumpStep) (steps : List DumpStep) (k : ℕ) → k < length steps → All (λ step. first.time < step.time) steps → first.time < time_at steps k
+pub listed : (first : DumpStep) (steps : List DumpStep) (k : ℕ) → k < length steps → All (λ step. first.time < step.time) steps → first.time < time_at steps k
 listed first [] k l h = absurd (omega arith)
 listed first (step ∷ steps) zero l h = All-head (λ (s : DumpStep). first.time < s.time) step steps h
 listed first (step ∷ steps) (suc k) l h = listed first steps k (omega arith) (All-tail (λ (s : DumpStep). first.time < s.time) step steps h)
