@@ -21,8 +21,9 @@ example: $(PROGRAM)
 test:
 	bash .ci/run
 
-rows: $(PROGRAM)
-	if test -f '$(ROWS)/run.py' && command -v python3 > /dev/null; then python3 '$(ROWS)/run.py' $(PROGRAM) --stage $(STAGE); fi
+rows:
+	if test -f '$(ROWS)/run.py' && command -v python3 > /dev/null; then \
+	  $(MAKE) --no-print-directory $(PROGRAM) && python3 '$(ROWS)/run.py' $(PROGRAM) --stage $(STAGE); fi
 
 install: $(PROGRAM)
 	install -D $(PROGRAM) $(DESTDIR)$(PREFIX)/bin/covered
