@@ -21,9 +21,9 @@ use Rattle.design_model.specs.Points.{IsBlock, Point, arc_point, line_point, log
 use Rattle.design_model.specs.MayMove.{IsSingleAt, told_at}
 use Rattle.design_model.specs.Clear.{clear, clear_before, of_dump}
 use Rattle.design_model.specs.Open.{KnownOnEntry}
-use Rattle.design_model.specs.Doubt.{BlockDoubt, IsInDoubt, early, not_clean, of_block, of_signal, own_target, unclear_at_start, unclear_signal, unclear_word}
+use Rattle.design_model.specs.Doubt.{BlockDoubt, IsInDoubt, IsPointOn, IsUnclear, early, not_clean, of_block, of_signal, own_target, unclear_at_start, unclear_signal, unclear_word}
 use Rattle.design_model.specs.Lawful.{is_signal}
-use Rattle.design_model.specs.Laws.{DefinitenessLaw, IsDefinite, IsLineOrLogic}
+use Rattle.design_model.specs.Laws.{BoundPointLaw, DefinitenessLaw, IsDefinite, IsLineOrLogic}
 use Rattle.design_model.specs.ExampleParts.{at, counted}
 use Rattle.design_model.proofs.Mentions.{AllReads, IsReadOf, execute_reads}
 
@@ -95,3 +95,36 @@ module _ (d : Design) (h : Habit) (dump : BoundDump) (fits : IsDumpOf d dump) (p
 
 pub definiteness_law : (d : Design) (h : Habit) → DefinitenessLaw d h
 definiteness_law d h dump fits p definite x is block_is t s doubt = no_doubt d h dump fits p definite x is block_is t s doubt
+
+-- a point of a signal has no block
+no_block : (d : Design) (x : Point) (s p : ℕ) → IsPointOn x s → IsBlock d x p → ⊥
+no_block d (line_point q n at w) s p on block_is = on
+no_block d (logic_point q n at op c) s p on block_is = on
+no_block d (toggle_point q i rise) s p on block_is = block_is
+no_block d (state_point i name q state value) s p on block_is = block_is
+no_block d (arc_point i name q from to old new) s p on block_is = block_is
+no_block d (word_point m i write) s p on block_is = on
+
+-- a point is on one signal
+one_signal : (x : Point) (s q : ℕ) → IsPointOn x s → IsPointOn x q → s ≡ q
+one_signal (line_point p n at w) s q on other = absurd on
+one_signal (logic_point p n at op c) s q on other = absurd on
+one_signal (toggle_point r i rise) s q on other = sym on ∙ other
+one_signal (state_point i name r state value) s q on other = sym on ∙ other
+one_signal (arc_point i name r from to old new) s q on other = sym on ∙ other
+one_signal (word_point m i write) s q on other = absurd on
+
+-- a window time is shown
+shown_then : (times : List ℕ) (t : ℕ) → IsWindowOf times t → IsShownOf times t
+shown_then [] t window = window
+shown_then (u ∷ us) t window = (omega (arith, window.0), window.1)
+
+-- a bound signal is clear at the start and the end of a window time
+bound_not_unclear : (d : Design) (h : Habit) (dump : BoundDump) (t s : ℕ) → IsWindow dump t → dump.bound s ≡ true → s < length d.signals → IsUnclear d h dump t (a_signal s) → ⊥
+bound_not_unclear d h dump t s window bound is_signal (inl at_start) = at_start (bound_is_clear d h dump (t - 1) s (shown_before dump.times t window) bound is_signal)
+bound_not_unclear d h dump t s window bound is_signal (inr at_end) = at_end (bound_is_clear d h dump t s (shown_then dump.times t window) bound is_signal)
+
+pub bound_point_law : (d : Design) (h : Habit) → BoundPointLaw d h
+bound_point_law d h dump x s on is_signal bound t q (of_block p window block_is is_open doubt) = no_block d x s p on block_is
+bound_point_law d h dump x s on is_signal bound t q (of_signal window on_q may_move unclear) =
+    bound_not_unclear d h dump t s window bound is_signal (subst (λ y. IsUnclear d h dump t (a_signal y)) (sym (one_signal x s q on on_q)) unclear)

@@ -11,9 +11,9 @@ use Rattle.design_model.specs.Shows.{BoundDump, IsDumpOf, IsShown, IsWindow, Sho
 use Rattle.design_model.specs.Points.{IsBlock, IsHit, Point, line_point, logic_point}
 use Rattle.design_model.specs.MayMove.{CanWakeSome, IsCleanAt}
 use Rattle.design_model.specs.Early.{IsEarlyAt}
-use Rattle.design_model.specs.Clear.{IsClearBy, IsForced, clear, clear_in, clear_start}
+use Rattle.design_model.specs.Clear.{IsClearBy, IsForced, IsSignal, clear, clear_in, clear_start}
 use Rattle.design_model.specs.Open.{IsReached}
-use Rattle.design_model.specs.Doubt.{IsInDoubt}
+use Rattle.design_model.specs.Doubt.{IsInDoubt, IsPointOn}
 
 -- Clear law: in each run that shows the dump, at each time that the dump shows, the settled values are those that are clear.
 abbrev pub ClearLaw : Design → Habit → Type 0
@@ -67,3 +67,8 @@ IsLineOrLogic _ = ⊥
 abbrev pub DefinitenessLaw : Design → Habit → Type 0
 DefinitenessLaw d h =
     (dump : BoundDump) → IsDumpOf d dump → (p : ℕ) → IsDefinite d h dump p → (x : Point) → IsLineOrLogic x → IsBlock d x p → (t s : ℕ) → IsInDoubt d h dump x t s → ⊥
+
+-- Bound-point law: nothing is in doubt for a toggle, state or arc point of a signal that the dump has.
+abbrev pub BoundPointLaw : Design → Habit → Type 0
+BoundPointLaw d h =
+    (dump : BoundDump) (x : Point) (s : ℕ) → IsPointOn x s → IsSignal d s → dump.bound s ≡ true → (t q : ℕ) → IsInDoubt d h dump x t q → ⊥

@@ -7,7 +7,7 @@ ghost use Rattle.design_model.specs.Design.{Design as DesignTree};
 ghost use Rattle.design_model.specs.Machine.{machine};
 ghost use Rattle.design_model.specs.Lawful.{IsLawfulDesign};
 ghost use Rattle.design_model.specs.ToggleLaw.{ToggleLaw};
-ghost use Rattle.design_model.specs.Laws.{ClearLaw, ForcedLaw, ClearValueLaw, ClearRoundsLaw, ClearClosedLaw, ClearLeastLaw, ReachedLaw, DefinitenessLaw};
+ghost use Rattle.design_model.specs.Laws.{ClearLaw, ForcedLaw, ClearValueLaw, ClearRoundsLaw, ClearClosedLaw, ClearLeastLaw, ReachedLaw, DefinitenessLaw, BoundPointLaw};
 
 mod design;
 mod examples;
@@ -49,7 +49,9 @@ pub fn reached_law()
 {}
 
 /// Nothing is in doubt for the line and logic points of a block that is clean whenever it can wake, of which all that
-/// it mentions is bound, and of that nothing but the trigger is early.
+/// it mentions is bound, and of that nothing but the trigger is early; nor for the toggle, state and arc points of a
+/// signal that the dump has.
 pub fn definiteness_law()
-    ensures { (d : DesignTree) (h : Habit) → DefinitenessLaw d h }
+    ensures blocks { (d : DesignTree) (h : Habit) → DefinitenessLaw d h }
+    ensures signals { (d : DesignTree) (h : Habit) → BoundPointLaw d h }
 {}
