@@ -1,9 +1,7 @@
--- A source that was read is a design that can be scored.
+-- The source of a command has a name that a database can have.
 use Rattle.std.proofs.Common.{◌≡◌, ◌≢◌, ◌+◌, ◌-◌, ◌*◌, ◌<◌, ◌≤◌, ◌^◌, ℕ, zero, suc, Bool, true, false, not, ◌&&◌, ◌||◌, ◌==◌, nat_le, nat_lt, List, [], ◌∷◌, length, map, max, min, Option, None, Some, refl, sym, ap, subst, ◌∙◌, ⊎_elim, arith, if◌then◌else◌}
-use Rattle.std.proofs.lemmas.Bool.{OnFalse_from, cases_lt, false≢true, le-leb, lt-ltb}
-use Rattle.std.specs.Prelude.{All, AllPairs, IsTrue, slice_index_or}
-use Rattle.std.specs.Bool.{OnFalse}
-use Rattle.std.specs.Int.{abs_diff}
+use Rattle.std.proofs.lemmas.Bool.{cases_lt, false≢true, le-leb, lt-ltb}
+use Rattle.std.specs.Prelude.{IsTrue}
 use Rattle.std.specs.List.{list_all, list_any}
 use Rattle.command_line.specs.Command.{IsCommand}
 use Rattle.command_line.specs.CommandWords.{AreGiven, GivenOption, IsScore, ScoreValues, score_values, value_in}
@@ -16,53 +14,6 @@ use Rattle.command_line.specs.declared.score_option.ScoreOption.{ScoreOption}
 use Rattle.command_line.specs.declared.score_option.ScoreOption.TheVariants.{Source}
 use Rattle.command_line.proofs.OptionLemmas.{same_option}
 use Rattle.coverage_db.specs.Table.{is_file_name}
-use Rattle.design_model.specs.declared.design.Design.{Design}
-use Rattle.design_model.specs.declared.design.Signal.{Signal}
-use Rattle.input_module.specs.InputDesign as form
-use Rattle.input_module.specs.Port.{width_between}
-use Rattle.input_toggles.specs.InputDesign.{IsInput, IsInputDesign}
-
-abs_diff-max_min : (a b : ℕ) → abs_diff a b + 1 ≡ max a b - min a b + 1
-abs_diff-max_min a b = omega arith
-
-input_of_form : (signal : Signal) → form.IsInput signal → IsInput signal
-input_of_form signal is = record {
-  instance = is.instance;
-  name = is.name;
-  input = is.input;
-  high = omega (arith, is.high);
-  low = omega (arith, is.low);
-  unranged = OnFalse_from signal.ranged _ is.without_range;
-  width = is.width ∙ abs_diff-max_min signal.high signal.low;
-  at_most = is.narrow;
-}
-
-name_at : (signals : List Signal) (i : ℕ) (d : Signal) → slice_index_or (map (λ signal. signal.name) signals) i d.name ≡ (slice_index_or signals i d).name
-name_at [] i d = refl
-name_at (signal ∷ signals) zero d = refl
-name_at (signal ∷ signals) (suc i) d = name_at signals i d
-
-as_many_names : (signals : List Signal) → length (map (λ signal. signal.name) signals) ≡ length signals
-as_many_names [] = refl
-as_many_names (signal ∷ signals) = ap suc (as_many_names signals)
-
-distinct_of_map : (signals : List Signal) → AllPairs (λ x y. x ≢ y) (map (λ signal. signal.name) signals) → AllPairs (λ a b. a.name ≢ b.name) signals
-distinct_of_map signals apart i j d below within =
-    λ same. apart i j d.name below (omega (arith, as_many_names signals)) (name_at signals i d ∙ same ∙ sym (name_at signals j d))
-
--- the design of a source of the form is one of inputs alone
-pub input_design : (text : List ℕ) (design : Design) → length text ≤ 67108864 → form.IsInputDesign text design → IsInputDesign design
-input_design text design short is = record {
-  top = is.top;
-  instances = is.instances;
-  signals = λ k d within. input_of_form (slice_index_or design.signals k d) (is.signals k d within);
-  names = distinct_of_map design.signals is.names;
-  number = omega (arith, is.few, short);
-  memories = is.memories;
-  processes = is.processes;
-  constants = is.constants;
-  aliases = is.aliases;
-}
 
 -- a value that was given has its option's form
 value_accepted : (given : List GivenOption) (option : ScoreOption) (value : List ℕ) → AreGiven given → value_in given option ≡ Some value → IsTrue (accepts option value)

@@ -1,6 +1,5 @@
 pub mod Causes
+pub mod Complete
 pub mod Inputs
 pub mod Lines
 pub mod Scoring
-pub mod ShownTimes
-pub mod Sound

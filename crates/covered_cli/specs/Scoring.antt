@@ -9,8 +9,9 @@ use Rattle.coverage_db.specs.Text.{text_of}
 use Rattle.coverage_db.specs.declared.db.Db.{Db}
 use Rattle.design_model.specs.declared.design.Design.{Design}
 use Rattle.input_module.specs.SourceForm.{IsSource}
+use Rattle.input_runs.specs.Reasoned.{IsReasoned}
+use Rattle.input_runs.specs.Sound.{IsSound}
 use Rattle.input_toggles.specs.Scored.{HasHead, IsBound, IsScored, LacksFirstValue, LacksVar, ListsTogglePoints}
-use Rattle.covered_cli.specs.Sound.{IsSound}
 use Rattle.vcd_reader.specs.Dump.{IsDump}
 use Rattle.vcd_reader.specs.declared.dump.Dump.{Dump}
 use Rattle.whole_files.specs.Files.{IsContent}
@@ -37,7 +38,8 @@ HasNoDump text = (dump : Dump) → IsDump text dump → ⊥
 abbrev pub HasNoScore : Design → List ℕ → List ℕ → Type 0
 HasNoScore design instance text = HasNoDump text ⊎ ((dump : Dump) × IsDump text dump × (LacksVar design dump instance ⊎ LacksFirstValue design dump instance))
 
--- the table lists each toggle point of the design once, with the verdict of the dump, which holds in every run that shows it
+-- the table lists each toggle point of the design once, with the verdict of the dump, which holds in every run that shows it,
+-- and leaves none undetermined without a reason
 pub record IsScoreOf (design : Design) (dump : Dump) (source instance : List ℕ) (db : Db) : Type 0 where
   pub bound : IsBound design dump instance
   pub table : IsTable db
@@ -45,6 +47,7 @@ pub record IsScoreOf (design : Design) (dump : Dump) (source instance : List ℕ
   pub listed : ListsTogglePoints design db
   pub verdicts : All (IsScored design dump instance) db.points
   pub sound : IsSound design dump instance db
+  pub reasoned : IsReasoned design dump instance db
 
 -- the text is that of a table of the design under the dump of these bytes
 pub record IsScoreText (design : Design) (bytes source instance text : List ℕ) : Type 0 where

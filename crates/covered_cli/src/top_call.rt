@@ -2,6 +2,7 @@ ghost use Rattle.std.specs.Prelude.{◌≡◌, ◌≢◌, ◌↔◌, IfErr, IsTr
 ghost use Rattle.cov_host.specs.Outside.{KeepsFiles, KeepsStreams, Told};
 ghost use Rattle.coverage_db.specs.Table.{is_file_name};
 ghost use Rattle.whole_files.specs.Effects.{CountsUp};
+ghost use Rattle.covered_cli.specs.Complete.{EndsWith, HasBadDump, HasBadSource, IsCommandWith, IsGoodScore, NoFaults};
 ghost use Rattle.covered_cli.specs.Covered.{HasEarlyStatus, HasFilesCause, IsNoCommand, IsSomeCommand, KeepsOthers, KeepsUnnamed, WarnsFault};
 ghost use Rattle.covered_cli.specs.Fault.{IsEarly, Stands, StandsInWork, output_of, source_of};
 ghost use Rattle.covered_cli.specs.Scoring.{IsDone, IsDoneWork};
@@ -26,6 +27,11 @@ pub fn covered<H: Host>(alloc: Global, words: &Words, host: &mut H) -> Status
 
     // With status 0 the output holds the table of the source and the dump: each toggle point once, with its verdict.
     ensures done { result ≡ Status.Done → IsDone words.now (H.outside host.old) (H.outside host.new) }
+
+    // Where both files are told and no call of the host fails, the texts decide the status, want of memory aside.
+    ensures complete { IsCommandWith IsGoodScore words.now (H.outside host.old) → NoFaults (H.outside host.old) (H.outside host.new) → EndsWith Status.Done result }
+    ensures source { IsCommandWith HasBadSource words.now (H.outside host.old) → NoFaults (H.outside host.old) (H.outside host.new) → EndsWith Status.Source result }
+    ensures dump { IsCommandWith HasBadDump words.now (H.outside host.old) → NoFaults (H.outside host.old) (H.outside host.new) → EndsWith Status.Dump result }
 
     // The causes of the statuses, and the line that is warned.
     ensures usage { (result ≡ Status.Usage) ↔ IsNoCommand words.now }

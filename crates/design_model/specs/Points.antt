@@ -61,6 +61,10 @@ abbrev pub HitAt : Design → Run → ℕ → Point → Type 0
 HitAt d r t (state_point i name s state x) = signal_bits d (settled d r t) s ≡ x.bits
 HitAt d r t _ = ⊥
 
+-- the point is hit at this time: in its step, or at a listed time
+abbrev pub IsHitAt : Design → BoundDump → Run → Point → ℕ → Type 0
+IsHitAt d dump r x t = ((k : StepOf r) × (k.step.time ≡ t) × HitIn d r k x) ⊎ (IsListed dump t × HitAt d r t x)
+
 -- a point is hit in a window step, or at a listed time of the window
 abbrev pub IsHit : Design → BoundDump → Run → Point → Type 0
 IsHit d dump r x = ((k : StepOf r) × InWindow dump r k × HitIn d r k x) ⊎ ((t : ℕ) × IsWindow dump t × IsListed dump t × HitAt d r t x)

@@ -1,3 +1,9 @@
 pub mod Cells
 pub mod Moves
 pub mod Runs
+pub mod ShownTimes
+pub mod Sound
+pub mod Reasoned
+pub mod SomeRun
+pub mod Inputs
+pub mod Worked

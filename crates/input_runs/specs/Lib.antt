@@ -1,1 +1,5 @@
 pub mod Stimuli
+pub mod Shown
+pub mod Sound
+pub mod Reasoned
+pub mod Worked

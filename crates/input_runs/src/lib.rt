@@ -1,11 +1,37 @@
-//! The runs of a design of inputs alone: some run takes each list of values of the inputs.
+//! The runs of a design of inputs alone: some run takes each list of values, some run shows each dump, and what a dump
+//! says holds in every run that shows it.
 #![tactic(auto)]
 
-ghost use Rattle.std.specs.Prelude.{◌≡◌, []};
+ghost use Rattle.std.specs.Prelude.{◌≡◌, ℕ, List, [], All};
+ghost use Rattle.coverage_db.specs.declared.db.Db.{Db};
 ghost use Rattle.design_model.specs.Design.{Design as DesignTree};
+ghost use Rattle.design_model.specs.declared.design.Design.{Design};
+ghost use Rattle.input_module.specs.SourceForm.{IsSource};
+ghost use Rattle.input_toggles.specs.InputDesign.{IsInputDesign};
+ghost use Rattle.input_toggles.specs.Scored.{IsScored};
+ghost use Rattle.vcd_reader.specs.Dump.{IsDump};
+ghost use Rattle.vcd_reader.specs.declared.dump.Dump.{Dump};
+ghost use Rattle.input_runs.specs.Reasoned.{AreCertain, IsReasoned};
+ghost use Rattle.input_runs.specs.Shown.{SomeRunShows};
+ghost use Rattle.input_runs.specs.Sound.{IsSound};
 ghost use Rattle.input_runs.specs.Stimuli.{TakesAll};
+ghost use Rattle.input_runs.specs.Worked.{IsWorkedRun};
 
 /// Whatever values the inputs of a design without processes are given at rising times, some run takes them.
 pub fn inputs_run()
     ensures { (d : DesignTree) → d.processes ≡ [] → TakesAll d }
+{}
+
+/// Whatever a dump says of the inputs of a source, some run of its design shows it; so it is with the worked case.
+pub fn shown_by_some_run()
+    ensures each { (source top dump_text instance : List ℕ) (design : Design) (dump : Dump) → IsSource source top design → IsDump dump_text dump → SomeRunShows design dump instance }
+    ensures worked { IsWorkedRun }
+{}
+
+/// The verdicts of a dump hold in every run that shows it, none is left open without a reason, and nothing is ever in
+/// doubt for a point of an input.
+pub fn verdicts_hold()
+    ensures sound { (dump_text instance : List ℕ) (design : Design) (dump : Dump) (db : Db) → IsInputDesign design → IsDump dump_text dump → All (IsScored design dump instance) db.points → IsSound design dump instance db }
+    ensures reasoned { (instance : List ℕ) (design : Design) (dump : Dump) (db : Db) → All (IsScored design dump instance) db.points → IsReasoned design dump instance db }
+    ensures certain { (instance : List ℕ) (design : Design) (dump : Dump) (db : Db) → All (IsScored design dump instance) db.points → AreCertain design dump instance db }
 {}

@@ -1,4 +1,4 @@
-use Rattle.covered_cli.proofs.Inputs.{input_design}
+use Rattle.input_runs.proofs.Inputs.{input_design}
 use Rattle.covered_cli.proofs.score.design_of.Goals as goal
 
 pub returns-in-Ok-Some-clause-design : goal.returns-in-Ok-Some-clause-design

@@ -1,5 +1,6 @@
 use Rattle.input_toggles.proofs.DumpTimes.{times_rise}
-use Rattle.covered_cli.proofs.Sound.{sound_table}
+use Rattle.input_runs.proofs.Reasoned.{reasoned_table}
+use Rattle.input_runs.proofs.Sound.{sound_table}
 use Rattle.covered_cli.proofs.score.text_of.Goals as goal
 
 pub score_inputs-requires-clause-rising : goal.score_inputs-requires-clause-rising
@@ -22,6 +23,7 @@ returns-in-Ok-clause-text c =
         listed = rw is at gives.listed;
         verdicts = verdicts;
         sound = sound_table c.args.design.now c.in_ok-dump.dump c.args.words.now.instance.now c.in-Ok-Some.db c.requires.design rise verdicts;
+        reasoned = reasoned_table c.args.design.now c.in_ok-dump.dump c.args.words.now.instance.now c.in-Ok-Some.db verdicts;
       };
       is_text = c.in-Ok.ensures;
     }

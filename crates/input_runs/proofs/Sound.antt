@@ -25,6 +25,7 @@ use Rattle.design_model.specs.Value.{offset}
 use Rattle.design_model.specs.View.{design_view}
 use Rattle.design_model.specs.declared.design.Design.{Design}
 use Rattle.design_model.specs.declared.design.Signal.{Signal}
+use Rattle.design_model.specs.declared.point.Point.{Point}
 use Rattle.design_model.specs.declared.point.Point.TheVariants.{Toggle as toggle_point}
 use Rattle.input_toggles.specs.Binding.{code_of}
 use Rattle.input_toggles.specs.InputDesign.{IsInput, IsInputDesign}
@@ -33,8 +34,9 @@ use Rattle.input_toggles.specs.Scored.{IsScored, Tells}
 use Rattle.input_toggles.specs.Toggling.{TogglesIn, bit_at}
 use Rattle.vcd_reader.specs.Dump.{times_of, value_at}
 use Rattle.vcd_reader.specs.declared.dump.Dump.{Dump}
-use Rattle.covered_cli.proofs.ShownTimes.{ChangesAt, changes_from_in, in_from_changes}
-use Rattle.covered_cli.specs.Sound.{IsShownBy, IsSound, IsSoundPoint, bound_dump, code_at, number_of, signal_of, value_of_code}
+use Rattle.input_runs.proofs.ShownTimes.{ChangesAt, changes_from_in, in_from_changes}
+use Rattle.input_runs.specs.Shown.{IsShownBy, bound_dump, code_at, signal_of, value_of_code}
+use Rattle.input_runs.specs.Sound.{IsAddressOf, IsSound, IsSoundPoint, number_of}
 
 -- a verdict that tells of one thing tells of what is the same
 Tells-map : (verdict : DbVerdict) (P Q : Type 0) → (P ↔ Q) → Tells verdict P → Tells verdict Q
@@ -91,28 +93,49 @@ module _ (design : Design) (s : ℕ) (input : IsInput (signal_of design s)) wher
               in_from_changes dump.steps code place rise up h.0 (changes_from_toggles place h.0 rise h.1 (subst (λ x. TogglesAt bd x h.0 rise) at h.2)),
         )
 
+-- the signal of a scored point is that of its number
+scored_signal : (design : Design) (dump : Dump) (instance : List ℕ) (row : DbPoint) → (scored : IsScored design dump instance row) → signal_of design scored.listed.0 ≡ scored.signal
+scored_signal design dump instance row scored = get_or_default design.signals scored.listed.0 no_signal scored.signal scored.listed.1 ∙ scored.listed.2
+
+-- the toggle point that a scored address names
+pub scored_point : (design : Design) (dump : Dump) (instance : List ℕ) (row : DbPoint) → IsScored design dump instance row → Point
+scored_point design dump instance row scored = toggle_point scored.listed.0 (number_of scored.index) scored.rise
+
+-- a scored address is that of a toggle point
+pub scored_address : (design : Design) (dump : Dump) (instance : List ℕ) (row : DbPoint) → (scored : IsScored design dump instance row) → IsAddressOf design (scored_point design dump instance row scored) row.address
+scored_address design dump instance row scored =
+    let same = scored_signal design dump instance row scored in
+    record {
+      signal = scored.listed.0;
+      index = scored.index;
+      rise = scored.rise;
+      listed = scored.listed.1;
+      has_index = subst (λ x. HasIndex x scored.index) (sym same) scored.has_index;
+      is_point = refl;
+      is_address = subst (λ x. row.address ≡ toggle_address x scored.index scored.rise) (sym same) scored.is;
+    }
+
+-- the signal of a scored point has a code
+pub scored_bound : (design : Design) (dump : Dump) (instance : List ℕ) (row : DbPoint) → (scored : IsScored design dump instance row) → code_at design dump instance scored.listed.0 ≡ Some scored.code
+scored_bound design dump instance row scored =
+    let inside = scored.listed.1 in
+    ap (λ b. if b then code_of dump.vars instance (signal_of design scored.listed.0) else None) (lt-ltb scored.listed.0 (length design.signals) inside)
+    ∙ ap (code_of dump.vars instance) (scored_signal design dump instance row scored)
+    ∙ scored.bound
+
 -- a scored point is sound
 sound_point : (design : Design) (dump : Dump) (instance : List ℕ) → IsInputDesign design → AreRising (times_of dump.steps) → (row : DbPoint) → IsScored design dump instance row → IsSoundPoint design dump instance row
 sound_point design dump instance is up row scored =
     let s = scored.listed.0 in
-    let inside = scored.listed.1 in
-    let same : signal_of design s ≡ scored.signal = get_or_default design.signals s no_signal scored.signal inside ∙ scored.listed.2 in
-    let input = is.signals s no_signal inside in
-    let index = subst (λ x. HasIndex x scored.index) (sym same) scored.has_index in
-    let bound : code_at design dump instance s ≡ Some scored.code = ap (λ b. if b then code_of dump.vars instance (signal_of design s) else None) (lt-ltb s (length design.signals) inside) ∙ ap (code_of dump.vars instance) same ∙ scored.bound in
+    let named = scored_address design dump instance row scored in
+    let same = scored_signal design dump instance row scored in
+    let input = is.signals s no_signal scored.listed.1 in
+    let bound = scored_bound design dump instance row scored in
     let verdict = subst (λ x. Tells row.verdict (TogglesIn dump.steps scored.code (place_of x scored.index) scored.rise)) (sym same) scored.verdict in
     record {
-      point = toggle_point s (number_of scored.index) scored.rise;
-      named = record {
-        signal = s;
-        index = scored.index;
-        rise = scored.rise;
-        listed = inside;
-        has_index = index;
-        is_point = refl;
-        is_address = subst (λ x. row.address ≡ toggle_address x scored.index scored.rise) (sym same) scored.is;
-      };
-      holds = λ r shown. Tells-map row.verdict _ _ (hit_is design s input dump instance scored.code bound up scored.index scored.rise index r shown) verdict;
+      point = scored_point design dump instance row scored;
+      named = named;
+      holds = λ r shown. Tells-map row.verdict _ _ (hit_is design s input dump instance scored.code bound up scored.index scored.rise named.has_index r shown) verdict;
     }
 
 pub sound_table : (design : Design) (dump : Dump) (instance : List ℕ) (db : Db) → IsInputDesign design → AreRising (times_of dump.steps) → All (IsScored design dump instance) db.points → IsSound design dump instance db

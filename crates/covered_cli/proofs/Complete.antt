@@ -1,0 +1,152 @@
+-- Where both files are told and no call of the host failed, the texts decide how a command ends.
+use Rattle.std.proofs.Common.{◌≡◌, ◌⊎◌, inl, inr, ℕ, ◌≤◌, is_some, List, Option, None, Some, refl, sym, ap, subst, ◌∙◌}
+use Rattle.std.proofs.lemmas.Bool.{false≢true}
+use Rattle.std.specs.Prelude.{All, Any, IfSome, IsSome, IsSomeAnd, MatchOption}
+use Rattle.command_line.proofs.OneCommand.{one_command}
+use Rattle.command_line.specs.CommandWords.{IsScore, ScoreValues}
+use Rattle.cov_host.specs.Outside.{Files, Outside, IsCounted}
+use Rattle.design_model.specs.declared.design.Design.{Design}
+use Rattle.design_model.specs.declared.design.Signal.{Signal}
+use Rattle.input_module.proofs.SourceLemmas.{IsSource-once}
+use Rattle.input_module.specs.SourceForm.{IsSource}
+use Rattle.input_toggles.specs.Scored.{IsBound, LacksFirstValue, LacksVar}
+use Rattle.vcd_reader.proofs.DumpLaws.{one_dump_lem}
+use Rattle.vcd_reader.specs.Dump.{IsDump}
+use Rattle.vcd_reader.specs.declared.dump.Dump.{Dump}
+use Rattle.whole_files.specs.Effects.{IsMissing}
+use Rattle.whole_files.proofs.EffectLemmas.{IsCounted-later}
+use Rattle.whole_files.specs.declared.call.Call.{Call}
+use Rattle.whole_files.specs.declared.call.Call.TheVariants.{OpenRead, Read, OpenWrite, Write, CloseWrite}
+use Rattle.covered_cli.proofs.Causes.{command_or_fault}
+use Rattle.covered_cli.specs.Complete.{EndsWith, HasBadDump, HasBadSource, HaveTexts, IsCommandWith, IsGoodScore, NoFaults}
+use Rattle.covered_cli.specs.Fault.{IsRefused, NamesFile, Stands, status_of}
+use Rattle.covered_cli.specs.Scoring.{HasNoScore, IsDone, IsDoneIn, IsRefusedDump, IsRefusedSource}
+use Rattle.covered_cli.specs.declared.fault.Fault.{Fault}
+use Rattle.covered_cli.specs.declared.fault.Fault.TheVariants as fault
+use Rattle.covered_cli.specs.declared.status.Status.{Status}
+use Rattle.covered_cli.specs.declared.status.Status.TheVariants.{Done, Dump as dump_status, Source as source_status}
+
+-- what each has, none lacks
+none_lacks : {A : Type 0} (Has Lacks : A → Type 0) (xs : List A) → ((x : A) → Has x → Lacks x → ⊥) → All Has xs → Any Lacks xs → ⊥
+none_lacks Has Lacks xs clash all (k, x, within, is, lacks) = clash x (subst Has is (all k x within)) lacks
+
+some_or_none : {A : Type 0} (o : Option A) → IsSome o → o ≡ None → ⊥
+some_or_none o some none = false≢true (sym (ap is_some none) ∙ some)
+
+both_of_one : {A : Type 0} (o : Option A) (P Q : A → Type 0) → ((x : A) → P x → Q x → ⊥) → IfSome o P → IsSomeAnd o Q → ⊥
+both_of_one None P Q clash p q = q
+both_of_one (Some x) P Q clash p q = clash x p q
+
+-- a bound design lacks neither a variable nor a first value
+bound_lacks_nothing : (design : Design) (dump : Dump) (instance : List ℕ) → IsBound design dump instance → LacksVar design dump instance ⊎ LacksFirstValue design dump instance → ⊥
+bound_lacks_nothing design dump instance bound (inl lacks) = none_lacks _ _ design.signals (λ signal some none. some_or_none _ some none) bound.variables lacks
+bound_lacks_nothing design dump instance bound (inr lacks) =
+    none_lacks _ _ design.signals (λ signal first none. both_of_one _ _ _ (λ code some none. some_or_none _ some none) first none) (bound.first_values lacks.0) lacks.1
+
+-- a bound design has a score by the dump
+has_score : (design : Design) (dump : Dump) (instance text : List ℕ) → IsDump text dump → IsBound design dump instance → HasNoScore design instance text → ⊥
+has_score design dump instance text is bound (inl none) = none dump is
+has_score design dump instance text is bound (inr lacks) =
+    bound_lacks_nothing design lacks.0 instance (subst (λ dump. IsBound design dump instance) (one_dump_lem text dump lacks.0 is lacks.1) bound) lacks.2
+
+-- a told file has one text
+one_text_at : (files : Option Files) (name a b : List ℕ) → IsSomeAnd files (λ files. files name ≡ Some a) → IfSome files (λ files. files name ≡ Some b) → a ≡ b
+one_text_at None name a b told is = absurd told
+one_text_at (Some files) name a b told is = let e : Some a ≡ Some b = sym told ∙ is in cc
+
+not_missing_at : (files : Option Files) (name text : List ℕ) (P : Type 0) → IsSomeAnd files (λ files. files name ≡ Some text) → MatchOption files P (λ files. files name ≡ None) → ⊥
+not_missing_at None name text P told missing = told
+not_missing_at (Some files) name text P told missing = let e : Some text ≡ None = sym told ∙ missing in cc
+
+module _ (score : ScoreValues) (before : Outside) (source text : List ℕ) (texts : HaveTexts score before source text) where
+  -- the source that a relation finds is the one that is told
+  same_source : (other : List ℕ) → IfSome before.files (λ files. files score.source ≡ Some other) → source ≡ other
+  same_source other is = one_text_at before.files score.source source other texts.source_is is
+
+  same_text : (other : List ℕ) → IfSome before.files (λ files. files score.dump ≡ Some other) → text ≡ other
+  same_text other is = one_text_at before.files score.dump text other texts.dump_is is
+
+  files_there : (file : List ℕ) → (file ≡ score.source) ⊎ (file ≡ score.dump) → (after : Outside) → IsMissing file before after → ⊥
+  files_there file (inl is) after missing = not_missing_at before.files score.source source _ texts.source_is (subst (λ name. IsMissing name before after) is missing)
+  files_there file (inr is) after missing = not_missing_at before.files score.dump text _ texts.dump_is (subst (λ name. IsMissing name before after) is missing)
+
+  -- a call that gave nothing was counted as a fault, since the files are there
+  refused_call : (call : Call) (file : List ℕ) (after : Outside) → NamesFile score call file → IsRefused call file before after → IsCounted before.faults after.faults
+  refused_call OpenRead file after named (inl counted) = counted
+  refused_call OpenRead file after named (inr missing) = absurd (files_there file named after missing)
+  refused_call Read file after named counted = counted
+  refused_call OpenWrite file after named counted = counted
+  refused_call Write file after named counted = counted
+  refused_call CloseWrite file after named counted = counted
+
+  -- a source of the form is not refused
+  source_stands : (design : Design) → IsSource source score.top design → IsRefusedSource score before → ⊥
+  source_stands design is refused = refused.refused design (subst (λ text. IsSource text score.top design) (same_source refused.text refused.is) is)
+
+  -- the design that a relation finds is that of the source
+  same_design : (design other : Design) (found : List ℕ) → IsSource source score.top design → IfSome before.files (λ files. files score.source ≡ Some found) → IsSource found score.top other → design ≡ other
+  same_design design other found is told found_is = IsSource-once source score.top design other is (subst (λ text. IsSource text score.top other) (sym (same_source found told)) found_is)
+
+  -- what has a score is not refused
+  dump_stands : (design : Design) (dump : Dump) → IsSource source score.top design → IsDump text dump → IsBound design dump score.instance → IsRefusedDump score before → ⊥
+  dump_stands design dump is is_dump bound refused =
+      has_score refused.design dump score.instance refused.text (subst (λ text. IsDump text dump) (same_text refused.text refused.is) is_dump)
+      (subst (λ design. IsBound design dump score.instance) (same_design design refused.design refused.source is refused.source_is refused.is_source) bound)
+      refused.refused
+
+  -- what is done has a design
+  source_done : (after : Outside) → ((design : Design) → IsSource source score.top design → ⊥) → IsDoneIn score before after → ⊥
+  source_done after none done = none done.design (subst (λ text. IsSource text score.top done.design) (sym (same_source done.source done.source_is)) done.is_source)
+
+  -- and a score
+  dump_done : (after : Outside) (design : Design) → IsSource source score.top design → HasNoScore design score.instance text → IsDoneIn score before after → ⊥
+  dump_done after design is none done =
+      has_score design done.scores.dump score.instance text (subst (λ text. IsDump text done.scores.dump) (sym (same_text done.dump done.dump_is)) done.scores.is_dump)
+      (subst (λ design. IsBound design done.scores.dump score.instance) (sym (same_design design done.design done.source is done.source_is done.is_source)) done.scores.scores.bound)
+      none
+
+-- how a fault ends that is no fault of the host, where the texts rule out those of the other texts
+module _ (words : List (List ℕ)) (score : ScoreValues) (is_score : IsScore words score) (before middle after : Outside) (first : before.faults ≤ middle.faults) (second : middle.faults ≤ after.faults) (none : NoFaults before after) (source text : List ℕ) (texts : HaveTexts score before source text) where
+  ends_with : (expected : Status) → ((status_of fault.SourceNotYet ≡ expected) ⊎ (IsRefusedSource score before → ⊥)) → ((status_of fault.DumpNotYet ≡ expected) ⊎ (IsRefusedDump score before → ⊥)) → (f : Fault) → Stands words before middle f → EndsWith expected (status_of f)
+  ends_with expected of_source of_dump (fault.Usage usage) stands = absurd (command_or_fault words (score, is_score) (usage, stands))
+  ends_with expected (inl is) of_dump fault.SourceNotYet stands = inl is
+  ends_with expected (inr ruled_out) of_dump fault.SourceNotYet stands = absurd (ruled_out (subst (λ score. IsRefusedSource score before) (one_command words stands.0 score stands.1 is_score) stands.2))
+  ends_with expected of_source (inl is) fault.DumpNotYet stands = inl is
+  ends_with expected of_source (inr ruled_out) fault.DumpNotYet stands = absurd (ruled_out (subst (λ score. IsRefusedDump score before) (one_command words stands.0 score stands.1 is_score) stands.2))
+  ends_with expected of_source of_dump (fault.Files call file) stands =
+      let named = subst (λ score. NamesFile score call file.now) (one_command words stands.0 score stands.1 is_score) stands.2.0 in
+      absurd (none (IsCounted-later before.faults middle.faults after.faults first second (refused_call score before source text texts call file.now middle named stands.2.1)))
+  ends_with expected of_source of_dump fault.Memory stands = inr refl
+
+module _ (words : List (List ℕ)) (before middle after : Outside) (first : before.faults ≤ middle.faults) (second : middle.faults ≤ after.faults) (none : NoFaults before after) (f : Fault) (stands : Stands words before middle f) where
+  pub good_ends : IsCommandWith IsGoodScore words before → EndsWith Done (status_of f)
+  good_ends (score, is, good) =
+      ends_with words score is before middle after first second none good.source good.text good.texts Done
+      (inr (source_stands score before good.source good.text good.texts good.design good.is_source))
+      (inr (dump_stands score before good.source good.text good.texts good.design good.dump good.is_source good.is_dump good.bound))
+      f stands
+
+  pub bad_source_ends : IsCommandWith HasBadSource words before → EndsWith source_status (status_of f)
+  bad_source_ends (score, is, bad) =
+      ends_with words score is before middle after first second none bad.source bad.text bad.texts source_status
+      (inl refl)
+      (inr (λ refused. bad.refused refused.design (subst (λ text. IsSource text score.top refused.design) (sym (same_source score before bad.source bad.text bad.texts refused.source refused.source_is)) refused.is_source)))
+      f stands
+
+  pub bad_dump_ends : IsCommandWith HasBadDump words before → EndsWith dump_status (status_of f)
+  bad_dump_ends (score, is, bad) =
+      ends_with words score is before middle after first second none bad.source bad.text bad.texts dump_status
+      (inr (source_stands score before bad.source bad.text bad.texts bad.design bad.is_source))
+      (inl refl)
+      f stands
+
+module _ (words : List (List ℕ)) (before after : Outside) (done : IsDone words before after) where
+  -- what was done is done by the one command that the words are
+  done_by : (score : ScoreValues) → IsScore words score → IsDoneIn score before after
+  done_by score is = subst (λ score. IsDoneIn score before after) (one_command words done.0 score done.1 is) done.2
+
+  pub bad_source_not_done : IsCommandWith HasBadSource words before → ⊥
+  bad_source_not_done (score, is, bad) = source_done score before bad.source bad.text bad.texts after bad.refused (done_by score is)
+
+  pub bad_dump_not_done : IsCommandWith HasBadDump words before → ⊥
+  bad_dump_not_done (score, is, bad) = dump_done score before bad.source bad.text bad.texts after bad.design bad.is_source bad.refused (done_by score is)

@@ -1,0 +1,60 @@
+-- Which inputs are good, which are refused, and with what status each ends.
+use Rattle.std.specs.Prelude.{◌≡◌, ◌⊎◌, ℕ, List, Some, IsSomeAnd}
+use Rattle.command_line.specs.CommandWords.{IsScore, ScoreValues}
+use Rattle.cov_host.specs.Outside.{Outside, IsCounted}
+use Rattle.design_model.specs.declared.design.Design.{Design}
+use Rattle.input_module.specs.SourceForm.{IsSource}
+use Rattle.input_toggles.specs.Scored.{IsBound}
+use Rattle.vcd_reader.specs.Dump.{IsDump}
+use Rattle.vcd_reader.specs.declared.dump.Dump.{Dump}
+use Rattle.covered_cli.specs.Scoring.{HasNoDesign, HasNoScore}
+use Rattle.covered_cli.specs.declared.status.Status.{Status}
+use Rattle.covered_cli.specs.declared.status.Status.TheVariants.{Memory}
+
+-- the host tells the files, and this one has this text
+abbrev pub HasText : Outside → List ℕ → List ℕ → Type 0
+HasText outside name text = IsSomeAnd outside.files (λ files. files name ≡ Some text)
+
+-- the source and the dump of the command have these texts
+pub record HaveTexts (score : ScoreValues) (before : Outside) (source dump : List ℕ) : Type 0 where
+  pub source_is : HasText before score.source source
+  pub dump_is : HasText before score.dump dump
+
+-- the source is of the form, and the dump has each of its inputs with a first value
+pub record IsGoodScore (score : ScoreValues) (before : Outside) : Type 0 where
+  pub source : List ℕ
+  pub text : List ℕ
+  pub design : Design
+  pub dump : Dump
+  pub texts : HaveTexts score before source text
+  pub is_source : IsSource source score.top design
+  pub is_dump : IsDump text dump
+  pub bound : IsBound design dump score.instance
+
+-- the source is not of the form
+pub record HasBadSource (score : ScoreValues) (before : Outside) : Type 0 where
+  pub source : List ℕ
+  pub text : List ℕ
+  pub texts : HaveTexts score before source text
+  pub refused : HasNoDesign score.top source
+
+-- the source is of the form, and the dump is not, or lacks a variable or a first value of an input
+pub record HasBadDump (score : ScoreValues) (before : Outside) : Type 0 where
+  pub source : List ℕ
+  pub text : List ℕ
+  pub design : Design
+  pub texts : HaveTexts score before source text
+  pub is_source : IsSource source score.top design
+  pub refused : HasNoScore design score.instance text
+
+-- the words are a command, of which this holds
+abbrev pub IsCommandWith : (ScoreValues → Outside → Type 0) → List (List ℕ) → Outside → Type 0
+IsCommandWith P words before = (score : ScoreValues) × IsScore words score × P score before
+
+-- no fault of the host was counted
+abbrev pub NoFaults : Outside → Outside → Type 0
+NoFaults before after = IsCounted before.faults after.faults → ⊥
+
+-- the status is this one, or memory ran out
+abbrev pub EndsWith : Status → Status → Type 0
+EndsWith expected status = (status ≡ expected) ⊎ (status ≡ Memory)
