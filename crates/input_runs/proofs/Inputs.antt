@@ -1,5 +1,5 @@
 -- A source of the form is a design of inputs.
-use Rattle.std.proofs.Common.{◌≡◌, ◌≢◌, ◌+◌, ◌-◌, ◌*◌, ◌<◌, ◌≤◌, ◌^◌, ℕ, zero, suc, List, [], ◌∷◌, length, map, max, min, refl, sym, ap, ◌∙◌, arith}
+use Rattle.std.proofs.Common.{◌≡◌, ◌≢◌, ◌+◌, ◌-◌, ◌≤◌, ℕ, zero, suc, List, [], ◌∷◌, length, map, max, min, refl, sym, ap, ◌∙◌, arith}
 use Rattle.std.proofs.lemmas.Bool.{OnFalse_from}
 use Rattle.std.specs.Prelude.{AllPairs, slice_index_or}
 use Rattle.std.specs.Int.{abs_diff}
@@ -7,7 +7,6 @@ use Rattle.design_model.specs.declared.design.Design.{Design}
 use Rattle.design_model.specs.declared.design.Signal.{Signal}
 use Rattle.input_module.proofs.InputLemmas.{IsInputDesign-source}
 use Rattle.input_module.specs.InputDesign as form
-use Rattle.input_module.specs.Port.{width_between}
 use Rattle.input_module.specs.SourceForm.{IsSource}
 use Rattle.input_toggles.specs.InputDesign.{IsInput, IsInputDesign}
 

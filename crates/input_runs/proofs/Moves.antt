@@ -1,12 +1,12 @@
 -- The inputs of a design without processes move to any values.
-use Rattle.std.proofs.Common.{◌≡◌, ◌⊎◌, inl, inr, ⊎_elim, ℕ, zero, suc, ◌<◌, ◌≤◌, Bool, true, false, not, ◌&&◌, ◌||◌, List, [], ◌∷◌, ◌++◌, refl, sym, ap, subst, ◌∙◌, arith, if◌then◌else◌}
+use Rattle.std.proofs.Common.{◌≡◌, inl, inr, ⊎_elim, ℕ, Bool, true, false, not, ◌&&◌, ◌||◌, List, [], ◌∷◌, refl, sym, ap, subst, ◌∙◌, if◌then◌else◌}
 use Rattle.std.proofs.lemmas.Bool.{false≢true}
 use Rattle.std.specs.Prelude.{slice_index_or}
-use Rattle.event_machine.specs.Cell.{Cell, Values, Write, WritesCell, put, put_all}
+use Rattle.event_machine.specs.Cell.{Cell, Values, Write, put, put_all}
 use Rattle.event_machine.specs.Machine.{Machine, Negedge, Posedge, is_sensitive, wakes}
 use Rattle.event_machine.specs.State.{State, IsSettled}
 use Rattle.event_machine.specs.Event.{CanMove, Event, IsLegal, Move, end_state, mark}
-use Rattle.event_machine.specs.Habit.{Free, IsByHabit, is_free_input}
+use Rattle.event_machine.specs.Habit.{Free}
 use Rattle.event_machine.specs.Step.{IsStep}
 use Rattle.event_machine.proofs.Writes.{cases_cell, put_other, put_same, same_cell_not}
 use Rattle.four_state.specs.Vector.{same_bit}

@@ -1,5 +1,5 @@
 -- Of a design of inputs under a dump no verdict is left open, and nothing is in doubt.
-use Rattle.std.proofs.Common.{◌≡◌, ℕ, ◌<◌, is_some, List, length, Option, Some, refl, ap}
+use Rattle.std.proofs.Common.{ℕ, is_some, List, refl, ap}
 use Rattle.std.proofs.lemmas.List.Elements.{All-weaker}
 use Rattle.std.specs.List.{All}
 use Rattle.coverage_db.specs.declared.db.Db.{Db}
@@ -13,7 +13,7 @@ use Rattle.design_model.specs.declared.design.Design.{Design}
 use Rattle.design_model.specs.declared.point.Point.{Point}
 use Rattle.input_toggles.specs.Scored.{IsScored, Tells}
 use Rattle.vcd_reader.specs.declared.dump.Dump.{Dump}
-use Rattle.input_runs.specs.Reasoned.{GivesReason, IsCertain, IsHitInDoubtOnly, IsLeftOpen, IsReachedPoint, AreCertain, IsCertainPoint, IsReasoned, IsReasonedPoint}
+use Rattle.input_runs.specs.Reasoned.{GivesReason, IsLeftOpen, AreCertain, IsCertainPoint, IsReasoned, IsReasonedPoint}
 use Rattle.input_runs.specs.Shown.{bound_dump}
 use Rattle.input_runs.proofs.Sound.{scored_address, scored_bound, scored_point}
 

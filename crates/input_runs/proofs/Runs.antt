@@ -1,5 +1,5 @@
 -- Some run of a design without processes takes each list of values.
-use Rattle.std.proofs.Common.{◌≡◌, ◌⊎◌, inl, inr, ⊎_elim, ℕ, zero, suc, ◌<◌, ◌≤◌, Bool, true, false, ◌&&◌, nat_lt, List, [], ◌∷◌, length, refl, sym, ap, subst, ◌∙◌, arith}
+use Rattle.std.proofs.Common.{◌≡◌, inl, inr, ⊎_elim, ℕ, zero, suc, ◌<◌, ◌≤◌, true, false, ◌&&◌, nat_lt, List, [], ◌∷◌, length, refl, sym, ap, subst, ◌∙◌, arith}
 use Rattle.std.proofs.lemmas.Bool.{cases_lt, false≢true}
 use Rattle.std.specs.Prelude.{slice_index_or}
 use Rattle.event_machine.specs.Cell.{Cell, Values}
@@ -12,7 +12,7 @@ use Rattle.design_model.specs.Design.{Design, In, is_assign, no_signal, process_
 use Rattle.design_model.specs.Machine.{is_input_cell, machine}
 use Rattle.design_model.specs.Run.{IsRun, Run, settled}
 use Rattle.design_model.proofs.Times.{passed, still_there}
-use Rattle.input_runs.specs.Stimuli.{AreLater, SomeRunTakes, Stimulus, Takes, TakesAll}
+use Rattle.input_runs.specs.Stimuli.{AreLater, Stimulus, Takes, TakesAll}
 use Rattle.input_runs.proofs.Cells.{cells_are_inputs, input_cells, inputs_are_cells}
 use Rattle.input_runs.proofs.Moves.{events_of, is_step, moves, moves_reach, no_process_at, settled_after, values_after}
 

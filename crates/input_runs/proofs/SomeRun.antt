@@ -1,5 +1,5 @@
 -- Whatever a dump with rising times says of a design of inputs, some run shows it.
-use Rattle.std.proofs.Common.{◌≡◌, ◌⊎◌, inl, inr, ℕ, zero, suc, ◌+◌, ◌-◌, ◌<◌, ◌≤◌, ◌&&◌, Bool, true, false, is_some, nat_lt, if◌then◌else◌, List, [], ◌∷◌, length, map, Option, None, Some, refl, sym, ap, subst, ◌∙◌, arith}
+use Rattle.std.proofs.Common.{◌≡◌, ◌⊎◌, inl, inr, ℕ, zero, suc, ◌+◌, ◌-◌, ◌<◌, ◌≤◌, ◌&&◌, Bool, true, false, is_some, nat_lt, if◌then◌else◌, List, [], ◌∷◌, length, map, None, refl, sym, ap, subst, ◌∙◌, arith}
 use Rattle.std.proofs.lemmas.Bool.{cases_lt, false≢true, lt-ltb, ltb-true}
 use Rattle.std.specs.List.{range_with_len}
 use Rattle.event_machine.specs.Cell.{Cell, Values}
@@ -7,14 +7,14 @@ use Rattle.four_state.specs.declared.bit.Bit.{Bit}
 use Rattle.design_model.specs.Design.{Design as Tree, In, cell, no_signal, signal_at, signal_bits}
 use Rattle.design_model.specs.Machine.{machine}
 use Rattle.design_model.specs.Run.{Run, settled}
-use Rattle.design_model.specs.Shows.{AreRising, BoundDump, IsShown, IsShownOf, SameBound, Shows, StartsAt, last_time}
+use Rattle.design_model.specs.Shows.{BoundDump, IsShown, IsShownOf, Shows, StartsAt, last_time}
 use Rattle.design_model.specs.View.{design_view, process_view}
 use Rattle.design_model.specs.declared.design.Design.{Design}
 use Rattle.input_toggles.specs.Binding.{code_of}
 use Rattle.input_toggles.specs.InputDesign.{IsInputDesign}
 use Rattle.vcd_reader.specs.Dump.{times_of}
 use Rattle.vcd_reader.specs.declared.dump.Dump.{Dump}
-use Rattle.input_runs.specs.Shown.{IsShownBy, SomeRunShows, bound_dump, code_at, signal_of}
+use Rattle.input_runs.specs.Shown.{SomeRunShows, bound_dump, signal_of}
 use Rattle.input_runs.specs.Stimuli.{AreLater, Stimulus, Takes}
 use Rattle.input_runs.proofs.Runs.{takes_all}
 
@@ -33,11 +33,8 @@ are_later p t (suc n) = (omega arith, are_later p (suc t) n)
 
 is_among : (p : BoundDump) (t n u : ℕ) → t < u → u ≤ t + n → In (at_time p u) (times_after p t n)
 is_among p t zero u after until = absurd (omega (arith, after, until))
-is_among p t (suc n) u after until = go (cases_lt (suc t) u)
-  where
-    go : (suc t < u) ⊎ (u ≤ suc t) → In (at_time p u) (times_after p t (suc n))
-    go (inl later) = inr (is_among p (suc t) n u later (omega (arith, until)))
-    go (inr now) = inl (ap (at_time p) (omega (arith, after, now)))
+is_among p t (suc n) u after until =
+    elim (cases_lt (suc t) u) [ inl later ↦ inr (is_among p (suc t) n u later (omega (arith, until))) | inr now ↦ inl (ap (at_time p) (omega (arith, after, now))) ]
 
 -- the first time, 0 where there is none
 abbrev begin_of : List ℕ → ℕ
@@ -66,11 +63,13 @@ shown_among p (u ∷ us) t shown = go (cases_lt u t)
 bits_from : (v w : Values Bit) (s n k : ℕ) → ((j : ℕ) → j < n + k → v (cell s j) ≡ w (cell s j)) → map v (map (cell s) (range_with_len n k)) ≡ map w (map (cell s) (range_with_len n k))
 bits_from v w s n zero same = refl
 bits_from v w s n (suc k) same =
-    ap (λ b. b ∷ map v (map (cell s) (range_with_len (suc n) k))) (same n (omega arith)) ∙ ap (λ bs. w (cell s n) ∷ bs) (bits_from v w s (suc n) k (λ j less. same j (omega (arith, less))))
+    let here = same n (omega arith) in
+    let rest = bits_from v w s (n + 1) k (λ j less. same j (omega (arith, less))) in
+    ap (λ b. b ∷ map v (map (cell s) (range_with_len (n + 1) k))) here ∙ ap (λ bs. w (cell s n) ∷ bs) rest
 
 same_bits : (d : Tree) (v w : Values Bit) (s : ℕ) → (signal_at d s).input ≡ true → ((c : Cell) → (machine d).is_input c ≡ true → v c ≡ w c) → signal_bits d v s ≡ signal_bits d w s
 same_bits d v w s input same =
-    bits_from v w s 0 (signal_at d s).width (λ j less. same (cell s j) (ap (λ b. b && nat_lt j (signal_at d s).width) input ∙ lt-ltb j (signal_at d s).width less))
+    bits_from v w s 0 (signal_at d s).width (λ j less. same (cell s j) (ap (λ b. b && nat_lt j (signal_at d s).width) input ∙ lt-ltb j (signal_at d s).width (omega (arith, less))))
 
 -- what is bound is a signal
 bound_is_signal : (design : Design) (dump : Dump) (instance : List ℕ) (s : ℕ) → (bound_dump design dump instance).bound s ≡ true → s < length design.signals
@@ -91,8 +90,7 @@ module _ (design : Design) (dump : Dump) (instance : List ℕ) (is : IsInputDesi
   some_run_shows =
       let p = bound_dump design dump instance in
       let times = times_of dump.steps in
-      let some = takes_all (design_view design) (ap (map process_view) is.processes) (at_time p (begin_of times)) (times_after p (begin_of times) (span_of times)) (are_later p (begin_of times) (span_of times)) in
-      (
+      let some = takes_all (design_view design) (ap (map process_view) is.processes) (at_time p (begin_of times)) (times_after p (begin_of times) (span_of times)) (are_later p (begin_of times) (span_of times)) in (
         some.0,
         record {
           is_run = some.1;

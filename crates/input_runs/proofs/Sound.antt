@@ -1,13 +1,12 @@
 -- Each verdict of the table holds in every run that shows the dump.
-use Rattle.std.proofs.Common.{◌≡◌, ◌↔◌, ℕ, ◌+◌, ◌-◌, ◌<◌, ◌≤◌, Bool, true, false, cond, if◌then◌else◌, is_some, nat_le, nat_lt, min, max, ℤ, pos, negsuc, ◌-ℤ◌, List, length, slice_index_or, Option, None, Some, refl, sym, ap, subst, ◌∙◌, arith, inl, inr, ◌⊎◌}
+use Rattle.std.proofs.Common.{◌≡◌, ◌↔◌, ℕ, ◌-◌, ◌<◌, ◌≤◌, Bool, true, false, if◌then◌else◌, is_some, nat_le, min, max, pos, ◌-ℤ◌, List, length, Option, None, Some, refl, sym, ap, subst, ◌∙◌, arith, inl, inr, ◌⊎◌}
 use Rattle.std.proofs.lemmas.Bool.{cases_lt, lt-ltb}
 use Rattle.std.proofs.lemmas.Bool.Decides.{nat_tests}
 use Rattle.std.proofs.lemmas.Int.{ints}
 use Rattle.std.proofs.lemmas.List.{get_or_default}
 use Rattle.std.proofs.lemmas.List.Elements.{All-weaker}
 use Rattle.std.specs.Int.{abs_diff}
-use Rattle.std.specs.List.{All, Contains}
-use Rattle.event_machine.specs.Cell.{Cell}
+use Rattle.std.specs.List.{All}
 use Rattle.event_machine.specs.Habit.{Free}
 use Rattle.coverage_db.specs.declared.db.Db.{Db}
 use Rattle.coverage_db.specs.declared.db.DbPoint.{DbPoint}
@@ -16,7 +15,7 @@ use Rattle.coverage_db.specs.declared.verdict.DbVerdict.TheVariants.{Hit, Missed
 use Rattle.four_state.specs.Parts.{within}
 use Rattle.design_model.proofs.Toggles.{toggle_law}
 use Rattle.design_model.specs.Assignment.{signal_range}
-use Rattle.design_model.specs.Design.{cell, no_signal, signal_at}
+use Rattle.design_model.specs.Design.{cell, no_signal}
 use Rattle.design_model.specs.Points.{IsHit, indexed_cell, toggle_cell}
 use Rattle.design_model.specs.Run.{Run}
 use Rattle.design_model.specs.Shows.{AreRising, IsWindow}
@@ -24,7 +23,6 @@ use Rattle.design_model.specs.ToggleLaw.{TogglesAt}
 use Rattle.design_model.specs.Value.{offset}
 use Rattle.design_model.specs.View.{design_view}
 use Rattle.design_model.specs.declared.design.Design.{Design}
-use Rattle.design_model.specs.declared.design.Signal.{Signal}
 use Rattle.design_model.specs.declared.point.Point.{Point}
 use Rattle.design_model.specs.declared.point.Point.TheVariants.{Toggle as toggle_point}
 use Rattle.input_toggles.specs.Binding.{code_of}
@@ -98,7 +96,7 @@ scored_signal : (design : Design) (dump : Dump) (instance : List ℕ) (row : DbP
 scored_signal design dump instance row scored = get_or_default design.signals scored.listed.0 no_signal scored.signal scored.listed.1 ∙ scored.listed.2
 
 -- the toggle point that a scored address names
-pub scored_point : (design : Design) (dump : Dump) (instance : List ℕ) (row : DbPoint) → IsScored design dump instance row → Point
+abbrev pub scored_point : (design : Design) (dump : Dump) (instance : List ℕ) (row : DbPoint) → IsScored design dump instance row → Point
 scored_point design dump instance row scored = toggle_point scored.listed.0 (number_of scored.index) scored.rise
 
 -- a scored address is that of a toggle point
@@ -125,6 +123,7 @@ scored_bound design dump instance row scored =
 
 -- a scored point is sound
 sound_point : (design : Design) (dump : Dump) (instance : List ℕ) → IsInputDesign design → AreRising (times_of dump.steps) → (row : DbPoint) → IsScored design dump instance row → IsSoundPoint design dump instance row
+unfolding scored_address
 sound_point design dump instance is up row scored =
     let s = scored.listed.0 in
     let named = scored_address design dump instance row scored in
