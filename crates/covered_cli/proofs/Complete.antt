@@ -9,11 +9,12 @@ use Rattle.design_model.specs.declared.design.Design.{Design}
 use Rattle.design_model.specs.declared.design.Signal.{Signal}
 use Rattle.input_module.proofs.SourceLemmas.{IsSource-once}
 use Rattle.input_module.specs.SourceForm.{IsSource}
-use Rattle.input_toggles.specs.Scored.{IsBound, LacksFirstValue, LacksVar}
+use Rattle.input_toggles.specs.Binding.{code_of}
+use Rattle.input_toggles.specs.Scored.{IsBound, LacksFirstValue, LacksVar, first_value}
 use Rattle.vcd_reader.proofs.DumpLaws.{one_dump_lem}
 use Rattle.vcd_reader.specs.Dump.{IsDump}
 use Rattle.vcd_reader.specs.declared.dump.Dump.{Dump}
-use Rattle.whole_files.specs.Effects.{IsMissing}
+use Rattle.whole_files.specs.Effects.{CountsUp, IsMissing}
 use Rattle.whole_files.proofs.EffectLemmas.{IsCounted-later}
 use Rattle.whole_files.specs.declared.call.Call.{Call}
 use Rattle.whole_files.specs.declared.call.Call.TheVariants.{OpenRead, Read, OpenWrite, Write, CloseWrite}
@@ -41,7 +42,7 @@ both_of_one (Some x) P Q clash p q = clash x p q
 bound_lacks_nothing : (design : Design) (dump : Dump) (instance : List ℕ) → IsBound design dump instance → LacksVar design dump instance ⊎ LacksFirstValue design dump instance → ⊥
 bound_lacks_nothing design dump instance bound (inl lacks) = none_lacks _ _ design.signals (λ signal some none. some_or_none _ some none) bound.variables lacks
 bound_lacks_nothing design dump instance bound (inr lacks) =
-    none_lacks _ _ design.signals (λ signal first none. both_of_one _ _ _ (λ code some none. some_or_none _ some none) first none) (bound.first_values lacks.0) lacks.1
+    none_lacks _ _ design.signals (λ signal first none. both_of_one (code_of dump.vars instance signal) (λ code. IsSome (first_value dump code)) (λ code. first_value dump code ≡ None) (λ code some nothing. some_or_none (first_value dump code) some nothing) first none) (bound.first_values lacks.0) lacks.1
 
 -- a bound design has a score by the dump
 has_score : (design : Design) (dump : Dump) (instance text : List ℕ) → IsDump text dump → IsBound design dump instance → HasNoScore design instance text → ⊥
@@ -118,24 +119,24 @@ module _ (words : List (List ℕ)) (score : ScoreValues) (is_score : IsScore wor
       absurd (none (IsCounted-later before.faults middle.faults after.faults first second (refused_call score before source text texts call file.now middle named stands.2.1)))
   ends_with expected of_source of_dump fault.Memory stands = inr refl
 
-module _ (words : List (List ℕ)) (before middle after : Outside) (first : before.faults ≤ middle.faults) (second : middle.faults ≤ after.faults) (none : NoFaults before after) (f : Fault) (stands : Stands words before middle f) where
+module _ (words : List (List ℕ)) (before middle after : Outside) (first : CountsUp before middle) (second : CountsUp middle after) (none : NoFaults before after) (f : Fault) (stands : Stands words before middle f) where
   pub good_ends : IsCommandWith IsGoodScore words before → EndsWith Done (status_of f)
   good_ends (score, is, good) =
-      ends_with words score is before middle after first second none good.source good.text good.texts Done
+      ends_with words score is before middle after first.faults second.faults none good.source good.text good.texts Done
       (inr (source_stands score before good.source good.text good.texts good.design good.is_source))
       (inr (dump_stands score before good.source good.text good.texts good.design good.dump good.is_source good.is_dump good.bound))
       f stands
 
   pub bad_source_ends : IsCommandWith HasBadSource words before → EndsWith source_status (status_of f)
   bad_source_ends (score, is, bad) =
-      ends_with words score is before middle after first second none bad.source bad.text bad.texts source_status
+      ends_with words score is before middle after first.faults second.faults none bad.source bad.text bad.texts source_status
       (inl refl)
       (inr (λ refused. bad.refused refused.design (subst (λ text. IsSource text score.top refused.design) (sym (same_source score before bad.source bad.text bad.texts refused.source refused.source_is)) refused.is_source)))
       f stands
 
   pub bad_dump_ends : IsCommandWith HasBadDump words before → EndsWith dump_status (status_of f)
   bad_dump_ends (score, is, bad) =
-      ends_with words score is before middle after first second none bad.source bad.text bad.texts dump_status
+      ends_with words score is before middle after first.faults second.faults none bad.source bad.text bad.texts dump_status
       (inr (source_stands score before bad.source bad.text bad.texts bad.design bad.is_source))
       (inl refl)
       f stands

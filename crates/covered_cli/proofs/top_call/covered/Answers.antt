@@ -15,10 +15,10 @@ pub returns-in-Ok-clause-dump : goal.returns-in-Ok-clause-dump
 returns-in-Ok-clause-dump g c bad none = absurd (bad_dump_not_done _ _ _ c.in-Ok.ensures.done bad)
 
 pub returns-in-Err-clause-complete : goal.returns-in-Err-clause-complete
-returns-in-Err-clause-complete g c good none = rw c.status.ensures (good_ends _ _ _ _ c.run.ensures.counts.faults c.warn_of.ensures.counts.faults none _ c.in-Err.ensures.fault good)
+returns-in-Err-clause-complete g c good none = rw c.status.ensures (good_ends _ _ _ _ c.run.ensures.counts c.warn_of.ensures.counts none _ c.in-Err.ensures.fault good)
 
 pub returns-in-Err-clause-source : goal.returns-in-Err-clause-source
-returns-in-Err-clause-source g c bad none = rw c.status.ensures (bad_source_ends _ _ _ _ c.run.ensures.counts.faults c.warn_of.ensures.counts.faults none _ c.in-Err.ensures.fault bad)
+returns-in-Err-clause-source g c bad none = rw c.status.ensures (bad_source_ends _ _ _ _ c.run.ensures.counts c.warn_of.ensures.counts none _ c.in-Err.ensures.fault bad)
 
 pub returns-in-Err-clause-dump : goal.returns-in-Err-clause-dump
-returns-in-Err-clause-dump g c bad none = rw c.status.ensures (bad_dump_ends _ _ _ _ c.run.ensures.counts.faults c.warn_of.ensures.counts.faults none _ c.in-Err.ensures.fault bad)
+returns-in-Err-clause-dump g c bad none = rw c.status.ensures (bad_dump_ends _ _ _ _ c.run.ensures.counts c.warn_of.ensures.counts none _ c.in-Err.ensures.fault bad)
