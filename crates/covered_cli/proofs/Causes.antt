@@ -1,14 +1,13 @@
 -- Why a call of the program ends with its status.
-use Rattle.std.proofs.Common.{◌≡◌, ℕ, List, Option, None, Some, Ok, Err, sym, refl, ap, ◌∙◌, inl, inr}
-use Rattle.std.specs.Prelude.{Result, IfErr, OnOk, ◌↔◌, ◌⊎◌}
+use Rattle.std.proofs.Common.{◌≡◌, ℕ, List, Option, Ok, Err, sym, refl, ◌∙◌}
+use Rattle.std.specs.Prelude.{Result, IfErr, OnOk, ◌↔◌}
 use Rattle.command_line.specs.CommandWords.{IsScore, ScoreValues, score_values}
 use Rattle.command_line.specs.Command.{IsCommand}
 use Rattle.command_line.specs.declared.command.Command.{Command}
 use Rattle.command_line.specs.declared.command.Command.TheVariants.{Score}
 use Rattle.command_line.proofs.ScoreOutcome.{outcome_of-score, outcome_of-fault}
-use Rattle.command_line.specs.UsageFault.{HasUsageFault}
 use Rattle.cov_host.specs.Outside.{Outside, Files, Told}
-use Rattle.covered_cli.specs.Covered.{IsNoCommand, IsOutput, IsSomeCommand, KeepsOthers, KeepsUnnamed}
+use Rattle.covered_cli.specs.Covered.{IsNoCommand, IsSomeCommand, KeepsOthers, KeepsUnnamed}
 use Rattle.covered_cli.specs.Fault.{Stands, StandsIn, StandsInWork, output_of, status_of}
 use Rattle.covered_cli.specs.declared.fault.Fault.{Fault}
 use Rattle.covered_cli.specs.declared.fault.Fault.TheVariants.{Usage, SourceNotYet, DumpNotYet, Files as FilesFault, Memory}

@@ -6,7 +6,6 @@ use Rattle.command_line.proofs.OneCommand.{one_command}
 use Rattle.command_line.specs.CommandWords.{IsScore, ScoreValues}
 use Rattle.cov_host.specs.Outside.{Files, Outside, IsCounted}
 use Rattle.design_model.specs.declared.design.Design.{Design}
-use Rattle.design_model.specs.declared.design.Signal.{Signal}
 use Rattle.input_module.proofs.SourceLemmas.{IsSource-once}
 use Rattle.input_module.specs.SourceForm.{IsSource}
 use Rattle.input_toggles.specs.Binding.{code_of}

@@ -1,14 +1,14 @@
 -- From what was read to what a score says.
-use Rattle.std.proofs.Common.{◌≡◌, ℕ, ◌<◌, ◌≤◌, List, length, Option, None, Some, Ok, Err, refl, sym, ap, subst, ◌∙◌, inl, inr, arith}
+use Rattle.std.proofs.Common.{◌≡◌, ℕ, ◌≤◌, List, length, Option, None, Some, Ok, Err, refl, sym, subst, ◌∙◌, inl, inr, arith}
 use Rattle.std.proofs.lemmas.Bool.{cases_lt}
 use Rattle.std.specs.Prelude.{IfSome, IsSomeAnd, Result, OnOk}
 use Rattle.command_line.specs.Command.{IsCommand}
-use Rattle.command_line.specs.CommandWords.{IsScore, ScoreValues, score_values}
+use Rattle.command_line.specs.CommandWords.{ScoreValues, score_values}
 use Rattle.command_line.specs.declared.command.Command.{Command}
 use Rattle.command_line.specs.declared.command.Command.TheVariants.{Score}
 use Rattle.cov_host.specs.Outside.{Outside, Files, KeepsFiles, SameFiles, Told, HasFile}
-use Rattle.covered_cli.specs.Fault.{IsDumpFault, IsScoreFault, IsSourceFault, StandsIn}
-use Rattle.covered_cli.specs.Scoring.{HasNoDesign, HasNoDump, HasNoScore, IsDone, IsDoneIn, IsDoneWork, IsFile, IsReadOf, IsRefusedDump, IsRefusedSource, IsScoreText}
+use Rattle.covered_cli.specs.Fault.{IsScoreFault, IsSourceFault, StandsIn}
+use Rattle.covered_cli.specs.Scoring.{HasNoDesign, HasNoScore, IsDone, IsDoneIn, IsDoneWork, IsReadOf, IsScoreText}
 use Rattle.covered_cli.specs.declared.fault.Fault.{Fault}
 use Rattle.covered_cli.specs.declared.fault.Fault.TheVariants.{Usage, SourceNotYet, DumpNotYet, Files as FilesFault, Memory}
 use Rattle.design_model.specs.declared.design.Design.{Design}

@@ -1,5 +1,5 @@
 -- What a call of the program leaves outside, and why it ends with a status above 0.
-use Rattle.std.specs.Prelude.{◌≡◌, ◌≢◌, ◌⊎◌, ℕ, List, Option, None, MatchOption}
+use Rattle.std.specs.Prelude.{◌≡◌, ◌≢◌, ◌⊎◌, ℕ, List, None, MatchOption}
 use Rattle.command_line.specs.CommandWords.{IsScore, ScoreValues}
 use Rattle.command_line.specs.UsageFault.{HasUsageFault}
 use Rattle.command_line.specs.declared.usage_fault.UsageFault.{UsageFault}

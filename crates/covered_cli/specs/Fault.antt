@@ -1,5 +1,5 @@
 -- Why a command ends with a status above 0, and the line that says so.
-use Rattle.std.specs.Prelude.{◌≡◌, ◌⊎◌, ℕ, List, [], ◌∷◌, ◌++◌, codes}
+use Rattle.std.specs.Prelude.{◌≡◌, ◌⊎◌, ℕ, List, ◌++◌, codes}
 use Rattle.command_line.specs.CommandWords.{IsScore, ScoreValues, score_values}
 use Rattle.command_line.specs.UsageFault.{HasUsageFault, usage_text}
 use Rattle.command_line.specs.declared.command.Command.{Command}
