@@ -1,7 +1,7 @@
 -- What is spelled is read, where the next token tells which way to go.
 use Rattle.std.proofs.Common.{◌≡◌, ℕ, zero, suc, ◌<◌, ◌≤◌, Bool, true, false, cond, nat_eq, List, [], ◌∷◌, ◌++◌, length, Some, None, Ok, refl, sym, ap, subst, ◌∙◌, ◌⊎◌, inl, inr, arith}
 use Rattle.std.specs.Prelude.{not, ◌&&◌, ◌||◌}
-use Rattle.grammar_rules.specs.Rule.{Language, Tokens, Rule, one, empty, both, either, many, maybe, grow, made, nest, Growth, next, member, nullable, first, Outcome, take_one, repeat, grow_by, read, ◌>>=◌, Chain, Grown, Spells}
+use Rattle.grammar_rules.specs.Rule.{Language, Tokens, Rule, one, empty, both, either, many, maybe, grow, made, nest, Growth, Ends, next, member, nullable, first, Outcome, take_one, repeat, grow_by, read, ◌>>=◌, Chain, Grown, Spells}
 use Rattle.grammar_rules.proofs.Steps.{test_true, test_false}
 use Rattle.grammar_rules.proofs.Shorter.{strictly}
 use Rattle.grammar_rules.proofs.Members.{and_true, not_true, both_ways, member-left, member-right, disjoint, within, apart_back, inside}
@@ -20,7 +20,7 @@ module _ (L : Language) where
     is_told (either g h) F = not (nullable g) && (disjoint (first L begins g) (ahead h F) && (is_told g F && is_told h F))
     is_told (many g) F = not (nullable g) && (disjoint (first L begins g) F && is_told g (first L begins g ++ F))
     is_told (maybe x g) F = is_told g F
-    is_told (grow w f g h) F = not (nullable h) && (disjoint (first L begins h) F && (is_told g (first L begins h ++ F) && is_told h (first L begins h ++ F)))
+    is_told (grow w f ends g h) F = not (nullable h) && (disjoint (first L begins h) F && (is_told g (first L begins h ++ F) && is_told h (cond w.again (first L begins h ++ F) F)))
     is_told (made f g) F = is_told g F
     is_told (nest p) F = within F (follow p)
 
@@ -79,7 +79,7 @@ module _ (L : Language) where
         ]
     starts (maybe x g) None i o s = inr (refl, s.0)
     starts (maybe x g) (Some v) i o s = inl (ap (λ (z : Tokens L). nat_eq (next L z) (x)) s.2 ∙ s.3)
-    starts (grow w f g h) v i o s =
+    starts (grow w f ends g h) v i o s =
         elim (starts g s.0 i s.3.0 s.3.1) [
           | inl a ↦ inl (ahead_first (nullable g) (next L i) (first L begins g) (first L begins h) a)
           | inr a ↦ elim (chain_starts (Spells L fits R h) (λ j. member (next L j) (first L begins h) ≡ true) (λ w j m t. elim (starts h w j m t) [ inl b ↦ inl b | inr b ↦ inr b.1 ]) s.1 s.3.0 o s.3.2) [
@@ -143,25 +143,32 @@ module _ (L : Language) where
         let more = chain_found g F z d h n vs s.0 o (omega arith) s.2 f in
         rw (t, e, more) refl
 
-    grow_found : {A B : Type 0} (w : Growth L A) (f : A → B → A) (h : Rule L B) (F : List ℕ) → nullable h ≡ false → disjoint (first L begins h) F ≡ true
-        → ((v : B) (i o : Tokens L) → Spells L fits R h v i o → member (next L o) (first L begins h ++ F) ≡ true → read L begins fits r h i ≡ Ok (v, o))
+    -- what may stand behind a part by which a value has grown
+    next_behind : {A B : Type 0} (x : Bool) (w : Growth L A) (f : A → B → A) → Ends x w f → (h : Rule L B) (F : List ℕ) → nullable h ≡ false → (a : A) (b : B) (bs : List B) (v : A) (m o : Tokens L)
+        → Grown fits w f (f a b) bs v → Chain (Spells L fits R h) bs m o → member (next L o) F ≡ true → member (next L m) (cond x (first L begins h ++ F) F) ≡ true
+    next_behind true w f e h F z a b bs v m o g s k = chain_next h F z bs m o s k
+    next_behind false w f e h F z a b [] v m o g s k = ap (λ (u : Tokens L). member (next L u) F) s ∙ k
+    next_behind false w f e h F z a b (c ∷ cs) v m o g s k = both_ways (w.may (f a b)) g.0 (e a b)
+
+    grow_found : {A B : Type 0} (w : Growth L A) (f : A → B → A) (ends : Ends w.again w f) (h : Rule L B) (F : List ℕ) → nullable h ≡ false → disjoint (first L begins h) F ≡ true
+        → ((v : B) (i o : Tokens L) → Spells L fits R h v i o → member (next L o) (cond w.again (first L begins h ++ F) F) ≡ true → read L begins fits r h i ≡ Ok (v, o))
         → (n : ℕ) (a : A) (bs : List B) (v : A) (i o : Tokens L) → length i ≤ n → Grown fits w f a bs v → Chain (Spells L fits R h) bs i o → member (next L o) F ≡ true
         → grow_by L fits w f (first L begins h) (read L begins fits r h) n a i ≡ Ok (v, o)
     unfolding grow_by
-    grow_found {A} w f h F z d k zero a [] v i o le g s m = ap (λ (u : A × Tokens L). Ok u) (pair_is a v i o g s)
-    grow_found {A} w f h F z d k (suc n) a [] v i o le g s m =
+    grow_found {A} w f ends h F z d k zero a [] v i o le g s m = ap (λ (u : A × Tokens L). Ok u) (pair_is a v i o g s)
+    grow_found {A} w f ends h F z d k (suc n) a [] v i o le g s m =
         test_false (member (next L i) (first L begins h) && w.may a) _ (Ok (a, i)) (Ok (v, o))
         (not_first (member (next L i) (first L begins h)) (w.may a) (apart_back (next L i) (first L begins h) F d (ap (λ (u : Tokens L). member (next L u) F) s ∙ m)))
         (ap (λ (u : A × Tokens L). Ok u) (pair_is a v i o g s))
-    grow_found w f h F z d k zero a (b ∷ bs) v i o le g s m =
-        let e = k b i s.0 s.1 (chain_next h F z bs s.0 o s.2 m) in
+    grow_found w f ends h F z d k zero a (b ∷ bs) v i o le g s m =
+        let e = k b i s.0 s.1 (next_behind w.again w f ends h F z a b bs v s.0 o g.2 s.2 m) in
         let lt : length s.0 < length i = strictly L begins fits r shrinks h z i b s.0 e in
         absurd (omega arith)
-    grow_found w f h F z d k (suc n) a (b ∷ bs) v i o le g s m =
-        let e = k b i s.0 s.1 (chain_next h F z bs s.0 o s.2 m) in
+    grow_found w f ends h F z d k (suc n) a (b ∷ bs) v i o le g s m =
+        let e = k b i s.0 s.1 (next_behind w.again w f ends h F z a b bs v s.0 o g.2 s.2 m) in
         let lt : length s.0 < length i = strictly L begins fits r shrinks h z i b s.0 e in
         let t = begins_it h z b i s.0 s.1 in
-        let more = grow_found w f h F z d k n (f a b) bs v s.0 o (omega arith) g.2 s.2 m in
+        let more = grow_found w f ends h F z d k n (f a b) bs v s.0 o (omega arith) g.2 s.2 m in
         rw (t, g.0, g.1, e, more) refl
 
     pub complete : {A : Type 0} (g : Rule L A) (F : List ℕ) → is_told begins follow g F ≡ true → (v : A) (i o : Tokens L) → Spells L fits R g v i o → member (next L o) F ≡ true → read L begins fits r g i ≡ Ok (v, o)
@@ -193,13 +200,13 @@ module _ (L : Language) where
         let a = take_same (x ∷ []) s.0 i s.1 (s.2, s.3) in
         let e = complete g F c v s.1 o s.4 f in
         rw (t, a, e) refl
-    complete (grow w f g h) F c v i o s k =
-        let p = and_true (not (nullable h)) (disjoint (first L begins h) F && (is_told begins follow g (first L begins h ++ F) && is_told begins follow h (first L begins h ++ F))) c in
-        let q = and_true (disjoint (first L begins h) F) (is_told begins follow g (first L begins h ++ F) && is_told begins follow h (first L begins h ++ F)) p.1 in
-        let u = and_true (is_told begins follow g (first L begins h ++ F)) (is_told begins follow h (first L begins h ++ F)) q.1 in
+    complete (grow w f ends g h) F c v i o s k =
+        let p = and_true (not (nullable h)) (disjoint (first L begins h) F && (is_told begins follow g (first L begins h ++ F) && is_told begins follow h (cond w.again (first L begins h ++ F) F))) c in
+        let q = and_true (disjoint (first L begins h) F) (is_told begins follow g (first L begins h ++ F) && is_told begins follow h (cond w.again (first L begins h ++ F) F)) p.1 in
+        let u = and_true (is_told begins follow g (first L begins h ++ F)) (is_told begins follow h (cond w.again (first L begins h ++ F) F)) q.1 in
         let z = not_true (nullable h) p.0 in
         let a = complete g (first L begins h ++ F) u.0 s.0 i s.3.0 s.3.1 (chain_next h F z s.1 s.3.0 o s.3.2 k) in
-        let b = grow_found w f h F z q.0 (complete h (first L begins h ++ F) u.1) (length s.3.0) s.0 s.1 v s.3.0 o (omega arith) s.2 s.3.2 k in
+        let b = grow_found w f ends h F z q.0 (complete h (cond w.again (first L begins h ++ F) F) u.1) (length s.3.0) s.0 s.1 v s.3.0 o (omega arith) s.2 s.3.2 k in
         rw (a, b) refl
     complete (made {A} {B} f g) F c v i o s k =
         let e = complete g F c s.0 i o s.2 k in

@@ -62,7 +62,7 @@ module _ (L : Language) where
         (same_bind (take_one L (x ∷ []) i) (take_one L (x ∷ []) i) (λ t. read L begins fits r g t.1 >>= λ y. Ok (Some y.0, y.1)) (λ t. read L begins more s g t.1 >>= λ y. Ok (Some y.0, y.1)) (inl refl)
         (λ t. same_bind (read L begins fits r g t.1) (read L begins more s g t.1) (λ y. Ok (Some y.0, y.1)) (λ y. Ok (Some y.0, y.1)) (same g t.1) (λ y. inl refl)))
         (inl refl)
-    same (grow w f g h) i =
+    same (grow w f ends g h) i =
         same_bind (read L begins fits r g i) (read L begins more s g i) (λ x. grow_by L fits w f (first L begins h) (read L begins fits r h) (length x.1) x.0 x.1) (λ x. grow_by L more w f (first L begins h) (read L begins more s h) (length x.1) x.0 x.1) (same g i)
         (λ x. same_grow fits more wider w f (first L begins h) (read L begins fits r h) (read L begins more s h) (same h) (length x.1) x.0 x.1)
     same (made f g) i = same_bind (read L begins fits r g i) (read L begins more s g i) (λ x. Ok (f x.0, x.1)) (λ x. Ok (f x.0, x.1)) (same g i) (λ x. inl refl)
@@ -78,7 +78,7 @@ module _ (L : Language) where
   is_lean (either g h) = not (nullable g) && (is_lean g && is_lean h)
   is_lean (many g) = true
   is_lean (maybe x g) = true
-  is_lean (grow w f g h) = is_lean g
+  is_lean (grow w f ends g h) = is_lean g
   is_lean (made f g) = is_lean g
   is_lean (nest p) = true
 
@@ -141,7 +141,7 @@ module _ (L : Language) where
         (b.0, test_false (member (next L i) (first L begins g)) (read L begins fits r g i) (read L begins fits r h i) (Ok (b.0, i)) (none-left (next L i) (first L begins g) (first L begins h) m) b.1)
     skips (many g) c n i m = ([], skips_repeat (first L begins g) (read L begins fits r g) (length i) i m)
     skips (maybe x g) c n i m = (None, test_false (nat_eq (next L i) (x)) _ (Ok (None, i)) (Ok (None, i)) m refl)
-    skips (grow w f g h) c n i m =
+    skips (grow w f ends g h) c n i m =
         let a = skips g c n i (none_first (nullable g) (next L i) (first L begins g) (first L begins h) m) in
         (a.0, rw a.1 (skips_grow fits w f (first L begins h) (read L begins fits r h) (length i) a.0 i (none_second (nullable g) (next L i) (first L begins g) (first L begins h) n m)))
     skips (made f g) c n i m = let a = skips g c n i m in (f a.0, rw a.1 refl)
@@ -167,6 +167,6 @@ module _ (L : Language) where
         (refuses h ls.1 ns.1 i (none-right (next L i) (first L begins g) (first L begins h) m))
     refuses (many g) c n i m = absurd cc
     refuses (maybe x g) c n i m = absurd cc
-    refuses (grow w f g h) c n i m = let a = refuses g c n i (none_first (nullable g) (next L i) (first L begins g) (first L begins h) m) in rw a refl
+    refuses (grow w f ends g h) c n i m = let a = refuses g c n i (none_first (nullable g) (next L i) (first L begins g) (first L begins h) m) in rw a refl
     refuses (made f g) c n i m = let a = refuses g c n i m in rw a refl
     refuses (nest p) c n i m = refuses_r p i m

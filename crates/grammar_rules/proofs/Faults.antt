@@ -57,7 +57,7 @@ module _ (L : Language) (G : Grammar L) where
   bounded (many g) vs i o s = chain_bounded g (bounded g) vs i o s
   bounded (maybe x g) None i o s = (0, s)
   bounded (maybe x g) (Some v) i o s = let a = bounded g v s.1 o s.4 in (a.0, (s.0, s.1, s.2, s.3, a.1))
-  bounded (grow w f g h) v i o s =
+  bounded (grow w f ends g h) v i o s =
       let a = bounded g s.0 i s.3.0 s.3.1 in
       let b = chain_bounded h (bounded h) s.1 s.3.0 o s.3.2 in
       let c = grown_bounded w f s.0 s.1 v s.2 in (

@@ -54,7 +54,7 @@ module _ (L : Language) (greedy : List ℕ) where
     is_fit (either g h) = is_fit g && is_fit h
     is_fit (many g) = is_fit g
     is_fit (maybe x g) = member x greedy && (not (nat_eq 0 x) && is_fit g)
-    is_fit (grow w f g h) = is_fit g && (is_fit h && (is_open L (λ p. false) h && not (member 0 (first L begins h))))
+    is_fit (grow w f ends g h) = is_fit g && (is_fit h && (is_open L (λ p. false) h && not (member 0 (first L begins h))))
     is_fit (made f g) = is_fit g
     is_fit (nest p) = true
 
@@ -85,7 +85,7 @@ module _ (L : Language) (greedy : List ℕ) where
           let ds = and_true (not (nat_eq 0 x)) (is_fit g) cs.1 in
           let k = framed g ds.1 v s.1 o s.4 in
           (s.0 ∷ k.0, s.2 ∙ ap (λ (z : Tokens L). s.0 ∷ z) k.1, λ u n. (s.0, k.0 ++ u, refl, s.3, k.2 u n))
-      framed (grow w f g h) c v i o s =
+      framed (grow w f ends g h) c v i o s =
           let cs = and_true (is_fit g) (is_fit h && (is_open L (λ p. false) h && not (member 0 (first L begins h)))) c in
           let ds = and_true (is_fit h) (is_open L (λ p. false) h && not (member 0 (first L begins h))) cs.1 in
           let k = framed_both (Spells L fits R g s.0) (Chain (Spells L fits R h) s.1) i s.3.0 o (framed g cs.0 s.0 i s.3.0 s.3.1) (chain_framed (Spells L fits R h) (framed h ds.0) s.1 s.3.0 o s.3.2) in

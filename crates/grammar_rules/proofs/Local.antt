@@ -57,7 +57,7 @@ module _ (L : Language) where
         (past_bind n (take_one L (x ∷ []) i) (λ t. read L begins fits r g t.1 >>= λ y. Ok (Some y.0, y.1)) (past_take n (x ∷ []) i le)
         (λ w lw. past_bind n (read L begins fits r g w.1) (λ y. Ok (Some y.0, y.1)) (past g w.1 lw) (λ u lu. lu)))
         le
-    past (grow w f g h) i le =
+    past (grow w f ends g h) i le =
         past_bind n (read L begins fits r g i) (λ x. grow_by L fits w f (first L begins h) (read L begins fits r h) (length x.1) x.0 x.1) (past g i le)
         (λ x lx. past_grow n fits w f (first L begins h) (read L begins fits r h) (past h) (length x.1) x.0 x.1 lx)
     past (made f g) i le = past_bind n (read L begins fits r g i) (λ x. Ok (f x.0, x.1)) (past g i le) (λ w lw. lw)
@@ -71,7 +71,7 @@ module _ (L : Language) where
   steps (either g h) = steps g && steps h
   steps (many g) = not (nullable g) && steps g
   steps (maybe x g) = steps g
-  steps (grow w f g h) = not (nullable h) && (steps g && steps h)
+  steps (grow w f ends g h) = not (nullable h) && (steps g && steps h)
   steps (made f g) = steps g
   steps (nest p) = true
 
@@ -192,7 +192,7 @@ module _ (L : Language) where
           (λ v o u eo eu t. agrees_bind (read L begins fits r g o) (read L begins fits r g u) (λ z. Ok (Some z.0, z.1)) (λ z. Ok (Some z.0, z.1)) (local g c o u t) (λ w o' u' eo' eu' t'. inl (u', t', refl)) (λ w lw. lw))
           (λ w lw. past_bind (length p) (read L begins fits r g w.1) (λ z. Ok (Some z.0, z.1)) (past begins fits r (length p) past_r g w.1 lw) (λ y ly. ly)))
           (inl (j, s, refl))
-      local (grow w f g h) c i j s =
+      local (grow w f ends g h) c i j s =
           let cs = and_true (not (nullable h)) (steps g && steps h) c in
           let ds = and_true (steps g) (steps h) cs.1 in
           agrees_bind (read L begins fits r g i) (read L begins fits r g j) (λ y. grow_by L fits w f (first L begins h) (read L begins fits r h) (length y.1) y.0 y.1) (λ y. grow_by L fits w f (first L begins h) (read L begins fits r h) (length y.1) y.0 y.1) (local g ds.0 i j s)

@@ -12,6 +12,6 @@ module _ (L : Language) (known : L.Phrase → Bool) where
   is_open (either g h) = is_open g && is_open h
   is_open (many g) = is_open g
   is_open (maybe x g) = false
-  is_open (grow w f g h) = not (nullable g) && is_open g
+  is_open (grow w f ends g h) = not (nullable g) && is_open g
   is_open (made f g) = is_open g
   is_open (nest p) = known p

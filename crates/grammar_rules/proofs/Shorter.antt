@@ -78,7 +78,7 @@ module _ (L : Language) where
               omega (arith, ap length q, ap length t.0)
           | inr c ↦ let q = done_rest None v i o c.1 in omega (arith, ap length q)
         ]
-    shorter (grow w f g h) i v o e =
+    shorter (grow w f ends g h) i v o e =
         let a = bind_ok (read L begins fits r g i) (λ x. grow_by L fits w f (first L begins h) (read L begins fits r h) (length x.1) x.0 x.1) (v, o) e in
         let one : length a.0.1 ≤ length i = shorter g i a.0.0 a.0.1 a.1 in
         let two : length o ≤ length a.0.1 = grow_shorter fits w f (first L begins h) (read L begins fits r h) (shorter h) (length a.0.1) a.0.0 a.0.1 v o a.2 in
@@ -115,7 +115,7 @@ module _ (L : Language) where
         ]
     strictly (many g) z i v o e = absurd cc
     strictly (maybe x g) z i v o e = absurd cc
-    strictly (grow w f g h) z i v o e =
+    strictly (grow w f ends g h) z i v o e =
         let a = bind_ok (read L begins fits r g i) (λ x. grow_by L fits w f (first L begins h) (read L begins fits r h) (length x.1) x.0 x.1) (v, o) e in
         let one : length a.0.1 < length i = strictly g z i a.0.0 a.0.1 a.1 in
         let two : length o ≤ length a.0.1 = grow_shorter fits w f (first L begins h) (read L begins fits r h) (shorter h) (length a.0.1) a.0.0 a.0.1 v o a.2 in

@@ -66,7 +66,7 @@ module _ (L : Language) where
               subst (λ (z : Option A × Tokens L). Spells L fits R (maybe x g) z.0 i z.1) (ok_is (Some b.0.0, b.0.1) (v, o) b.2) (a.0.0, a.0.1, t.0, t.1, sound g a.0.1 b.0.0 b.0.1 b.1)
           | inr c ↦ subst (λ (z : Option A × Tokens L). Spells L fits R (maybe x g) z.0 i z.1) (ok_is (None, i) (v, o) c.1) (refl, c.0)
         ]
-    sound (grow w f g h) i v o e =
+    sound (grow w f ends g h) i v o e =
         let a = bind_ok (read L begins fits r g i) (λ x. grow_by L fits w f (first L begins h) (read L begins fits r h) (length x.1) x.0 x.1) (v, o) e in
         let s = grow_sound (Spells L fits R h) fits w f (first L begins h) (read L begins fits r h) (sound h) (length a.0.1) a.0.0 a.0.1 v o a.2 in
         (a.0.0, s.0, s.1, (a.0.1, sound g i a.0.0 a.0.1 a.1, s.2))

@@ -196,13 +196,13 @@ module _ (L : Language) where
           ]
           | inr b ↦ absurd cc
         ]
-    viable (grow {A} w f g h) c i e q =
+    viable (grow {A} w f ends g h) c i e q =
         let cs = grow_fit L begins greedy token word_of value_of g h c in
         elim (bind_err (read L begins fits r g i) (λ x. grow_by L fits w f (first L begins h) (read L begins fits r h) (length x.1) x.0 x.1) e q) [
-          | inl b ↦ viable_then greedy (Spells L all_fit R g) (Spells L all_fit R (grow w f g h)) (λ v. v) [] (λ z s. s) (λ v j z s t. (v, [], refl, (z, t, refl))) i e (viable g cs.0 i e b)
+          | inl b ↦ viable_then greedy (Spells L all_fit R g) (Spells L all_fit R (grow w f ends g h)) (λ v. v) [] (λ z s. s) (λ v j z s t. (v, [], refl, (z, t, refl))) i e (viable g cs.0 i e b)
           | inr b ↦
               let fr = framed_read g cs.0 i b.0.0 b.0.1 b.1 in
-              viable_after greedy (GrownFrom L all_fit w f (Spells L all_fit R h) b.0.0) (Spells L all_fit R (grow w f g h)) (λ v. v) fr.0 i b.0.1 fr.1 (λ v u z near s t. (b.0.0, t.0, t.1, (u, fr.2 u near, t.2))) e
+              viable_after greedy (GrownFrom L all_fit w f (Spells L all_fit R h) b.0.0) (Spells L all_fit R (grow w f ends g h)) (λ v. v) fr.0 i b.0.1 fr.1 (λ v u z near s t. (b.0.0, t.0, t.1, (u, fr.2 u near, t.2))) e
               (viable_grow greedy (Spells L all_fit R h) fits w f (first L begins h) (read L begins fits r h) cs.3 (framed_read h cs.1) (viable h cs.1)
               (opens L begins greedy token word_of value_of safe_r all_fit R word_r (λ p. false) (λ p k t m. absurd cc) h cs.2 cs.1) (length b.0.1) b.0.0 b.0.1 e b.2)
         ]

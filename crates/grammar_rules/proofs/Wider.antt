@@ -21,7 +21,7 @@ module _ (L : Language) (fits more : ℕ → Bool) (wider : (n : ℕ) → fits n
   spells_wider (many g) vs i o s = chain_wider (Spells L fits R g) (Spells L more Q g) (spells_wider g) vs i o s
   spells_wider (maybe x g) None i o s = s
   spells_wider (maybe x g) (Some v) i o s = (s.0, s.1, s.2, s.3, spells_wider g v s.1 o s.4)
-  spells_wider (grow w f g h) v i o s = (
+  spells_wider (grow w f ends g h) v i o s = (
     s.0,
     s.1,
     grown_wider fits more wider w f s.0 s.1 v s.2,

@@ -19,7 +19,7 @@ module _ (L : Language) (begins : L.Phrase → List ℕ) (greedy : List ℕ) (to
   word (either g h) = word g
   word (many g) = []
   word (maybe x g) = []
-  word (grow w f g h) = word g
+  word (grow w f ends g h) = word g
   word (made f g) = word g
   word (nest p) = word_of p
 
@@ -30,7 +30,7 @@ module _ (L : Language) (begins : L.Phrase → List ℕ) (greedy : List ℕ) (to
   sample (either g h) = sample g
   sample (many g) = []
   sample (maybe x g) = None
-  sample (grow w f g h) = sample g
+  sample (grow w f ends g h) = sample g
   sample (made f g) = f (sample g)
   sample (nest p) = value_of p
 
@@ -55,7 +55,7 @@ module _ (L : Language) (begins : L.Phrase → List ℕ) (greedy : List ℕ) (to
     safe_word (either g h) c z s = safe_word g (and_true (is_fit L greedy begins token g) (is_fit L greedy begins token h) c).0 z s
     safe_word (many g) c z s = s
     safe_word (maybe x g) c z s = s
-    safe_word (grow w f g h) c z s = safe_word g (grow_fit g h c).0 z s
+    safe_word (grow w f ends g h) c z s = safe_word g (grow_fit g h c).0 z s
     safe_word (made f g) c z s = safe_word g c z s
     safe_word (nest p) c z s = safe_r p z s
 
@@ -71,7 +71,7 @@ module _ (L : Language) (begins : L.Phrase → List ℕ) (greedy : List ℕ) (to
       spells_word (maybe x g) c z s =
           let cs = and_true (member x greedy) (not (nat_eq 0 x) && is_fit L greedy begins token g) c in
           (refl, not_next L greedy x _ cs.0 s)
-      spells_word (grow w f g h) c z s = (sample g, [], refl, (z, spells_word g (grow_fit g h c).0 z s, refl))
+      spells_word (grow w f ends g h) c z s = (sample g, [], refl, (z, spells_word g (grow_fit g h c).0 z s, refl))
       spells_word (made f g) c z s = (sample g, refl, spells_word g c z s)
       spells_word (nest p) c z s = word_r p z s
 
@@ -109,7 +109,7 @@ module _ (L : Language) (begins : L.Phrase → List ℕ) (greedy : List ℕ) (to
             ]
         opens (many g) c f t m = let a = opens g c f t m in (a.0, a.1 ∷ [], λ z s. (z, a.2 z s, refl))
         opens (maybe x g) c f t m = absurd cc
-        opens (grow w k g h) c f t m =
+        opens (grow w k ends g h) c f t m =
             let cs = and_true (not (nullable g)) (is_open L known g) c in
             let a = opens g cs.1 (grow_fit g h f).0 t (first_both (nullable g) (L.code t) (first L begins g) (first L begins h) (not_true (nullable g) cs.0) m) in
             (a.0, a.1, λ z s. (a.1, [], refl, (z, a.2 z s, refl)))

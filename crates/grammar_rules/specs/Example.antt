@@ -57,7 +57,7 @@ deepest (paren p a) = deepest a
 
 -- any sum may stand before a plus
 abbrev pub growth : Growth sums Sum
-growth = record { may = λ a. true; height = height; deepest = deepest }
+growth = record { may = λ a. true; again = true; height = height; deepest = deepest }
 
 abbrev pub only : ℕ → Rule sums Token
 only x = one x []
@@ -77,7 +77,7 @@ operand_rule = either (made number_of (only 1)) (made paren_of (both (only 3) (b
 
 -- sum = operand { "+" operand }
 abbrev pub sum_rule : Rule sums Sum
-sum_rule = grow growth plus_of operand_rule (both (only 2) (nest operand))
+sum_rule = grow growth plus_of tt operand_rule (both (only 2) (nest operand))
 
 abbrev pub shown_of : Sum × Token → Statement
 shown_of p = shown p.0

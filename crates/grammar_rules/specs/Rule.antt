@@ -28,10 +28,17 @@ member x (y ∷ z ∷ ys) = nat_eq x y || member x (z ∷ ys)
 pub record Growth (L : Language) (A : Type 0) : Type 0 where
   -- may more stand behind it?
   pub may : A → Bool
+  -- may it be more than once?
+  pub again : Bool
   -- how many parts it nests
   pub height : A → ℕ
   -- where the first of its parts begins that has the most parts around it
   pub deepest : A → L.Place
+
+-- where it may be once alone, what has grown may not grow
+abbrev pub Ends : {L : Language} {A B : Type 0} → Bool → Growth L A → (A → B → A) → Type 0
+Ends true w f = Unit {0}
+Ends {A = A} {B = B} false w f = (a : A) (b : B) → w.may (f a b) ≡ false
 
 -- A rule says which tokens spell a value of a type.
 pub data Rule (L : Language) : Type 0 → Type 1 where
@@ -45,7 +52,7 @@ pub data Rule (L : Language) : Type 0 → Type 1 where
   -- behind a token of this kind, and nothing where that does not come next
   maybe : {A : Type 0} → ℕ → Rule L A → Rule L (Option A)
   -- the first, and any number of the second, each of which makes what stands before it a part of a greater value
-  grow : {A B : Type 0} → Growth L A → (A → B → A) → Rule L A → Rule L B → Rule L A
+  grow : {A B : Type 0} (w : Growth L A) (f : A → B → A) (ends : Ends w.again w f) → Rule L A → Rule L B → Rule L A
   made : {A B : Type 0} → (A → B) → Rule L A → Rule L B
   -- a phrase, one deeper
   nest : (p : L.Phrase) → Rule L (L.Value p)
@@ -58,7 +65,7 @@ nullable (both g h) = nullable g && nullable h
 nullable (either g h) = nullable g || nullable h
 nullable (many g) = true
 nullable (maybe x g) = true
-nullable (grow w f g h) = nullable g
+nullable (grow w f ends g h) = nullable g
 nullable (made f g) = nullable g
 nullable (nest p) = false
 
@@ -71,7 +78,7 @@ module _ (L : Language) (begins : L.Phrase → List ℕ) where
   first (either g h) = first g ++ first h
   first (many g) = first g
   first (maybe x g) = x ∷ []
-  first (grow w f g h) = if nullable g then first g ++ first h else first g
+  first (grow w f ends g h) = if nullable g then first g ++ first h else first g
   first (made f g) = first g
   first (nest p) = begins p
 
@@ -96,7 +103,7 @@ module _ (L : Language) (fits : ℕ → Bool) (R : (p : L.Phrase) → L.Value p 
   Spells (many g) vs i o = Chain (Spells g) vs i o
   Spells (maybe x g) None i o = (i ≡ o) × (nat_eq (next L i) x ≡ false)
   Spells (maybe x g) (Some v) i o = (t : L.Token) × (m : Tokens L) × (i ≡ t ∷ m) × (nat_eq (L.code t) x ≡ true) × Spells g v m o
-  Spells (grow {A} {B} w f g h) v i o = (a : A) × (bs : List B) × Grown fits w f a bs v × ((m : Tokens L) × Spells g a i m × Chain (Spells h) bs m o)
+  Spells (grow {A} {B} w f ends g h) v i o = (a : A) × (bs : List B) × Grown fits w f a bs v × ((m : Tokens L) × Spells g a i m × Chain (Spells h) bs m o)
   Spells (made {A} f g) v i o = (a : A) × (f a ≡ v) × Spells g a i o
   Spells (nest p) v i o = R p v i o
 
@@ -159,7 +166,7 @@ module _ (L : Language) (begins : L.Phrase → List ℕ) (fits : ℕ → Bool) (
   read (either g h) i = if member (next L i) (first L begins g) then read g i else read h i
   read (many g) i = repeat L (first L begins g) (read g) (length i) i
   read (maybe x g) i = if nat_eq (next L i) x then (take_one L (x ∷ []) i >>= λ t. read g t.1 >>= λ y. Ok (Some y.0, y.1)) else Ok (None, i)
-  read (grow w f g h) i = read g i >>= λ x. grow_by L fits w f (first L begins h) (read h) (length x.1) x.0 x.1
+  read (grow w f ends g h) i = read g i >>= λ x. grow_by L fits w f (first L begins h) (read h) (length x.1) x.0 x.1
   read (made f g) i = read g i >>= λ x. Ok (f x.0, x.1)
   read (nest p) i = r p i
 

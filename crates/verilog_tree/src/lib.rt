@@ -2,11 +2,13 @@
 //! first tokens.
 #![tactic(auto)]
 
+mod depth;
 mod expr;
 mod item;
 mod module;
 mod statement;
 
+pub use depth::Depth;
 pub use expr::{Expr, ExprForm};
 pub use item::{Declared, Given, Item, ItemForm, Named, One, Param, Range, When};
 pub use module::{Module, Modules};
