@@ -1,0 +1,21 @@
+-- The laws of a grammar: reading finds exactly what is spelled, and each fault says what stands before it and with it.
+use Rattle.std.specs.Prelude.{◌≡◌, ℕ, zero, suc, ◌-◌, length, Ok, Err}
+use Rattle.grammar_rules.specs.Rule.{Language, Tokens, Wrong, unexpected, too_deep, Fault}
+use Rattle.grammar_rules.specs.Grammar.{Grammar, IsSpelled, IsUnexpected, IsTooDeep, EndsEarly, whole}
+
+module _ (L : Language) (G : Grammar L) where
+  -- what is wrong where so many tokens are left
+  abbrev pub Stands : ℕ → Tokens L → Wrong L → ℕ → Type 0
+  Stands d i unexpected zero = EndsEarly L G i
+  Stands d i unexpected (suc n) = IsUnexpected L G i (length i - suc n)
+  Stands d i (too_deep place) n = IsTooDeep L G d i (length i - n)
+
+  pub record IsExact : Type 0 where
+    -- what is read is spelled so
+    pub sound : (d : ℕ) (i : Tokens L) (v : G.Tree) → whole L G d i ≡ Ok v → IsSpelled L G d i v
+    -- what is spelled is read
+    pub complete : (d : ℕ) (i : Tokens L) (v : G.Tree) → IsSpelled L G d i v → whole L G d i ≡ Ok v
+    -- tokens spell at most one tree, at whatever depth
+    pub one_reading : (i : Tokens L) (d e : ℕ) (v w : G.Tree) → IsSpelled L G d i v → IsSpelled L G e i w → v ≡ w
+    -- a fault stands where it is met
+    pub faults : (d : ℕ) (i : Tokens L) (f : Fault L) → whole L G d i ≡ Err f → Stands d i f.kind f.left

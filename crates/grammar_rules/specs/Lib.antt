@@ -1,0 +1,4 @@
+pub mod Rule
+pub mod Grammar
+pub mod Laws
+pub mod Example

@@ -1,0 +1,9 @@
+pub mod Kind
+pub mod Language
+pub mod Literal
+pub mod Parts
+pub mod Expressions
+pub mod Statements
+pub mod Modules
+pub mod Verilog
+pub mod Examples

@@ -1,0 +1,10 @@
+/// Where a statement stands, which decides what it may be.
+#[derive(Clone, Copy, Debug, PartialEq, Eq)]
+pub enum Body {
+    /// Under `*` or names.
+    Combinational,
+    /// Under edges.
+    Clocked,
+    /// In an `initial`.
+    Initial,
+}

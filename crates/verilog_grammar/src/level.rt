@@ -1,0 +1,40 @@
+ghost use Rattle.std.specs.Prelude.{◌≡◌};
+
+/// What an expression may be without parentheses round it, from the tightest (IEEE 1364-2001 clause 4.1.2).
+#[derive(Clone, Copy, Debug, PartialEq, Eq)]
+pub enum Level {
+    /// An operand with the operators before it.
+    Unary,
+    Product,
+    Sum,
+    Shift,
+    Relation,
+    Equality,
+    BitwiseAnd,
+    BitwiseXor,
+    BitwiseOr,
+    LogicalAnd,
+    LogicalOr,
+}
+
+impl Level {
+    ghost use Rattle.verilog_grammar.specs.Language.{tighter, rank};
+
+    /// The level of the operands, its own for the tightest.
+    pub fn tighter(self) -> Level
+        ensures level { result ≡ tighter self }
+    {
+        match self {
+            Level::Unary | Level::Product => Level::Unary,
+            Level::Sum => Level::Product,
+            Level::Shift => Level::Sum,
+            Level::Relation => Level::Shift,
+            Level::Equality => Level::Relation,
+            Level::BitwiseAnd => Level::Equality,
+            Level::BitwiseXor => Level::BitwiseAnd,
+            Level::BitwiseOr => Level::BitwiseXor,
+            Level::LogicalAnd => Level::BitwiseOr,
+            Level::LogicalOr => Level::LogicalAnd,
+        }
+    }
+}

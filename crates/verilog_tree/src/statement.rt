@@ -1,0 +1,199 @@
+ghost use Rattle.std.specs.Prelude.{◌≡◌, IfOk};
+ghost use Rattle.verilog_tree.specs.Tree as t;
+ghost use Rattle.verilog_tree.specs.Tree.{statements_of, arms_of};
+ghost use Rattle.verilog_tree.specs.View.{expr_view, statement_view, statements_view, arms_view};
+
+use crate::Expr;
+use cov_host::{NoMemory, Place};
+use four_state::CaseKind;
+use std::alloc::Global;
+
+/// A statement as it is written (IEEE 1364-2001 clause 9).
+#[derive(Debug, Drop)]
+#[cycle(statement)]
+pub struct Statement {
+    /// Of its first token.
+    pub place: Place,
+    pub form: StatementForm,
+}
+
+/// The forms of a statement.
+#[derive(Debug, Drop)]
+#[cycle(statement)]
+pub enum StatementForm {
+    Block(Vec<Statement>),
+    If {
+        test: Expr,
+        yes: Box<Statement>,
+        no: Option<Box<Statement>>,
+    },
+    Case {
+        kind: CaseKind,
+        on: Expr,
+        arms: Vec<Arm>,
+    },
+    For(For),
+    Set {
+        target: Expr,
+        blocking: bool,
+        value: Expr,
+    },
+    /// A system task. Its arguments are dropped.
+    Task,
+    Empty,
+}
+
+/// An arm of a `case`. One without labels is the `default`.
+#[derive(Debug, Drop)]
+#[cycle(statement)]
+pub struct Arm {
+    pub labels: Vec<Expr>,
+    pub body: Statement,
+}
+
+/// `for (name = first; test; target = step) body`.
+#[derive(Debug, Drop)]
+#[cycle(statement)]
+pub struct For {
+    /// Of the `for`.
+    pub place: Place,
+    pub name: Expr,
+    pub first: Expr,
+    pub test: Expr,
+    pub target: Expr,
+    pub step: Expr,
+    pub body: Box<Statement>,
+}
+
+impl Statement {
+    /// `begin parts end`.
+    pub fn block(place: Place, parts: Vec<Statement>) -> Statement
+        ensures { statement_view result ≡ t.sequential_block place (statements_of (statements_view parts.items)) }
+    {
+        Statement {
+            place,
+            form: StatementForm::Block(parts),
+        }
+    }
+
+    /// `if (test) yes`.
+    pub fn when(
+        alloc: Global,
+        place: Place,
+        test: Expr,
+        yes: Statement,
+    ) -> Result<Statement, NoMemory>
+        ensures { IfOk result (λ s. statement_view s ≡ t.if_statement place (expr_view test) (statement_view yes) t.no_statements) }
+    {
+        Ok(Statement {
+            place,
+            form: StatementForm::If {
+                test,
+                yes: Box::new(alloc, yes)?,
+                no: None,
+            },
+        })
+    }
+
+    /// `if (test) yes else no`.
+    pub fn when_else(
+        alloc: Global,
+        place: Place,
+        test: Expr,
+        yes: Statement,
+        no: Statement,
+    ) -> Result<Statement, NoMemory>
+        ensures { IfOk result (λ s. statement_view s ≡ t.if_statement place (expr_view test) (statement_view yes) (t.a_statement (statement_view no) t.no_statements)) }
+    {
+        Ok(Statement {
+            place,
+            form: StatementForm::If {
+                test,
+                yes: Box::new(alloc, yes)?,
+                no: Some(Box::new(alloc, no)?),
+            },
+        })
+    }
+
+    /// A `case`, `casez` or `casex`.
+    pub fn case(place: Place, kind: CaseKind, on: Expr, arms: Vec<Arm>) -> Statement
+        ensures { statement_view result ≡ t.case_statement place kind (expr_view on) (arms_of (arms_view arms.items)) }
+    {
+        Statement {
+            place,
+            form: StatementForm::Case { kind, on, arms },
+        }
+    }
+
+    /// `for (name = first; test; target = step) body`.
+    pub fn for_loop(
+        alloc: Global,
+        place: Place,
+        start: (Expr, Expr),
+        test: Expr,
+        turn: (Expr, Expr),
+        body: Statement,
+    ) -> Result<Statement, NoMemory>
+        ensures { IfOk result (λ s. statement_view s ≡ t.for_loop place (record { place = place; name = expr_view start.0; first = expr_view start.1; test = expr_view test; target = expr_view turn.0; step = expr_view turn.1 }) (statement_view body)) }
+    {
+        let (name, first) = start;
+        let (target, step) = turn;
+        Ok(Statement {
+            place,
+            form: StatementForm::For(For {
+                place,
+                name,
+                first,
+                test,
+                target,
+                step,
+                body: Box::new(alloc, body)?,
+            }),
+        })
+    }
+
+    /// `target = value`, or where the flag is false `target <= value`.
+    pub fn set(place: Place, target: Expr, blocking: bool, value: Expr) -> Statement
+        ensures { statement_view result ≡ t.assignment place (expr_view target) blocking (expr_view value) }
+    {
+        Statement {
+            place,
+            form: StatementForm::Set {
+                target,
+                blocking,
+                value,
+            },
+        }
+    }
+
+    /// A system task.
+    pub fn task(place: Place) -> Statement
+        ensures { statement_view result ≡ t.system_task place }
+    {
+        Statement {
+            place,
+            form: StatementForm::Task,
+        }
+    }
+
+    /// A semicolon alone.
+    pub fn empty(place: Place) -> Statement
+        ensures { statement_view result ≡ t.null_statement place }
+    {
+        Statement {
+            place,
+            form: StatementForm::Empty,
+        }
+    }
+}
+
+impl Arm {
+    ghost use Rattle.verilog_tree.specs.View.{exprs_view, arm_view};
+
+    /// The labels, none of them for the default, and the body.
+    pub fn new(labels: Vec<Expr>, body: Statement) -> Arm
+        ensures { arm_view result ≡ record { labels = exprs_view labels.items; body = statement_view body } }
+    {
+        Arm { labels, body }
+    }
+}
