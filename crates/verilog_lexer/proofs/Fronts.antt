@@ -1,6 +1,6 @@
 -- What a piece shows stands at the front of its text.
-use Rattle.std.proofs.Common.{◌≡◌, ◌∙◌, ◌<◌, ◌+◌, ℕ, zero, suc, Bool, true, false, cond, ◌==◌, get_or, List, [], ◌∷◌, ◌++◌, Option, None, Some, length, take, drop, refl, sym, ap, subst, arith, length-take}
-use Rattle.std.proofs.lemmas.List.{take-append-drop, append-nil, append_assoc}
+use Rattle.std.proofs.Common.{◌≡◌, ◌<◌, ◌+◌, ℕ, zero, suc, Bool, true, false, cond, ◌==◌, get_or, List, [], ◌∷◌, ◌++◌, Option, None, Some, length, take, drop, refl, sym, ap, subst, arith, length-take}
+use Rattle.std.proofs.lemmas.List.{take-append-drop}
 use Rattle.std.proofs.lemmas.Bool.{eqb-true}
 use Rattle.std.specs.List.{prefix_len, list_all}
 use Rattle.std.specs.Prelude.{slice_index, ◌&&◌, ◌-◌}
@@ -23,34 +23,13 @@ use Rattle.verilog_lexer.specs.declared.fault.LexKind.{LexKind}
 use Rattle.verilog_lexer.specs.declared.fault.LexKind.TheVariants.{BadByte, UnknownDirective}
 use Rattle.verilog_lexer.specs.declared.token.TokenKind.{TokenKind}
 use Rattle.verilog_lexer.specs.declared.token.TokenKind.TheVariants as kind
-
-regrouped : (a b c d e : List ℕ) → a ++ (b ++ c ++ d) ++ e ≡ (a ++ b) ++ c ++ (d ++ e)
-regrouped a b c d e = rw (append_assoc, append_assoc, append_assoc, append_assoc, append_assoc) refl
+use Rattle.verilog_lexer.proofs.Parts.{IsPartOf-trans, IsPartOf-take, IsPartOf-drop}
 
 -- the text begins with these bytes, of which there are some
 pub record Begins (text front : List ℕ) : Type 0 where
   pub behind : List ℕ
   pub is : text ≡ front ++ behind
   pub some : 0 < length front
-
-pub IsPartOf-whole : (text : List ℕ) → IsPartOf text text
-IsPartOf-whole text = record { before = []; behind = []; is = sym (append-nil text) }
-
-pub IsPartOf-trans : (text part less : List ℕ) → IsPartOf text part → IsPartOf part less → IsPartOf text less
-IsPartOf-trans text part less outer inner = record {
-  before = outer.before ++ inner.before;
-  behind = inner.behind ++ outer.behind;
-  is =
-      outer.is ∙ ap (λ bytes. outer.before ++ bytes ++ outer.behind) inner.is
-      ∙ regrouped outer.before inner.before less inner.behind outer.behind;
-}
-
--- the first bytes and the other ones are parts
-IsPartOf-take : (n : ℕ) (text : List ℕ) → IsPartOf text (take n text)
-IsPartOf-take n text = record { before = []; behind = drop n text; is = sym (take-append-drop n text) }
-
-IsPartOf-drop : (n : ℕ) (text : List ℕ) → IsPartOf text (drop n text)
-IsPartOf-drop n text = record { before = take n text; behind = []; is = sym (append-nil (take n text ++ drop n text) ∙ take-append-drop n text) }
 
 -- names and keywords have the form of a name, and tell which they are
 abbrev pub HasForm : TokenKind → List ℕ → Type 0
@@ -90,14 +69,17 @@ fault_front : (text : List ℕ) (why : LexKind) (n : ℕ) → IsFrontOf text (fa
 unfolding IsFrontOf
 fault_front text why n = tt
 
+-- one of two pieces, by a test
 either : (text : List ℕ) (c : Bool) (a b : Piece) → (c ≡ true → IsFrontOf text a) → (c ≡ false → IsFrontOf text b) → IsFrontOf text (cond c a b)
 either text true a b left right = left refl
 either text false a b left right = right refl
 
+-- a piece up to where something ends, or another one
 through : (text : List ℕ) (made : ℕ → Piece) (other : Piece) (n : Option ℕ) → ((n : ℕ) → IsFrontOf text (made n)) → IsFrontOf text other → IsFrontOf text (up_to made other n)
 through text made other None each none = none
 through text made other (Some n) each none = each n
 
+-- the token of the first bytes
 first_bytes : (byte : ℕ) (others : List ℕ) (kind : TokenKind) (n : ℕ) → 0 < n → HasForm kind (take n (byte ∷ others)) → IsFrontOf (byte ∷ others) (token_of kind (byte ∷ others) n)
 unfolding IsFrontOf
 first_bytes byte others kind n some form = (

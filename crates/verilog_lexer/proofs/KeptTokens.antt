@@ -3,12 +3,13 @@ use Rattle.std.proofs.Common.{◌≡◌, ◌+◌, ◌-◌, ℕ, zero, suc, Bool,
 use Rattle.std.proofs.lemmas.List.{append-nil, append_assoc}
 use Rattle.std.proofs.lemmas.List.Elements.{All-nil, All-cons, All-append}
 use Rattle.std.proofs.lemmas.Bool.{cases_lt, false≢true, le-leb, lt-ltb}
+use Rattle.std.proofs.lemmas.Option.{none-some, same_Some}
 use Rattle.std.specs.List.{All, slice_get}
 use Rattle.std.specs.Prelude.{is_none, nat_le, nat_lt}
 use Rattle.std.specs.Str.{bytes_eq}
 use Rattle.cov_host.specs.Identifier.{is_identifier, is_reserved}
 use Rattle.cov_host.specs.declared.place.Place.{Place}
-use Rattle.verilog_lexer.specs.Answer.{Answer, ◌>>=◌, fault_at}
+use Rattle.verilog_lexer.specs.Answer.{◌>>=◌, fault_at}
 use Rattle.verilog_lexer.specs.Conditions.{named, after_test}
 use Rattle.verilog_lexer.specs.Defines.{Macros, DefineText, no_macros, with_macro, without_macro, with_macros}
 use Rattle.verilog_lexer.specs.Piece.{Piece, blank, token, define, undefine, condition, inclusion, expansion, fault, piece_length}
@@ -16,14 +17,15 @@ use Rattle.verilog_lexer.specs.Reading.{Reading, Step, Entry, macro_text, file, 
 use Rattle.verilog_lexer.specs.Sources.{SourceText, include_place}
 use Rattle.verilog_lexer.specs.Spot.{after, within_macro, file_spot}
 use Rattle.verilog_lexer.specs.TokenTexts.{IsPartOf, IsTextOf, of_source, of_define, IsSound, AreSound}
-use Rattle.verilog_lexer.specs.Tokens.{Lexeme, bad_number, sound_number, room_for_one, short_enough, is_too_long, is_identifier_kind, with_token}
+use Rattle.verilog_lexer.specs.Tokens.{Lexeme, bad_number, sound_number, is_too_long, is_identifier_kind, with_token}
 use Rattle.verilog_lexer.specs.declared.condition.Condition.{Condition}
 use Rattle.verilog_lexer.specs.declared.fault.LexKind.TheVariants.{BadByte, OpenCondition}
 use Rattle.verilog_lexer.specs.declared.spot.Spot.{Spot}
 use Rattle.verilog_lexer.specs.declared.token.TokenKind.{TokenKind}
 use Rattle.verilog_lexer.specs.declared.token.TokenKind.TheVariants.{Identifier, Keyword, System, Decimal, Based, Quoted, Operator}
-use Rattle.verilog_lexer.proofs.Fronts.{IsFrontOf, HasForm, piece_front, IsPartOf-whole, IsPartOf-trans}
-use Rattle.verilog_lexer.proofs.ReadTokens.{no_answer, same_answer, bind_ok}
+use Rattle.verilog_lexer.proofs.Fronts.{IsFrontOf, HasForm, piece_front}
+use Rattle.verilog_lexer.proofs.Parts.{IsPartOf-whole, IsPartOf-trans}
+use Rattle.verilog_lexer.proofs.ReadTokens.{no_answer, same_answer, bind_ok, with_token_is}
 use Rattle.verilog_lexer.proofs.ReadFiles.{slice_get-behind}
 
 -- a part of a text is one of what the text is of
@@ -34,16 +36,6 @@ part_text sources defines text part (of_define number made found is) within = of
 AreSound-snoc : (before old : List Lexeme) (last : Lexeme) → AreSound before old → IsSound (before ++ old) last → AreSound before (old ++ last ∷ [])
 AreSound-snoc before [] last are is = (subst (λ tokens. IsSound tokens last) (append-nil before) is, tt)
 AreSound-snoc before (first ∷ old) last are is = (are.0, AreSound-snoc (before ++ first ∷ []) old last are.1 (subst (λ tokens. IsSound tokens last) (sym (append_assoc before (first ∷ []) old)) is))
-
-none_some : {A : Type 0} (x : A) → ◌≡◌ {A = Option A} None (Some x) → ⊥
-none_some x is = let apart : true ≡ false = ap is_none is in cc
-
-abbrev value_or : {A : Type 0} → A → Option A → A
-value_or other None = other
-value_or other (Some x) = x
-
-some_same : {A : Type 0} (x y : A) → Some x ≡ Some y → x ≡ y
-some_same x y is = ap (value_or x) is
 
 short_from : (n : ℕ) → nat_lt 255 n ≡ false → nat_le n 255 ≡ true
 short_from n is = ⊎_elim (λ above. absurd (false≢true (sym is ∙ lt-ltb 255 n above))) (λ below. le-leb n 255 below) (cases_lt 255 n)
@@ -88,17 +80,14 @@ short_enough_from false place nothing is = refl
 sound_token : (spot : Spot) (text : List ℕ) (kind : TokenKind) (word : List ℕ) (old new : List Lexeme) → HasForm kind word → with_token spot text kind word old ≡ Ok new
     → IsSound old (record { kind = kind; text = word; place = spot.place }) × (new ≡ old ++ record { kind = kind; text = word; place = spot.place } ∷ [])
 sound_token spot text kind word old new form is =
-    let made : Answer (List Lexeme) = Ok (old ++ record { kind = kind; text = word; place = spot.place } ∷ []) in
-    let first = bind_ok (sound_number (bad_number old kind word spot.place)) (λ _. room_for_one old spot.place >>= λ _. short_enough spot text kind word >>= λ _. made) new is in
-    let second = bind_ok (room_for_one old spot.place) (λ _. short_enough spot text kind word >>= λ _. made) new first.2 in
-    let third = bind_ok (short_enough spot text kind word) (λ _. made) new second.2 in
-    let short : is_too_long kind word ≡ false = short_enough_from (is_too_long kind word) _ third.0 third.1 in (
+    let parts = with_token_is spot text kind word old new is in
+    let short : is_too_long kind word ≡ false = short_enough_from (is_too_long kind word) _ tt parts.1 in (
       record {
         name = λ is_name. identifier_from kind word form short is_name;
         keyword = λ is_keyword. keyword_from kind word form is_keyword;
-        number = sound_from (bad_number old kind word spot.place) first.0 first.1;
+        number = sound_from (bad_number old kind word spot.place) tt parts.0;
       },
-      sym (same_answer _ new third.2),
+      parts.2,
     )
 
 module _ (sources : List SourceText) (defines : List DefineText) where
@@ -134,13 +123,13 @@ module _ (sources : List SourceText) (defines : List DefineText) where
       → with_macro macros name body asked ≡ Some found → IsTextOf sources defines found
   define_kept macros name body asked found kept text is = by_name (bytes_eq name asked) is where
     by_name : (same : Bool) → cond same (Some body) (macros asked) ≡ Some found → IsTextOf sources defines found
-    by_name true is = subst (IsTextOf sources defines) (some_same body found is) text
+    by_name true is = subst (IsTextOf sources defines) (same_Some body found is) text
     by_name false is = kept asked found is
 
   undefine_kept : (macros : Macros) (name asked found : List ℕ) → ((asked found : List ℕ) → macros asked ≡ Some found → IsTextOf sources defines found) → without_macro macros name asked ≡ Some found → IsTextOf sources defines found
   undefine_kept macros name asked found kept is = by_name (bytes_eq name asked) is where
     by_name : (same : Bool) → cond same None (macros asked) ≡ Some found → IsTextOf sources defines found
-    by_name true is = absurd (none_some found is)
+    by_name true is = absurd (none-some found is)
     by_name false is = kept asked found is
 
   expanded_kept : (place : Place) (name : List ℕ) (text : Option (List ℕ)) (old : Reading) (step : Step) → old.macros name ≡ text → IsKept old → expanded place name text old ≡ Ok step → StepIsKept step
@@ -233,7 +222,7 @@ module _ (sources : List SourceText) (defines : List DefineText) where
   unfolding tokens_of
   tokens_kept tokens is =
       let bound = bind_ok (read_roots sources 1 sources (beginning defines)) (λ reading. Ok reading.tokens) tokens is in
-      let start : IsKept (beginning defines) = record { texts = All-nil _; macros = λ name body found. macros_kept defines [] no_macros refl (λ name body none. absurd (none_some body none)) name body found; sound = tt } in
+      let start : IsKept (beginning defines) = record { texts = All-nil _; macros = λ name body found. macros_kept defines [] no_macros refl (λ name body none. absurd (none-some body none)) name body found; sound = tt } in
       (bound.0, roots_kept sources [] 1 (beginning defines) bound.0 refl start bound.1, same_answer bound.0.tokens tokens bound.2)
 
   -- the text of each token stands in a source, or in the text of a macro that was defined before

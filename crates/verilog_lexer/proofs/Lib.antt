@@ -7,6 +7,7 @@ pub mod Spots
 pub mod Works
 pub mod Stands
 pub mod Roots
+pub mod Parts
 pub mod Fronts
 pub mod ReadTokens
 pub mod ReadFiles

@@ -72,13 +72,15 @@ goes_on old step is =
     let same = sym (same_answer (record { reading = old; entry = None }) step is) in
     (ap (λ s. s.reading.tokens) same, ap (λ s. s.entry) same)
 
-with_token_is : (spot : Spot) (text : List ℕ) (kind : TokenKind) (word : List ℕ) (old new : List Lexeme) → with_token spot text kind word old ≡ Ok new → new ≡ old ++ record { kind = kind; text = word; place = spot.place } ∷ []
+-- a token that is added makes no bad number, is short enough, and stands at the end
+pub with_token_is : (spot : Spot) (text : List ℕ) (kind : TokenKind) (word : List ℕ) (old new : List Lexeme) → with_token spot text kind word old ≡ Ok new
+    → (sound_number (bad_number old kind word spot.place) ≡ Ok tt) × (short_enough spot text kind word ≡ Ok tt) × (new ≡ old ++ record { kind = kind; text = word; place = spot.place } ∷ [])
 with_token_is spot text kind word old new is =
     let made : Answer (List Lexeme) = Ok (old ++ record { kind = kind; text = word; place = spot.place } ∷ []) in
     let first = bind_ok (sound_number (bad_number old kind word spot.place)) (λ _. room_for_one old spot.place >>= λ _. short_enough spot text kind word >>= λ _. made) new is in
     let second = bind_ok (room_for_one old spot.place) (λ _. short_enough spot text kind word >>= λ _. made) new first.2 in
     let third = bind_ok (short_enough spot text kind word) (λ _. made) new second.2 in
-    sym (same_answer _ new third.2)
+    (first.1, third.1, sym (same_answer _ new third.2))
 
 expanded_is : (spot : Spot) (name : List ℕ) (text : Option (List ℕ)) (old : Reading) (step : Step) → expanded spot.place name text old ≡ Ok step → (body : List ℕ) × (step.reading.tokens ≡ old.tokens) × (step.entry ≡ Some (macro_text body))
 expanded_is spot name None old step is = absurd (no_answer _ step is)
@@ -91,7 +93,7 @@ meaning_is spot text (blank n) old step is = goes_on old step is
 meaning_is spot text (token kind word) old step is =
     let bound = bind_ok (with_token spot text kind word old.tokens) (λ tokens. goes (record old { tokens = tokens })) step is in
     let goes_ = goes_on (record old { tokens = bound.0 }) step bound.2 in
-    (goes_.0 ∙ with_token_is spot text kind word old.tokens bound.0 bound.1, goes_.1)
+    (goes_.0 ∙ (with_token_is spot text kind word old.tokens bound.0 bound.1).2, goes_.1)
 meaning_is spot text (define name body n) old step is = goes_on (record old { macros = with_macro old.macros name body }) step is
 meaning_is spot text (undefine name n) old step is =
     let bound = bind_ok (named spot.place name) (λ _. goes (record old { macros = without_macro old.macros name })) step is in
