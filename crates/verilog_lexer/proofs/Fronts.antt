@@ -14,6 +14,7 @@ use Rattle.verilog_lexer.specs.DefineText.{define_text_length}
 use Rattle.verilog_lexer.specs.Directive.{directive_of}
 use Rattle.verilog_lexer.specs.Piece.{Piece, blank, token, define, undefine, condition, inclusion, expansion, fault, up_to, token_of, word_piece, quoted_piece, based_as, system_piece, operator_piece, comment_piece, slash_piece, parenthesis_piece, name_in, name_behind, name_end, define_piece, is_file_name, is_plain, file_piece, include_piece, condition_piece, other_piece, or_piece, directive_word, accent_piece, mark_piece, read_piece, left_out_slash, left_out_quote, left_out_piece}
 use Rattle.verilog_lexer.specs.Reading.{front_piece, is_continuation}
+use Rattle.verilog_lexer.specs.TokenPlaces.{IsMacroName}
 use Rattle.verilog_lexer.specs.TokenTexts.{IsPartOf}
 use Rattle.verilog_lexer.specs.declared.based.Base.{Base}
 use Rattle.verilog_lexer.specs.declared.condition.Condition.{Condition}
@@ -49,7 +50,7 @@ IsFrontOf text (define name body n) = IsPartOf text body
 IsFrontOf text (undefine name n) = Unit {0}
 IsFrontOf text (condition test n) = Unit {0}
 IsFrontOf text (inclusion name n) = Unit {0}
-IsFrontOf text (expansion name n) = Begins text (96 ∷ name) × (n ≡ length name + 1)
+IsFrontOf text (expansion name n) = Begins text (96 ∷ name) × (n ≡ length name + 1) × IsMacroName name
 IsFrontOf text (fault kind before) = Unit {0}
 
 -- what shows nothing
@@ -178,23 +179,32 @@ include_front text start behind =
     (λ n. file_front text (start + run is_blank behind + 1) (take (n - 1) (drop (run is_blank behind + 1) behind))) (fault_front _ BadByte (start + run is_blank behind)))
     (λ is. fault_front _ UnknownDirective 0)
 
+-- where a name is read, it has the form of one
+name_in_form : (text : List ℕ) → (length (name_in text) == 0) ≡ false → has_name_form (name_in text) ≡ true
+name_in_form [] some = absurd (let apart : true ≡ false = some in cc)
+name_in_form (byte ∷ others) some = by_first (begins_name byte) refl some where
+  by_first : (begins : Bool) → begins_name byte ≡ begins → (length (cond begins (take (run continues_name (byte ∷ others)) (byte ∷ others)) []) == 0) ≡ false
+      → has_name_form (cond begins (take (run continues_name (byte ∷ others)) (byte ∷ others)) []) ≡ true
+  by_first true is some = name_form byte others is
+  by_first false is some = absurd (let apart : true ≡ false = some in cc)
+
 -- a directive that is read, by its kind
-directive_front : (others : List ℕ) (directive : Directive) (start : ℕ) (behind : List ℕ) → IsPartOf (96 ∷ others) behind → start ≡ length (name_in others) + 1 →
+directive_front : (others : List ℕ) (directive : Directive) (start : ℕ) (behind : List ℕ) → IsPartOf (96 ∷ others) behind → start ≡ length (name_in others) + 1 → has_name_form (name_in others) ≡ true → directive_of (name_in others) ≡ directive →
     IsFrontOf (96 ∷ others) (or_piece (condition_piece directive start behind) (other_piece directive (name_in others) start behind))
 unfolding IsFrontOf
-directive_front others Define start behind part is = definition_front (96 ∷ others) start behind part
-directive_front others Undef start behind part is = tt
-directive_front others Ifdef start behind part is = tt
-directive_front others Ifndef start behind part is = tt
-directive_front others Elsif start behind part is = tt
-directive_front others Else start behind part is = tt
-directive_front others Endif start behind part is = tt
-directive_front others Include start behind part is = include_front (96 ∷ others) start behind
-directive_front others PassedOver start behind part is = tt
-directive_front others Refused start behind part is = tt
-directive_front others Use start behind part is =
+directive_front others Define start behind part is named kind_is = definition_front (96 ∷ others) start behind part
+directive_front others Undef start behind part is named kind_is = tt
+directive_front others Ifdef start behind part is named kind_is = tt
+directive_front others Ifndef start behind part is named kind_is = tt
+directive_front others Elsif start behind part is named kind_is = tt
+directive_front others Else start behind part is named kind_is = tt
+directive_front others Endif start behind part is named kind_is = tt
+directive_front others Include start behind part is named kind_is = include_front (96 ∷ others) start behind
+directive_front others PassedOver start behind part is named kind_is = tt
+directive_front others Refused start behind part is named kind_is = tt
+directive_front others Use start behind part is named kind_is =
     let begins = name_begins others in
-    (record { behind = begins.0; is = ap (λ bytes. 96 ∷ bytes) begins.1; some = omega arith }, is)
+    (record { behind = begins.0; is = ap (λ bytes. 96 ∷ bytes) begins.1; some = omega arith }, is, record { form = named; used = kind_is })
 
 -- a directive of conditions, or another one that is left out
 left_out_directive : (text : List ℕ) (directive : Directive) (start : ℕ) (behind : List ℕ) → IsFrontOf text (or_piece (condition_piece directive start behind) (blank 1))
@@ -213,7 +223,7 @@ left_out_directive text Use start behind = tt
 
 accent_front : (others : List ℕ) → IsFrontOf (96 ∷ others) (accent_piece (96 ∷ others))
 unfolding accent_piece
-accent_front others = either (96 ∷ others) (length (name_in others) == 0) _ _ (λ is. fault_front _ BadByte 0) (λ is. directive_front others (directive_of (name_in others)) (length (name_in others) + 1) (drop (length (name_in others) + 1) (96 ∷ others)) (IsPartOf-drop (length (name_in others) + 1) (96 ∷ others)) refl)
+accent_front others = either (96 ∷ others) (length (name_in others) == 0) _ _ (λ is. fault_front _ BadByte 0) (λ is. directive_front others (directive_of (name_in others)) (length (name_in others) + 1) (drop (length (name_in others) + 1) (96 ∷ others)) (IsPartOf-drop (length (name_in others) + 1) (96 ∷ others)) refl (name_in_form others is) refl)
 
 module _ (byte : ℕ) (others : List ℕ) where
   accent_at : (byte == 96) ≡ true → IsFrontOf (byte ∷ others) (accent_piece (byte ∷ others))

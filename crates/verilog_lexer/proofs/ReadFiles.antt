@@ -10,7 +10,7 @@ use Rattle.verilog_lexer.specs.Piece.{Piece, blank, token, define, undefine, con
 use Rattle.verilog_lexer.specs.Reading.{Reading, Step, Entry, macro_text, file, Inner, meaning, front_piece, entered, scan, scan_passage, opened_file, included, inner_at, read_passage, root_passage, read_source, read_roots, beginning, tokens_of}
 use Rattle.verilog_lexer.specs.Sources.{SourceText, include_place}
 use Rattle.verilog_lexer.specs.Spot.{next_place}
-use Rattle.verilog_lexer.specs.TokenPlaces.{file_start, place_behind, StandsAt, AreRead, AreReadInTurn}
+use Rattle.verilog_lexer.specs.TokenPlaces.{file_start, place_behind, StandsAt, IsMacroName, AreRead, AreReadInTurn}
 use Rattle.verilog_lexer.specs.TokenPlaces as read
 use Rattle.verilog_lexer.specs.Tokens.{Lexeme}
 use Rattle.verilog_lexer.specs.declared.condition.Condition.{Condition}
@@ -83,10 +83,10 @@ module _ (sources : List SourceText) (inner : Inner) (reads : (place : Place) (e
         let behind : AreRead sources (place_behind place word) rest.0 = subst (λ bytes. AreRead sources (place_behind place bytes) rest.0) (begins_take text word (length word) begins refl) rest.2 in
         (lexeme ∷ rest.0, adds_both old between new (lexeme ∷ []) rest.0 is rest.1, read.one_token {token = lexeme} (stands sources place text word begins.behind at_ begins.is) begins.some behind)
 
-    macro_step : (name : List ℕ) (n : ℕ) → Begins text (96 ∷ name) → n ≡ length name + 1 → Adds old between (AreAt place) → Adds between new (AreRead sources (place_behind place (take (suc (n - 1)) text))) → Adds old new (AreRead sources place)
-    macro_step name n begins is inside rest =
+    macro_step : (name : List ℕ) (n : ℕ) → IsMacroName name → Begins text (96 ∷ name) → n ≡ length name + 1 → Adds old between (AreAt place) → Adds between new (AreRead sources (place_behind place (take (suc (n - 1)) text))) → Adds old new (AreRead sources place)
+    macro_step name n named begins is inside rest =
         let behind : AreRead sources (place_behind place (96 ∷ name)) rest.0 = subst (λ bytes. AreRead sources (place_behind place bytes) rest.0) (begins_take text (96 ∷ name) n begins (omega (arith, is))) rest.2 in
-        (inside.0 ++ rest.0, adds_both old between new inside.0 rest.0 inside.1 rest.1, read.macro_use inside.0 (stands sources place text (96 ∷ name) begins.behind at_ begins.is) inside.2 behind)
+        (inside.0 ++ rest.0, adds_both old between new inside.0 rest.0 inside.1 rest.1, read.macro_use inside.0 named (stands sources place text (96 ∷ name) begins.behind at_ begins.is) inside.2 behind)
 
     file_step_at : (piece : Piece) → IsFrontOf text piece → Means (record { place = place; inside = false }) piece old step → entered inner (record { place = place; inside = false }) step.entry step.reading ≡ Ok between
         → Adds between new (AreRead sources (place_behind place (take (suc (piece_length piece - 1)) text))) → Adds old new (AreRead sources place)
@@ -100,7 +100,7 @@ module _ (sources : List SourceText) (inner : Inner) (reads : (place : Place) (e
     file_step_at (inclusion name n) front means is rest =
         file_step (suc (n - 1)) (adds_from old step.reading between _ means.0 (reads place (file name) step.reading between (entered_some inner _ step.entry (file name) step.reading between means.1 is))) rest
     file_step_at (expansion name n) front means is rest =
-        macro_step name n front.0 front.1 (adds_from old step.reading between _ means.1 (reads place (macro_text means.0) step.reading between (entered_some inner _ step.entry (macro_text means.0) step.reading between means.2 is))) rest
+        macro_step name n front.2 front.0 front.1 (adds_from old step.reading between _ means.1 (reads place (macro_text means.0) step.reading between (entered_some inner _ step.entry (macro_text means.0) step.reading between means.2 is))) rest
     file_step_at (fault kind before) front means is rest = absurd means
 
   scan_file : (text : List ℕ) (place : Place) (ending : Option (List Condition)) (left : ℕ) (old new : Reading) → IsAt sources place text → scan inner ending left (record { place = place; inside = false }) text old ≡ Ok new → Adds old new (AreRead sources (place_behind place (take left text)))

@@ -1,10 +1,13 @@
 -- Where the tokens of sources stand.
-use Rattle.std.specs.Prelude.{ℕ, ◌≡◌, ◌<◌, ◌+◌, List, [], ◌∷◌, ◌++◌, Some, false, length, slice_get}
+use Rattle.std.specs.Prelude.{ℕ, ◌≡◌, ◌<◌, ◌+◌, List, [], ◌∷◌, ◌++◌, Some, true, false, length, slice_get}
 use Rattle.std.specs.List.{All}
+use Rattle.cov_host.specs.Identifier.{has_name_form}
 use Rattle.cov_host.specs.declared.place.Place.{Place}
+use Rattle.verilog_lexer.specs.Directive.{directive_of}
 use Rattle.verilog_lexer.specs.Sources.{SourceText}
 use Rattle.verilog_lexer.specs.Spot.{after_all}
 use Rattle.verilog_lexer.specs.Tokens.{Lexeme}
+use Rattle.verilog_lexer.specs.declared.directive.Directive.TheVariants.{Use}
 
 -- where the file with this number begins
 abbrev pub file_start : ℕ → Place
@@ -24,6 +27,11 @@ pub record StandsAt (sources : List SourceText) (bytes : List ℕ) (place : Plac
   pub text : source.bytes ≡ before ++ bytes ++ behind
   pub counted : place ≡ place_behind (file_start (number + 1)) before
 
+-- the name of a macro, which no directive has
+pub record IsMacroName (name : List ℕ) : Type 0 where
+  pub form : has_name_form name ≡ true
+  pub used : directive_of name ≡ Use
+
 -- the tokens that one reading of a file gives from a place on
 pub data AreRead (sources : List SourceText) : Place → List Lexeme → Type 0 where
   nothing : {place : Place} → AreRead sources place []
@@ -33,8 +41,8 @@ pub data AreRead (sources : List SourceText) : Place → List Lexeme → Type 0 
   -- a token, which stands where its text stands
   one_token : {token : Lexeme} {others : List Lexeme} → StandsAt sources token.text token.place → 0 < length token.text
       → AreRead sources (place_behind token.place token.text) others → AreRead sources token.place (token ∷ others)
-  -- the use of a macro, whose tokens all stand where the macro is used
-  macro_use : {place : Place} {name : List ℕ} {others : List Lexeme} (inside : List Lexeme) → StandsAt sources (96 ∷ name) place → All (λ token. token.place ≡ place) inside
+  -- a grave accent and the name of a macro, whose tokens all stand where the macro is used
+  macro_use : {place : Place} {name : List ℕ} {others : List Lexeme} (inside : List Lexeme) → IsMacroName name → StandsAt sources (96 ∷ name) place → All (λ token. token.place ≡ place) inside
       → AreRead sources (place_behind place (96 ∷ name)) others → AreRead sources place (inside ++ others)
   -- the inclusion of a file, which is a reading of its own
   inclusion : {place : Place} {number : ℕ} {directive : List ℕ} {inside others : List Lexeme} → StandsAt sources directive place → AreRead sources (file_start number) inside
