@@ -592,40 +592,6 @@ fn an_identifier_has_255_bytes(rt: HostRuntime) -> Result<(), Fail> {
     Ok(())
 }
 
-/// The text of the macro whose name has so many letters: twice the one whose name has a letter less.
-fn push_doubled(text: &mut Vec<u8>, letters: usize) -> Result<(), Fail> {
-    text.extend_from_slice(b"`define x".as_slice())?;
-    push_name(text, letters)?;
-    text.extend_from_slice(b" `".as_slice())?;
-    push_name(text, letters)?;
-    text.extend_from_slice(b" `".as_slice())?;
-    push_name(text, letters)?;
-    text.push(b'\n')?;
-    Ok(())
-}
-
-#[test]
-fn there_are_no_more_tokens_than_the_most(rt: HostRuntime) -> Result<(), Fail> {
-    let alloc = rt.alloc();
-    // example case too-many-tokens
-    let mut text = b"`define x y\n".as_slice().to_vec(alloc)?;
-    for letters in 1..23 {
-        push_doubled(&mut text, letters)?;
-    }
-    text.push(b'`')?;
-    push_name(&mut text, 23)?;
-    text.extend_from_slice(b" ;\n".as_slice())?;
-    let mut sources = Sources::new(alloc);
-    sources.add_root("m.v", Bytes::from_vec(text))?;
-    let place = Place {
-        source: 1,
-        line: 24,
-        column: 26,
-    };
-    let _ = assert_fault(&rt, alloc, &sources, LexKind::TooManyTokens, place)?;
-    Ok(())
-}
-
 /// The source is not added, by this kind of fault, which names the file.
 fn assert_not_added(
     rt: &impl Abort,
