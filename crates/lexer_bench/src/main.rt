@@ -1,4 +1,4 @@
-//! Lexes a file, and prints the speed beside that of a plain pass over the same bytes.
+//! Lexes a file, and prints the speed beside that of a plain pass over the same bytes, or the fault that stands in it.
 #![tactic(auto)]
 
 ghost use Rattle.std.specs.Prelude.{◌<◌};
@@ -7,7 +7,7 @@ use anyhow::Result;
 use cov_host::Bytes;
 use std::time::{Duration, Instant};
 use std::{env, fs};
-use verilog_lexer::{Defines, Sources, lex};
+use verilog_lexer::{Defines, LexFault, Sources, lex};
 
 fn main(rt: HostRuntime) -> Result<()> {
     let Some(path) = env::args(&rt)?.nth(1) else {
@@ -25,7 +25,20 @@ fn main(rt: HostRuntime) -> Result<()> {
     sources.add_root(path.as_str(), Bytes::from_vec(bytes))?;
     let defines = Defines::new(rt.alloc());
     let start = Instant::now(&rt)?;
-    let tokens = lex(rt.alloc(), &sources, &defines)?;
+    let tokens = match lex(rt.alloc(), &sources, &defines) {
+        Ok(tokens) => tokens,
+        Err(
+            LexFault::At {
+                kind,
+                place: Some(place),
+                ..
+            },
+        ) => {
+            println!(rt; "{kind:?} at {}:{}", place.line, place.column)?;
+            return Ok(());
+        }
+        Err(fault) => return Err(fault.into()),
+    };
     let lexed = micros(start.elapsed(&rt)?);
 
     let count = tokens.len();

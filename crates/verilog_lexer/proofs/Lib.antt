@@ -7,3 +7,8 @@ pub mod Spots
 pub mod Works
 pub mod Stands
 pub mod Roots
+pub mod Parts
+pub mod Fronts
+pub mod ReadTokens
+pub mod ReadFiles
+pub mod KeptTokens

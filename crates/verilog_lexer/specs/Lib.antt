@@ -15,6 +15,8 @@ pub mod Conditions
 pub mod Spot
 pub mod Tokens
 pub mod TokenView
+pub mod TokenPlaces
+pub mod TokenTexts
 pub mod Reading
 pub mod ReadingView
 pub mod Stand

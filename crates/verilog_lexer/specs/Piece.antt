@@ -62,11 +62,13 @@ word_piece text = token_of (if is_reserved (take (run continues_name text) text)
 abbrev pub quoted_piece : List ℕ → Piece
 quoted_piece text = up_to (λ n. token_of kind.Quoted text (n + 1)) (fault BadByte 0) (through_quote 0 false (drop 1 text))
 
+-- a based number of this base
+abbrev pub based_as : Option Base → List ℕ → Piece
+based_as None text = fault BadByte 0
+based_as (Some base) text = token_of kind.Based text (based_length base text)
+
 abbrev pub based_piece : List ℕ → Piece
-based_piece text = based_as (base_of (slice_index text (letter_at text))) text where
-  based_as : Option Base → List ℕ → Piece
-  based_as None text = fault BadByte 0
-  based_as (Some base) text = token_of kind.Based text (based_length base text)
+based_piece text = based_as (base_of (slice_index text (letter_at text))) text
 
 abbrev pub system_piece : List ℕ → Piece
 system_piece text = if run continues_name (drop 1 text) == 0 then fault BadByte 0 else token_of kind.System text (run continues_name (drop 1 text) + 1)

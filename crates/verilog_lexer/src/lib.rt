@@ -7,6 +7,7 @@ mod define_text;
 mod defines;
 mod directive;
 mod fault;
+mod laws;
 mod lexing;
 mod macros;
 mod number;
@@ -14,7 +15,6 @@ mod opened;
 mod operator;
 mod passage;
 mod piece;
-mod places;
 mod reader;
 mod reading;
 mod run;
@@ -25,8 +25,8 @@ mod tokens;
 
 pub use defines::Defines;
 pub use fault::{LexFault, LexKind};
+pub use laws::{places_rise, texts_are_parts, tokens_are_sound, tokens_stand};
 pub use lexing::lex;
-pub use places::places_rise;
 pub use sources::Sources;
 pub use token::{Token, TokenKind, Tokens};
 

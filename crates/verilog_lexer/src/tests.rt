@@ -1,5 +1,5 @@
 use super::*;
-use cov_host::{Bytes, Place};
+use cov_host::{Bytes, Name, Place};
 use std::alloc::Global;
 use std::process::Abort;
 use std::test::Fail;
@@ -21,7 +21,7 @@ struct Refusal {
 }
 
 #[rattlefmt::skip]
-const CASES: [Case; 51] = [
+const CASES: [Case; 59] = [
     // clause 2.7.3: keywords are not identifiers
     Case { source: "module m;", kinds: "KIO", texts: "module`m`;" },
     // clause 2.2: spaces, tabs, newlines and formfeeds separate tokens
@@ -90,12 +90,22 @@ const CASES: [Case; 51] = [
     Case { source: "4'd1x 4'dx1", kinds: "DBIDBD", texts: "4`'d1`x`4`'dx`1" },
     // the same for a word behind the digits
     Case { source: "4'o7and", kinds: "DBK", texts: "4`'o7`and" },
+    // clause 2.5.1, example 1: 4af is no number; its parts are two tokens, which the grammar refuses
+    Case { source: "4af", kinds: "DI", texts: "4`af" },
+    // example case white-space-in-source
+    Case { source: "module\x0bm\r\n(\x0cinput\ta ) ;endmodule", kinds: "KIOKIOOK", texts: "module`m`(`input`a`)`;`endmodule" },
+    // example case comments-in-source
+    Case { source: "// one line\nmodule /* several\nlines */ m(input a /**/); // end\nendmodule\n", kinds: "KIOKIOOK", texts: "module`m`(`input`a`)`;`endmodule" },
+    // example case attributes-in-source
+    Case { source: "(* top, note = \"x\" *) module m((* keep *) input a);\nendmodule\n", kinds: "KIOKIOOK", texts: "module`m`(`input`a`)`;`endmodule" },
     // clause 19.3.1, example 1; Icarus Verilog 11 -E gives reg [1:8] data;
     Case { source: "`define wordsize 8\nreg [1:`wordsize] data;", kinds: "KODODOIO", texts: "reg`[`1`:`8`]`data`;" },
     // clause 19.3.1: a comment is no part of the text; Icarus gives 1;
     Case { source: "`define A 1 // c\n`A;", kinds: "DO", texts: "1`;" },
     // clause 19.3.1: a backslash continues the text; Icarus gives 1 + 2;
     Case { source: "`define A 1 \\\n + 2\n`A;", kinds: "DODO", texts: "1`+`2`;" },
+    // example case define-continued-on-next-line
+    Case { source: "`define HEAD module m( \\\n  input a);\n`HEAD\nendmodule\n", kinds: "KIOKIOOK", texts: "module`m`(`input`a`)`;`endmodule" },
     // clause 19.3.1: macros are replaced where they are used; Icarus gives 3;
     Case { source: "`define A `B\n`define B 3\n`A;", kinds: "DO", texts: "3`;" },
     // clause 19.3.1: the latest text counts; Icarus gives 2;
@@ -106,10 +116,16 @@ const CASES: [Case; 51] = [
     Case { source: "`define B\n`ifdef A\nx\n`elsif B\ny\n`elsif B\nz\n`else\nw\n`endif", kinds: "I", texts: "y" },
     // clause 19.4: nested conditions; Icarus gives z
     Case { source: "`ifdef A\n`ifdef B\nx\n`else\ny\n`endif\n`else\nz\n`endif", kinds: "I", texts: "z" },
+    // example case conditions-nested
+    Case { source: "`ifdef A\n`ifdef B\n`else\n`endif\nmodule x(\n`else\n`ifndef B\nm a\n`endif\n`endif\n;", kinds: "IIO", texts: "m`a`;" },
+    // example case condition-taken
+    Case { source: "`define YES\n`ifdef YES\nm a\n`else\nm b\n`endif\n;", kinds: "IIO", texts: "m`a`;" },
     // clause 19.4: ifndef; Icarus gives x
     Case { source: "`ifndef A\nx\n`endif", kinds: "I", texts: "x" },
     // clause 19.4: what is left out defines nothing; Icarus gives y
     Case { source: "`ifdef NO\n`define A 1\n`endif\n`ifdef A\nx\n`else\ny\n`endif", kinds: "I", texts: "y" },
+    // example case left-out-part-is-not-read
+    Case { source: "`ifdef NO\n`undefined_macro \\ `include \"none.vh\"\n// `endif\n/* `endif */ \"`endif\"\n`define X \n`endif\nm a;", kinds: "IIO", texts: "m`a`;" },
     // clause 19.4: comments in what is left out; Icarus gives y
     Case { source: "`ifdef NO\n// `endif\n/* `endif */\nx\n`endif\ny", kinds: "I", texts: "y" },
     // clause 19.4: directives on one line; Icarus gives x y
@@ -127,7 +143,7 @@ const CASES: [Case; 51] = [
 ];
 
 #[rattlefmt::skip]
-const REFUSALS: [Refusal; 28] = [
+const REFUSALS: [Refusal; 41] = [
     // a byte of no token
     Refusal { source: "a\n  \x7f", kind: LexKind::BadByte, line: 2, column: 3, detail: "" },
     // a backslash begins no token
@@ -136,8 +152,12 @@ const REFUSALS: [Refusal; 28] = [
     Refusal { source: "a ` b", kind: LexKind::BadByte, line: 1, column: 3, detail: "" },
     // a string that ends on no line
     Refusal { source: "\n x \"open\ny\"", kind: LexKind::BadByte, line: 2, column: 4, detail: "" },
-    // clause 2.5.1, example 1: 4af is an illegal number
+    // clause 2.5.1: a quote begins a number only before the letter of a base
     Refusal { source: "'q", kind: LexKind::BadByte, line: 1, column: 1, detail: "" },
+    // example case byte-outside-ascii
+    Refusal { source: "module m(input \u{e9});\nendmodule\n", kind: LexKind::BadByte, line: 1, column: 16, detail: "" },
+    // example case string-without-end
+    Refusal { source: "module m(input a);\n  initial $display(\"open);\nendmodule\n", kind: LexKind::BadByte, line: 2, column: 20, detail: "" },
     // a size without digits
     Refusal { source: "  4'b;", kind: LexKind::BadNumber, line: 1, column: 3, detail: "" },
     // a base without digits
@@ -152,6 +172,14 @@ const REFUSALS: [Refusal; 28] = [
     Refusal { source: "'d4294967296", kind: LexKind::BadNumber, line: 1, column: 1, detail: "" },
     // a literal of 2^128
     Refusal { source: "128'd340282366920938463463374607431768211456", kind: LexKind::BadNumber, line: 1, column: 1, detail: "" },
+    // example case literal-huge-decimal
+    Refusal { source: "assign y = 99999999999999999999999999999999999999999999999999;", kind: LexKind::BadNumber, line: 1, column: 12, detail: "" },
+    // example case literal-digit-two-in-binary
+    Refusal { source: "assign y = 1'b2;", kind: LexKind::BadNumber, line: 1, column: 12, detail: "" },
+    // example case literal-digit-eight-in-octal
+    Refusal { source: "assign y = 3'o8;", kind: LexKind::BadNumber, line: 1, column: 12, detail: "" },
+    // example case literal-letter-in-decimal
+    Refusal { source: "assign y = 4'da;", kind: LexKind::BadNumber, line: 1, column: 12, detail: "" },
     // a comment without end
     Refusal { source: "a\n/* b", kind: LexKind::OpenComment, line: 2, column: 1, detail: "" },
     // an attribute without end
@@ -162,6 +190,12 @@ const REFUSALS: [Refusal; 28] = [
     Refusal { source: "a\n `endif", kind: LexKind::OpenCondition, line: 2, column: 2, detail: "" },
     // Icarus: This `ifdef lacks an `endif
     Refusal { source: "`ifdef A\nx", kind: LexKind::OpenCondition, line: 2, column: 2, detail: "" },
+    // example case condition-without-end-after-last-line
+    Refusal { source: "`ifdef X\nmodule m(input a);\nendmodule\n", kind: LexKind::OpenCondition, line: 4, column: 1, detail: "" },
+    // example case else-without-condition
+    Refusal { source: "module m(input a);\n`else\nendmodule\n", kind: LexKind::OpenCondition, line: 2, column: 1, detail: "" },
+    // example case elsif-without-condition
+    Refusal { source: "`elsif X\nmodule m(input a);\nendmodule\n", kind: LexKind::OpenCondition, line: 1, column: 1, detail: "" },
     // a second else
     Refusal { source: "`ifdef A\n`else\n`else\n`endif", kind: LexKind::OpenCondition, line: 3, column: 1, detail: "" },
     // elsif after else
@@ -174,14 +208,22 @@ const REFUSALS: [Refusal; 28] = [
     Refusal { source: "`ifdef\nA", kind: LexKind::UnknownDirective, line: 1, column: 1, detail: "" },
     // an inclusion without a name
     Refusal { source: "`include x", kind: LexKind::UnknownDirective, line: 1, column: 1, detail: "" },
+    // example case include-without-name
+    Refusal { source: "`include \"\"\nmodule m(input a);\nendmodule\n", kind: LexKind::UnknownDirective, line: 1, column: 1, detail: "" },
+    // example case nounconnected-drive
+    Refusal { source: "  `nounconnected_drive\nmodule m(input a);\nendmodule\n", kind: LexKind::UnknownDirective, line: 1, column: 3, detail: "" },
     // open ports that are driven
     Refusal { source: "`unconnected_drive pull1", kind: LexKind::UnknownDirective, line: 1, column: 1, detail: "" },
     // a macro that is not defined
     Refusal { source: "a `FOO", kind: LexKind::UnknownMacro, line: 1, column: 3, detail: "FOO" },
+    // example case unknown-macro-after-undef
+    Refusal { source: "`define FOO 1\n`undef FOO\nmodule m(input [`FOO:0] a);\nendmodule\n", kind: LexKind::UnknownMacro, line: 3, column: 17, detail: "FOO" },
     // the same within a macro
     Refusal { source: "`define A `FOO\n a `A", kind: LexKind::UnknownMacro, line: 2, column: 4, detail: "FOO" },
     // a macro that names itself
     Refusal { source: "`define A `A\n `A", kind: LexKind::MacroDepth, line: 2, column: 2, detail: "" },
+    // example case macros-that-name-each-other
+    Refusal { source: "`define A `B\n`define B `A\nmodule m(input [`A:0] a);\nendmodule\n", kind: LexKind::MacroDepth, line: 3, column: 17, detail: "" },
     // an include that is not there
     Refusal { source: "\n`include \"x.vh\"", kind: LexKind::IncludeMissing, line: 2, column: 1, detail: "x.vh" },
 ];
@@ -191,6 +233,20 @@ fn one_root(alloc: Global, text: &str) -> Result<Sources, Fail> {
     let mut sources = Sources::new(alloc);
     let bytes = Bytes::from_vec(text.as_bytes().to_vec(alloc)?);
     sources.add_root("m.v", bytes)?;
+    Ok(sources)
+}
+
+/// Sources from their names and texts, each read by itself or only where it is included.
+fn sources_of(alloc: Global, files: &[(&str, &str, bool)]) -> Result<Sources, Fail> {
+    let mut sources = Sources::new(alloc);
+    for (name, text, root) in files {
+        let bytes = Bytes::from_vec(text.as_bytes().to_vec(alloc)?);
+        if *root {
+            sources.add_root(name, bytes)?;
+        } else {
+            sources.add_include(name, bytes)?;
+        }
+    }
     Ok(sources)
 }
 
@@ -248,30 +304,39 @@ fn tokens_of_sources(rt: HostRuntime) -> Result<(), Fail> {
     Ok(())
 }
 
-/// The fault of the source is that of the refusal.
-fn assert_refusal(rt: &impl Abort, alloc: Global, refusal: &Refusal) -> Result<(), Fail> {
-    let sources = one_root(alloc, refusal.source)?;
+/// The fault of the sources is of this kind and stands at this place. Gives its detail.
+fn assert_fault(
+    rt: &impl Abort,
+    alloc: Global,
+    sources: &Sources,
+    kind: LexKind,
+    place: Place,
+) -> Result<Option<Name>, Fail> {
     let defines = Defines::new(alloc);
     let Err(
         LexFault::At {
-            kind,
-            place: Some(place),
+            kind: found,
+            place: Some(at),
             detail,
         },
-    ) = lex(alloc, &sources, &defines)
+    ) = lex(alloc, sources, &defines)
     else {
         return Err(Fail::new("no fault at a place"));
     };
-    assert_eq!(rt; kind, refusal.kind);
-    assert_eq!(rt;
-        place,
-        Place {
-            source: 1,
-            line: refusal.line,
-            column: refusal.column
-        }
-    );
-    match detail {
+    assert_eq!(rt; found, kind);
+    assert_eq!(rt; at, place);
+    Ok(detail)
+}
+
+/// The fault of the source is that of the refusal.
+fn assert_refusal(rt: &impl Abort, alloc: Global, refusal: &Refusal) -> Result<(), Fail> {
+    let sources = one_root(alloc, refusal.source)?;
+    let place = Place {
+        source: 1,
+        line: refusal.line,
+        column: refusal.column,
+    };
+    match assert_fault(rt, alloc, &sources, refusal.kind, place)? {
         Some(name) => assert!(rt; name.as_slice() == refusal.detail.as_bytes()),
         None => assert!(rt; refusal.detail.is_empty()),
     }
@@ -330,38 +395,247 @@ fn tokens_stand_in_their_files(rt: HostRuntime) -> Result<(), Fail> {
     Ok(())
 }
 
-#[test]
-fn conditions_close_in_their_files(rt: HostRuntime) -> Result<(), Fail> {
-    let mut sources = one_root(rt.alloc(), "`ifdef NO\n`else\n`include \"x.vh\"\n")?;
-    let bytes = Bytes::from_vec(b"`endif\n".as_slice().to_vec(rt.alloc())?);
-    sources.add_include("x.vh", bytes)?;
-    let defines = Defines::new(rt.alloc());
-    let Err(LexFault::At { kind, place, .. }) = lex(rt.alloc(), &sources, &defines) else {
-        return Err(Fail::new("no fault"));
+/// Sources, and the fault that stands in one of them.
+fn assert_fault_of(
+    rt: &impl Abort,
+    alloc: Global,
+    files: &[(&str, &str, bool)],
+    kind: LexKind,
+    place: (u32, u32, u32),
+) -> Result<(), Fail> {
+    let sources = sources_of(alloc, files)?;
+    let (source, line, column) = place;
+    let place = Place {
+        source,
+        line,
+        column,
     };
-    assert_eq!(&rt; kind, LexKind::OpenCondition);
-    assert_eq!(&rt;
-        place,
-        Some(Place {
-            source: 2,
-            line: 1,
-            column: 1
-        })
-    );
+    let _ = assert_fault(rt, alloc, &sources, kind, place)?;
+    Ok(())
+}
+
+#[test]
+fn faults_stand_in_their_files(rt: HostRuntime) -> Result<(), Fail> {
+    let alloc = rt.alloc();
+    // example case condition-closes-in-other-file
+    let files = [
+        ("m.v", "`ifdef NO\n`else\n`include \"x.vh\"\n", true),
+        ("x.vh", "`endif\n", false),
+    ];
+    assert_fault_of(&rt, alloc, &files, LexKind::OpenCondition, (2, 1, 1))?;
+    // example case condition-open-in-included-file
+    let files = [
+        (
+            "m.v",
+            "`include \"x.vh\"\nmodule m(input a);\nendmodule\n`endif\n",
+            true,
+        ),
+        ("x.vh", "`ifdef NO\n", false),
+    ];
+    assert_fault_of(&rt, alloc, &files, LexKind::OpenCondition, (2, 2, 1))?;
+    // example case fault-in-file-of-folder
+    let files = [
+        (
+            "m.v",
+            "`include \"x.vh\"\nmodule m(input a);\nendmodule\n",
+            true,
+        ),
+        ("x.vh", "\\\n", false),
+    ];
+    assert_fault_of(&rt, alloc, &files, LexKind::BadByte, (2, 1, 1))?;
+    // example case fault-in-second-source
+    let files = [
+        ("a.v", "module m(input a);\nendmodule\n", true),
+        ("b.v", "\n  \\\n", true),
+    ];
+    assert_fault_of(&rt, alloc, &files, LexKind::BadByte, (2, 2, 3))?;
+    // example case include-that-includes-itself
+    let files = [
+        (
+            "m.v",
+            "`include \"a.vh\"\nmodule m(input a);\nendmodule\n",
+            true,
+        ),
+        ("a.vh", "`include \"a.vh\"\n", false),
+    ];
+    assert_fault_of(&rt, alloc, &files, LexKind::MacroDepth, (2, 1, 1))
+}
+
+/// The texts of the tokens of the sources are these, with grave accents between.
+fn assert_texts(
+    rt: &impl Abort,
+    alloc: Global,
+    sources: &Sources,
+    defines: &Defines,
+    want: &str,
+) -> Result<(), Fail> {
+    let tokens = lex(alloc, sources, defines)?;
+    let texts = texts(alloc, &tokens)?;
+    assert!(rt; texts.as_slice() == want.as_bytes());
+    Ok(())
+}
+
+#[test]
+fn files_are_one_text(rt: HostRuntime) -> Result<(), Fail> {
+    let alloc = rt.alloc();
+    let defines = Defines::new(alloc);
+    // example cases module-split-over-two-sources and define-carries-over-to-next-source
+    let files = [
+        ("a.v", "`define NAME a\nmodule m(\n", true),
+        ("m.v", "input `NAME);\nendmodule\n", true),
+    ];
+    let sources = sources_of(alloc, &files)?;
+    let want = "module`m`(`input`a`)`;`endmodule";
+    assert_texts(&rt, alloc, &sources, &defines, want)?;
+    // example case include-within-include
+    let files = [
+        (
+            "m.v",
+            "`include \"b.vh\"\n`include \"a.vh\"\nmodule m(input [`TOP:0] a);",
+            true,
+        ),
+        ("b.vh", "`include \"c.vh\"\n", false),
+        ("c.vh", "`define TOP 3\n", false),
+        ("a.vh", "\n", false),
+    ];
+    let sources = sources_of(alloc, &files)?;
+    let want = "module`m`(`input`[`3`:`0`]`a`)`;";
+    assert_texts(&rt, alloc, &sources, &defines, want)?;
+    // example case includes-after-all-roots
+    let files = [
+        ("a.v", "`include \"x.vh\"\n", true),
+        ("m.v", "module m(input [`TOP:0] a);", true),
+        ("x.vh", "`define TOP 3\n", false),
+    ];
+    let sources = sources_of(alloc, &files)?;
+    assert_texts(&rt, alloc, &sources, &defines, want)?;
+    // example case include-left-out-is-not-opened
+    let files = [("m.v", "`ifdef NO\n`include \"none.vh\"\n`endif\nm", true)];
+    let sources = sources_of(alloc, &files)?;
+    assert_texts(&rt, alloc, &sources, &defines, "m")
+}
+
+#[test]
+fn defines_of_the_call_count(rt: HostRuntime) -> Result<(), Fail> {
+    let alloc = rt.alloc();
+    let mut defines = Defines::new(alloc);
+    // example cases define-by-word-later-replaces, define-by-word-with-expression and define-by-word-in-condition
+    defines.add("TOP", "1")?;
+    defines.add("TOP", "3")?;
+    defines.add("R", "3:0")?;
+    defines.add("SLIM", "")?;
+    let text = "`ifdef WIDE\njunk\n`endif\n`ifdef SLIM\n[`TOP:0] [`R] `SLIM\n`endif\n";
+    let sources = one_root(alloc, text)?;
+    assert_texts(&rt, alloc, &sources, &defines, "[`3`:`0`]`[`3`:`0`]")
+}
+
+/// The name of a macro: so many letters.
+fn push_name(text: &mut Vec<u8>, letters: usize) -> Result<(), Fail> {
+    for _ in 0..letters {
+        text.push(b'x')?;
+    }
+    Ok(())
+}
+
+/// So many macros, each of which names the next, and a use of the first.
+fn nested_macros(alloc: Global, count: usize) -> Result<Sources, Fail> {
+    let mut text = Vec::new(alloc);
+    for letters in 1..count {
+        text.extend_from_slice(b"`define ".as_slice())?;
+        push_name(&mut text, letters)?;
+        text.extend_from_slice(b" `".as_slice())?;
+        push_name(&mut text, letters)?;
+        text.extend_from_slice(b"x\n".as_slice())?;
+    }
+    text.extend_from_slice(b"`define ".as_slice())?;
+    push_name(&mut text, count)?;
+    text.extend_from_slice(b" 3\nmodule m(input [`x:0] a);\nendmodule\n".as_slice())?;
+    let mut sources = Sources::new(alloc);
+    sources.add_root("m.v", Bytes::from_vec(text))?;
+    Ok(sources)
+}
+
+#[test]
+fn macros_nest_64_deep(rt: HostRuntime) -> Result<(), Fail> {
+    let alloc = rt.alloc();
+    // example case macros-64-deep
+    let sources = nested_macros(alloc, 64)?;
+    let defines = Defines::new(alloc);
+    let want = "module`m`(`input`[`3`:`0`]`a`)`;`endmodule";
+    assert_texts(&rt, alloc, &sources, &defines, want)?;
+    // example case macros-65-deep
+    let sources = nested_macros(alloc, 65)?;
+    let place = Place {
+        source: 1,
+        line: 66,
+        column: 17,
+    };
+    let _ = assert_fault(&rt, alloc, &sources, LexKind::MacroDepth, place)?;
+    Ok(())
+}
+
+#[test]
+fn an_identifier_has_255_bytes(rt: HostRuntime) -> Result<(), Fail> {
+    let alloc = rt.alloc();
+    // example case identifier-of-256-bytes
+    let mut text = b"module m(input ".as_slice().to_vec(alloc)?;
+    push_name(&mut text, 256)?;
+    text.extend_from_slice(b");\nendmodule\n".as_slice())?;
+    let mut sources = Sources::new(alloc);
+    sources.add_root("m.v", Bytes::from_vec(text))?;
+    let place = Place {
+        source: 1,
+        line: 1,
+        column: 271,
+    };
+    let _ = assert_fault(&rt, alloc, &sources, LexKind::BadByte, place)?;
+    Ok(())
+}
+
+/// The source is not added, by this kind of fault, which names the file.
+fn assert_not_added(
+    rt: &impl Abort,
+    added: Result<(), LexFault>,
+    kind: LexKind,
+) -> Result<(), Fail> {
+    let Err(
+        LexFault::At {
+            kind: found,
+            place: None,
+            detail: Some(name),
+        },
+    ) = added
+    else {
+        return Err(Fail::new("no fault without a place"));
+    };
+    assert_eq!(rt; found, kind);
+    assert!(rt; name.as_slice() == b"m.v".as_slice());
     Ok(())
 }
 
 #[test]
 fn no_source_is_added_past_the_limit(rt: HostRuntime) -> Result<(), Fail> {
+    // example case too-many-sources
     let mut sources = Sources::new(rt.alloc());
     for _ in 0..256 {
         sources.add_root("m.v", Bytes::new(rt.alloc()))?;
     }
-    let Err(LexFault::At { kind, place, .. }) = sources.add_root("n.v", Bytes::new(rt.alloc()))
-    else {
-        return Err(Fail::new("no fault"));
-    };
-    assert_eq!(&rt; kind, LexKind::TooManySources);
-    assert_eq!(&rt; place, None);
-    Ok(())
+    let added = sources.add_root("m.v", Bytes::new(rt.alloc()));
+    assert_not_added(&rt, added, LexKind::TooManySources)
+}
+
+/// As many blanks as a source of the longest sources has.
+fn blanks(alloc: Global) -> Result<Bytes, Fail> {
+    Ok(Bytes::from_vec(vec![in alloc; b' '; 262_145]?))
+}
+
+#[test]
+fn sources_are_no_longer_than_the_most(rt: HostRuntime) -> Result<(), Fail> {
+    // example case sources-too-long
+    let mut sources = Sources::new(rt.alloc());
+    for _ in 0..255 {
+        sources.add_root("m.v", blanks(rt.alloc())?)?;
+    }
+    let added = sources.add_root("m.v", blanks(rt.alloc())?);
+    assert_not_added(&rt, added, LexKind::SourcesTooLong)
 }
