@@ -1,0 +1,10 @@
+pub mod Masked
+pub mod Bits
+pub mod Cases
+pub mod Allowed
+pub mod Tight
+pub mod Widths
+pub mod Strict
+pub mod Reduced
+pub mod Truths
+pub mod UnarySound

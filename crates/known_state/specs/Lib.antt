@@ -1,0 +1,5 @@
+pub mod Partly
+pub mod Stored
+pub mod Join
+pub mod Agreed
+pub mod Answers
