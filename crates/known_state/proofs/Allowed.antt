@@ -126,3 +126,9 @@ pub joined_right : (ps qs : List (Option Bit)) (bs : List Bit) → length ps ≡
 joined_right ps qs bs e h =
     allowed_by_places (joined ps qs) bs (length-joined ps qs e ∙ e ∙ length-allowed qs bs h) (λ i b l k. let m : i < length ps = rw (length-joined ps qs e) at l in
     place_allowed qs bs i b h (omega arith) (join_some _ _ b (sym (get_or-joined ps qs i e m) ∙ k)).1)
+
+pub allows_at : (ps : List (Option Bit)) (bs : List Bit) (i : ℕ) → allows_bits ps bs ≡ true → i < length ps → allows_bit (get_or ps i None) (get_or bs i X) ≡ true
+allows_at [] bs i h l = absurd (omega arith)
+allows_at (p ∷ ps) [] i h l = cc
+allows_at (p ∷ ps) (b ∷ bs) zero h l = (and_parts (allows_bit p b) (allows_bits ps bs) h).0
+allows_at (p ∷ ps) (b ∷ bs) (suc i) h l = allows_at ps bs i (and_parts (allows_bit p b) (allows_bits ps bs) h).1 (omega arith)

@@ -38,7 +38,7 @@ are_sure-unknown (suc w) h = refl
 
 -- ---- filled
 
-get_or-filled : (b : Bit) (ps : List (Option Bit)) (i : ℕ) → i < length ps → get_or (filled b ps) i X ≡ unwrap_or (get_or ps i None) b
+pub get_or-filled : (b : Bit) (ps : List (Option Bit)) (i : ℕ) → i < length ps → get_or (filled b ps) i X ≡ unwrap_or (get_or ps i None) b
 get_or-filled b ps i l = get_or-map (λ p. unwrap_or p b) ps i None X l
 
 pub length-filled_from : (ps : List (Option Bit)) (cs : List Bit) → length (filled_from ps cs) ≡ length ps
@@ -46,7 +46,7 @@ length-filled_from [] cs = refl
 length-filled_from (p ∷ ps) [] = ap suc (length-filled_from ps [])
 length-filled_from (p ∷ ps) (c ∷ cs) = ap suc (length-filled_from ps cs)
 
-get_or-filled_from : (ps : List (Option Bit)) (cs : List Bit) (i : ℕ) → i < length ps → get_or (filled_from ps cs) i X ≡ unwrap_or (get_or ps i None) (get_or cs i Zero)
+pub get_or-filled_from : (ps : List (Option Bit)) (cs : List Bit) (i : ℕ) → i < length ps → get_or (filled_from ps cs) i X ≡ unwrap_or (get_or ps i None) (get_or cs i Zero)
 get_or-filled_from [] cs i h = absurd (omega arith)
 get_or-filled_from (p ∷ ps) [] zero h = refl
 get_or-filled_from (p ∷ ps) [] (suc i) h = get_or-filled_from ps [] i (omega arith)

@@ -1,5 +1,5 @@
 -- Facts on single bits that are decided by trying all of them.
-use Rattle.std.proofs.Common.{◌≡◌, Bool, true, false, not, ◌&&◌, ◌||◌, Option, Some, None, refl}
+use Rattle.std.proofs.Common.{◌≡◌, Bool, true, false, not, ◌&&◌, ◌||◌, Option, Some, None, refl, ap, sym, ◌∙◌}
 use Rattle.std.proofs.lemmas.Bool.{and_parts}
 use Rattle.four_state.specs.declared.bit.Bit.{Bit}
 use Rattle.four_state.specs.declared.bit.Bit.TheVariants.{Zero, One, X, Z}
@@ -55,3 +55,6 @@ same_bit_eq X Z h = cc
 same_bit_eq Z Zero h = cc
 same_bit_eq Z One h = cc
 same_bit_eq Z X h = cc
+
+pub same_bit_of : (b c : Bit) → b ≡ c → same_bit b c ≡ true
+same_bit_of b c e = ap (same_bit b) (sym e) ∙ same_bit_refl b

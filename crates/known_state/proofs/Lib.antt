@@ -8,3 +8,10 @@ pub mod Strict
 pub mod Reduced
 pub mod Truths
 pub mod UnarySound
+pub mod Pairs
+pub mod PairStrict
+pub mod Matched
+pub mod Equalities
+pub mod Shifted
+pub mod BinarySound
+pub mod BinaryLaws

@@ -37,18 +37,21 @@ strict_if k1 false true v u w r1 rx r d e h one width = let f = one refl in rw f
 
 -- ---- operands
 
-known_case : (p : Option Bit) (b : Bit) → allows_bit p b ≡ true → is_known b ≡ true → is_known (unwrap_or p One) ≡ true
-known_case p b h k =
-    implied (is_known b) _ (implied (allows_bit p b) _ (every_holds (λ c. implies (allows_bit p c) (implies (is_known c) (is_known (unwrap_or p One)))) (option_holds (λ o. every (λ c. implies (allows_bit o c) (implies (is_known c) (is_known (unwrap_or o One))))) refl p) b) h) k
+known_case : (d : Bit) → is_known d ≡ true → (p : Option Bit) (b : Bit) → allows_bit p b ≡ true → is_known b ≡ true → is_known (unwrap_or p d) ≡ true
+known_case d e None b h k = e
+known_case d e (Some a) b h k = ap is_known (same_bit_eq a b h) ∙ k
 
--- where an allowed vector is known, so is the one that has 1 where it is not sure
-pub known_for_one : (ps : List (Option Bit)) (bs : List Bit) → allows_bits ps bs ≡ true → all_known bs ≡ true → all_known (filled One ps) ≡ true
-known_for_one [] bs h k = refl
-known_for_one (p ∷ ps) [] h k = cc
-known_for_one (p ∷ ps) (b ∷ bs) h k =
+-- where an allowed vector is known, so is the one that has 0 or 1 where it is not sure
+pub known_for : (d : Bit) → is_known d ≡ true → (ps : List (Option Bit)) (bs : List Bit) → allows_bits ps bs ≡ true → all_known bs ≡ true → all_known (filled d ps) ≡ true
+known_for d e [] bs h k = refl
+known_for d e (p ∷ ps) [] h k = cc
+known_for d e (p ∷ ps) (b ∷ bs) h k =
     let here = and_parts (allows_bit p b) (allows_bits ps bs) h in
     let known = and_parts (is_known b) (all_known bs) k in
-    both_true _ _ (known_case p b here.0 known.0) (known_for_one ps bs here.1 known.1)
+    both_true _ _ (known_case d e p b here.0 known.0) (known_for d e ps bs here.1 known.1)
+
+pub known_for_one : (ps : List (Option Bit)) (bs : List Bit) → allows_bits ps bs ≡ true → all_known bs ≡ true → all_known (filled One ps) ≡ true
+known_for_one ps bs h k = known_for One refl ps bs h k
 
 -- where the vector with x is known, all bits are sure, so it is the only one
 pub known_for_x : (ps : List (Option Bit)) (bs : List Bit) → allows_bits ps bs ≡ true → all_known (filled X ps) ≡ true → bs ≡ filled X ps

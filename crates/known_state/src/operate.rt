@@ -2,10 +2,10 @@
 
 ghost use Rattle.std.specs.Prelude.{◌≡◌, ◌&&◌, not, false, IsTrue};
 ghost use Rattle.std.specs.Bool.{OnTrue};
-ghost use Rattle.four_state.specs.Vector.{Vector};
+ghost use Rattle.four_state.specs.Vector.{Vector, all_known};
 ghost use Rattle.four_state.specs.Operators.{unary_value, unary_vector, unary_keeps_sign, binary_value, binary_vector, binary_keeps_sign, takes_same_shape, choice_value, choice_vector};
-ghost use Rattle.known_state.specs.Partly.{allows, told_of, is_told, blame_of, with_blame};
-ghost use Rattle.known_state.specs.Agreed.{agreed as agreed_bits, both_moved as both_moved_bits, both_agreed};
+ghost use Rattle.known_state.specs.Partly.{allows, filled, told_of, is_told, blame_of, with_blame};
+ghost use Rattle.known_state.specs.Agreed.{agreed as agreed_bits, both_agreed as both_agreed_bits};
 ghost use Rattle.known_state.specs.Answers.{IsTight, HaveSameShape, allow_both, is_shift as is_shift_operator};
 ghost use Rattle.known_state.specs.Join.{first_blame};
 
@@ -24,6 +24,45 @@ fn agreed(op: Unary, a: &Known) -> Known
         .narrowed(Four::unary(op, &a.filled(Bit::X)), a.blame())
 }
 
+/// What an operator with two operands gives for a few values of the bits that are not sure: all 0, all 1, 0 on the
+/// left and 1 on the right, all x, and for each operand the bits of the other.
+fn both_agreed(op: Binary, a: &Known, b: &Known) -> Known
+    requires { OnTrue (takes_same_shape op) (HaveSameShape a.now b.now) }
+    ensures { result ≡ with_blame (both_agreed_bits (binary_value op a.now.signed) a.now.bits b.now.bits) (binary_keeps_sign op && a.now.signed) (first_blame a.now b.now) }
+{
+    if a.is_told() && b.is_told() {
+        return Known::told(Four::binary(op, &a.value(), &b.value()));
+    }
+    let blame = Known::first_blame(a, b);
+    let low = a.filled(Bit::Zero);
+    let (zeros, ones) = (b.filled(Bit::Zero), b.filled(Bit::One));
+    Known::told(Four::binary(op, &low, &zeros))
+        .narrowed(Four::binary(op, &a.filled(Bit::One), &ones), blame)
+        .narrowed(Four::binary(op, &low, &ones), blame)
+        .narrowed(
+            Four::binary(op, &a.filled(Bit::X), &b.filled(Bit::X)),
+            blame,
+        )
+        .narrowed(
+            Four::binary(op, &a.filled_from(&zeros), &b.filled_from(&low)),
+            blame,
+        )
+}
+
+/// Whether an operator is a shift by an amount of which some bit is not sure, and none is sure to be x or z.
+fn has_unsure_amount(op: Binary, amount: &Known) -> bool
+    ensures { result ≡ (is_shift_operator op && (not (is_told amount.now) && all_known (filled Bit.Zero amount.now.bits))) }
+{
+    let is_shift = matches!(
+        op,
+        Binary::ShiftLeft
+            | Binary::ShiftRight
+            | Binary::ArithmeticShiftLeft
+            | Binary::ArithmeticShiftRight
+    );
+    is_shift && !amount.is_told() && amount.value().is_known()
+}
+
 impl Known {
     /// What an operator with one operand gives. A bit is sure exactly where it is the same for all allowed values.
     pub fn unary(op: Unary, a: &Known) -> Known
@@ -33,5 +72,22 @@ impl Known {
         ensures blame { result.blame ≡ blame_of result.bits a.now.blame }
     {
         agreed(op, a)
+    }
+
+    /// What an operator with two operands gives. They have equal widths and signs, except with a shift, `&&` or `||`.
+    /// A bit is sure exactly where it is the same for all allowed values; of a shift by an amount that is not sure
+    /// none may be.
+    pub fn binary(op: Binary, a: &Known, b: &Known) -> Known
+        requires { OnTrue (takes_same_shape op) (HaveSameShape a.now b.now) }
+        ensures sound { (v w : Vector) → IsTrue (allows a.now v) → IsTrue (allows b.now w) → IsTrue (allows result (binary_vector op v w)) }
+        ensures tight { (is_shift_operator op && not (is_told b.now)) ≡ false → IsTight (allow_both a.now b.now) (λ p. binary_value op p.0.signed p.0.bits p.1.bits) result.bits }
+        ensures exact { (v w : Vector) → a.now ≡ told_of v → b.now ≡ told_of w → result ≡ told_of (binary_vector op v w) }
+        ensures blame { result.blame ≡ blame_of result.bits (first_blame a.now b.now) }
+    {
+        if has_unsure_amount(op, b) {
+            Known::unknown(a.width(), a.is_signed(), Known::first_blame(a, b))
+        } else {
+            both_agreed(op, a, b)
+        }
     }
 }
