@@ -15,3 +15,6 @@ pub mod Equalities
 pub mod Shifted
 pub mod BinarySound
 pub mod BinaryLaws
+pub mod Moved
+pub mod MaybeLaws
+pub mod ChoiceLaws

@@ -17,7 +17,7 @@ use Rattle.known_state.proofs.Strict.{known_for}
 use Rattle.known_state.proofs.Pairs.{IsAgreed, both_agreed_sound}
 use Rattle.known_state.proofs.Widths.{length-shift_left, length-shift_right}
 
-moved_bit : (p : Option Bit) (c b : Bit) → allows_bit p c ≡ true → unwrap_or p Zero ≡ b → unwrap_or p One ≡ b → c ≡ b
+pub moved_bit : (p : Option Bit) (c b : Bit) → allows_bit p c ≡ true → unwrap_or p Zero ≡ b → unwrap_or p One ≡ b → c ≡ b
 moved_bit None c b h e f = cc
 moved_bit (Some a) c b h e f = sym (same_bit_eq a c h) ∙ e
 

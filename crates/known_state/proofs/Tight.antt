@@ -13,15 +13,15 @@ use Rattle.known_state.proofs.Allowed.{join_some}
 use Rattle.known_state.proofs.Cases.{same_bit_refl}
 
 -- a value that is allowed, whose answer has this bit there
-record Gives {A : Type 0} (allowed : A → Bool) (answer : A → List Bit) (place : ℕ) (bit : Bit) : Type 0 where
-  value : A
-  is_allowed : IsTrue (allowed value)
-  gives : get_or (answer value) place X ≡ bit
+pub record Gives {A : Type 0} (allowed : A → Bool) (answer : A → List Bit) (place : ℕ) (bit : Bit) : Type 0 where
+  pub value : A
+  pub is_allowed : IsTrue (allowed value)
+  pub gives : get_or (answer value) place X ≡ bit
 
 -- the bits are tight, and each sure one is given
 pub record IsReached {A : Type 0} (allowed : A → Bool) (answer : A → List Bit) (ps : List (Option Bit)) : Type 0 where
   pub tight : IsTight allowed answer ps
-  given : (i : ℕ) (b : Bit) → i < length ps → get_or ps i None ≡ Some b → Gives allowed answer i b
+  pub given : (i : ℕ) (b : Bit) → i < length ps → get_or ps i None ≡ Some b → Gives allowed answer i b
 
 module _ {A : Type 0} (allowed : A → Bool) (answer : A → List Bit) where
   some_at : (x : A) (i : ℕ) → i < length (told (answer x)) → get_or (told (answer x)) i None ≡ Some (get_or (answer x) i X)

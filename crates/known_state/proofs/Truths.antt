@@ -128,3 +128,18 @@ truths_hold p h (told t) = every_truth_holds (λ u. p u u u u) (and_parts _ _ (a
 truths_hold p h (free t) = every_truth_holds (λ u. p False True Strange u) (and_parts _ _ (and_parts _ _ h).0).1 t
 truths_hold p h bound_true = (and_parts _ _ (and_parts _ _ h).1).0
 truths_hold p h bound_strange = (and_parts _ _ (and_parts _ _ h).1).1
+
+-- ---- one truth
+
+truth_true : (one zeros : Bool) → truth_by one zeros ≡ True → one ≡ true
+truth_true true z h = refl
+truth_true false true h = cc
+truth_true false false h = cc
+
+-- a vector that is true with 0 where it is not sure is true for all values
+pub true_for_all : (ps : List (Option Bit)) (bs : List Bit) → allows_bits ps bs ≡ true → truth (filled Zero ps) ≡ True → truth bs ≡ True
+true_for_all ps bs h e = is_true ps bs h (truth_true (list_any is_one (filled Zero ps)) (list_all is_zero (filled Zero ps)) e) bs h
+
+-- and with 1 where it is not sure it is true
+pub true_with_one : (ps : List (Option Bit)) → are_sure ps ≡ false → truth (filled One ps) ≡ True
+true_with_one ps unsure = one_true (list_any is_one (filled One ps)) (list_all is_zero (filled One ps)) (some_one ps unsure)

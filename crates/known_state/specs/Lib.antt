@@ -3,3 +3,5 @@ pub mod Stored
 pub mod Join
 pub mod Agreed
 pub mod Answers
+pub mod Choice
+pub mod Maybe

@@ -69,7 +69,7 @@ impl Known {
         ensures sound { (v : Vector) → IsTrue (allows a.now v) → IsTrue (allows result (unary_vector op v)) }
         ensures tight { IsTight (allows a.now) (λ v. unary_value op v.bits) result.bits }
         ensures exact { (v : Vector) → a.now ≡ told_of v → result ≡ told_of (unary_vector op v) }
-        ensures blame { result.blame ≡ blame_of result.bits a.now.blame }
+        ensures blame { is_told result ≡ false → result.blame ≡ a.now.blame }
     {
         agreed(op, a)
     }
@@ -82,7 +82,7 @@ impl Known {
         ensures sound { (v w : Vector) → IsTrue (allows a.now v) → IsTrue (allows b.now w) → IsTrue (allows result (binary_vector op v w)) }
         ensures tight { (is_shift_operator op && not (is_told b.now)) ≡ false → IsTight (allow_both a.now b.now) (λ p. binary_value op p.0.signed p.0.bits p.1.bits) result.bits }
         ensures exact { (v w : Vector) → a.now ≡ told_of v → b.now ≡ told_of w → result ≡ told_of (binary_vector op v w) }
-        ensures blame { result.blame ≡ blame_of result.bits (first_blame a.now b.now) }
+        ensures blame { is_told result ≡ false → result.blame ≡ first_blame a.now b.now }
     {
         if has_unsure_amount(op, b) {
             Known::unknown(a.width(), a.is_signed(), Known::first_blame(a, b))
