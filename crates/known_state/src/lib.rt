@@ -13,3 +13,6 @@ mod truth;
 
 pub use known::Known;
 pub use maybe::{KnownTruth, Maybe};
+
+#[cfg(test)]
+mod tests;

@@ -1,6 +1,6 @@
 //! The operators (IEEE 1364-2001, clause 4.1): what is the same for all values of the bits that are not sure.
 
-ghost use Rattle.std.specs.Prelude.{◌≡◌, ◌&&◌, not, false, IsTrue};
+ghost use Rattle.std.specs.Prelude.{◌≡◌, ◌↔◌, ◌&&◌, not, false, IsTrue};
 ghost use Rattle.std.specs.Bool.{OnTrue};
 ghost use Rattle.four_state.specs.Vector.{Vector, all_known};
 ghost use Rattle.four_state.specs.Operators.{unary_value, unary_vector, unary_keeps_sign, binary_value, binary_vector, binary_keeps_sign, takes_same_shape, choice_value, choice_vector};
@@ -64,6 +64,13 @@ fn has_unsure_amount(op: Binary, amount: &Known) -> bool
 }
 
 impl Known {
+    /// Whether two vectors have equal widths and signs.
+    pub fn has_same_shape(&self, other: &Known) -> bool
+        ensures { IsTrue result ↔ HaveSameShape self.now other.now }
+    {
+        self.width() == other.width() && self.is_signed() == other.is_signed()
+    }
+
     /// What an operator with one operand gives. A bit is sure exactly where it is the same for all allowed values.
     pub fn unary(op: Unary, a: &Known) -> Known
         ensures sound { (v : Vector) → IsTrue (allows a.now v) → IsTrue (allows result (unary_vector op v)) }
