@@ -3,10 +3,11 @@ use Rattle.std.proofs.Common.{◌≡◌, ℕ, zero, suc, ◌<◌, Bool, true, fa
 use Rattle.std.proofs.lemmas.Bool.{and_parts}
 use Rattle.std.proofs.lemmas.List.{length-map}
 use Rattle.std.specs.Option.{unwrap_or}
+use Rattle.std.specs.Prelude.{IsTrue}
 use Rattle.four_state.specs.declared.bit.Bit.{Bit}
 use Rattle.four_state.specs.declared.bit.Bit.TheVariants.{Zero, X}
-use Rattle.four_state.specs.Vector.{same_bit}
-use Rattle.known_state.specs.Partly.{allows_bit, allows_bits, same_sign, are_sure, filled, filled_from}
+use Rattle.four_state.specs.Vector.{Vector, same_bit}
+use Rattle.known_state.specs.Partly.{Partly, allows, told_of, allows_bit, allows_bits, same_sign, are_sure, filled, filled_from}
 use Rattle.known_state.specs.Join.{join_bit, joined}
 use Rattle.known_state.specs.Agreed.{told}
 use Rattle.known_state.proofs.Bits.{length-joined, get_or-joined}
@@ -80,6 +81,16 @@ pub are_sure_told : (bs : List Bit) → are_sure (told bs) ≡ true
 are_sure_told [] = refl
 are_sure_told (b ∷ bs) = are_sure_told bs
 
+pub sure_told : (b : Bit) (ps : List (Option Bit)) → are_sure ps ≡ true → ps ≡ told (filled b ps)
+sure_told b [] h = refl
+sure_told b (None ∷ ps) h = cc
+sure_told b (Some a ∷ ps) h = ap (λ qs. Some a ∷ qs) (sure_told b ps h)
+
+-- a vector of which all bits are sure and nothing is to blame is told whole
+pub told_whole : (ps : List (Option Bit)) (v : Vector) (thing : ℕ) → filled Zero ps ≡ v.bits → are_sure ps ≡ true → thing ≡ 0 → record { bits = ps; signed = v.signed; blame = thing } ≡ told_of v
+told_whole ps v thing bits sure spared =
+    ap (λ qs. record { bits = qs; signed = v.signed; blame = thing }) (sure_told Zero ps sure ∙ ap told bits) ∙ ap (λ n. record { bits = told v.bits; signed = v.signed; blame = n }) spared
+
 -- ---- what a join allows
 
 pub join_some : (p q : Option Bit) (b : Bit) → join_bit p q ≡ Some b → (p ≡ Some b) × (q ≡ Some b)
@@ -126,6 +137,11 @@ pub joined_right : (ps qs : List (Option Bit)) (bs : List Bit) → length ps ≡
 joined_right ps qs bs e h =
     allowed_by_places (joined ps qs) bs (length-joined ps qs e ∙ e ∙ length-allowed qs bs h) (λ i b l k. let m : i < length ps = rw (length-joined ps qs e) at l in
     place_allowed qs bs i b h (omega arith) (join_some _ _ b (sym (get_or-joined ps qs i e m) ∙ k)).1)
+
+-- a vector that is allowed has the width and the sign
+pub shape_of_allowed : (k : Partly) (v : Vector) → IsTrue (allows k v) → (length k.bits ≡ length v.bits) × (k.signed ≡ v.signed)
+shape_of_allowed k v h =
+    let parts = and_parts (same_sign k.signed v.signed) (allows_bits k.bits v.bits) h in (length-allowed k.bits v.bits parts.1, same_sign_eq k.signed v.signed parts.0)
 
 pub allows_at : (ps : List (Option Bit)) (bs : List Bit) (i : ℕ) → allows_bits ps bs ≡ true → i < length ps → allows_bit (get_or ps i None) (get_or bs i X) ≡ true
 allows_at [] bs i h l = absurd (omega arith)

@@ -1,5 +1,5 @@
 -- The operators with two operands on partly known vectors.
-use Rattle.std.proofs.Common.{◌≡◌, ℕ, zero, suc, ◌≤◌, Bool, true, false, not, ◌&&◌, if◌then◌else◌, List, [], ◌∷◌, map, length, replicate, Option, Some, None, is_some, refl, ap, ap₂, arith, sym, subst, ◌∙◌}
+use Rattle.std.proofs.Common.{◌≡◌, ℕ, zero, suc, Bool, true, false, not, ◌&&◌, List, [], ◌∷◌, length, replicate, Option, None, refl, ap, sym, subst, ◌∙◌}
 use Rattle.std.specs.Prelude.{IsTrue}
 use Rattle.std.specs.Bool.{OnTrue}
 use Rattle.std.proofs.lemmas.Bool.{and_parts}
@@ -9,8 +9,8 @@ use Rattle.four_state.specs.declared.operator.Binary.{Binary}
 use Rattle.four_state.specs.declared.operator.Binary.TheVariants.{ShiftLeft, ShiftRight, ArithmeticShiftLeft, ArithmeticShiftRight}
 use Rattle.four_state.specs.Vector.{Vector, all_known}
 use Rattle.four_state.specs.Operators.{binary_value, binary_vector, binary_keeps_sign, takes_same_shape, SameShape}
-use Rattle.known_state.specs.Partly.{Partly, allows, allows_bits, same_sign, filled, filled_from, are_sure, is_told, told_of, blame_of, with_blame}
-use Rattle.known_state.specs.Join.{joined, first_blame}
+use Rattle.known_state.specs.Partly.{Partly, allows, allows_bits, same_sign, filled, filled_from, are_sure, is_told, told_of, with_blame}
+use Rattle.known_state.specs.Join.{joined}
 use Rattle.known_state.specs.Agreed.{told, both_moved, both_agreed}
 use Rattle.known_state.specs.Answers.{IsTight, allow_both, HaveSameShape, is_shift}
 use Rattle.known_state.proofs.Bits.{length-filled_from}

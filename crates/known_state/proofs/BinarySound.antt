@@ -1,22 +1,19 @@
 -- What an operator with two operands gives for a few values of the bits that are not sure is so for all.
-use Rattle.std.proofs.Common.{◌≡◌, ◌≢◌, ℕ, zero, suc, ◌<◌, Bool, true, false, not, ◌&&◌, if◌then◌else◌, List, [], ◌∷◌, ◌++◌, map, length, get_or, Option, Some, None, ℤ, pos, ◌+ℤ◌, ◌-ℤ◌, ◌*ℤ◌, refl, ap, arith, sym, subst, ◌∙◌}
-use Rattle.std.specs.Prelude.{IsTrue, int_div, int_rem, int_lt, int_le}
-use Rattle.std.proofs.lemmas.Bool.{and_parts}
-use Rattle.std.specs.Option.{unwrap_or}
+use Rattle.std.proofs.Common.{◌≡◌, ℕ, Bool, true, false, not, if◌then◌else◌, List, length, Option, ◌+ℤ◌, ◌-ℤ◌, ◌*ℤ◌, refl, ap, sym, ◌∙◌}
+use Rattle.std.specs.Prelude.{int_div, int_rem, int_lt, int_le}
 use Rattle.four_state.specs.declared.bit.Bit.{Bit}
-use Rattle.four_state.specs.declared.bit.Bit.TheVariants.{Zero, One, X, Z}
+use Rattle.four_state.specs.declared.bit.Bit.TheVariants.{Zero, One, X}
 use Rattle.four_state.specs.declared.truth.Truth.{Truth}
 use Rattle.four_state.specs.declared.operator.Binary.{Binary}
 use Rattle.four_state.specs.declared.operator.Binary.TheVariants.{Multiply, Divide, Modulus, Add, Subtract, ShiftLeft, ShiftRight, ArithmeticShiftLeft, ArithmeticShiftRight, LessThan, LessOrEqual, GreaterThan, GreaterOrEqual, Equal, NotEqual, CaseEqual, CaseNotEqual, BitwiseAnd, BitwiseXor, BitwiseXnor, BitwiseNxor, BitwiseOr, LogicalAnd, LogicalOr}
-use Rattle.four_state.specs.Vector.{Vector, all_known, bit_of, top, truth, truth_bit, same_bit, same_bits}
-use Rattle.four_state.specs.Operators.{not_bit, and_bit, or_bit, xor_bit, equal, binary_value, binary_vector, binary_keeps_sign, takes_same_shape}
-use Rattle.known_state.specs.Partly.{Partly, allows, allows_bits, allows_bit, same_sign, filled, filled_from, are_sure, is_told, told_of, blame_of, with_blame}
-use Rattle.known_state.specs.Join.{join_bit, joined}
-use Rattle.known_state.specs.Agreed.{told, both_moved, both_agreed}
-use Rattle.known_state.specs.Answers.{IsTight, allow_both, is_shift}
-use Rattle.known_state.proofs.Allowed.{length-allowed, length-filled}
-use Rattle.known_state.proofs.Cases.{implies, implied, both_true, same_bit_eq, same_bit_of}
-use Rattle.known_state.proofs.Pairs.{IsAgreed, both_agreed_sound, one_bit_agreed, zip_sound, zip_not_sound}
+use Rattle.four_state.specs.Vector.{all_known, bit_of, top, truth, truth_bit, same_bit, same_bits}
+use Rattle.four_state.specs.Operators.{not_bit, and_bit, or_bit, xor_bit, equal, binary_value, binary_keeps_sign, takes_same_shape}
+use Rattle.known_state.specs.Partly.{allows_bits, filled, are_sure}
+use Rattle.known_state.specs.Agreed.{both_agreed}
+use Rattle.known_state.specs.Answers.{is_shift}
+use Rattle.known_state.proofs.Allowed.{length-allowed}
+use Rattle.known_state.proofs.Cases.{implies, implied, same_bit_eq, same_bit_of}
+use Rattle.known_state.proofs.Pairs.{both_agreed_sound, one_bit_agreed, zip_sound, zip_not_sound}
 use Rattle.known_state.proofs.Strict.{IsStrict, strict_place}
 use Rattle.known_state.proofs.PairStrict.{arithmetic_strict, relation_strict, division_strict}
 use Rattle.known_state.proofs.Truths.{truths, truths_hold, each_truths}

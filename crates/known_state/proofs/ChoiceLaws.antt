@@ -1,5 +1,5 @@
 -- `c ? a : b` on partly known vectors.
-use Rattle.std.proofs.Common.{◌≡◌, ◌≢◌, ℕ, ◌<◌, Bool, true, false, not, ◌&&◌, if◌then◌else◌, List, [], ◌∷◌, map, length, get_or, Option, Some, None, refl, ap, arith, sym, subst, ◌∙◌}
+use Rattle.std.proofs.Common.{◌≡◌, ◌≢◌, ℕ, ◌<◌, Bool, true, false, if◌then◌else◌, List, [], ◌∷◌, length, get_or, Option, Some, None, refl, ap, sym, subst, ◌∙◌}
 use Rattle.std.specs.Prelude.{IsTrue}
 use Rattle.std.proofs.lemmas.Bool.{and_parts}
 use Rattle.std.specs.Option.{unwrap_or}
@@ -14,15 +14,15 @@ use Rattle.known_state.specs.declared.maybe.KnownTruth.TheVariants as known
 use Rattle.known_state.specs.Partly.{Partly, allows, allows_bits, allows_bit, same_sign, filled, is_told, told_of, with_blame}
 use Rattle.known_state.specs.Join.{join_bit, joined, first_blame}
 use Rattle.known_state.specs.Agreed.{told, both_moved}
-use Rattle.known_state.specs.Answers.{Differ, IsTight, HaveSameShape}
+use Rattle.known_state.specs.Answers.{IsTight, HaveSameShape}
 use Rattle.known_state.specs.Maybe.{same_truth, allows_truth, allow_choice, choice_blame}
 use Rattle.known_state.specs.Choice.{chosen_of}
 use Rattle.known_state.proofs.Bits.{length-joined, get_or-filled}
-use Rattle.known_state.proofs.Allowed.{length-allowed, length-filled, filled_allowed, joined_left, joined_right, same_sign_refl, same_sign_eq}
-use Rattle.known_state.proofs.Cases.{every, every_option, option_holds, every_holds, implies, implied, both_true, same_bit_eq}
-use Rattle.known_state.proofs.Tight.{IsReached, Gives, reached-told, reached-joined}
-use Rattle.known_state.proofs.Matched.{on_pairs, on_pair}
-use Rattle.known_state.proofs.Moved.{joined_two, both_moved_exact}
+use Rattle.known_state.proofs.Allowed.{length-filled, filled_allowed, joined_left, joined_right, same_sign_refl, same_sign_eq}
+use Rattle.known_state.proofs.Cases.{both_true}
+use Rattle.known_state.proofs.Tight.{IsReached, reached-told, reached-joined}
+use Rattle.known_state.proofs.Matched.{on_pair}
+use Rattle.known_state.proofs.Moved.{both_moved_exact}
 use Rattle.known_state.proofs.UnarySound.{length-told, length-two}
 use Rattle.known_state.proofs.Widths.{length-zip_bits}
 use Rattle.known_state.proofs.BinaryLaws.{vector_allowed, told_parts}

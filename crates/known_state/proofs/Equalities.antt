@@ -1,18 +1,18 @@
 -- Equality of two operands, for all vectors that are allowed.
-use Rattle.std.proofs.Common.{◌≡◌, ℕ, zero, suc, Bool, true, false, not, ◌&&◌, ◌||◌, if◌then◌else◌, List, [], ◌∷◌, length, Option, Some, None, refl, ap, ap₂, sym, ◌∙◌, ⊎_elim}
+use Rattle.std.proofs.Common.{◌≡◌, Bool, true, false, not, ◌&&◌, ◌||◌, if◌then◌else◌, List, [], ◌∷◌, length, Option, refl, ap, ap₂, sym, ◌∙◌, ⊎_elim}
 use Rattle.std.specs.List.{list_any}
 use Rattle.std.proofs.lemmas.Bool.{and_parts, or_parts, cases_Bool}
 use Rattle.std.specs.Option.{unwrap_or}
 use Rattle.four_state.specs.declared.bit.Bit.{Bit}
 use Rattle.four_state.specs.declared.bit.Bit.TheVariants.{Zero, One, X, Z}
-use Rattle.four_state.specs.Vector.{same_bit, same_bits, is_one, is_known, all_known, bit_of}
+use Rattle.four_state.specs.Vector.{same_bit, same_bits, is_one, is_known, all_known}
 use Rattle.four_state.specs.Operators.{not_bit, or_bit, xor_bit, reduce, zip_bits, equal, matches}
 use Rattle.four_state.specs.declared.operator.CaseKind.TheVariants.{Exact}
 use Rattle.four_state.proofs.ReductionLaws.{or_of_all}
 use Rattle.four_state.proofs.MatchLaws.{exact_law}
 use Rattle.known_state.specs.Partly.{allows_bits, allows_bit, filled, filled_from}
 use Rattle.known_state.proofs.Cases.{implies, implied, both_true, same_bit_eq}
-use Rattle.known_state.proofs.Matched.{on_pairs, on_pair, match_crossed, match_all}
+use Rattle.known_state.proofs.Matched.{on_pair, match_crossed, match_all}
 
 -- whether two vectors differ in a 0 against a 1, and whether none of their bits is x or z
 abbrev differs : List Bit → List Bit → Bool

@@ -1,9 +1,9 @@
 -- Whether labels match, for all vectors that are allowed.
-use Rattle.std.proofs.Common.{◌≡◌, ℕ, zero, suc, Bool, true, false, not, ◌&&◌, ◌||◌, List, [], ◌∷◌, length, Option, Some, None, refl, ap, sym, ◌∙◌}
+use Rattle.std.proofs.Common.{◌≡◌, Bool, true, ◌||◌, List, [], ◌∷◌, length, Option, refl}
 use Rattle.std.proofs.lemmas.Bool.{and_parts}
 use Rattle.std.specs.Option.{unwrap_or}
 use Rattle.four_state.specs.declared.bit.Bit.{Bit}
-use Rattle.four_state.specs.declared.bit.Bit.TheVariants.{Zero, One, X}
+use Rattle.four_state.specs.declared.bit.Bit.TheVariants.{Zero, One}
 use Rattle.four_state.specs.declared.operator.CaseKind.{CaseKind}
 use Rattle.four_state.specs.declared.operator.CaseKind.TheVariants.{Exact, AnyZ, AnyXZ}
 use Rattle.four_state.specs.Vector.{same_bit}

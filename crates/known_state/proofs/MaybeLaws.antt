@@ -1,18 +1,16 @@
 -- Truths, labels and differences of partly known vectors.
-use Rattle.std.proofs.Common.{◌≡◌, ◌≢◌, ◌⊎◌, ⊎_elim, inl, inr, ℕ, Bool, true, false, not, ◌&&◌, List, [], ◌∷◌, length, Option, Some, None, refl, ap, ap₂, sym, ◌∙◌}
+use Rattle.std.proofs.Common.{◌≡◌, ◌≢◌, ◌⊎◌, ⊎_elim, ℕ, true, false, ◌&&◌, List, [], ◌∷◌, length, Option, Some, None, refl, ap, ap₂, sym, ◌∙◌}
 use Rattle.std.specs.Prelude.{IsTrue}
-use Rattle.std.specs.List.{list_any, list_all}
 use Rattle.std.proofs.lemmas.Bool.{and_parts, and_cases, cases_Bool}
 use Rattle.std.specs.Option.{unwrap_or}
 use Rattle.four_state.specs.declared.bit.Bit.{Bit}
-use Rattle.four_state.specs.declared.bit.Bit.TheVariants.{Zero, One, X, Z}
-use Rattle.four_state.specs.declared.truth.Truth.{Truth}
-use Rattle.four_state.specs.declared.truth.Truth.TheVariants.{True, False, Strange}
+use Rattle.four_state.specs.declared.bit.Bit.TheVariants.{Zero, One}
+use Rattle.four_state.specs.declared.truth.Truth.TheVariants.{True}
 use Rattle.four_state.specs.declared.operator.CaseKind.{CaseKind}
 use Rattle.four_state.specs.declared.operator.CaseKind.TheVariants.{Exact}
 use Rattle.four_state.specs.Vector.{Vector, truth, same_bit}
 use Rattle.four_state.specs.Operators.{matches}
-use Rattle.known_state.specs.Partly.{Partly, allows, allows_bits, allows_bit, same_sign, filled, filled_from, are_sure, is_told}
+use Rattle.known_state.specs.Partly.{Partly, allows, allows_bits, allows_bit, same_sign, filled, filled_from, is_told}
 use Rattle.known_state.specs.Join.{first_blame}
 use Rattle.known_state.specs.Maybe.{IsUndecided, IsUndecidedMatch}
 use Rattle.known_state.proofs.Allowed.{filled_allowed, filled_from_allowed, sure_allowed}

@@ -1,5 +1,5 @@
 -- Parts, extension and concatenation: bits that are only moved.
-use Rattle.std.proofs.Common.{◌≡◌, ◌≢◌, ℕ, zero, suc, ◌<◌, Bool, true, false, not, ◌&&◌, if◌then◌else◌, List, [], ◌∷◌, ◌++◌, map, length, replicate, get_or, Option, Some, None, ℤ, pos, ◌+ℤ◌, neg_ℤ, refl, ap, ap₂, arith, sym, subst, ◌∙◌}
+use Rattle.std.proofs.Common.{◌≡◌, ℕ, zero, suc, Bool, true, false, if◌then◌else◌, List, [], ◌∷◌, ◌++◌, length, Option, Some, None, ℤ, pos, ◌+ℤ◌, refl, ap, ap₂, arith, sym, subst, ◌∙◌}
 use Rattle.std.specs.Prelude.{IsTrue}
 use Rattle.std.proofs.lemmas.Bool.{and_parts}
 use Rattle.std.proofs.lemmas.List.{length-append}
@@ -7,8 +7,8 @@ use Rattle.std.specs.Option.{unwrap_or}
 use Rattle.four_state.specs.declared.bit.Bit.{Bit}
 use Rattle.four_state.specs.declared.bit.Bit.TheVariants.{Zero, One, X}
 use Rattle.four_state.specs.Vector.{Vector, top, fit, extend}
-use Rattle.four_state.specs.Parts.{within, option_bit, bits_from, bit_or_part, bits_with, extended_vector, selected_vector, placed_vector, appended_vector}
-use Rattle.known_state.specs.Partly.{Partly, allows, allows_bits, allows_bit, same_sign, filled, are_sure, told_of, with_blame}
+use Rattle.four_state.specs.Parts.{within, option_bit, bits_from, bit_or_part, bits_with, extended_vector, selected_vector, appended_vector}
+use Rattle.known_state.specs.Partly.{Partly, allows, allows_bits, allows_bit, same_sign, filled, told_of, with_blame}
 use Rattle.known_state.specs.Join.{join_bit, joined}
 use Rattle.known_state.specs.Agreed.{told, moved, both_moved}
 use Rattle.known_state.specs.Answers.{IsTight, allow_both}
@@ -16,8 +16,7 @@ use Rattle.known_state.proofs.Allowed.{length-allowed, length-filled, join_some,
 use Rattle.known_state.proofs.Cases.{both_true, same_bit_refl}
 use Rattle.known_state.proofs.Tight.{IsReached, reached-told, reached-joined}
 use Rattle.known_state.proofs.Shifted.{moved_bit, moved_at, moved_filler}
-use Rattle.known_state.proofs.UnarySound.{length-told, length-moved}
-use Rattle.known_state.proofs.Pairs.{both_moved_sound}
+use Rattle.known_state.proofs.UnarySound.{length-told}
 use Rattle.known_state.proofs.BinaryLaws.{vector_allowed, told_parts, told_with_blame, moved_reached}
 
 -- two bits joined allow what is the same as both, where these are the same

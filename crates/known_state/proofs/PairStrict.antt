@@ -1,12 +1,11 @@
 -- Arithmetic and relations of two operands: x everywhere for an operand with x or z.
-use Rattle.std.proofs.Common.{◌≡◌, ◌≢◌, ℕ, zero, suc, ◌+◌, ◌*◌, ◌==◌, ◌<◌, Bool, true, false, not, ◌&&◌, if◌then◌else◌, cond, List, [], ◌∷◌, ◌++◌, map, length, replicate, get_or, Option, Some, None, ℤ, pos, negsuc, refl, ap, ap₂, arith, sym, ◌∙◌, ⊎_elim}
+use Rattle.std.proofs.Common.{◌≡◌, ℕ, ◌+◌, ◌*◌, Bool, true, false, ◌&&◌, if◌then◌else◌, List, [], ◌∷◌, ◌++◌, map, length, Option, Some, None, ℤ, pos, negsuc, refl, ap, ap₂, arith, sym, ◌∙◌, ⊎_elim}
 use Rattle.std.proofs.lemmas.Bool.{and_parts, cases_Bool, eqb-true}
 use Rattle.std.proofs.lemmas.List.Folds.{list_all-append}
-use Rattle.std.specs.Option.{unwrap_or}
 use Rattle.four_state.specs.declared.bit.Bit.{Bit}
 use Rattle.four_state.specs.declared.bit.Bit.TheVariants.{Zero, One, X, Z}
 use Rattle.four_state.specs.Vector.{all_known, is_known, is_one, bit_of, fill, top}
-use Rattle.four_state.specs.Arithmetic.{not_bit, natural, cut, whole, if_known, is_natural_zero, arithmetic, division, relation}
+use Rattle.four_state.specs.Arithmetic.{not_bit, natural, cut, whole, is_natural_zero, arithmetic, division, relation}
 use Rattle.known_state.specs.Partly.{allows_bits, allows_bit, filled}
 use Rattle.known_state.proofs.Allowed.{length-allowed, length-filled}
 use Rattle.known_state.proofs.Cases.{both_true, same_bit_eq}

@@ -1,18 +1,17 @@
 -- What two operands give for a few values of the bits that are not sure, place by place.
-use Rattle.std.proofs.Common.{◌≡◌, ℕ, zero, suc, ◌<◌, Bool, true, false, not, ◌&&◌, List, [], ◌∷◌, map, length, get_or, Option, Some, None, refl, ap, arith, sym, ◌∙◌}
-use Rattle.std.proofs.lemmas.Bool.{and_parts}
+use Rattle.std.proofs.Common.{◌≡◌, ℕ, zero, suc, ◌<◌, Bool, true, List, [], ◌∷◌, map, length, get_or, Option, Some, None, refl, ap, arith, sym, ◌∙◌}
 use Rattle.std.proofs.lemmas.List.{length-map, get_or-map}
 use Rattle.std.specs.Option.{unwrap_or}
 use Rattle.four_state.specs.declared.bit.Bit.{Bit}
 use Rattle.four_state.specs.declared.bit.Bit.TheVariants.{Zero, One, X}
 use Rattle.four_state.specs.Vector.{same_bit}
-use Rattle.four_state.specs.Operators.{not_bit, and_bit, or_bit, xor_bit, merge_bit, zip_bits}
+use Rattle.four_state.specs.Operators.{not_bit, zip_bits}
 use Rattle.known_state.specs.Partly.{allows_bits, allows_bit, filled, filled_from}
 use Rattle.known_state.specs.Join.{joined}
 use Rattle.known_state.specs.Agreed.{told, both_moved, both_agreed}
-use Rattle.known_state.proofs.Bits.{get_or-filled, get_or-filled_from, length-filled_from}
+use Rattle.known_state.proofs.Bits.{get_or-filled, length-filled_from}
 use Rattle.known_state.proofs.Allowed.{allowed_by_places, allows_at, length-allowed, length-filled}
-use Rattle.known_state.proofs.Cases.{every, every_option, option_holds, every_holds, implies, implied, both_true, same_bit_eq, same_bit_of}
+use Rattle.known_state.proofs.Cases.{every, every_option, option_holds, every_holds, implies, implied, same_bit_eq, same_bit_of}
 use Rattle.known_state.proofs.Widths.{length-zip_bits}
 use Rattle.known_state.proofs.UnarySound.{two_places, more_places, length-two, length-more}
 

@@ -1,5 +1,5 @@
 -- Bits that are only moved: what is the same for 0 and for 1 at the bits that are not sure is so for all.
-use Rattle.std.proofs.Common.{◌≡◌, ℕ, zero, suc, ◌+◌, ◌-◌, ◌<◌, nat_lt, Bool, true, false, not, ◌&&◌, if◌then◌else◌, List, [], ◌∷◌, map, length, replicate, get_or, Option, Some, None, refl, ap, arith, sym, ◌∙◌, ⊎_elim}
+use Rattle.std.proofs.Common.{◌≡◌, ℕ, zero, suc, ◌+◌, ◌-◌, ◌<◌, nat_lt, Bool, true, false, if◌then◌else◌, List, [], ◌∷◌, map, length, get_or, Option, Some, None, refl, ap, arith, sym, ◌∙◌, ⊎_elim}
 use Rattle.std.specs.List.{range_with_len}
 use Rattle.std.proofs.lemmas.Bool.{and_parts, cases_Bool, cond-true, cond-false}
 use Rattle.std.proofs.lemmas.List.{get_or-replicate}
@@ -9,12 +9,12 @@ use Rattle.four_state.specs.declared.bit.Bit.{Bit}
 use Rattle.four_state.specs.declared.bit.Bit.TheVariants.{Zero, One, X}
 use Rattle.four_state.specs.Vector.{all_known, fill, top}
 use Rattle.four_state.specs.Arithmetic.{natural, shift, shift_left, shift_right}
-use Rattle.known_state.specs.Partly.{allows_bits, allows_bit, filled, filled_from, are_sure}
+use Rattle.known_state.specs.Partly.{allows_bits, allows_bit, filled, are_sure}
 use Rattle.known_state.specs.Agreed.{both_agreed}
 use Rattle.known_state.proofs.Allowed.{length-allowed, length-filled, sure_allowed, sure_filled}
 use Rattle.known_state.proofs.Cases.{same_bit_eq}
 use Rattle.known_state.proofs.Strict.{known_for}
-use Rattle.known_state.proofs.Pairs.{IsAgreed, both_agreed_sound}
+use Rattle.known_state.proofs.Pairs.{both_agreed_sound}
 use Rattle.known_state.proofs.Widths.{length-shift_left, length-shift_right}
 
 pub moved_bit : (p : Option Bit) (c b : Bit) → allows_bit p c ≡ true → unwrap_or p Zero ≡ b → unwrap_or p One ≡ b → c ≡ b

@@ -8,7 +8,7 @@ use Rattle.four_state.specs.declared.bit.Bit.TheVariants.{Zero, One, X, Z}
 use Rattle.four_state.specs.Vector.{all_known, is_known, bit_of, fill}
 use Rattle.four_state.specs.Arithmetic.{not_bit, low_bits, cut}
 use Rattle.known_state.specs.Partly.{allows_bits, allows_bit, filled}
-use Rattle.known_state.proofs.Cases.{every, option_holds, every_holds, implies, implied, both_true, same_bit_eq}
+use Rattle.known_state.proofs.Cases.{both_true, same_bit_eq}
 
 -- either the same as for x at the bits that are not sure, or that is x everywhere and known for 1 there
 pub data IsStrict (width : ℕ) (for_one for_x answer : List Bit) : Type 0 where

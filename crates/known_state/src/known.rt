@@ -101,7 +101,8 @@ impl Known {
 
     /// The vector with 0 where it is not sure.
     pub fn value(&self) -> Four
-        ensures { result ≡ record { bits = filled_bits Bit.Zero self.now.bits; signed = self.now.signed } }
+        ensures value { result ≡ record { bits = filled_bits Bit.Zero self.now.bits; signed = self.now.signed } }
+        ensures told { is_told_whole self.now ≡ true → self.now ≡ told_of result }
     {
         self.value
     }

@@ -5,7 +5,7 @@ use Rattle.known_state.proofs.operate.agreed.Goals as goal
 
 pub returns-then-is_told : goal.returns-then-is_told
 returns-then-is_told c =
-    rw (c.told.ensures, c.unary.ensures, c.value.ensures) (unary_told c.args.op c.args.a.now (sym c.is_told.ensures ∙ c.if-is_told.true))
+    rw (c.told.ensures, c.unary.ensures, c.value.ensures.value) (unary_told c.args.op c.args.a.now (sym c.is_told.ensures ∙ c.if-is_told.true))
 
 pub narrowed-requires : goal.narrowed-requires
 narrowed-requires c =

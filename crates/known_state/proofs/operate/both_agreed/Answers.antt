@@ -8,7 +8,7 @@ use Rattle.known_state.proofs.operate.both_agreed.Goals as goal
 
 pub returns-then-is_told-2 : goal.returns-then-is_told-2
 returns-then-is_told-2 c =
-    rw (c.told.ensures, c.binary.ensures, c.value.ensures, c.value-then-is_told-2.ensures) (binary_told c.args.op c.args.a.now c.args.b.now c.requires _ (sym c.is_told.ensures ∙ c.if-is_told.true) (sym c.is_told-then-is_told.ensures ∙ c.if-is_told-2.true))
+    rw (c.told.ensures, c.binary.ensures, c.value.ensures.value, c.value-then-is_told-2.ensures.value) (binary_told c.args.op c.args.a.now c.args.b.now c.requires _ (sym c.is_told.ensures ∙ c.if-is_told.true) (sym c.is_told-then-is_told.ensures ∙ c.if-is_told-2.true))
 
 pub narrowed-requires : goal.narrowed-requires
 narrowed-requires c =

@@ -1,6 +1,4 @@
 use Rattle.std.proofs.Common.{sym, ◌∙◌}
-use Rattle.known_state.specs.Partly.{filled}
-use Rattle.four_state.specs.declared.bit.Bit.TheVariants.{Zero}
 use Rattle.known_state.proofs.Bits.{length-filled_from}
 use Rattle.known_state.proofs.MaybeLaws.{label_no, label_yes, label_undecided}
 use Rattle.known_state.proofs.known.Known.label.Goals as goal
@@ -12,7 +10,7 @@ label-requires c =
 pub returns-then-not-label : goal.returns-then-not-label
 returns-then-not-label c =
     let e = sym c.label.ensures ∙ c.if-not-label.true in
-    label_no c.args.kind c.args.a.now c.args.b.now (rw (c.filled_from.ensures, c.filled_from-2.ensures, c.value-left.ensures, c.value-right.ensures) at e)
+    label_no c.args.kind c.args.a.now c.args.b.now (rw (c.filled_from.ensures, c.filled_from-2.ensures, c.value-left.ensures.value, c.value-right.ensures.value) at e)
 
 pub returns-then-always_matches : goal.returns-then-always_matches
 returns-then-always_matches c =
@@ -21,4 +19,4 @@ returns-then-always_matches c =
 pub returns-else-always_matches : goal.returns-else-always_matches
 returns-else-always_matches c =
     let e = sym c.label.ensures ∙ c.if-not-label.false in
-    label_undecided c.args.kind c.args.a.now c.args.b.now (rw (c.filled_from.ensures, c.filled_from-2.ensures, c.value-left.ensures, c.value-right.ensures) at e) (sym c.always_matches.ensures ∙ c.if-always_matches.false) c.first_blame.result c.first_blame.ensures
+    label_undecided c.args.kind c.args.a.now c.args.b.now (rw (c.filled_from.ensures, c.filled_from-2.ensures, c.value-left.ensures.value, c.value-right.ensures.value) at e) (sym c.always_matches.ensures ∙ c.if-always_matches.false) c.first_blame.result c.first_blame.ensures
