@@ -7,7 +7,7 @@ use Rattle.std.specs.Prelude.{IsTrue}
 use Rattle.four_state.specs.declared.bit.Bit.{Bit}
 use Rattle.four_state.specs.declared.bit.Bit.TheVariants.{Zero, X}
 use Rattle.four_state.specs.Vector.{Vector, same_bit}
-use Rattle.known_state.specs.Partly.{Partly, allows, told_of, allows_bit, allows_bits, same_sign, are_sure, filled, filled_from}
+use Rattle.known_state.specs.Partly.{with_blame, Partly, allows, told_of, allows_bit, allows_bits, same_sign, are_sure, filled, filled_from}
 use Rattle.known_state.specs.Join.{join_bit, joined}
 use Rattle.known_state.specs.Agreed.{told}
 use Rattle.known_state.proofs.Bits.{length-joined, get_or-joined}
@@ -148,3 +148,13 @@ allows_at [] bs i h l = absurd (omega arith)
 allows_at (p ∷ ps) [] i h l = cc
 allows_at (p ∷ ps) (b ∷ bs) zero h l = (and_parts (allows_bit p b) (allows_bits ps bs) h).0
 allows_at (p ∷ ps) (b ∷ bs) (suc i) h l = allows_at ps bs i (and_parts (allows_bit p b) (allows_bits ps bs) h).1 (omega arith)
+
+-- a join of two vectors with one sign
+module _ (a b : Partly) (same : length a.bits ≡ length b.bits) (thing : ℕ) (v : Vector) where
+  pub join_allows_left : IsTrue (allows a v) → IsTrue (allows (with_blame (joined a.bits b.bits) a.signed thing) v)
+  join_allows_left h =
+      let parts = and_parts (same_sign a.signed v.signed) (allows_bits a.bits v.bits) h in both_true _ _ parts.0 (joined_left a.bits b.bits v.bits same parts.1)
+
+  pub join_allows_right : a.signed ≡ b.signed → IsTrue (allows b v) → IsTrue (allows (with_blame (joined a.bits b.bits) a.signed thing) v)
+  join_allows_right sign h =
+      let parts = and_parts (same_sign b.signed v.signed) (allows_bits b.bits v.bits) h in both_true _ _ (rw sign parts.0) (joined_right a.bits b.bits v.bits same parts.1)

@@ -45,7 +45,7 @@ told_of v = record { bits = map Some v.bits; signed = v.signed; blame = 0 }
 abbrev pub blame_of : List (Option Bit) → ℕ → ℕ
 blame_of ps thing = if are_sure ps then 0 else thing
 
--- these bits, with the sign of a vector and this thing to blame
+-- these bits and this sign, and the thing to blame if not all bits are sure
 abbrev pub with_blame : List (Option Bit) → Bool → ℕ → Partly
 with_blame ps signed thing = record { bits = ps; signed = signed; blame = blame_of ps thing }
 

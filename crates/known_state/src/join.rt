@@ -1,5 +1,6 @@
-ghost use Rattle.std.specs.Prelude.{◌≡◌, length};
-ghost use Rattle.known_state.specs.Partly.{with_blame};
+ghost use Rattle.std.specs.Prelude.{◌≡◌, length, IsTrue};
+ghost use Rattle.four_state.specs.Vector.{Vector};
+ghost use Rattle.known_state.specs.Partly.{allows, with_blame};
 ghost use Rattle.known_state.specs.Agreed.{told as told_bits};
 ghost use Rattle.known_state.specs.Join.{joined, first_blame as first_to_blame};
 
@@ -11,7 +12,9 @@ impl Known {
     /// agree. So all that one of them allows is allowed. The blame is for what is not sure then.
     pub fn join(&self, other: &Known, blame: u32) -> Known
         requires { length self.now.bits ≡ length other.now.bits }
-        ensures { result ≡ with_blame (joined self.now.bits other.now.bits) self.now.signed blame }
+        ensures value { result ≡ with_blame (joined self.now.bits other.now.bits) self.now.signed blame }
+        ensures left { (v : Vector) → IsTrue (allows self.now v) → IsTrue (allows result v) }
+        ensures right { self.now.signed ≡ other.now.signed → (v : Vector) → IsTrue (allows other.now v) → IsTrue (allows result v) }
     {
         let (a, b) = (self.value(), other.value());
         let different = (a.ones() ^ b.ones()) | (a.strange() ^ b.strange());

@@ -2,7 +2,7 @@ use Rattle.known_state.proofs.ChoiceLaws.{join_widths, chosen_allows, chosen_tig
 use Rattle.known_state.proofs.known.Known.choose.Goals as goal
 
 pub join-requires-in-Unsure : goal.join-requires-in-Unsure
-join-requires-in-Unsure c = rw (c.join.ensures, c.merged.ensures) (join_widths c.args.a.now c.args.b.now c.requires)
+join-requires-in-Unsure c = rw (c.join.ensures.value, c.merged.ensures) (join_widths c.args.a.now c.args.b.now c.requires)
 
 pub returns-in-Sure-clause-sound : goal.returns-in-Sure-clause-sound
 returns-in-Sure-clause-sound c = rw c.chosen.ensures (chosen_allows c.args.a.now c.args.b.now c.requires c.args.c c.in-Sure.truth c.in-Sure.is)
@@ -18,8 +18,8 @@ returns-in-Sure-clause-blame c = rw c.chosen.ensures (chosen_blame c.args.a.now 
 
 pub returns-in-Unsure-clause-sound : goal.returns-in-Unsure-clause-sound
 returns-in-Unsure-clause-sound c =
-    λ t v w truth. rw (c.join-in-Unsure.ensures, c.join.ensures, c.merged.ensures) (unsure_allows c.args.a.now c.args.b.now c.requires c.in-Unsure.thing t v w)
+    λ t v w truth. rw (c.join-in-Unsure.ensures.value, c.join.ensures.value, c.merged.ensures) (unsure_allows c.args.a.now c.args.b.now c.requires c.in-Unsure.thing t v w)
 
 pub returns-in-Unsure-clause-tight : goal.returns-in-Unsure-clause-tight
 returns-in-Unsure-clause-tight c =
-    rw (c.join-in-Unsure.ensures, c.join.ensures, c.merged.ensures) (unsure_tight c.args.c c.args.a.now c.args.b.now c.requires c.in-Unsure.thing c.in-Unsure.is)
+    rw (c.join-in-Unsure.ensures.value, c.join.ensures.value, c.merged.ensures) (unsure_tight c.args.c c.args.a.now c.args.b.now c.requires c.in-Unsure.thing c.in-Unsure.is)
