@@ -1,5 +1,6 @@
 -- The words of the database text.
-use Rattle.std.specs.Prelude.{ℕ, List, codes, Bool, true, false, ◌||◌}
+use Rattle.std.specs.Prelude.{ℕ, List, [], ◌∷◌, Option, codes, Bool, true, false, ◌||◌, bytes_eq}
+use Rattle.std.specs.List.{find}
 use Rattle.coverage_db.specs.declared.line_word.LineWord.{LineWord}
 use Rattle.coverage_db.specs.declared.line_word.LineWord.TheVariants as line
 use Rattle.coverage_db.specs.declared.node_case.NodeCase.{NodeCase}
@@ -14,6 +15,13 @@ line_word_text line.Case = codes "case"
 line_word_text line.For = codes "for"
 line_word_text line.Assign = codes "assign"
 
+abbrev pub line_words : List LineWord
+line_words = line.If ∷ line.Case ∷ line.For ∷ line.Assign ∷ []
+
+-- the kind that a word names
+unfoldable pub line_word_of : List ℕ → Option LineWord
+line_word_of text = find (λ word. bytes_eq (line_word_text word) text) line_words
+
 -- the truths that a case asks of a node or of its operands
 abbrev pub node_case_text : NodeCase → List ℕ
 node_case_text case.False = codes "0"
@@ -26,6 +34,14 @@ node_case_text case.FalseFalse = codes "00"
 node_case_text case.FalseTrue = codes "01"
 node_case_text case.TrueFalse = codes "10"
 node_case_text case.TrueTrue = codes "11"
+
+abbrev pub node_cases : List NodeCase
+node_cases =
+    case.False ∷ case.True ∷ case.LeftFalse ∷ case.RightFalse ∷ case.LeftTrue ∷ case.RightTrue ∷ case.FalseFalse ∷ case.FalseTrue ∷ case.TrueFalse ∷ case.TrueTrue ∷ []
+
+-- the case that a word names
+unfoldable pub node_case_of : List ℕ → Option NodeCase
+node_case_of text = find (λ case. bytes_eq (node_case_text case) text) node_cases
 
 -- the place of a case in the order of point lines
 abbrev pub node_case_rank : NodeCase → ℕ
@@ -71,6 +87,16 @@ operator_text operator.Equal = codes "=="
 operator_text operator.NotEqual = codes "!="
 operator_text operator.CaseEqual = codes "==="
 operator_text operator.CaseNotEqual = codes "!=="
+
+abbrev pub operators : List Operator
+operators =
+    operator.Value ∷ operator.LogicalNot ∷ operator.BitwiseNot ∷ operator.ReduceNand ∷ operator.ReduceNor ∷ operator.And ∷ operator.Or ∷ operator.LogicalAnd ∷ operator.LogicalOr ∷ operator.Plus
+    ∷ operator.Minus ∷ operator.Xor ∷ operator.Xnor ∷ operator.Nxor ∷ operator.Multiply ∷ operator.Divide ∷ operator.Modulus ∷ operator.ShiftLeft ∷ operator.ShiftRight ∷ operator.ArithmeticShiftLeft
+    ∷ operator.ArithmeticShiftRight ∷ operator.LessThan ∷ operator.LessOrEqual ∷ operator.GreaterThan ∷ operator.GreaterOrEqual ∷ operator.Equal ∷ operator.NotEqual ∷ operator.CaseEqual ∷ operator.CaseNotEqual ∷ []
+
+-- the operator that a word names
+unfoldable pub operator_of : List ℕ → Option Operator
+operator_of text = find (λ op. bytes_eq (operator_text op) text) operators
 
 -- the operator can stand before one operand, or is the value of a condition
 abbrev pub is_unary : Operator → Bool

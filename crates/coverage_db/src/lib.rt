@@ -4,9 +4,16 @@
 mod address;
 mod db;
 mod fault;
+mod fields;
+mod instances;
+mod line_fault;
 mod line_word;
 mod node_case;
+mod number;
 mod operator;
+mod read_point;
+mod read_subject;
+mod split;
 mod verdict;
 mod write;
 

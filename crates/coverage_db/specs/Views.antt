@@ -1,0 +1,13 @@
+-- What contracts see of the types of the code.
+use Rattle.std.specs.Prelude.{ℕ, List, [], Option, Some, None}
+use Rattle.std.specs.Borrow.{Bor}
+use Rattle.coverage_db.specs.Fields.{fields_of}
+
+-- the fields of what is left of a line
+abbrev pub fields_left : Option (Bor (List ℕ)) → List (List ℕ)
+fields_left None = []
+fields_left (Some rest) = fields_of rest.now
+
+-- a function that finds something out and returns nothing
+abbrev pub unit : {A : Type 0} → A → Unit {0}
+unit x = tt
