@@ -3,3 +3,7 @@ pub mod Splitting
 pub mod Finding
 pub mod Numbers
 pub mod PathSearch
+pub mod Lacking
+pub mod WordLaws
+pub mod SubjectLaws
+pub mod PointLaws

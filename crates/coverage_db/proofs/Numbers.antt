@@ -23,7 +23,7 @@ plain_digits (c ∷ cs) e =
       | inr other ↦ absurd (let bad : false ≡ true = rw other at e in cc)
     ]
 
-plain_all : (word : List ℕ) → is_plain word ≡ true → list_all is_ascii_digit word ≡ true
+pub plain_all : (word : List ℕ) → is_plain word ≡ true → list_all is_ascii_digit word ≡ true
 plain_all [] e = refl
 plain_all (c ∷ cs) e = grind arith
 
