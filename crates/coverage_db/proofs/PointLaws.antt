@@ -207,12 +207,12 @@ write_free true = refl
 write_free false = refl
 
 subject_free : (sources : ℕ) (subject : Subject) → sources < 2 ^ 32 → IsSubject sources subject → NoSpaces (subject_words subject)
-subject_free sources (Line n at word) few is = (decimal_lacks 32 n refl (omega (arith, is.0.1)), place_free at.source at.line (omega (arith, is.1.source.1)) (omega (arith, is.1.line.1)), line_word_lacks word, tt)
-subject_free sources (Logic n at op c) few is = (decimal_lacks 32 n refl (omega (arith, is.0.1)), place_free at.source at.line (omega (arith, is.1.source.1)) (omega (arith, is.1.line.1)), operator_lacks op, node_case_lacks c, tt)
-subject_free sources (Toggle name index rise) few is = (name_lacks 32 name refl is.0, index_free index is.1, rise_free rise, tt)
-subject_free sources (State name state) few is = (name_lacks 32 name refl is.0, state_lacks 32 state refl refl is.1, tt)
-subject_free sources (Arc name from target) few is = (name_lacks 32 name refl is.0, state_lacks 32 from refl refl is.1, state_lacks 32 target refl refl is.2, tt)
-subject_free sources (Word name index write) few is = (name_lacks 32 name refl is.0, decimal_lacks 32 index refl (omega (arith, is.1)), write_free write, tt)
+subject_free sources (Line n at word) few is = (decimal_lacks 32 n refl (omega (arith, is.0.1)), (place_free at.source at.line (omega (arith, is.1.source.1)) (omega (arith, is.1.line.1)), (line_word_lacks word, tt)))
+subject_free sources (Logic n at op c) few is = (decimal_lacks 32 n refl (omega (arith, is.0.1)), (place_free at.source at.line (omega (arith, is.1.source.1)) (omega (arith, is.1.line.1)), (operator_lacks op, (node_case_lacks c, tt))))
+subject_free sources (Toggle name index rise) few is = (name_lacks 32 name refl is.0, (index_free index is.1, (rise_free rise, tt)))
+subject_free sources (State name state) few is = (name_lacks 32 name refl is.0, (state_lacks 32 state refl refl is.1, tt))
+subject_free sources (Arc name from target) few is = (name_lacks 32 name refl is.0, (state_lacks 32 from refl refl is.1, (state_lacks 32 target refl refl is.2, tt)))
+subject_free sources (Word name index write) few is = (name_lacks 32 name refl is.0, (decimal_lacks 32 index refl (omega (arith, is.1)), (write_free write, tt)))
 
 thing_free : (instances : List DbInstance) (path : List ℕ) → All IsInstance instances → IsThingIn instances path → lacks 32 path ≡ true
 thing_free instances path each (i, name, (place, within, at), named, whole) =
@@ -222,7 +222,7 @@ thing_free instances path each (i, name, (place, within, at), named, whole) =
 verdict_free : (instances : List DbInstance) (v : DbVerdict) → All IsInstance instances → IsVerdict instances v → NoSpaces (verdict_words v)
 verdict_free instances Hit each is = (refl, tt)
 verdict_free instances Missed each is = (refl, tt)
-verdict_free instances (Undetermined time path) each is = (refl, decimal_lacks 32 time refl (omega (arith, is.0)), thing_free instances path each is.1, tt)
+verdict_free instances (Undetermined time path) each is = (refl, (decimal_lacks 32 time refl (omega (arith, is.0)), (thing_free instances path each is.1, tt)))
 
 subject_spaced : (subject : Subject) → spaced (subject_words subject) ≡ 32 ∷ subject_fields subject
 subject_spaced (Line n at word) = simp (append-nil, append_assoc)
@@ -241,13 +241,19 @@ verdict_spaced (Undetermined time path) = simp (append-nil, append_assoc)
 abbrev pub point_words : List DbInstance → DbPoint → List (List ℕ)
 point_words instances p = path_at instances p.address.instance ∷ subject_words p.address.subject ++ codes "=" ∷ verdict_words p.verdict
 
+equals_spaced : (text words : List ℕ) → words ≡ 32 ∷ text → 32 ∷ codes "=" ++ words ≡ codes " = " ++ text
+equals_spaced text words e = rw e refl
+
+regrouped : (a b c d : List ℕ) → a ++ (b ++ (c ++ d)) ≡ ((a ++ b) ++ c) ++ d
+regrouped a b c d = simp append_assoc
+
 pub point_spelled : (instances : List DbInstance) (p : DbPoint) → (letter p.address.subject ∷ []) ++ spaced (point_words instances p) ≡ point_line instances p
 point_spelled instances p =
     let s = p.address.subject in
     let path : List ℕ = path_at instances p.address.instance in
-    let rest : spaced (subject_words s ++ codes "=" ∷ verdict_words p.verdict) ≡ 32 ∷ subject_fields s ++ (codes " = " ++ verdict_text p.verdict) =
-      spaced_append (subject_words s) (codes "=" ∷ verdict_words p.verdict) ∙ ap (λ (t : List ℕ). t ++ spaced (codes "=" ∷ verdict_words p.verdict)) (subject_spaced s) ∙ ap (λ (t : List ℕ). 32 ∷ subject_fields s ++ (32 ∷ 61 ∷ t)) (verdict_spaced p.verdict) in
-    ap (λ (t : List ℕ). letter s ∷ 32 ∷ path ++ t) rest ∙ ap (λ (t : List ℕ). letter s ∷ 32 ∷ t) (sym (append_assoc path (32 ∷ subject_fields s) (codes " = " ++ verdict_text p.verdict)))
+    let verdict : spaced (codes "=" ∷ verdict_words p.verdict) ≡ codes " = " ++ verdict_text p.verdict = equals_spaced (verdict_text p.verdict) (spaced (verdict_words p.verdict)) (verdict_spaced p.verdict) in
+    let rest : spaced (subject_words s ++ codes "=" ∷ verdict_words p.verdict) ≡ (32 ∷ subject_fields s) ++ (codes " = " ++ verdict_text p.verdict) = rw (spaced_append (subject_words s) (codes "=" ∷ verdict_words p.verdict), subject_spaced s, verdict) refl in
+    ap (λ (t : List ℕ). letter s ∷ 32 ∷ path ++ t) rest ∙ regrouped (letter s ∷ 32 ∷ path) (32 ∷ subject_fields s) (codes " = ") (verdict_text p.verdict)
 
 letter_free : (subject : Subject) → lacks 32 (letter subject ∷ []) ≡ true
 letter_free (Line n at word) = refl
@@ -264,24 +270,24 @@ pub record TookPoint (sources : ℕ) (instances : List DbInstance) (line : List 
   pub spelled : line ≡ point_line instances point
   pub is : IsPoint sources instances point
 
-point_fields : {f0 f1 f2 f3 words : List (List ℕ)} {first' first path path' : List ℕ} {s : List (List ℕ)} {equals : List ℕ} → f0 ≡ first' ∷ f1 → f1 ≡ path' ∷ f2 → first' ≡ first → path ≡ path' → f2 ≡ s ++ equals ∷ f3 → f3 ≡ words → f0 ≡ first ∷ path ∷ s ++ equals ∷ words
-point_fields p q r t u v = cc
+point_fields : (s : List (List ℕ)) (equals : List ℕ) {f0 f1 f2 f3 words : List (List ℕ)} {first' first path path' : List ℕ} → f0 ≡ first' ∷ f1 → f1 ≡ path' ∷ f2 → first' ≡ first → path ≡ path' → f2 ≡ s ++ equals ∷ f3 → f3 ≡ words → f0 ≡ first ∷ path ∷ s ++ equals ∷ words
+point_fields s equals p q r t u v = cc
 
 pub point_takes : (sources : ℕ) (instances : List DbInstance) (line : List ℕ) (p : DbPoint) → sources < 2 ^ 32 → point_of sources instances line ≡ Some p → TookPoint sources instances line p
 unfolding point_of
 point_takes sources instances line p few e =
-    let x0 = bind_some (field_at (fields_of line)) (λ letter. field_at letter.1 >>= λ path. instance_of instances path.0 >>= λ instance. subject_at sources letter.0 path.1 >>= λ subject. verdict_at instances subject.1 >>= λ verdict. Some (record { address = record { instance = instance; subject = subject.0 }; verdict = verdict })) p (e) in
-    let x1 = bind_some (field_at x0.0.1) (λ path. instance_of instances path.0 >>= λ instance. subject_at sources x0.0.0 path.1 >>= λ subject. verdict_at instances subject.1 >>= λ verdict. Some (record { address = record { instance = instance; subject = subject.0 }; verdict = verdict })) p (x0.2) in
-    let x2 = bind_some (instance_of instances x1.0.0) (λ instance. subject_at sources x0.0.0 x1.0.1 >>= λ subject. verdict_at instances subject.1 >>= λ verdict. Some (record { address = record { instance = instance; subject = subject.0 }; verdict = verdict })) p (x1.2) in
-    let x3 = bind_some (subject_at sources x0.0.0 x1.0.1) (λ subject. verdict_at instances subject.1 >>= λ verdict. Some (record { address = record { x2.0 = x2.0; subject = subject.0 }; verdict = verdict })) p (x2.2) in
-    let x4 = bind_some (verdict_at instances x3.0.1) (λ verdict. Some (record { address = record { x2.0 = x2.0; x3.0 = x3.0.0 }; verdict = verdict })) p (x3.2) in
+    let x0 = bind_some (field_at (fields_of line)) (λ letter. field_at letter.1 >>= λ path. instance_of instances path.0 >>= λ place. subject_at sources letter.0 path.1 >>= λ counted. verdict_at instances counted.1 >>= λ outcome. Some (record { address = record { instance = place; subject = counted.0 }; verdict = outcome })) p (e) in
+    let x1 = bind_some (field_at x0.0.1) (λ path. instance_of instances path.0 >>= λ place. subject_at sources x0.0.0 path.1 >>= λ counted. verdict_at instances counted.1 >>= λ outcome. Some (record { address = record { instance = place; subject = counted.0 }; verdict = outcome })) p (x0.2) in
+    let x2 = bind_some (instance_of instances x1.0.0) (λ place. subject_at sources x0.0.0 x1.0.1 >>= λ counted. verdict_at instances counted.1 >>= λ outcome. Some (record { address = record { instance = place; subject = counted.0 }; verdict = outcome })) p (x1.2) in
+    let x3 = bind_some (subject_at sources x0.0.0 x1.0.1) (λ counted. verdict_at instances counted.1 >>= λ outcome. Some (record { address = record { instance = x2.0; subject = counted.0 }; verdict = outcome })) p (x2.2) in
+    let x4 = bind_some (verdict_at instances x3.0.1) (λ outcome. Some (record { address = record { instance = x2.0; subject = x3.0.0 }; verdict = outcome })) p (x3.2) in
     let made : DbPoint = record { address = record { instance = x2.0; subject = x3.0.0 }; verdict = x4.0 } in
     let t0 = field_takes (fields_of line) x0.0.0 x0.0.1 x0.1 in
     let t1 = field_takes x0.0.1 x1.0.0 x1.0.1 x1.1 in
     let t2 = instance_takes instances x1.0.0 x2.0 x2.1 in
     let t3 = subject_takes sources x0.0.0 x1.0.1 x3.0 few x3.1 in
     let t4 = verdict_takes instances x3.0.1 x4.0 x4.1 in
-    let fields_are : fields_of line ≡ (letter x3.0.0 ∷ []) ∷ point_words instances made = point_fields t0 t1 t3.word_is t2.path_is t3.fields_are t4.fields_are in
+    let fields_are : fields_of line ≡ (letter x3.0.0 ∷ []) ∷ point_words instances made = point_fields (subject_words x3.0.0) (codes "=") t0 t1 t3.word_is t2.path_is t3.fields_are t4.fields_are in
     let whole : line ≡ point_line instances made = sym (fields_joined line) ∙ ap (join_with_byte 32) fields_are ∙ joined_spaced (letter x3.0.0 ∷ []) (point_words instances made) ∙ point_spelled instances made in
     subst (TookPoint sources instances line) (same_Some made p x4.2) (record { spelled = whole; is = record { instance = t2.within; subject = t3.is; verdict = t4.is } })
 
