@@ -1,6 +1,6 @@
 -- Texts that lack a byte.
 use Rattle.std.proofs.Common.{◌≡◌, ◌≢◌, ◌==◌, ℕ, ◌+◌, ◌^◌, ◌<◌, ◌≤◌, Bool, true, false, not, cond, eqb, List, [], ◌∷◌, ◌++◌, length, refl, sym, ap, subst, ◌∙◌, inl, inr, arith}
-use Rattle.std.specs.Prelude.{◌&&◌, ◌||◌, decimal, codes}
+use Rattle.std.specs.Prelude.{◌&&◌, ◌||◌, decimal, nat_le}
 use Rattle.std.specs.List.{list_all, slice_split, join_with_byte, AllByRecursion}
 use Rattle.std.specs.Char.{is_ascii_digit}
 use Rattle.std.proofs.lemmas.Bool.{cases_Bool}
@@ -35,6 +35,27 @@ lacks_append value (byte ∷ front) back f b =
 
 pub lacks_more : (value byte : ℕ) (bytes : List ℕ) → eqb byte value ≡ false → lacks value bytes ≡ true → lacks value (byte ∷ bytes) ≡ true
 lacks_more value byte bytes other b = rw (other, b) refl
+
+-- neither a space nor a control character
+abbrev pub is_visible : ℕ → Bool
+is_visible byte = nat_le 33 byte
+
+-- the byte stands in no field
+pub record IsApart (value : ℕ) : Type 0 where
+  pub visible : is_visible value ≡ false
+  pub name : continues_name value ≡ false
+  pub digit : is_ascii_digit value ≡ false
+  pub dot : eqb 46 value ≡ false
+  pub colon : eqb 58 value ≡ false
+
+pub space_apart : IsApart 32
+space_apart = record { visible = refl; name = refl; digit = refl; dot = refl; colon = refl }
+
+pub feed_apart : IsApart 10
+feed_apart = record { visible = refl; name = refl; digit = refl; dot = refl; colon = refl }
+
+pub word_lacks : (value : ℕ) (word : List ℕ) → IsApart value → list_all is_visible word ≡ true → lacks value word ≡ true
+word_lacks value word apart all = lacks_by is_visible value word apart.visible all
 
 -- ---- numbers, names and paths
 

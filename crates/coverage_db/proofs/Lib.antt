@@ -7,3 +7,6 @@ pub mod Lacking
 pub mod WordLaws
 pub mod SubjectLaws
 pub mod PointLaws
+pub mod DraftLaws
+pub mod Completing
+pub mod ReadingLaws

@@ -1,5 +1,5 @@
 -- The line of a point: what is read is spelled so, and what is spelled so is read.
-use Rattle.std.proofs.Common.{◌≡◌, ◌≢◌, ℕ, zero, suc, ◌+◌, ◌^◌, ◌<◌, ◌≤◌, Bool, true, false, cond, List, [], ◌∷◌, ◌++◌, length, get_or, All, Option, Some, None, refl, sym, ap, subst, ◌∙◌, append_assoc, inl, inr, arith}
+use Rattle.std.proofs.Common.{◌≡◌, ◌≢◌, ℕ, zero, suc, ◌+◌, ◌^◌, ◌<◌, ◌≤◌, Bool, true, false, cond, eqb, List, [], ◌∷◌, ◌++◌, length, get_or, All, Option, Some, None, refl, sym, ap, subst, ◌∙◌, append_assoc, inl, inr, arith}
 use Rattle.std.specs.Prelude.{bytes_eq, decimal, codes, IfSome, IsTrue, Contains, option_map, slice_get, unwrap_or}
 use Rattle.std.specs.List.{join_with_byte, list_all, AllByRecursion}
 use Rattle.std.specs.Option.{is_some}
@@ -19,11 +19,12 @@ use Rattle.coverage_db.specs.Fields.{◌>>=◌, split_last, fields_of, field_at,
 use Rattle.coverage_db.specs.Reading.{instance_of, is_thing, doubt_at, verdict_by, verdict_at, subject_at, point_of}
 use Rattle.coverage_db.specs.Table.{Rises, IsInstance, IsSubject, IsThingIn, IsVerdict, IsPoint, is_path, is_state}
 use Rattle.coverage_db.specs.Text.{place_text, index_text, rise_text, write_text, letter, subject_fields, path_at, address_text, verdict_text, point_line}
-use Rattle.coverage_db.proofs.Lacking.{lacks_append, lacks_more, decimal_lacks, name_lacks, state_lacks, path_lacks}
+use Rattle.coverage_db.specs.Words.{line_word_text, node_case_text, operator_text}
+use Rattle.coverage_db.proofs.Lacking.{is_visible, IsApart, space_apart, feed_apart, word_lacks, lacks_append, lacks_more, decimal_lacks, name_lacks, state_lacks, path_lacks}
 use Rattle.coverage_db.proofs.PathSearch.{by_path, instance_found, same_path}
 use Rattle.coverage_db.proofs.Splitting.{lacks, last_takes, last_again, fields_one, fields_more, fields_joined}
 use Rattle.coverage_db.proofs.SubjectLaws.{field_takes, end_takes, number_at_takes, number_at_again, subject_words, subject_takes, subject_again}
-use Rattle.coverage_db.proofs.WordLaws.{bind_some, line_word_lacks, node_case_lacks, operator_lacks}
+use Rattle.coverage_db.proofs.WordLaws.{bind_some, line_word_visible, node_case_visible, operator_visible}
 
 -- ---- instances
 
@@ -179,50 +180,56 @@ joined_spaced : (field : List ℕ) (fields : List (List ℕ)) → join_with_byte
 joined_spaced field [] = sym (append-nil field)
 joined_spaced field (next ∷ fields) = ap (λ (t : List ℕ). field ++ 32 ∷ t) (joined_spaced next fields)
 
--- no field has a space
-abbrev pub NoSpaces : List (List ℕ) → Type 0
-NoSpaces fields = AllByRecursion (λ field. lacks 32 field ≡ true) fields
+-- no field has the byte
+abbrev pub NoneHas : ℕ → List (List ℕ) → Type 0
+NoneHas value fields = AllByRecursion (λ field. lacks value field ≡ true) fields
 
-fields_again : (field : List ℕ) (fields : List (List ℕ)) → lacks 32 field ≡ true → NoSpaces fields → fields_of (field ++ spaced fields) ≡ field ∷ fields
+fields_again : (field : List ℕ) (fields : List (List ℕ)) → lacks 32 field ≡ true → NoneHas 32 fields → fields_of (field ++ spaced fields) ≡ field ∷ fields
 fields_again field [] free each = ap fields_of (append-nil field) ∙ fields_one field free
 fields_again field (next ∷ fields) free each = fields_more field (next ++ spaced fields) free ∙ ap (λ (fs : List (List ℕ)). field ∷ fs) (fields_again next fields each.0 each.1)
 
-no_spaces_append : (a b : List (List ℕ)) → NoSpaces a → NoSpaces b → NoSpaces (a ++ b)
-no_spaces_append [] b p q = q
-no_spaces_append (field ∷ a) b p q = (p.0, no_spaces_append a b p.1 q)
+none_has_append : (value : ℕ) (a b : List (List ℕ)) → NoneHas value a → NoneHas value b → NoneHas value (a ++ b)
+none_has_append value [] b p q = q
+none_has_append value (field ∷ a) b p q = (p.0, none_has_append value a b p.1 q)
 
-place_free : (source line : ℕ) → source < 2 ^ 64 → line < 2 ^ 64 → lacks 32 (decimal source ++ 58 ∷ decimal line) ≡ true
-place_free source line a b = lacks_append 32 (decimal source) (58 ∷ decimal line) (decimal_lacks 32 source refl a) (lacks_more 32 58 (decimal line) refl (decimal_lacks 32 line refl b))
+spaced_lacks : (value : ℕ) (fields : List (List ℕ)) → eqb 32 value ≡ false → NoneHas value fields → lacks value (spaced fields) ≡ true
+spaced_lacks value [] other each = refl
+spaced_lacks value (field ∷ fields) other each = lacks_more value 32 (field ++ spaced fields) other (lacks_append value field (spaced fields) each.0 (spaced_lacks value fields other each.1))
 
-index_free : (index : Option ℕ) → IfSome index (λ i. i < 2 ^ 32) → lacks 32 (index_text index) ≡ true
-index_free None small = refl
-index_free (Some i) small = decimal_lacks 32 i refl (omega arith)
+place_free : (v source line : ℕ) → IsApart v → source < 2 ^ 64 → line < 2 ^ 64 → lacks v (decimal source ++ 58 ∷ decimal line) ≡ true
+place_free v source line apart a b = lacks_append v (decimal source) (58 ∷ decimal line) (decimal_lacks v source apart.digit a) (lacks_more v 58 (decimal line) apart.colon (decimal_lacks v line apart.digit b))
 
-rise_free : (rise : Bool) → lacks 32 (rise_text rise) ≡ true
-rise_free true = refl
-rise_free false = refl
+index_free : (v : ℕ) (index : Option ℕ) → IsApart v → IfSome index (λ i. i < 2 ^ 32) → lacks v (index_text index) ≡ true
+index_free v None apart small = word_lacks v (codes "-") apart refl
+index_free v (Some i) apart small = decimal_lacks v i apart.digit (omega arith)
 
-write_free : (write : Bool) → lacks 32 (write_text write) ≡ true
-write_free true = refl
-write_free false = refl
+rise_free : (v : ℕ) (rise : Bool) → IsApart v → lacks v (rise_text rise) ≡ true
+rise_free v true apart = word_lacks v (codes "01") apart refl
+rise_free v false apart = word_lacks v (codes "10") apart refl
 
-subject_free : (sources : ℕ) (subject : Subject) → sources < 2 ^ 32 → IsSubject sources subject → NoSpaces (subject_words subject)
-subject_free sources (Line n at word) few is = (decimal_lacks 32 n refl (omega (arith, is.0.1)), (place_free at.source at.line (omega (arith, is.1.source.1)) (omega (arith, is.1.line.1)), (line_word_lacks word, tt)))
-subject_free sources (Logic n at op c) few is = (decimal_lacks 32 n refl (omega (arith, is.0.1)), (place_free at.source at.line (omega (arith, is.1.source.1)) (omega (arith, is.1.line.1)), (operator_lacks op, (node_case_lacks c, tt))))
-subject_free sources (Toggle name index rise) few is = (name_lacks 32 name refl is.0, (index_free index is.1, (rise_free rise, tt)))
-subject_free sources (State name state) few is = (name_lacks 32 name refl is.0, (state_lacks 32 state refl refl is.1, tt))
-subject_free sources (Arc name from target) few is = (name_lacks 32 name refl is.0, (state_lacks 32 from refl refl is.1, (state_lacks 32 target refl refl is.2, tt)))
-subject_free sources (Word name index write) few is = (name_lacks 32 name refl is.0, (decimal_lacks 32 index refl (omega (arith, is.1)), (write_free write, tt)))
+write_free : (v : ℕ) (write : Bool) → IsApart v → lacks v (write_text write) ≡ true
+write_free v true apart = word_lacks v (codes "w") apart refl
+write_free v false apart = word_lacks v (codes "r") apart refl
 
-thing_free : (instances : List DbInstance) (path : List ℕ) → All IsInstance instances → IsThingIn instances path → lacks 32 path ≡ true
-thing_free instances path each (i, name, (place, within, at), named, whole) =
+subject_free : (v sources : ℕ) (subject : Subject) → IsApart v → sources < 2 ^ 32 → IsSubject sources subject → NoneHas v (subject_words subject)
+subject_free v sources (Line n at word) apart few is =
+    (decimal_lacks v n apart.digit (omega (arith, is.0.1)), (place_free v at.source at.line apart (omega (arith, is.1.source.1)) (omega (arith, is.1.line.1)), (word_lacks v (line_word_text word) apart (line_word_visible word), tt)))
+subject_free v sources (Logic n at op c) apart few is =
+    (decimal_lacks v n apart.digit (omega (arith, is.0.1)), (place_free v at.source at.line apart (omega (arith, is.1.source.1)) (omega (arith, is.1.line.1)), (word_lacks v (operator_text op) apart (operator_visible op), (word_lacks v (node_case_text c) apart (node_case_visible c), tt))))
+subject_free v sources (Toggle name index rise) apart few is = (name_lacks v name apart.name is.0, (index_free v index apart is.1, (rise_free v rise apart, tt)))
+subject_free v sources (State name state) apart few is = (name_lacks v name apart.name is.0, (state_lacks v state apart.name apart.digit is.1, tt))
+subject_free v sources (Arc name from target) apart few is = (name_lacks v name apart.name is.0, (state_lacks v from apart.name apart.digit is.1, (state_lacks v target apart.name apart.digit is.2, tt)))
+subject_free v sources (Word name index write) apart few is = (name_lacks v name apart.name is.0, (decimal_lacks v index apart.digit (omega (arith, is.1)), (write_free v write apart, tt)))
+
+thing_free : (v : ℕ) (instances : List DbInstance) (path : List ℕ) → IsApart v → All IsInstance instances → IsThingIn instances path → lacks v path ≡ true
+thing_free v instances path apart each (i, name, (place, within, at), named, whole) =
     let inst : IsInstance i = subst IsInstance at (each place i within) in
-    rw whole (lacks_append 32 i.path (46 ∷ name) (path_lacks 32 i.path refl refl inst.path) (lacks_more 32 46 name refl (name_lacks 32 name refl named)))
+    rw whole (lacks_append v i.path (46 ∷ name) (path_lacks v i.path apart.dot apart.name inst.path) (lacks_more v 46 name apart.dot (name_lacks v name apart.name named)))
 
-verdict_free : (instances : List DbInstance) (v : DbVerdict) → All IsInstance instances → IsVerdict instances v → NoSpaces (verdict_words v)
-verdict_free instances Hit each is = (refl, tt)
-verdict_free instances Missed each is = (refl, tt)
-verdict_free instances (Undetermined time path) each is = (refl, (decimal_lacks 32 time refl (omega (arith, is.0)), (thing_free instances path each is.1, tt)))
+verdict_free : (v : ℕ) (instances : List DbInstance) (verdict : DbVerdict) → IsApart v → All IsInstance instances → IsVerdict instances verdict → NoneHas v (verdict_words verdict)
+verdict_free v instances Hit apart each is = (word_lacks v (codes "hit") apart refl, tt)
+verdict_free v instances Missed apart each is = (word_lacks v (codes "missed") apart refl, tt)
+verdict_free v instances (Undetermined time path) apart each is = (word_lacks v (codes "?") apart refl, (decimal_lacks v time apart.digit (omega (arith, is.0)), (thing_free v instances path apart each is.1, tt)))
 
 subject_spaced : (subject : Subject) → spaced (subject_words subject) ≡ 32 ∷ subject_fields subject
 subject_spaced (Line n at word) = simp (append-nil, append_assoc)
@@ -255,13 +262,25 @@ point_spelled instances p =
     let rest : spaced (subject_words s ++ codes "=" ∷ verdict_words p.verdict) ≡ (32 ∷ subject_fields s) ++ (codes " = " ++ verdict_text p.verdict) = rw (spaced_append (subject_words s) (codes "=" ∷ verdict_words p.verdict), subject_spaced s, verdict) refl in
     ap (λ (t : List ℕ). letter s ∷ 32 ∷ path ++ t) rest ∙ regrouped (letter s ∷ 32 ∷ path) (32 ∷ subject_fields s) (codes " = ") (verdict_text p.verdict)
 
-letter_free : (subject : Subject) → lacks 32 (letter subject ∷ []) ≡ true
-letter_free (Line n at word) = refl
-letter_free (Logic n at op c) = refl
-letter_free (Toggle name index rise) = refl
-letter_free (State name state) = refl
-letter_free (Arc name from target) = refl
-letter_free (Word name index write) = refl
+letter_visible : (subject : Subject) → list_all is_visible (letter subject ∷ []) ≡ true
+letter_visible (Line n at word) = refl
+letter_visible (Logic n at op c) = refl
+letter_visible (Toggle name index rise) = refl
+letter_visible (State name state) = refl
+letter_visible (Arc name from target) = refl
+letter_visible (Word name index write) = refl
+
+point_free : (v sources : ℕ) (instances : List DbInstance) (p : DbPoint) → IsApart v → sources < 2 ^ 32 → All IsInstance instances → IsPoint sources instances p → NoneHas v (point_words instances p)
+point_free v sources instances p apart few each is =
+    let s = p.address.subject in
+    let path : List ℕ = path_at instances p.address.instance in
+    (path_lacks v path apart.dot apart.name (path_at_is instances p.address.instance each is.instance), none_has_append v (subject_words s) (codes "=" ∷ verdict_words p.verdict) (subject_free v sources s apart few is.subject) (word_lacks v (codes "=") apart refl, verdict_free v instances p.verdict apart each is.verdict))
+
+-- the line of a point has no line feed
+pub point_line_whole : (sources : ℕ) (instances : List DbInstance) (p : DbPoint) → sources < 2 ^ 32 → All IsInstance instances → IsPoint sources instances p → lacks 10 (point_line instances p) ≡ true
+point_line_whole sources instances p few each is =
+    subst (λ (l : List ℕ). lacks 10 l ≡ true) (point_spelled instances p)
+    (lacks_append 10 (letter p.address.subject ∷ []) (spaced (point_words instances p)) (word_lacks 10 (letter p.address.subject ∷ []) feed_apart (letter_visible p.address.subject)) (spaced_lacks 10 (point_words instances p) refl (point_free 10 sources instances p feed_apart few each is)))
 
 -- ---- the line of a point
 
@@ -295,7 +314,6 @@ pub point_again : (sources : ℕ) (instances : List DbInstance) (p : DbPoint) �
 unfolding point_of
 point_again sources instances p few rises each is =
     let s = p.address.subject in
-    let path : List ℕ = path_at instances p.address.instance in
-    let free : NoSpaces (point_words instances p) = (path_lacks 32 path refl refl (path_at_is instances p.address.instance each is.instance), no_spaces_append (subject_words s) (codes "=" ∷ verdict_words p.verdict) (subject_free sources s few is.subject) (refl, verdict_free instances p.verdict each is.verdict)) in
-    let fields : fields_of (point_line instances p) ≡ (letter s ∷ []) ∷ point_words instances p = ap fields_of (sym (point_spelled instances p)) ∙ fields_again (letter s ∷ []) (point_words instances p) (letter_free s) free in
+    let free = point_free 32 sources instances p space_apart few each is in
+    let fields : fields_of (point_line instances p) ≡ (letter s ∷ []) ∷ point_words instances p = ap fields_of (sym (point_spelled instances p)) ∙ fields_again (letter s ∷ []) (point_words instances p) (word_lacks 32 (letter s ∷ []) space_apart (letter_visible s)) free in
     rw (fields, instance_again instances p.address.instance rises is.instance, subject_again sources s (verdict_words p.verdict) few is.subject, verdict_again instances p.verdict rises is.verdict) refl

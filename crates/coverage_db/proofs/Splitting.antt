@@ -1,12 +1,12 @@
 -- Bytes that are split, and the fields of a line.
 use Rattle.std.proofs.Common.{◌≡◌, ◌≢◌, ◌==◌, ℕ, zero, suc, ◌+◌, ◌<◌, ◌≤◌, Bool, true, false, not, cond, eqb, List, [], ◌∷◌, ◌++◌, length, take, drop, drop-drop, get_or, All, Option, Some, None, refl, sym, ap, subst, ◌∙◌, append_assoc, inl, inr, arith}
-use Rattle.std.specs.Prelude.{option_map, MatchOption}
+use Rattle.std.specs.Prelude.{option_map, MatchOption, ◌&&◌}
 use Rattle.std.specs.Borrow.{Bor}
-use Rattle.std.specs.List.{prefix_len, slice_split, onto_first, list_all, join_with_byte}
+use Rattle.std.specs.List.{prefix_len, slice_split, onto_first, list_all, join_with_byte, AllByRecursion}
 use Rattle.std.specs.Cmp.Lexicographic.{pointwise}
 use Rattle.std.proofs.lemmas.Bool.{cases_Bool}
 use Rattle.std.proofs.lemmas.Option.{some_pair_parts}
-use Rattle.std.proofs.lemmas.List.{nil_from_length, append-nil, take_more, at_drop_more}
+use Rattle.std.proofs.lemmas.List.{nil_from_length, append-nil, take_more, at_drop_more, length-append}
 use Rattle.std.proofs.lemmas.Bool.Decides.{nat_tests}
 use Rattle.std.proofs.lemmas.List.Splits.{join_with_byte-slice_split}
 use Rattle.std.specs.Option.{is_some}
@@ -223,21 +223,38 @@ stripped front bytes (Some x) e = rw e.1 (sym (behind_some front bytes e.0))
 
 -- ---- the fields of a line
 
-pub fields_one : (field : List ℕ) → lacks 32 field ≡ true → fields_of field ≡ field ∷ []
-fields_one [] free = refl
-fields_one (byte ∷ field) free =
-    elim (cases_Bool (eqb byte 32)) [
+pub pieces_one : (value : ℕ) (piece : List ℕ) → lacks value piece ≡ true → slice_split (λ byte. byte == value) piece ≡ piece ∷ []
+pieces_one value [] free = refl
+pieces_one value (byte ∷ piece) free =
+    elim (cases_Bool (eqb byte value)) [
       | inl is ↦ absurd (let bad : false ≡ true = rw is at free in cc)
-      | inr other ↦ rw (other, fields_one field (rw other at free)) refl
+      | inr other ↦ rw (other, pieces_one value piece (rw other at free)) refl
     ]
 
-pub fields_more : (field others : List ℕ) → lacks 32 field ≡ true → fields_of (field ++ 32 ∷ others) ≡ field ∷ fields_of others
-fields_more [] others free = refl
-fields_more (byte ∷ field) others free =
-    elim (cases_Bool (eqb byte 32)) [
+pub pieces_more : (value : ℕ) (piece others : List ℕ) → lacks value piece ≡ true → slice_split (λ byte. byte == value) (piece ++ value ∷ others) ≡ piece ∷ slice_split (λ byte. byte == value) others
+pieces_more value [] others free = let is : eqb value value ≡ true = grind (arith, nat_tests) in rw is refl
+pieces_more value (byte ∷ piece) others free =
+    elim (cases_Bool (eqb byte value)) [
       | inl is ↦ absurd (let bad : false ≡ true = rw is at free in cc)
-      | inr other ↦ rw (other, fields_more field others (rw other at free)) refl
+      | inr other ↦ rw (other, pieces_more value piece others (rw other at free)) refl
     ]
+
+-- the pieces of what was split
+pub pieces_split : (value : ℕ) (bytes front back : List ℕ) → split_first value bytes ≡ Some (front, back) → slice_split (λ byte. byte == value) bytes ≡ front ∷ slice_split (λ byte. byte == value) back
+pieces_split value bytes front back e = let p = split_takes value bytes front back e in ap (slice_split (λ byte. byte == value)) p.whole ∙ pieces_more value front back p.lacking
+
+pub pieces_whole : (value : ℕ) (bytes : List ℕ) → split_first value bytes ≡ None → slice_split (λ byte. byte == value) bytes ≡ bytes ∷ []
+pieces_whole value bytes e = pieces_one value bytes (split_refuses value bytes e)
+
+pub fields_one : (field : List ℕ) → lacks 32 field ≡ true → fields_of field ≡ field ∷ []
+fields_one field free = pieces_one 32 field free
+
+pub fields_more : (field others : List ℕ) → lacks 32 field ≡ true → fields_of (field ++ 32 ∷ others) ≡ field ∷ fields_of others
+fields_more field others free = pieces_more 32 field others free
+
+-- what is left is shorter
+pub split_shorter : (value : ℕ) (bytes front back : List ℕ) → split_first value bytes ≡ Some (front, back) → length back < length bytes
+split_shorter value bytes front back e = let p = split_takes value bytes front back e in rw p.whole (simp length-append (omega arith))
 
 pub fields_joined : (line : List ℕ) → join_with_byte 32 (fields_of line) ≡ line
 fields_joined line = join_with_byte-slice_split 32 line
@@ -263,3 +280,34 @@ end_of_none (Some r) left e is = absurd cc
 pub end_of_some : (rest : Option (Bor (List ℕ))) (left : List (List ℕ)) → fields_left rest ≡ left → is_some rest ≡ true → end_at left ≡ None
 end_of_some None left e is = absurd cc
 end_of_some (Some r) left e is = ap end_at (sym e) ∙ end_some r.now
+
+-- ---- a test of all pieces
+
+and_true : (b : Bool) → (b && true) ≡ b
+and_true true = refl
+and_true false = refl
+
+pub all_first : (test : List ℕ → Bool) (value : ℕ) (bytes front back : List ℕ) → split_first value bytes ≡ Some (front, back) → test front ≡ true
+    → list_all test (slice_split (λ byte. byte == value) bytes) ≡ list_all test (slice_split (λ byte. byte == value) back)
+all_first test value bytes front back e passes = ap (list_all test) (pieces_split value bytes front back e) ∙ ap (λ (b : Bool). b && list_all test (slice_split (λ byte. byte == value) back)) passes
+
+pub all_fails : (test : List ℕ → Bool) (value : ℕ) (bytes front back : List ℕ) → split_first value bytes ≡ Some (front, back) → test front ≡ false → list_all test (slice_split (λ byte. byte == value) bytes) ≡ false
+all_fails test value bytes front back e fails = ap (list_all test) (pieces_split value bytes front back e) ∙ ap (λ (b : Bool). b && list_all test (slice_split (λ byte. byte == value) back)) fails
+
+pub all_only : (test : List ℕ → Bool) (value : ℕ) (bytes : List ℕ) → split_first value bytes ≡ None → list_all test (slice_split (λ byte. byte == value) bytes) ≡ test bytes
+all_only test value bytes e = ap (list_all test) (pieces_whole value bytes e) ∙ and_true (test bytes)
+
+-- ---- the pieces themselves
+
+onto_lacks : (value byte : ℕ) (pieces : List (List ℕ)) → eqb byte value ≡ false → AllByRecursion (λ piece. lacks value piece ≡ true) pieces → AllByRecursion (λ piece. lacks value piece ≡ true) (onto_first byte pieces)
+onto_lacks value byte [] other each = (rw other refl, tt)
+onto_lacks value byte (piece ∷ pieces) other each = (rw (other, each.0) refl, each.1)
+
+-- no piece has the value
+pub pieces_lack : (value : ℕ) (bytes : List ℕ) → AllByRecursion (λ piece. lacks value piece ≡ true) (slice_split (λ byte. byte == value) bytes)
+pieces_lack value [] = (refl, tt)
+pieces_lack value (byte ∷ bytes) =
+    elim (cases_Bool (eqb byte value)) [
+      | inl is ↦ rw is (refl, pieces_lack value bytes)
+      | inr other ↦ rw other (onto_lacks value byte (slice_split (λ b. b == value) bytes) other (pieces_lack value bytes))
+    ]

@@ -1,7 +1,7 @@
 -- The words of the text, and places: what is read is spelled so, and what is spelled so is read.
 use Rattle.std.proofs.Common.{◌≡◌, ◌≢◌, ℕ, ◌^◌, ◌<◌, ◌≤◌, Bool, true, false, cond, List, [], ◌∷◌, ◌++◌, length, Option, Some, None, refl, sym, ap, subst, ◌∙◌, inl, inr, arith}
 use Rattle.std.specs.Prelude.{bytes_eq, decimal, codes}
-use Rattle.std.specs.List.{find}
+use Rattle.std.specs.List.{find, list_all}
 use Rattle.std.proofs.lemmas.Bool.{cases_Bool}
 use Rattle.std.proofs.lemmas.Option.{same_Some}
 use Rattle.std.proofs.lemmas.Slice.Eq.{bytes_eq-Decides}
@@ -17,9 +17,9 @@ use Rattle.coverage_db.specs.Reading.{place_of}
 use Rattle.coverage_db.specs.Table.{IsSourceLine}
 use Rattle.coverage_db.specs.Text.{place_text}
 use Rattle.coverage_db.specs.Words.{line_words, line_word_text, line_word_of, node_cases, node_case_text, node_case_of, operators, operator_text, operator_of}
-use Rattle.coverage_db.proofs.Lacking.{decimal_lacks}
+use Rattle.coverage_db.proofs.Lacking.{is_visible, decimal_lacks}
 use Rattle.coverage_db.proofs.Numbers.{number_takes, number_again}
-use Rattle.coverage_db.proofs.Splitting.{lacks, split_takes, split_again}
+use Rattle.coverage_db.proofs.Splitting.{split_takes, split_again}
 
 -- the value of a step that gave something
 pub bind_some : {A B : Type 0} (o : Option A) (f : A → Option B) (y : B) → (o >>= f) ≡ Some y → (x : A) × (o ≡ Some x) × (f x ≡ Some y)
@@ -100,54 +100,54 @@ operator_again operator.NotEqual = refl
 operator_again operator.CaseEqual = refl
 operator_again operator.CaseNotEqual = refl
 
-pub line_word_lacks : (word : LineWord) → lacks 32 (line_word_text word) ≡ true
-line_word_lacks line.If = refl
-line_word_lacks line.Case = refl
-line_word_lacks line.For = refl
-line_word_lacks line.Assign = refl
+pub line_word_visible : (word : LineWord) → list_all is_visible (line_word_text word) ≡ true
+line_word_visible line.If = refl
+line_word_visible line.Case = refl
+line_word_visible line.For = refl
+line_word_visible line.Assign = refl
 
-pub node_case_lacks : (c : NodeCase) → lacks 32 (node_case_text c) ≡ true
-node_case_lacks case.False = refl
-node_case_lacks case.True = refl
-node_case_lacks case.LeftFalse = refl
-node_case_lacks case.RightFalse = refl
-node_case_lacks case.LeftTrue = refl
-node_case_lacks case.RightTrue = refl
-node_case_lacks case.FalseFalse = refl
-node_case_lacks case.FalseTrue = refl
-node_case_lacks case.TrueFalse = refl
-node_case_lacks case.TrueTrue = refl
+pub node_case_visible : (c : NodeCase) → list_all is_visible (node_case_text c) ≡ true
+node_case_visible case.False = refl
+node_case_visible case.True = refl
+node_case_visible case.LeftFalse = refl
+node_case_visible case.RightFalse = refl
+node_case_visible case.LeftTrue = refl
+node_case_visible case.RightTrue = refl
+node_case_visible case.FalseFalse = refl
+node_case_visible case.FalseTrue = refl
+node_case_visible case.TrueFalse = refl
+node_case_visible case.TrueTrue = refl
 
-pub operator_lacks : (op : Operator) → lacks 32 (operator_text op) ≡ true
-operator_lacks operator.Value = refl
-operator_lacks operator.LogicalNot = refl
-operator_lacks operator.BitwiseNot = refl
-operator_lacks operator.ReduceNand = refl
-operator_lacks operator.ReduceNor = refl
-operator_lacks operator.And = refl
-operator_lacks operator.Or = refl
-operator_lacks operator.LogicalAnd = refl
-operator_lacks operator.LogicalOr = refl
-operator_lacks operator.Plus = refl
-operator_lacks operator.Minus = refl
-operator_lacks operator.Xor = refl
-operator_lacks operator.Xnor = refl
-operator_lacks operator.Nxor = refl
-operator_lacks operator.Multiply = refl
-operator_lacks operator.Divide = refl
-operator_lacks operator.Modulus = refl
-operator_lacks operator.ShiftLeft = refl
-operator_lacks operator.ShiftRight = refl
-operator_lacks operator.ArithmeticShiftLeft = refl
-operator_lacks operator.ArithmeticShiftRight = refl
-operator_lacks operator.LessThan = refl
-operator_lacks operator.LessOrEqual = refl
-operator_lacks operator.GreaterThan = refl
-operator_lacks operator.GreaterOrEqual = refl
-operator_lacks operator.Equal = refl
-operator_lacks operator.NotEqual = refl
-operator_lacks operator.CaseEqual = refl
-operator_lacks operator.CaseNotEqual = refl
+pub operator_visible : (op : Operator) → list_all is_visible (operator_text op) ≡ true
+operator_visible operator.Value = refl
+operator_visible operator.LogicalNot = refl
+operator_visible operator.BitwiseNot = refl
+operator_visible operator.ReduceNand = refl
+operator_visible operator.ReduceNor = refl
+operator_visible operator.And = refl
+operator_visible operator.Or = refl
+operator_visible operator.LogicalAnd = refl
+operator_visible operator.LogicalOr = refl
+operator_visible operator.Plus = refl
+operator_visible operator.Minus = refl
+operator_visible operator.Xor = refl
+operator_visible operator.Xnor = refl
+operator_visible operator.Nxor = refl
+operator_visible operator.Multiply = refl
+operator_visible operator.Divide = refl
+operator_visible operator.Modulus = refl
+operator_visible operator.ShiftLeft = refl
+operator_visible operator.ShiftRight = refl
+operator_visible operator.ArithmeticShiftLeft = refl
+operator_visible operator.ArithmeticShiftRight = refl
+operator_visible operator.LessThan = refl
+operator_visible operator.LessOrEqual = refl
+operator_visible operator.GreaterThan = refl
+operator_visible operator.GreaterOrEqual = refl
+operator_visible operator.Equal = refl
+operator_visible operator.NotEqual = refl
+operator_visible operator.CaseEqual = refl
+operator_visible operator.CaseNotEqual = refl
 
 -- ---- a source and its line
 

@@ -5,3 +5,5 @@ pub mod Text
 pub mod Fields
 pub mod Reading
 pub mod Views
+pub mod Drafting
+pub mod Faults

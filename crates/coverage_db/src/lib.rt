@@ -3,14 +3,17 @@
 
 mod address;
 mod db;
+mod draft;
 mod fault;
 mod fields;
+mod head;
 mod instances;
 mod line_fault;
 mod line_word;
 mod node_case;
 mod number;
 mod operator;
+mod read;
 mod read_point;
 mod read_subject;
 mod split;
@@ -23,5 +26,6 @@ pub use fault::{DbFault, DbKind, MergeFault};
 pub use line_word::LineWord;
 pub use node_case::NodeCase;
 pub use operator::Operator;
+pub use read::read_db;
 pub use verdict::DbVerdict;
 pub use write::write_db;

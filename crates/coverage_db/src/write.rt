@@ -73,7 +73,7 @@ fn push_instance(text: &mut Text, instance: &DbInstance) -> Result<(), NoMemory>
 
 /// Appends the line of the count of the points.
 fn push_count(text: &mut Text, count: usize) -> Result<(), NoMemory>
-    ensures { OnOk result (text.new ≡ text.old ++ ended (count_line count)) }
+    ensures { OnOk result (text.new ≡ text.old ++ ended (count_line (decimal count))) }
 {
     text.extend_from_slice(b"points ")?;
     push_number(text, count)?;
