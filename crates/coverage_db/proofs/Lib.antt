@@ -10,3 +10,8 @@ pub mod PointLaws
 pub mod DraftLaws
 pub mod Completing
 pub mod ReadingLaws
+pub mod BareLines
+pub mod Differing
+pub mod SameLaws
+pub mod MergeLaws
+pub mod JoinLaws

@@ -7,3 +7,5 @@ pub mod Reading
 pub mod Views
 pub mod Drafting
 pub mod Faults
+pub mod Same
+pub mod Merge

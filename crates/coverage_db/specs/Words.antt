@@ -151,3 +151,42 @@ can_have op case.FalseFalse = is_or op || is_plain op
 can_have op case.FalseTrue = is_plain op
 can_have op case.TrueFalse = is_plain op
 can_have op case.TrueTrue = is_and op || is_plain op
+
+-- the place of a kind among all kinds
+abbrev pub line_word_rank : LineWord → ℕ
+line_word_rank line.If = 0
+line_word_rank line.Case = 1
+line_word_rank line.For = 2
+line_word_rank line.Assign = 3
+
+-- the place of an operator among all operators
+abbrev pub operator_rank : Operator → ℕ
+operator_rank operator.Value = 0
+operator_rank operator.LogicalNot = 1
+operator_rank operator.BitwiseNot = 2
+operator_rank operator.ReduceNand = 3
+operator_rank operator.ReduceNor = 4
+operator_rank operator.And = 5
+operator_rank operator.Or = 6
+operator_rank operator.LogicalAnd = 7
+operator_rank operator.LogicalOr = 8
+operator_rank operator.Plus = 9
+operator_rank operator.Minus = 10
+operator_rank operator.Xor = 11
+operator_rank operator.Xnor = 12
+operator_rank operator.Nxor = 13
+operator_rank operator.Multiply = 14
+operator_rank operator.Divide = 15
+operator_rank operator.Modulus = 16
+operator_rank operator.ShiftLeft = 17
+operator_rank operator.ShiftRight = 18
+operator_rank operator.ArithmeticShiftLeft = 19
+operator_rank operator.ArithmeticShiftRight = 20
+operator_rank operator.LessThan = 21
+operator_rank operator.LessOrEqual = 22
+operator_rank operator.GreaterThan = 23
+operator_rank operator.GreaterOrEqual = 24
+operator_rank operator.Equal = 25
+operator_rank operator.NotEqual = 26
+operator_rank operator.CaseEqual = 27
+operator_rank operator.CaseNotEqual = 28
