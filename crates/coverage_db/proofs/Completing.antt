@@ -128,7 +128,7 @@ points_lead d (p ∷ points) stands each rise =
     let new : Draft = with_point d p in
     let is = All-head (IsPoint (length d.db.sources) d.db.instances) p points each in
     let read : (n : ℕ) → next n d (point_line d.db.instances p) ≡ Ok new =
-      λ n. rw stands.at (rw (begins d.db.instances p p.address.subject refl, point_again (length d.db.sources) d.db.instances p stands.few stands.rise stands.instances is, follows_in by_address d.db.points p points rise) refl) in
+    λ n. rw stands.at (rw (begins d.db.instances p p.address.subject refl, point_again (length d.db.sources) d.db.instances p stands.few stands.rise stands.instances is, follows_in by_address d.db.points p points rise) refl) in
     let rest = points_lead new points (record { at = stands.at; few = stands.few; instances = stands.instances; rise = stands.rise }) (All-tail (IsPoint (length d.db.sources) d.db.instances) p points each) (subst (Rises by_address) (sym (append_assoc d.db.points (p ∷ []) points)) rise) in
     let whole = both_lead d (point_line d.db.instances p ∷ []) new (map (point_line d.db.instances) points) _ (one_leads d (point_line d.db.instances p) new read) rest in
     subst (λ (ps : List DbPoint). Leads d (map (point_line d.db.instances) (p ∷ points)) (record d { db = record d.db { points = ps } })) (append_assoc d.db.points (p ∷ []) points) whole

@@ -341,8 +341,8 @@ point_part n d line new few has at e =
             let points : ArePoints (with_point d p).db = record { points = All-push (IsPoint (length d.db.sources) d.db.instances) d.db.points p has.1.points is; rise = rises_push by_address d.db.points p has.1.rise follows_is } in
             let head : IsHead (with_point d p).db = record { top = has.0.top; sources = has.0.sources; instances = has.0.instances; some_source = has.0.some_source; some_instance = has.0.some_instance; rise = has.0.rise } in
             let lines : lines_read stage.Points (with_point d p) ≡ lines_read stage.Points d ++ line ∷ [] =
-              ap (λ (ls : List (List ℕ)). head_lines d.db ++ count_line d.count ∷ ls) (map_push_line (point_line d.db.instances) d.db.points p ∙ ap (λ (l : List ℕ). map (point_line d.db.instances) d.db.points ++ l ∷ []) (sym line_is))
-              ∙ sym (append_assoc (head_lines d.db) (count_line d.count ∷ map (point_line d.db.instances) d.db.points) (line ∷ [])) in
+            ap (λ (ls : List (List ℕ)). head_lines d.db ++ count_line d.count ∷ ls) (map_push_line (point_line d.db.instances) d.db.points p ∙ ap (λ (l : List ℕ). map (point_line d.db.instances) d.db.points ++ l ∷ []) (sym line_is))
+            ∙ sym (append_assoc (head_lines d.db) (count_line d.count ∷ map (point_line d.db.instances) d.db.points) (line ∷ [])) in
             made_is (lines_read stage.Points d) line (with_point d p) new made (part_of stage.Points (with_point d p) (lines_read stage.Points d ++ line ∷ []) at (head, points, has.2) lines)
         | inr (none, other) ↦ absurd (no_fault _ new other)
       ]

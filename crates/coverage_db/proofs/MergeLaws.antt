@@ -251,10 +251,10 @@ count_differs : (left right : Db) → IsTable left → IsTable right → left.to
     → IsFirstOther (bare_lines left) (bare_lines right) (2 + length left.sources + length left.instances)
 count_differs left right p q t s i e =
     let differ : count_line (decimal (length left.points)) ≢ count_line (decimal (length right.points)) = λ same.
-      let digits : decimal (length left.points) ≡ decimal (length right.points) = cc in
-      let one : length left.points ≡ length right.points = decimal_injective (length left.points) (length right.points) (omega (arith, p.lines)) (omega (arith, q.lines)) digits in
-      let bad : true ≡ false = sym (eq-eqb (length left.points) (length right.points) one) ∙ e in
-      cc in
+    let digits : decimal (length left.points) ≡ decimal (length right.points) = cc in
+    let one : length left.points ≡ length right.points = decimal_injective (length left.points) (length right.points) (omega (arith, p.lines)) (omega (arith, q.lines)) digits in
+    let bad : true ≡ false = sym (eq-eqb (length left.points) (length right.points) one) ∙ e in
+    cc in
     let here = heads_differ (count_line (decimal (length left.points))) (count_line (decimal (length right.points))) _ _ differ in
     let same : 2 + length left.sources + length left.instances + 0 ≡ 2 + length left.sources + length left.instances = omega arith in
     subst (λ (n : ℕ). IsFirstOther (bare_lines left) (bare_lines right) n) same (behind_instances left right 0 t s i here)
@@ -270,7 +270,7 @@ points_differ left right place p q t s i long e =
     let two = subst (λ (ls : List (List ℕ)). IsFirstOther (map text left.points ++ codes "end" ∷ []) (ls ++ codes "end" ∷ []) place) (sym (numbered_map text 1 right.points)) one in
     let counted = front_same (count_line (decimal (length left.points)) ∷ []) (map text left.points ++ codes "end" ∷ []) (map text right.points ++ codes "end" ∷ []) place two in
     let right_is : count_line (decimal (length left.points)) ∷ map text right.points ++ codes "end" ∷ [] ≡ lines_from_count right =
-      ap (λ (n : ℕ). count_line (decimal n) ∷ map text right.points ++ codes "end" ∷ []) long ∙ ap (λ (is : List DbInstance). count_line (decimal (length right.points)) ∷ map (λ (x : DbPoint). address_text is x.address) right.points ++ codes "end" ∷ []) i in
+    ap (λ (n : ℕ). count_line (decimal n) ∷ map text right.points ++ codes "end" ∷ []) long ∙ ap (λ (is : List DbInstance). count_line (decimal (length right.points)) ∷ map (λ (x : DbPoint). address_text is x.address) right.points ++ codes "end" ∷ []) i in
     let there = subst (λ (ls : List (List ℕ)). IsFirstOther (lines_from_count left) ls (1 + place)) right_is counted in
     let same : 2 + length left.sources + length left.instances + (1 + place) ≡ 2 + length left.sources + length left.instances + 1 + place = omega arith in
     subst (λ (n : ℕ). IsFirstOther (bare_lines left) (bare_lines right) n) same (behind_instances left right (1 + place) t s i there)

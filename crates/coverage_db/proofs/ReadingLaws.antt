@@ -525,10 +525,10 @@ versions_apart n e = cc
 no_begin : (alloc : Global) (n : ℕ) (before : List (List ℕ)) (draft : Draft) (line : List ℕ) → steps 1 (start alloc) before ≡ Ok draft → n ≡ length before + 1 → next n draft line ≡ Err (At BadLine (Some n)) → Begins (before ++ line ∷ []) → ⊥
 no_begin alloc n before draft line read number_is e b =
     let stuck : steps 1 (start alloc) (lines_with_count b.digits b.db) ≡ Err (At BadLine (Some n)) =
-      ap (steps 1 (start alloc)) (b.same ∙ append_assoc before (line ∷ []) b.others) ∙ steps_append 1 (start alloc) before (line ∷ b.others)
-      ∙ ap (λ (r : Result Draft DbFault). bind r (λ new. steps (length before + 1) new (line ∷ b.others))) read
-      ∙ ap (λ (k : ℕ). steps k draft (line ∷ b.others)) (sym number_is)
-      ∙ ap (λ (r : Result Draft DbFault). bind r (λ new. steps (n + 1) new b.others)) e in
+    ap (steps 1 (start alloc)) (b.same ∙ append_assoc before (line ∷ []) b.others) ∙ steps_append 1 (start alloc) before (line ∷ b.others)
+    ∙ ap (λ (r : Result Draft DbFault). bind r (λ new. steps (length before + 1) new (line ∷ b.others))) read
+    ∙ ap (λ (k : ℕ). steps k draft (line ∷ b.others)) (sym number_is)
+    ∙ ap (λ (r : Result Draft DbFault). bind r (λ new. steps (n + 1) new b.others)) e in
     elim (all_lines alloc b.digits b.db b.plain b.table) [
       | inl ok ↦ ok_err _ _ (sym ok ∙ stuck)
       | inr wrong ↦ kinds_apart _ _ (same_err _ _ (sym wrong ∙ stuck))

@@ -107,8 +107,8 @@ if_other (Some place) before otherwise = Some (before + place)
 abbrev pub difference_of : Db → Db → Option ℕ
 difference_of left right =
     if bytes_eq left.top right.top then
-      if_other (first_other bytes_eq left.sources right.sources) 2
-      (if_other (first_other same_instance left.instances right.instances) (2 + length left.sources)
-      (if length left.points == length right.points then if_other (first_other same_point left.points right.points) (2 + length left.sources + length left.instances + 1) None
-      else Some (2 + length left.sources + length left.instances)))
+    if_other (first_other bytes_eq left.sources right.sources) 2
+    (if_other (first_other same_instance left.instances right.instances) (2 + length left.sources)
+    (if length left.points == length right.points then if_other (first_other same_point left.points right.points) (2 + length left.sources + length left.instances + 1) None
+    else Some (2 + length left.sources + length left.instances)))
     else Some 1

@@ -12,5 +12,4 @@ pub fn merge_laws()
     ensures idempotent { (a : SpecDb) → merged a a ≡ a }
     ensures hit { (first : SpecDb) (others : List SpecDb) (place : ℕ) → All (λ db. length first.points ≡ length db.points) others
         → (verdict_at place (merged_all first others) ≡ Some Hit) ↔ HitInOne place (first ∷ others) }
-{
-}
+{}

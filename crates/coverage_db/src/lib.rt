@@ -17,13 +17,15 @@ mod merging;
 mod node_case;
 mod number;
 mod operator;
-mod verdict_join;
 mod read;
 mod read_point;
 mod read_subject;
 mod same;
 mod split;
+#[cfg(test)]
+mod tests;
 mod verdict;
+mod verdict_join;
 mod write;
 
 pub use address::{Address, SourceLine, Subject};

@@ -41,7 +41,9 @@ impl Subject {
                     operator: written,
                     case: truths,
                 },
-            ) => number == count && at == place && is_same_case(*operator, *case, *written, *truths),
+            ) => number == count
+                && at == place
+                && is_same_case(*operator, *case, *written, *truths),
             (
                 Subject::Toggle { name, index, rise },
                 Subject::Toggle {
