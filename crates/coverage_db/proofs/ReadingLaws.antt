@@ -611,6 +611,10 @@ fault_is alloc text f small e =
     let p = steps_part 1 (start alloc) [] h.before h.draft (start_part alloc) (omega arith) h.read in
     fault_by alloc text (length h.before + 1) h.before h.draft h.rest (reading alloc text) f (record { part = p; split = h.split; number_is = refl; read = h.read; few = omega arith }) h.halts e e
 
+-- no two tables have one text
+pub one_table : (alloc : Global) (a b : Db) → IsTable a → IsTable b → text_of a ≡ text_of b → a ≡ b
+one_table alloc a b p q same = same_ok a b (sym (only_table alloc (text_of a) a p refl) ∙ only_table alloc (text_of a) b q same)
+
 -- ---- the loop
 
 -- the draft has the lines up to this number

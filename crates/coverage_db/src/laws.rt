@@ -3,6 +3,9 @@ ghost use Rattle.coverage_db.specs.declared.db.Db.{Db as SpecDb};
 ghost use Rattle.coverage_db.specs.declared.verdict.DbVerdict.TheVariants.{Hit};
 ghost use Rattle.coverage_db.specs.Merge.{merged, merged_all, SameDesign, verdict_at, HitInOne};
 ghost use Rattle.coverage_db.specs.Table.{IsTable};
+ghost use Rattle.coverage_db.specs.Text.{text_of};
+
+use std::alloc::Global;
 
 /// The laws of the merge. Of tables of one design each merge in any order has a point hit exactly where one of
 /// them has it hit.
@@ -12,4 +15,9 @@ pub fn merge_laws()
     ensures idempotent { (a : SpecDb) → merged a a ≡ a }
     ensures hit { (first : SpecDb) (others : List SpecDb) (place : ℕ) → All (λ db. length first.points ≡ length db.points) others
         → (verdict_at place (merged_all first others) ≡ Some Hit) ↔ HitInOne place (first ∷ others) }
+{}
+
+/// No two tables have one text.
+pub fn one_text(_alloc: Global)
+    ensures { (a b : SpecDb) → IsTable a → IsTable b → text_of a ≡ text_of b → a ≡ b }
 {}

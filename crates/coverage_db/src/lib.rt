@@ -31,7 +31,7 @@ mod write;
 pub use address::{Address, SourceLine, Subject};
 pub use db::{Db, DbInstance, DbPoint};
 pub use fault::{DbFault, DbKind, MergeFault};
-pub use laws::merge_laws;
+pub use laws::{merge_laws, one_text};
 pub use line_word::LineWord;
 pub use merging::merge;
 pub use node_case::NodeCase;
