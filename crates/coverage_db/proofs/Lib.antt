@@ -1,1 +1,17 @@
 pub mod Lines
+pub mod Splitting
+pub mod Finding
+pub mod Numbers
+pub mod PathSearch
+pub mod Lacking
+pub mod WordLaws
+pub mod SubjectLaws
+pub mod PointLaws
+pub mod DraftLaws
+pub mod Completing
+pub mod ReadingLaws
+pub mod BareLines
+pub mod Differing
+pub mod SameLaws
+pub mod MergeLaws
+pub mod JoinLaws

@@ -2,3 +2,10 @@ pub mod Words
 pub mod Order
 pub mod Table
 pub mod Text
+pub mod Fields
+pub mod Reading
+pub mod Views
+pub mod Drafting
+pub mod Faults
+pub mod Same
+pub mod Merge

@@ -41,17 +41,21 @@ letter_rank (State name state) = 3
 letter_rank (Arc name from to) = 3
 letter_rank (Word name index write) = 4
 
--- the rule of a letter: of two points of a machine the states come first
+-- two points of a machine: by its name, and then the states come first
+abbrev pub machine_cmp : Subject → Subject → Ordering
+machine_cmp (State x s) (State y t) = ordering_then (bytes_cmp x y) (bytes_cmp s t)
+machine_cmp (State x s) (Arc y b c) = ordering_then (bytes_cmp x y) Less
+machine_cmp (Arc x a b) (State y t) = ordering_then (bytes_cmp x y) Greater
+machine_cmp (Arc x a b) (Arc y c d) = ordering_then (bytes_cmp x y) (ordering_then (bytes_cmp a c) (bytes_cmp b d))
+machine_cmp _ _ = Equal
+
+-- the rule of a letter
 abbrev pub rule_cmp : Subject → Subject → Ordering
 rule_cmp (Line m a v) (Line n b w) = nat_cmp m n
 rule_cmp (Logic m a o c) (Logic n b p d) = ordering_then (nat_cmp m n) (nat_cmp (node_case_rank c) (node_case_rank d))
 rule_cmp (Toggle x i r) (Toggle y j s) = ordering_then (bytes_cmp x y) (ordering_then (index_cmp i j) (rise_cmp r s))
-rule_cmp (State x s) (State y t) = ordering_then (bytes_cmp x y) (bytes_cmp s t)
-rule_cmp (State x s) (Arc y b c) = ordering_then (bytes_cmp x y) Less
-rule_cmp (Arc x a b) (State y t) = ordering_then (bytes_cmp x y) Greater
-rule_cmp (Arc x a b) (Arc y c d) = ordering_then (bytes_cmp x y) (ordering_then (bytes_cmp a c) (bytes_cmp b d))
 rule_cmp (Word x i w) (Word y j v) = ordering_then (bytes_cmp x y) (ordering_then (nat_cmp i j) (write_cmp w v))
-rule_cmp _ _ = Equal
+rule_cmp a b = machine_cmp a b
 
 -- by letter, by instance, and by the rule of the letter
 abbrev pub address_cmp : Address → Address → Ordering

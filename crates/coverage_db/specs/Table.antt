@@ -3,7 +3,7 @@ use Rattle.std.specs.Prelude.{◌≡◌, ◌≢◌, ℕ, ◌+◌, ◌<◌, ◌�
 use Rattle.std.specs.declared.cmp.Ordering.{Ordering}
 use Rattle.std.specs.declared.cmp.Ordering.TheVariants.{Less}
 use Rattle.std.specs.List.{list_all, slice_split}
-use Rattle.std.specs.Str.{all_ascii_digits}
+use Rattle.std.specs.Char.{is_ascii_digit}
 use Rattle.cov_host.specs.Identifier.{is_identifier}
 use Rattle.coverage_db.specs.declared.address.SourceLine.{SourceLine}
 use Rattle.coverage_db.specs.declared.address.Subject.{Subject}
@@ -32,7 +32,7 @@ is_path path = list_all is_identifier (slice_split (λ byte. byte == 46) path)
 
 -- an identifier, or decimal digits
 abbrev pub is_state : List ℕ → Bool
-is_state name = is_identifier name || (nat_le 1 (length name) && all_ascii_digits name)
+is_state name = is_identifier name || (nat_le 1 (length name) && list_all is_ascii_digit name)
 
 -- one or more bytes, none of them a control character below the space
 abbrev pub is_file_name : List ℕ → Bool

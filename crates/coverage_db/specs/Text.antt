@@ -1,6 +1,6 @@
 -- The text of a table.
-use Rattle.std.specs.Prelude.{ℕ, ◌+◌, List, [], ◌∷◌, ◌++◌, length, map, codes, decimal, Bool, true, false, Option, Some, None, unwrap_or, slice_get}
-use Rattle.std.specs.List.{flat_map}
+use Rattle.std.specs.Prelude.{ℕ, ◌+◌, List, [], ◌∷◌, ◌++◌, length, map, codes, decimal, Bool, true, false, ◌&&◌, ◌||◌, ◌==◌, Option, Some, None, unwrap_or, slice_get}
+use Rattle.std.specs.List.{flat_map, slice_split}
 use Rattle.std.specs.Option.{option_map}
 use Rattle.coverage_db.specs.declared.address.Address.{Address}
 use Rattle.coverage_db.specs.declared.address.SourceLine.{SourceLine}
@@ -90,16 +90,23 @@ source_lines number (name ∷ names) = source_line number name ∷ source_lines 
 abbrev pub instance_line : DbInstance → List ℕ
 instance_line instance = codes "instance " ++ instance.path ++ 32 ∷ instance.module
 
-abbrev pub count_line : ℕ → List ℕ
-count_line count = codes "points " ++ decimal count
+-- the digits of the number of points
+abbrev pub count_line : List ℕ → List ℕ
+count_line count = codes "points " ++ count
 
 -- the lines before the count of the points
 abbrev pub head_lines : Db → List (List ℕ)
 head_lines db = codes "covered-db 1" ∷ top_line db.top ∷ source_lines 1 db.sources ++ map instance_line db.instances
 
--- all lines, with a count of the points
-abbrev pub lines_with_count : ℕ → Db → List (List ℕ)
+-- all lines, with these digits for the number of points
+abbrev pub lines_with_count : List ℕ → Db → List (List ℕ)
 lines_with_count count db = head_lines db ++ count_line count ∷ map (point_line db.instances) db.points ++ codes "end" ∷ []
+
+-- one of `l`, `c`, `t`, `f` and `m`, and a space
+abbrev pub begins_point : List ℕ → Bool
+begins_point [] = false
+begins_point (letter ∷ []) = false
+begins_point (letter ∷ space ∷ others) = (letter == 108 || letter == 99 || letter == 116 || letter == 102 || letter == 109) && space == 32
 
 -- each line with its line feed
 abbrev pub text_of_lines : List (List ℕ) → List ℕ
@@ -107,4 +114,8 @@ text_of_lines lines = flat_map ended lines
 
 -- the text of a table
 abbrev pub text_of : Db → List ℕ
-text_of db = text_of_lines (lines_with_count (length db.points) db)
+text_of db = text_of_lines (lines_with_count (decimal (length db.points)) db)
+
+-- what stands between the line feeds of a text: its lines, and at last what stands behind the last line feed
+abbrev pub lines_of : List ℕ → List (List ℕ)
+lines_of text = slice_split (λ byte. byte == 10) text

@@ -1,5 +1,6 @@
 -- The words of the database text.
-use Rattle.std.specs.Prelude.{ℕ, List, codes, Bool, true, false, ◌||◌}
+use Rattle.std.specs.Prelude.{ℕ, List, [], ◌∷◌, Option, codes, Bool, true, false, ◌||◌, bytes_eq}
+use Rattle.std.specs.List.{find}
 use Rattle.coverage_db.specs.declared.line_word.LineWord.{LineWord}
 use Rattle.coverage_db.specs.declared.line_word.LineWord.TheVariants as line
 use Rattle.coverage_db.specs.declared.node_case.NodeCase.{NodeCase}
@@ -14,6 +15,13 @@ line_word_text line.Case = codes "case"
 line_word_text line.For = codes "for"
 line_word_text line.Assign = codes "assign"
 
+abbrev pub line_words : List LineWord
+line_words = line.If ∷ line.Case ∷ line.For ∷ line.Assign ∷ []
+
+-- the kind that a word names
+unfoldable pub line_word_of : List ℕ → Option LineWord
+line_word_of text = find (λ word. bytes_eq (line_word_text word) text) line_words
+
 -- the truths that a case asks of a node or of its operands
 abbrev pub node_case_text : NodeCase → List ℕ
 node_case_text case.False = codes "0"
@@ -26,6 +34,14 @@ node_case_text case.FalseFalse = codes "00"
 node_case_text case.FalseTrue = codes "01"
 node_case_text case.TrueFalse = codes "10"
 node_case_text case.TrueTrue = codes "11"
+
+abbrev pub node_cases : List NodeCase
+node_cases =
+    case.False ∷ case.True ∷ case.LeftFalse ∷ case.RightFalse ∷ case.LeftTrue ∷ case.RightTrue ∷ case.FalseFalse ∷ case.FalseTrue ∷ case.TrueFalse ∷ case.TrueTrue ∷ []
+
+-- the case that a word names
+unfoldable pub node_case_of : List ℕ → Option NodeCase
+node_case_of text = find (λ case. bytes_eq (node_case_text case) text) node_cases
 
 -- the place of a case in the order of point lines
 abbrev pub node_case_rank : NodeCase → ℕ
@@ -71,6 +87,16 @@ operator_text operator.Equal = codes "=="
 operator_text operator.NotEqual = codes "!="
 operator_text operator.CaseEqual = codes "==="
 operator_text operator.CaseNotEqual = codes "!=="
+
+abbrev pub operators : List Operator
+operators =
+    operator.Value ∷ operator.LogicalNot ∷ operator.BitwiseNot ∷ operator.ReduceNand ∷ operator.ReduceNor ∷ operator.And ∷ operator.Or ∷ operator.LogicalAnd ∷ operator.LogicalOr ∷ operator.Plus
+    ∷ operator.Minus ∷ operator.Xor ∷ operator.Xnor ∷ operator.Nxor ∷ operator.Multiply ∷ operator.Divide ∷ operator.Modulus ∷ operator.ShiftLeft ∷ operator.ShiftRight ∷ operator.ArithmeticShiftLeft
+    ∷ operator.ArithmeticShiftRight ∷ operator.LessThan ∷ operator.LessOrEqual ∷ operator.GreaterThan ∷ operator.GreaterOrEqual ∷ operator.Equal ∷ operator.NotEqual ∷ operator.CaseEqual ∷ operator.CaseNotEqual ∷ []
+
+-- the operator that a word names
+unfoldable pub operator_of : List ℕ → Option Operator
+operator_of text = find (λ op. bytes_eq (operator_text op) text) operators
 
 -- the operator can stand before one operand, or is the value of a condition
 abbrev pub is_unary : Operator → Bool
@@ -125,3 +151,42 @@ can_have op case.FalseFalse = is_or op || is_plain op
 can_have op case.FalseTrue = is_plain op
 can_have op case.TrueFalse = is_plain op
 can_have op case.TrueTrue = is_and op || is_plain op
+
+-- the place of a kind among all kinds
+abbrev pub line_word_rank : LineWord → ℕ
+line_word_rank line.If = 0
+line_word_rank line.Case = 1
+line_word_rank line.For = 2
+line_word_rank line.Assign = 3
+
+-- the place of an operator among all operators
+abbrev pub operator_rank : Operator → ℕ
+operator_rank operator.Value = 0
+operator_rank operator.LogicalNot = 1
+operator_rank operator.BitwiseNot = 2
+operator_rank operator.ReduceNand = 3
+operator_rank operator.ReduceNor = 4
+operator_rank operator.And = 5
+operator_rank operator.Or = 6
+operator_rank operator.LogicalAnd = 7
+operator_rank operator.LogicalOr = 8
+operator_rank operator.Plus = 9
+operator_rank operator.Minus = 10
+operator_rank operator.Xor = 11
+operator_rank operator.Xnor = 12
+operator_rank operator.Nxor = 13
+operator_rank operator.Multiply = 14
+operator_rank operator.Divide = 15
+operator_rank operator.Modulus = 16
+operator_rank operator.ShiftLeft = 17
+operator_rank operator.ShiftRight = 18
+operator_rank operator.ArithmeticShiftLeft = 19
+operator_rank operator.ArithmeticShiftRight = 20
+operator_rank operator.LessThan = 21
+operator_rank operator.LessOrEqual = 22
+operator_rank operator.GreaterThan = 23
+operator_rank operator.GreaterOrEqual = 24
+operator_rank operator.Equal = 25
+operator_rank operator.NotEqual = 26
+operator_rank operator.CaseEqual = 27
+operator_rank operator.CaseNotEqual = 28

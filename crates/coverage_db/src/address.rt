@@ -1,5 +1,5 @@
 ghost use Rattle.std.specs.Prelude.{◌≡◌};
-ghost use Rattle.coverage_db.specs.Order.{address_cmp, rule_cmp, letter_rank, bytes_cmp, index_cmp};
+ghost use Rattle.coverage_db.specs.Order.{address_cmp, rule_cmp, machine_cmp, letter_rank, bytes_cmp, index_cmp};
 ghost use Rattle.coverage_db.specs.Text.{letter};
 
 use crate::{LineWord, NodeCase, Operator};
@@ -108,7 +108,7 @@ impl Subject {
     }
 
     /// The order of two points of one letter and one instance: by number and case, or by name and what
-    /// follows it. Of the points of a machine the states come first.
+    /// follows it.
     fn compare(&self, other: &Subject) -> Ordering
         ensures { result ≡ rule_cmp self.now other.now }
     {
@@ -135,6 +135,25 @@ impl Subject {
                 .then(compare_indexes(*index, *place))
                 .then(rises.cmp(rise)),
             (
+                Subject::Word { name, index, write },
+                Subject::Word {
+                    name: after,
+                    index: place,
+                    write: writes,
+                },
+            ) => compare_names(name, after)
+                .then(index.cmp(place))
+                .then(write.cmp(writes)),
+            _ => self.compare_machines(other),
+        }
+    }
+
+    /// The order of two points of machines: by name, then the states before the arcs.
+    fn compare_machines(&self, other: &Subject) -> Ordering
+        ensures { result ≡ machine_cmp self.now other.now }
+    {
+        match (self, other) {
+            (
                 Subject::State { name, state },
                 Subject::State {
                     name: after,
@@ -157,16 +176,6 @@ impl Subject {
             ) => compare_names(name, after)
                 .then(compare_names(from, source))
                 .then(compare_names(to, target)),
-            (
-                Subject::Word { name, index, write },
-                Subject::Word {
-                    name: after,
-                    index: place,
-                    write: writes,
-                },
-            ) => compare_names(name, after)
-                .then(index.cmp(place))
-                .then(write.cmp(writes)),
             _ => Ordering::Equal,
         }
     }

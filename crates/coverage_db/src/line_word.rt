@@ -1,5 +1,5 @@
 ghost use Rattle.std.specs.Prelude.{◌≡◌};
-ghost use Rattle.coverage_db.specs.Words.{line_word_text};
+ghost use Rattle.coverage_db.specs.Words.{line_word_text, line_word_of};
 
 /// What stands at a line point: the kind of its statement (IEEE 1364-2001 clause 9).
 #[derive(Clone, Copy, Debug, PartialEq, Eq)]
@@ -31,5 +31,18 @@ impl LineWord {
             LineWord::For => "for",
             LineWord::Assign => "assign",
         }
+    }
+
+    /// The kind that a word of the database text names.
+    #[tactic(auto, unfolding(crate::specs::Words::line_word_of))]
+    pub(crate) fn of_text(text: &[u8]) -> Option<Self>
+        ensures { result ≡ line_word_of text.now }
+    {
+        for word in &LineWord::ALL {
+            if word.text().as_bytes() == text {
+                return Some(*word);
+            }
+        }
+        None
     }
 }

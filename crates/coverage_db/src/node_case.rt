@@ -1,5 +1,5 @@
 ghost use Rattle.std.specs.Prelude.{◌≡◌};
-ghost use Rattle.coverage_db.specs.Words.{node_case_text, node_case_rank};
+ghost use Rattle.coverage_db.specs.Words.{node_case_text, node_case_of, node_case_rank};
 
 /// One case of a counted node: the truths of its operands, or of the node itself.
 #[derive(Clone, Copy, Debug, PartialEq, Eq)]
@@ -51,6 +51,19 @@ impl NodeCase {
             NodeCase::TrueFalse => "10",
             NodeCase::TrueTrue => "11",
         }
+    }
+
+    /// The case that a field of the database text names.
+    #[tactic(auto, unfolding(crate::specs::Words::node_case_of))]
+    pub(crate) fn of_text(text: &[u8]) -> Option<Self>
+        ensures { result ≡ node_case_of text.now }
+    {
+        for case in &NodeCase::ALL {
+            if case.text().as_bytes() == text {
+                return Some(*case);
+            }
+        }
+        None
     }
 
     /// The place of the case in the order of point lines, from 0.

@@ -1,5 +1,5 @@
 ghost use Rattle.std.specs.Prelude.{◌≡◌};
-ghost use Rattle.coverage_db.specs.Words.{operator_text, can_have, is_unary, is_and, is_or, is_plain};
+ghost use Rattle.coverage_db.specs.Words.{operator_text, operator_of, can_have, is_unary, is_and, is_or, is_plain};
 
 use crate::NodeCase;
 
@@ -114,6 +114,19 @@ impl Operator {
             Operator::CaseEqual => "===",
             Operator::CaseNotEqual => "!==",
         }
+    }
+
+    /// The operator that a field of the database text names.
+    #[tactic(auto, unfolding(crate::specs::Words::operator_of))]
+    pub(crate) fn of_text(text: &[u8]) -> Option<Self>
+        ensures { result ≡ operator_of text.now }
+    {
+        for operator in &Operator::ALL {
+            if operator.text().as_bytes() == text {
+                return Some(*operator);
+            }
+        }
+        None
     }
 
     /// Whether a node of the operator has the case: a node with one operand goes by its own truth, one with

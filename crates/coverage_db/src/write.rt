@@ -15,6 +15,7 @@ pub fn write_db(alloc: Global, db: &Db) -> Result<Text, NoMemory>
     let mut text = Text::new(alloc);
     push_head(&mut text, db)?;
     push_count(&mut text, db.points.len())?;
+    text.push(b'\n')?;
     push_points(&mut text, &db.instances, &db.points)?;
     text.extend_from_slice(b"end\n")?;
     Ok(text)
@@ -37,18 +38,18 @@ fn push_sources(text: &mut Text, sources: &Sequence<Name>) -> Result<(), NoMemor
 {
     for (place, name) in sources.as_slice().iter().enumerate() {
         push_source(text, place + 1, name)?;
+        text.push(b'\n')?;
     }
     Ok(())
 }
 
-/// Appends the line of a source.
-fn push_source(text: &mut Text, number: usize, name: &Name) -> Result<(), NoMemory>
-    ensures { OnOk result (text.new ≡ text.old ++ ended (source_line number name.now)) }
+/// Appends the line of a source, without its line feed.
+pub(crate) fn push_source(text: &mut Text, number: usize, name: &Name) -> Result<(), NoMemory>
+    ensures { OnOk result (text.new ≡ text.old ++ source_line number name.now) }
 {
     text.extend_from_slice(b"source ")?;
     push_number(text, number)?;
-    push_field(text, name.as_slice())?;
-    text.push(b'\n')
+    push_field(text, name.as_slice())
 }
 
 /// Appends the lines of the instances.
@@ -57,27 +58,26 @@ fn push_instances(text: &mut Text, instances: &Sequence<DbInstance>) -> Result<(
 {
     for instance in instances.as_slice() {
         push_instance(text, instance)?;
+        text.push(b'\n')?;
     }
     Ok(())
 }
 
-/// Appends the line of an instance.
-fn push_instance(text: &mut Text, instance: &DbInstance) -> Result<(), NoMemory>
-    ensures { OnOk result (text.new ≡ text.old ++ ended (instance_line instance.now)) }
+/// Appends the line of an instance, without its line feed.
+pub(crate) fn push_instance(text: &mut Text, instance: &DbInstance) -> Result<(), NoMemory>
+    ensures { OnOk result (text.new ≡ text.old ++ instance_line instance.now) }
 {
     text.extend_from_slice(b"instance ")?;
     text.extend_from_slice(instance.path.as_slice())?;
-    push_field(text, instance.module.as_slice())?;
-    text.push(b'\n')
+    push_field(text, instance.module.as_slice())
 }
 
-/// Appends the line of the count of the points.
-fn push_count(text: &mut Text, count: usize) -> Result<(), NoMemory>
-    ensures { OnOk result (text.new ≡ text.old ++ ended (count_line count)) }
+/// Appends the line of the number of points, without its line feed.
+pub(crate) fn push_count(text: &mut Text, count: usize) -> Result<(), NoMemory>
+    ensures { OnOk result (text.new ≡ text.old ++ count_line (decimal count)) }
 {
     text.extend_from_slice(b"points ")?;
-    push_number(text, count)?;
-    text.push(b'\n')
+    push_number(text, count)
 }
 
 /// Appends the lines of the points.

@@ -1,0 +1,7 @@
+use Rattle.std.proofs.Common.{refl}
+use Rattle.coverage_db.specs.Text.{text_of}
+use Rattle.coverage_db.proofs.ReadingLaws.{one_table}
+use Rattle.coverage_db.proofs.laws.one_text.Goals as goal
+
+pub returns : goal.returns
+returns c = λ a b p q same. one_table c.args._alloc a b p q same

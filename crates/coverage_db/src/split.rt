@@ -1,0 +1,45 @@
+ghost use Rattle.std.specs.Prelude.{◌≡◌, ◌≤◌, ◌==◌, not, length, option_map};
+ghost use Rattle.std.specs.List.{prefix_len};
+ghost use Rattle.coverage_db.specs.Fields.{split_first, split_last, behind};
+
+/// What stands before the first byte of this value, and what stands behind it. None where there is no such byte.
+pub(crate) fn split_first(bytes: &[u8], value: u8) -> Option<(&[u8], &[u8])>
+    ensures { option_map (λ parts. (parts.0.now, parts.1.now)) result ≡ split_first value bytes.now }
+{
+    let (front, rest) = bytes.split_at(len_before(bytes, value));
+    if rest.is_empty() {
+        return None;
+    }
+    let (_, back) = rest.split_at(1);
+    Some((front, back))
+}
+
+/// How many bytes stand before the first of this value.
+fn len_before(bytes: &[u8], value: u8) -> usize
+    ensures length { result ≡ prefix_len (λ byte. not (byte == value)) bytes.now }
+    ensures within { result ≤ length bytes.now }
+{
+    bytes.iter().take_while(|byte| **byte != value).count()
+}
+
+/// What stands before the last byte of this value, and what stands behind it. None where there is no such byte.
+pub(crate) fn split_last(bytes: &[u8], value: u8) -> Option<(&[u8], &[u8])>
+    ensures { option_map (λ parts. (parts.0.now, parts.1.now)) result ≡ split_last value bytes.now }
+{
+    let mut parts = None;
+    for (place, byte) in bytes.iter().enumerate() {
+        if *byte == value {
+            let (front, rest) = bytes.split_at(place);
+            let (_, back) = rest.split_at(1);
+            parts = Some((front, back));
+        }
+    }
+    parts
+}
+
+/// What stands behind a front. None where the bytes do not begin with it.
+pub(crate) fn behind<'a>(bytes: &'a [u8], front: &[u8]) -> Option<&'a [u8]>
+    ensures { option_map (λ back. back.now) result ≡ behind front.now bytes.now }
+{
+    bytes.strip_prefix(front)
+}
