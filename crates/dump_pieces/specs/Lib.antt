@@ -1,0 +1,11 @@
+pub mod Words
+pub mod Values
+pub mod Masks
+pub mod Codes
+pub mod Answer
+pub mod Header
+pub mod Body
+pub mod Reading
+pub mod CodeViews
+pub mod Views
+pub mod Holding

@@ -1,0 +1,49 @@
+ghost use Rattle.std.specs.Prelude.{◌≡◌, ◌<◌, ℕ, Bool, List, [], ◌∷◌, ◌++◌, length};
+
+use crate::digits::Digits;
+use crate::spelling::Spelling;
+use crate::time_digits::TimeDigits;
+
+/// What is kept of a word of the body that may go on.
+#[derive(Clone, Copy)]
+pub(crate) enum Word {
+    /// No word.
+    None,
+    /// `#` and the digits of a time.
+    Time(TimeDigits),
+    /// `b` or `B` and the digits of a value.
+    Digits(Digits),
+    /// Any other word.
+    Other(Spelling),
+}
+
+impl Word {
+    ghost use Rattle.dump_pieces.specs.Holding.{IsWord};
+
+    /// The word of one byte. Where a change or a comment has begun, a word is only its bytes.
+    pub(crate) fn begin(byte: u8, has_begun: bool) -> Word
+        ensures { IsWord result has_begun (byte ∷ []) }
+    {
+        match byte {
+            b'#' if !has_begun => Word::Time(TimeDigits::NONE),
+            b'b' | b'B' if !has_begun => Word::Digits(Digits::new()),
+            _ => {
+                let mut spelling = Spelling::new();
+                spelling.push(byte);
+                Word::Other(spelling)
+            }
+        }
+    }
+
+    /// The word with one byte more.
+    pub(crate) fn push(&mut self, byte: u8)
+        ensures { (has_begun : Bool) (bytes : List ℕ) → 0 < length bytes → IsWord self.old has_begun bytes → IsWord self.new has_begun (bytes ++ byte ∷ []) }
+    {
+        match self {
+            Word::None => {}
+            Word::Time(digits) => *digits = digits.with_byte(byte),
+            Word::Digits(digits) => *digits = digits.with_byte(byte),
+            Word::Other(spelling) => spelling.push(byte),
+        }
+    }
+}
