@@ -1,3 +1,7 @@
 pub mod CodeLemmas
 pub mod DecimalTests
 pub mod Paths
+pub mod MaskLemmas
+pub mod DigitLemmas
+pub mod TimeLemmas
+pub mod WordTests

@@ -26,6 +26,13 @@ pub record BodyReading : Type 0 where
   pub last : Option ℕ
   pub begun : Begun
 
+-- whether something has begun
+abbrev pub has_begun : Begun → Bool
+has_begun nothing = false
+has_begun (digits first) = true
+has_begun passed = true
+has_begun comment = true
+
 -- what a word says, if it says something, and how reading goes on
 abbrev pub Said : Type 0
 Said = Option Item × BodyReading
@@ -97,6 +104,10 @@ is_passed_letter byte = byte == 114 || byte == 82 || byte == 115 || byte == 83
 abbrev pub scalar : List Code → ℕ → List ℕ → ℕ → Answer (Option Item)
 scalar table digit code at = if length code == 0 then Err (At BadChange at) else change table (digit ∷ []) at code at
 
+-- the first byte of a time or of the digits of a change
+abbrev pub is_marker : ℕ → Bool
+is_marker byte = byte == 35 || byte == 98 || byte == 66
+
 -- a time
 abbrev pub time_word : List ℕ → ℕ → Option ℕ → Answer Said
 time_word word at last = saying (Some (decimal_value word)) (unless (time_fault last word at) (new_time last (decimal_value word)))
@@ -130,3 +141,8 @@ word_after table comment word last = Ok (if bytes_eq word.bytes END then said No
 -- the next word
 abbrev pub next_word : List Code → BodyReading → Word → Answer Said
 next_word table reading word = word_after table reading.begun word reading.last
+
+-- the next word has these bytes, or there is none
+abbrev pub last_said : List Code → BodyReading → ℕ → List ℕ → Answer Said
+last_said table reading at [] = Ok (None, reading)
+last_said table reading at (byte ∷ bytes) = next_word table reading (record { at = at; bytes = byte ∷ bytes })

@@ -1,5 +1,5 @@
 -- What the parts of the code stand for: the bytes of a word of which a few numbers are kept.
-use Rattle.std.specs.Prelude.{◌≡◌, ◌≤◌, ◌<◌, ℕ, ◌==◌, ◌^◌, min, nat_lt, nat_le, Bool, true, false, ◌||◌, ◌⊎◌, IsTrue, List, [], ◌∷◌, length, take, Option, Some, None, Result, Ok, Err}
+use Rattle.std.specs.Prelude.{◌≡◌, ◌≤◌, ◌<◌, ℕ, ◌==◌, ◌^◌, min, nat_lt, nat_le, Bool, true, false, ◌||◌, ◌⊎◌, if◌then◌else◌, List, [], ◌∷◌, length, take, Result, Ok, Err}
 use Rattle.std.specs.List.{list_all}
 use Rattle.std.specs.Char.{digit_value}
 use Rattle.cov_host.specs.Decimal.{decimal_value}
@@ -7,7 +7,7 @@ use Rattle.four_state.specs.Masks.{is_strange}
 use Rattle.dump_pieces.specs.Words.{Word}
 use Rattle.dump_pieces.specs.Values.{is_digit, digit_bit, digit_bits}
 use Rattle.dump_pieces.specs.Masks.{AreMasksOf}
-use Rattle.dump_pieces.specs.Body.{Begun, nothing, digits, passed, comment, behind_letter, BodyReading, Said}
+use Rattle.dump_pieces.specs.Body.{Begun, nothing, digits, passed, comment, behind_letter, is_marker, has_begun, BodyReading, Said}
 use Rattle.dump_pieces.specs.Answer.{Answer}
 use Rattle.dump_pieces.specs.declared.fault.DumpFault.{DumpFault}
 use Rattle.dump_pieces.specs.declared.time_digits.TimeDigits.{TimeDigits}
@@ -49,11 +49,7 @@ pub record IsSpelling (kept : Spelling) (word : List ℕ) : Type 0 where
   pub len : kept.len ≡ min (length word) 9
   pub is_long : kept.is_long ≡ nat_lt 9 (length word)
 
--- the first byte of a time or of the digits of a value
-abbrev pub is_marker : ℕ → Bool
-is_marker byte = byte == 35 || byte == 98 || byte == 66
-
--- the word begins with no such byte
+-- the word begins with no marker
 abbrev pub has_no_marker : List ℕ → Bool
 has_no_marker [] = false
 has_no_marker (byte ∷ word) = if is_marker byte then false else true
@@ -89,13 +85,6 @@ IsWord word_row.None has_begun bytes = bytes ≡ []
 IsWord (word_row.Time kept) has_begun bytes = IsTimeWord kept has_begun bytes
 IsWord (word_row.Digits kept) has_begun bytes = IsDigitsWord kept has_begun bytes
 IsWord (word_row.Other kept) has_begun bytes = IsOtherWord kept has_begun bytes
-
--- whether something has begun
-abbrev pub has_begun : Begun → Bool
-has_begun nothing = false
-has_begun (digits first) = true
-has_begun passed = true
-has_begun comment = true
 
 -- what is kept of the first word of a change
 pub record IsVectorStart (kept : VectorStart) (first : Word) : Type 0 where

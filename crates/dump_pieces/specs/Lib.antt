@@ -9,3 +9,4 @@ pub mod Reading
 pub mod CodeViews
 pub mod Views
 pub mod Holding
+pub mod Text

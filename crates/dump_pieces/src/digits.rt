@@ -1,5 +1,7 @@
-ghost use Rattle.std.specs.Prelude.{◌≡◌, ◌<◌, ◌≤◌, ◌^◌, ◌+◌, ◌*◌, ℕ, false, List, [], ◌∷◌, ◌++◌};
-ghost use Rattle.dump_pieces.specs.Values.{digit_bit, value_bits};
+ghost use Rattle.std.specs.Prelude.{◌≡◌, ◌<◌, ◌≤◌, ◌^◌, ◌+◌, min, ℕ, false, ◌&&◌, List, [], ◌∷◌, ◌++◌};
+ghost use Rattle.four_state.specs.declared.Bit.{Bit as SpecBit};
+ghost use Rattle.four_state.specs.Masks.{is_strange};
+ghost use Rattle.dump_pieces.specs.Values.{is_digit, digit_bit, value_bits};
 
 use crate::letters::is_digit;
 use crate::masks::{Masks, is_strange};
@@ -22,11 +24,13 @@ pub(crate) struct Digits {
     pub(crate) goes_on: bool,
     /// Whether each byte was a digit.
     pub(crate) are_digits: bool,
+    ghost few: { count ≤ 2 ^ 32 },
     ghost ones_inside: { masks.ones < 2 ^ count },
     ghost strange_inside: { masks.strange < 2 ^ count },
 }
 
 impl Digits {
+    ghost use Rattle.dump_pieces.specs.Masks.{AreMasksOf};
     ghost use Rattle.dump_pieces.specs.Holding.{AreDigitsOf};
 
     /// No digits yet.
@@ -43,25 +47,22 @@ impl Digits {
 
     /// The digits with one byte more.
     pub(crate) fn with_byte(self, byte: u8) -> Self
-        ensures { (word : List ℕ) → AreDigitsOf self word → AreDigitsOf result (word ++ byte ∷ []) }
+        ensures digits { (word : List ℕ) → AreDigitsOf self word → AreDigitsOf result (word ++ byte ∷ []) }
+        ensures some { 0 < result.count }
     {
         let bit = digit_bit(byte);
-        let masks = self.masks_with(bit);
-        let goes_on = if self.count == 0 {
-            is_strange(bit)
-        } else {
-            self.goes_on
-        };
         Digits {
             count: self.count_more(),
-            masks,
-            goes_on,
-            are_digits: self.are_digits && is_digit(byte),
+            masks: self.masks_with(bit),
+            goes_on: self.goes_on_with(bit),
+            are_digits: self.are_digits_with(byte),
         }
     }
 
     /// How many digits there are with one more.
-    fn count_more(&self) -> u64 {
+    fn count_more(&self) -> u64
+        ensures { result ≡ min (self.now.count + 1) (2 ^ 32) }
+    {
         if self.count < MANY {
             self.count + 1
         } else {
@@ -70,11 +71,34 @@ impl Digits {
     }
 
     /// The bits with one more, where there is room.
-    fn masks_with(&self, bit: Bit) -> Masks {
+    fn masks_with(&self, bit: Bit) -> Masks
+        ensures masks { (bits : List SpecBit) → self.now.count < 128 → AreMasksOf bits self.now.masks → AreMasksOf (bit ∷ bits) result }
+        ensures ones { result.ones < 2 ^ min (self.now.count + 1) (2 ^ 32) }
+        ensures strange { result.strange < 2 ^ min (self.now.count + 1) (2 ^ 32) }
+    {
         if self.count < WIDEST {
             self.masks.with_bit(bit)
         } else {
             self.masks
+        }
+    }
+
+    /// Whether each byte is a digit, this one too.
+    fn are_digits_with(&self, byte: u8) -> bool
+        ensures { result ≡ (self.now.are_digits && is_digit byte) }
+    {
+        self.are_digits && is_digit(byte)
+    }
+
+    /// Whether the first digit is x or z, where this bit comes next.
+    fn goes_on_with(&self, bit: Bit) -> bool
+        ensures first { self.now.count ≡ 0 → result ≡ is_strange bit }
+        ensures later { 0 < self.now.count → result ≡ self.now.goes_on }
+    {
+        if self.count == 0 {
+            is_strange(bit)
+        } else {
+            self.goes_on
         }
     }
 

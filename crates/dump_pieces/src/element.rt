@@ -1,17 +1,17 @@
 //! The words of the body (IEEE 1364-2001 clauses 18.2.1 and 18.2.2).
 
 ghost use Rattle.std.specs.Prelude.{◌≡◌, ◌<◌, ℕ, true, false, List, ◌∷◌, length, bytes_eq, if◌then◌else◌};
-ghost use Rattle.dump_pieces.specs.Words.{Word as SpecWord};
+ghost use Rattle.dump_pieces.specs.Codes.{Code as SpecCode};
 ghost use Rattle.dump_pieces.specs.Answer.{unless};
-ghost use Rattle.dump_pieces.specs.Body.{BodyReading, is_back, new_time, time_fault, time_word, digits_word, dollar_word, scalar, change, first_word, next_word, is_passed_letter, is_group_word, behind_letter, begins, said, passed, comment};
-ghost use Rattle.dump_pieces.specs.Holding.{IsTimeDigits, AreDigitsOf, IsSpelling, IsWord, IsReading, IsVectorStart, Gives, IsSaid, is_marker, is_other, has_begun};
+ghost use Rattle.dump_pieces.specs.Body.{BodyReading, is_back, new_time, time_fault, time_word, digits_word, dollar_word, scalar, change, saying, first_word, next_word, last_said, is_passed_letter, is_group_word, begins, said, comment, is_marker, has_begun};
+ghost use Rattle.dump_pieces.specs.Holding.{IsTimeDigits, AreDigitsOf, IsSpelling, IsWord, IsReading, Gives, IsSaid, is_other, has_no_marker};
 ghost use Rattle.dump_pieces.specs.CodeViews.{value_for};
 ghost use Rattle.dump_pieces.specs.Header.{END};
 
 use crate::check::fault_if;
 use crate::codes::{Code, Codes};
 use crate::digits::Digits;
-use crate::keyword::END;
+use crate::keyword::END_WORD;
 use crate::letters::is_digit;
 use crate::reading::{Begun, Reading, Said, VectorStart};
 use crate::spelling::Spelling;
@@ -35,14 +35,14 @@ const DUMP_OFF: &[u8] = b"$dumpoff";
 
 const COMMENT: &[u8] = b"$comment";
 
-/// Reads the next word, which stands at this byte.
+/// Reads the next word, which stands at this byte. No word says nothing.
 pub(crate) fn read_word(
     codes: &Codes,
     reading: Reading,
     word: &Word,
     at: u64,
 ) -> Result<Said, DumpFault>
-    ensures { (spec : BodyReading) (bytes : List ℕ) → 0 < length bytes → IsReading reading spec → IsWord word.now (has_begun spec.begun) bytes → Gives result (next_word codes.now spec (record { at = at; bytes = bytes })) }
+    ensures { (spec : BodyReading) (bytes : List ℕ) → IsReading reading spec → IsWord word.now (has_begun spec.begun) bytes → Gives result (last_said codes.now spec at bytes) }
 {
     match word {
         Word::None => Ok(Said {
@@ -144,70 +144,89 @@ fn whole(says: Option<Item>, last: Option<u64>) -> Said
     }
 }
 
+/// What an item says that this word ends.
+fn saying(last: Option<u64>, says: Result<Option<Item>, DumpFault>) -> Result<Said, DumpFault>
+    ensures { Gives result (saying last says) }
+{
+    match says {
+        Ok(says) => Ok(whole(says, last)),
+        Err(fault) => Err(fault),
+    }
+}
+
 /// A word that is no time and no digits, or any word where something has begun.
 fn read_other(codes: &Codes, reading: Reading, word: &Spelling, at: u64) -> Result<Said, DumpFault>
     ensures { (spec : BodyReading) (bytes : List ℕ) → IsReading reading spec → is_other (has_begun spec.begun) bytes ≡ true → IsSpelling word.now bytes → Gives result (next_word codes.now spec (record { at = at; bytes = bytes })) }
 {
-    let last = reading.last;
-    match reading.begun {
-        Begun::Nothing => read_first(codes, word, at, last),
-        Begun::Digits(start) => {
-            let says = read_code(codes, &start, word, at)?;
-            Ok(whole(says, last))
-        }
-        Begun::Passed => Ok(whole(None, last)),
-        Begun::Comment => Ok(read_comment(word, last)),
+    match word.bytes() {
+        Some(bytes) => read_bytes(codes, reading, bytes, at),
+        None => read_long(reading, word.first(), at),
     }
 }
 
-/// The code of a change.
-fn read_code(
-    codes: &Codes,
-    start: &VectorStart,
-    word: &Spelling,
-    at: u64,
-) -> Result<Option<Item>, DumpFault>
-    ensures { (first : SpecWord) (code : List ℕ) → IsVectorStart start.now first → IsSpelling word.now code → result ≡ change codes.now (behind_letter first.bytes) first.at code at }
+/// A word of more than nine bytes, of which this is the first: no code, no keyword and no `$end`.
+fn read_long(reading: Reading, first: u8, at: u64) -> Result<Said, DumpFault>
+    ensures { (table : List SpecCode) (spec : BodyReading) (bytes : List ℕ) → IsReading reading spec → is_other (has_begun spec.begun) (first ∷ bytes) ≡ true → 8 < length bytes → Gives result (next_word table spec (record { at = at; bytes = first ∷ bytes })) }
 {
-    match word.bytes() {
-        Some(code) => read_change(codes, &start.digits, start.at, code, at),
-        None => Err(DumpFault::at(DumpKind::LongCode, at)),
+    match reading.begun {
+        Begun::Nothing => read_long_first(first, at, reading.last),
+        Begun::Digits(_) => Err(DumpFault::at(DumpKind::LongCode, at)),
+        Begun::Passed => Ok(whole(None, reading.last)),
+        Begun::Comment => Ok(begins(reading.last, Begun::Comment)),
+    }
+}
+
+/// The same where nothing has begun.
+fn read_long_first(first: u8, at: u64, last: Option<u64>) -> Result<Said, DumpFault>
+    ensures { (table : List SpecCode) (bytes : List ℕ) → is_marker first ≡ false → 8 < length bytes → Gives result (first_word table (first ∷ bytes) at last) }
+{
+    if is_digit(first) {
+        Err(DumpFault::at(DumpKind::LongCode, at))
+    } else if is_passed_letter(first) {
+        Ok(begins(last, Begun::Passed))
+    } else {
+        Err(DumpFault::at(DumpKind::BadChange, at))
+    }
+}
+
+/// A word of these bytes.
+fn read_bytes(codes: &Codes, reading: Reading, bytes: &[u8], at: u64) -> Result<Said, DumpFault>
+    ensures { (spec : BodyReading) → IsReading reading spec → is_other (has_begun spec.begun) bytes.now ≡ true → Gives result (next_word codes.now spec (record { at = at; bytes = bytes.now })) }
+{
+    let last = reading.last;
+    match reading.begun {
+        Begun::Nothing => read_first(codes, bytes, at, last),
+        Begun::Digits(start) => {
+            let says = read_change(codes, &start.digits, start.at, bytes, at);
+            saying(last, says)
+        }
+        Begun::Passed => Ok(whole(None, last)),
+        Begun::Comment => Ok(read_comment(bytes, last)),
     }
 }
 
 /// A word of a comment, which `$end` ends.
-fn read_comment(word: &Spelling, last: Option<u64>) -> Said
-    ensures { (bytes : List ℕ) → IsSpelling word.now bytes → IsSaid result (if bytes_eq bytes END then said None last else begins last comment) }
+fn read_comment(bytes: &[u8], last: Option<u64>) -> Said
+    ensures { IsSaid result (if bytes_eq bytes.now END then said None last else begins last comment) }
 {
-    if is_end(word) {
+    if bytes == END_WORD {
         whole(None, last)
     } else {
         begins(last, Begun::Comment)
     }
 }
 
-/// Whether the word is `$end`.
-fn is_end(word: &Spelling) -> bool
-    ensures { (bytes : List ℕ) → IsSpelling word.now bytes → result ≡ bytes_eq bytes END }
-{
-    match word.bytes() {
-        Some(bytes) => bytes == END,
-        None => false,
-    }
-}
-
 /// A word where nothing has begun, and which is no time and no digits.
-fn read_first(codes: &Codes, word: &Spelling, at: u64, last: Option<u64>) -> Result<Said, DumpFault>
-    ensures { (byte : ℕ) (bytes : List ℕ) → is_marker byte ≡ false → IsSpelling word.now (byte ∷ bytes) → Gives result (first_word codes.now (byte ∷ bytes) at last) }
+fn read_first(codes: &Codes, bytes: &[u8], at: u64, last: Option<u64>) -> Result<Said, DumpFault>
+    ensures { has_no_marker bytes.now ≡ true → Gives result (first_word codes.now bytes.now at last) }
 {
-    let first = word.first();
-    if is_digit(first) {
-        let says = read_scalar(codes, word, at)?;
-        Ok(whole(says, last))
-    } else if is_passed_letter(first) {
-        Ok(begins(last, Begun::Passed))
-    } else {
-        read_dollar(word, at, last)
+    match bytes {
+        [first, code @ ..] if is_digit(*first) => {
+            let says = read_scalar(codes, *first, code, at);
+            saying(last, says)
+        }
+        [first, ..] if is_passed_letter(*first) => Ok(begins(last, Begun::Passed)),
+        _ => read_dollar(bytes, at, last),
     }
 }
 
@@ -218,23 +237,8 @@ fn is_passed_letter(byte: u8) -> bool
     matches!(byte, b'r' | b'R' | b's' | b'S')
 }
 
-/// A word of a digit and a code.
-fn read_scalar(codes: &Codes, word: &Spelling, at: u64) -> Result<Option<Item>, DumpFault>
-    ensures { (byte : ℕ) (bytes : List ℕ) → IsSpelling word.now (byte ∷ bytes) → result ≡ scalar codes.now byte bytes at }
-{
-    match word.bytes() {
-        Some([digit, code @ ..]) => read_scalar_code(codes, *digit, code, at),
-        _ => Err(DumpFault::at(DumpKind::LongCode, at)),
-    }
-}
-
 /// A change to a digit of the code that stands directly behind it.
-fn read_scalar_code(
-    codes: &Codes,
-    digit: u8,
-    code: &[u8],
-    at: u64,
-) -> Result<Option<Item>, DumpFault>
+fn read_scalar(codes: &Codes, digit: u8, code: &[u8], at: u64) -> Result<Option<Item>, DumpFault>
     ensures { result ≡ scalar codes.now digit code.now at }
 {
     if code.is_empty() {
@@ -245,17 +249,7 @@ fn read_scalar_code(
 }
 
 /// A word that should begin with a dollar sign.
-fn read_dollar(word: &Spelling, at: u64, last: Option<u64>) -> Result<Said, DumpFault>
-    ensures { (bytes : List ℕ) → IsSpelling word.now bytes → Gives result (dollar_word bytes at last) }
-{
-    match word.bytes() {
-        Some(bytes) => read_dollar_bytes(bytes, at, last),
-        None => Err(DumpFault::at(DumpKind::BadChange, at)),
-    }
-}
-
-/// A word of these bytes, which should begin with a dollar sign.
-fn read_dollar_bytes(bytes: &[u8], at: u64, last: Option<u64>) -> Result<Said, DumpFault>
+fn read_dollar(bytes: &[u8], at: u64, last: Option<u64>) -> Result<Said, DumpFault>
     ensures { Gives result (dollar_word bytes.now at last) }
 {
     if is_group_word(bytes) {
@@ -273,7 +267,7 @@ fn read_dollar_bytes(bytes: &[u8], at: u64, last: Option<u64>) -> Result<Said, D
 fn is_group_word(bytes: &[u8]) -> bool
     ensures { result ≡ is_group_word bytes.now }
 {
-    bytes == DUMP_VARS || bytes == DUMP_ALL || bytes == DUMP_ON || bytes == END
+    bytes == DUMP_VARS || bytes == DUMP_ALL || bytes == DUMP_ON || bytes == END_WORD
 }
 
 /// A change of a code to the value of digits.

@@ -11,7 +11,7 @@ const VARIABLE: &[u8] = b"$var";
 const END_DEFINITIONS: &[u8] = b"$enddefinitions";
 
 /// The word that ends a section.
-pub(crate) const END: &[u8] = b"$end";
+pub(crate) const END_WORD: &[u8] = b"$end";
 
 /// What opens a section of the header (IEEE 1364-2001 clause 18.2.3).
 #[derive(Clone, Copy, Debug, PartialEq, Eq)]

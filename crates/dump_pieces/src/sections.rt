@@ -6,7 +6,7 @@ ghost use Rattle.dump_pieces.specs.Views.{reading_of, section_of, declared_of};
 use crate::DumpFault;
 use crate::check::{check_end, check_field, opening};
 use crate::declarations::{Declarations, to_name};
-use crate::keyword::{END, Keyword};
+use crate::keyword::{END_WORD, Keyword};
 use cov_host::{Name, NoMemory};
 use std::alloc::Global;
 
@@ -71,7 +71,7 @@ impl Sections {
         ensures ok { IfOk result (λ last. section_word (declared_of self.old.declared) (section_of section) (record { at = at; bytes = word.now }) ≡ Ok (last, reading_of self.new)) }
         ensures fault { IfErr result (IsFault (section_word (declared_of self.old.declared) (section_of section) (record { at = at; bytes = word.now }))) }
     {
-        if word == END {
+        if word == END_WORD {
             check_end(section.keyword, section.fields.len(), at)?;
             self.declared
                 .add(section.keyword, section.fields.as_slice())?;

@@ -1,4 +1,5 @@
 ghost use Rattle.std.specs.Prelude.{◌≡◌, ◌<◌, ℕ, Bool, List, [], ◌∷◌, ◌++◌, length};
+ghost use Rattle.dump_pieces.specs.Body.{is_marker};
 
 use crate::digits::Digits;
 use crate::spelling::Spelling;
@@ -24,14 +25,14 @@ impl Word {
     pub(crate) fn begin(byte: u8, has_begun: bool) -> Word
         ensures { IsWord result has_begun (byte ∷ []) }
     {
-        match byte {
-            b'#' if !has_begun => Word::Time(TimeDigits::NONE),
-            b'b' | b'B' if !has_begun => Word::Digits(Digits::new()),
-            _ => {
-                let mut spelling = Spelling::new();
-                spelling.push(byte);
-                Word::Other(spelling)
-            }
+        if has_begun || !is_marker(byte) {
+            let mut spelling = Spelling::new();
+            spelling.push(byte);
+            Word::Other(spelling)
+        } else if byte == b'#' {
+            Word::Time(TimeDigits::NONE)
+        } else {
+            Word::Digits(Digits::new())
         }
     }
 
@@ -46,4 +47,11 @@ impl Word {
             Word::Other(spelling) => spelling.push(byte),
         }
     }
+}
+
+/// Whether a time or the digits of a value begin so.
+fn is_marker(byte: u8) -> bool
+    ensures { result ≡ is_marker byte }
+{
+    matches!(byte, b'#' | b'b' | b'B')
 }
