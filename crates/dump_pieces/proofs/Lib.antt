@@ -5,3 +5,6 @@ pub mod MaskLemmas
 pub mod DigitLemmas
 pub mod TimeLemmas
 pub mod WordTests
+pub mod TextLemmas
+pub mod HeaderStanding
+pub mod BodyStanding

@@ -10,8 +10,8 @@ use Rattle.dump_pieces.specs.Answer.{Answer, fault_if, unless}
 use Rattle.dump_pieces.specs.declared.fault.DumpKind.TheVariants.{BadChange, UnknownCode, VectorTooLong, TimeBack, LongCode, Gap, TimeTooLarge}
 use Rattle.dump_pieces.specs.declared.fault.DumpFault.{DumpFault}
 use Rattle.dump_pieces.specs.declared.fault.DumpFault.TheVariants.{At}
-use Rattle.dump_pieces.specs.declared.item.Item.{Item}
-use Rattle.dump_pieces.specs.declared.item.Item.TheVariants as item
+use Rattle.dump_pieces.specs.declared.entry.Entry.{Entry}
+use Rattle.dump_pieces.specs.declared.entry.Entry.TheVariants as entry
 
 -- what the words so far have begun: nothing, a change to the digits of a word, which has its code to come, a change
 -- that is passed over, which has its code to come too, or a comment
@@ -35,10 +35,10 @@ has_begun comment = true
 
 -- what a word says, if it says something, and how reading goes on
 abbrev pub Said : Type 0
-Said = Option Item × BodyReading
+Said = Option Entry × BodyReading
 
 -- a whole word, after which nothing has begun
-abbrev pub said : Option Item → Option ℕ → Said
+abbrev pub said : Option Entry → Option ℕ → Said
 said says last = (says, record { last = last; begun = nothing })
 
 -- a word with which something begins
@@ -51,9 +51,9 @@ is_back None time = false
 is_back (Some last) time = nat_lt time last
 
 -- a time is said where it is another one than the last
-abbrev pub new_time : Option ℕ → ℕ → Option Item
-new_time None time = Some (item.Time time)
-new_time (Some last) time = if time == last then None else Some (item.Time time)
+abbrev pub new_time : Option ℕ → ℕ → Option Entry
+new_time None time = Some (entry.Time time)
+new_time (Some last) time = if time == last then None else Some (entry.Time time)
 
 -- the digits of a time that stands here
 abbrev pub time_fault : Option ℕ → List ℕ → ℕ → Option DumpFault
@@ -63,20 +63,20 @@ time_fault last word at =
     else fault_if (is_back last (decimal_value word)) TimeBack at
 
 -- the value of a change, where the changes of the code are read and it has at most 128 bits
-abbrev pub value_of : Bool → ℕ → ℕ → List ℕ → Option Item
-value_of is_read number size word = if is_read && nat_le size 128 then Some (item.Value number (record { bits = value_bits size word; signed = false })) else None
+abbrev pub value_of : Bool → ℕ → ℕ → List ℕ → Option Entry
+value_of is_read number size word = if is_read && nat_le size 128 then Some (entry.Value number (record { bits = value_bits size word; signed = false })) else None
 
 -- the change of a code, if there is one, to the digits of a word; where the change begins, and where its code stands
-abbrev pub change_of : Option Code → List ℕ → ℕ → ℕ → Answer (Option Item)
+abbrev pub change_of : Option Code → List ℕ → ℕ → ℕ → Answer (Option Entry)
 change_of None word first at = Err (At UnknownCode at)
 change_of (Some code) word first at = unless (fault_if (nat_lt code.size (length word)) VectorTooLong first) (value_of code.is_read code.number code.size word)
 
 -- the change to the digits of a word of the code of these bytes
-abbrev pub change : List Code → List ℕ → ℕ → List ℕ → ℕ → Answer (Option Item)
+abbrev pub change : List Code → List ℕ → ℕ → List ℕ → ℕ → Answer (Option Entry)
 change table word first code at = if nat_lt 8 (length code) then Err (At LongCode at) else change_of (code_of table code) word first at
 
 -- an item that the last word of it says
-abbrev pub saying : Option ℕ → Answer (Option Item) → Answer Said
+abbrev pub saying : Option ℕ → Answer (Option Entry) → Answer Said
 saying last (Ok says) = Ok (said says last)
 saying last (Err fault) = Err fault
 
@@ -101,7 +101,7 @@ abbrev pub is_passed_letter : ℕ → Bool
 is_passed_letter byte = byte == 114 || byte == 82 || byte == 115 || byte == 83
 
 -- a word of one digit and a code
-abbrev pub scalar : List Code → ℕ → List ℕ → ℕ → Answer (Option Item)
+abbrev pub scalar : List Code → ℕ → List ℕ → ℕ → Answer (Option Entry)
 scalar table digit code at = if length code == 0 then Err (At BadChange at) else change table (digit ∷ []) at code at
 
 -- the first byte of a time or of the digits of a change

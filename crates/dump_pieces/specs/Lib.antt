@@ -10,3 +10,7 @@ pub mod CodeViews
 pub mod Views
 pub mod Holding
 pub mod Text
+pub mod Progress
+pub mod Standing
+pub mod Entries
+pub mod BodyStanding

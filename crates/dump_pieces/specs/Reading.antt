@@ -1,13 +1,13 @@
 -- The words of a dump in order: what those so far mean.
-use Rattle.std.specs.Prelude.{◌≡◌, ◌<◌, ◌≤◌, ℕ, ◌+◌, ◌==◌, nat_le, nat_lt, Bool, true, false, not, ◌&&◌, ◌||◌, bytes_eq, if◌then◌else◌, List, [], ◌∷◌, ◌++◌, length, Option, Some, None, Result, Ok, Err}
+use Rattle.std.specs.Prelude.{ℕ, ◌-◌, nat_lt, Bool, true, false, bytes_eq, if◌then◌else◌, List, [], ◌∷◌, ◌++◌, length, Option, Some, None, Ok, Err}
 use Rattle.std.specs.Option.{option_to_list}
-use Rattle.dump_pieces.specs.Words.{Word, words_of, IsWhole, IsBlack}
+use Rattle.dump_pieces.specs.Words.{Word}
 use Rattle.dump_pieces.specs.Codes.{Code}
 use Rattle.dump_pieces.specs.Header.{END, Declared, keyword_of, keyword_fault, field_fault, end_fault, with_section}
 use Rattle.dump_pieces.specs.Body.{BodyReading, Begun, nothing, Said, next_word}
 use Rattle.dump_pieces.specs.Answer.{Answer, unless}
 use Rattle.dump_pieces.specs.declared.vars.Var.{Var}
-use Rattle.dump_pieces.specs.declared.item.Item.{Item}
+use Rattle.dump_pieces.specs.declared.entry.Entry.{Entry}
 use Rattle.dump_pieces.specs.declared.fault.DumpFault.{DumpFault}
 use Rattle.dump_pieces.specs.declared.keyword.Keyword.{Keyword}
 use Rattle.dump_pieces.specs.declared.keyword.Keyword.TheVariants.{Scope, Upscope, Variable, EndDefinitions, Passed}
@@ -52,11 +52,16 @@ word_in declared (Some section) word = section_word declared section word
 abbrev pub header_word : HeaderReading → Word → Answer (Bool × HeaderReading)
 header_word reading word = word_in reading.declared reading.section word
 
+-- the next word of the header has these bytes and ends here, or there is none
+abbrev pub last_word : HeaderReading → ℕ → List ℕ → Answer (Bool × HeaderReading)
+last_word reading end [] = Ok (false, reading)
+last_word reading end (byte ∷ bytes) = header_word reading (record { at = end - length (byte ∷ bytes); bytes = byte ∷ bytes })
+
 -- a dump in its body: the header's variables and codes, the times and changes so far, and where reading stands
 pub record Body : Type 0 where
   pub vars : List Var
   pub codes : List Code
-  pub items : List Item
+  pub items : List Entry
   pub reading : BodyReading
 
 -- what words mean: a header that goes on, a body that goes on, or a fault

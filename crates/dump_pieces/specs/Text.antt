@@ -53,6 +53,11 @@ is_lone [] = false
 is_lone (byte ∷ []) = is_marker byte || is_digit byte
 is_lone (byte ∷ next ∷ bytes) = false
 
+-- a digit of a value, and no more
+abbrev pub is_one_digit : List ℕ → Bool
+is_one_digit (byte ∷ []) = is_digit byte
+is_one_digit _ = false
+
 -- a word at the end of the text that breaks off
 abbrev pub is_alone : Meaning → List ℕ → Bool
 is_alone (body b) word = not (has_begun b.reading.begun) && is_lone word
@@ -79,8 +84,3 @@ pub record EndsAs (text : List ℕ) (b : Body) : Type 0 where
   pub whole : is_alone means word ≡ false
   pub meaning : after means (length text) word ≡ body b
   pub closed : has_begun b.reading.begun ≡ false
-
--- the first fault of a text and a next piece, of which an empty one is the end
-abbrev pub IsFaultOf : List ℕ → List ℕ → DumpFault → Type 0
-IsFaultOf text [] f = EndsWithFault text f
-IsFaultOf text (byte ∷ piece) f = HasFault (text ++ byte ∷ piece) f

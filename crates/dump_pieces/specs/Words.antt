@@ -1,5 +1,5 @@
 -- The words of a text, which white space separates.
-use Rattle.std.specs.Prelude.{◌≡◌, ℕ, ◌+◌, ◌==◌, nat_le, Bool, true, false, not, ◌||◌, ◌&&◌, if◌then◌else◌, List, [], ◌∷◌, ◌++◌, IsTrue}
+use Rattle.std.specs.Prelude.{◌≡◌, ℕ, ◌+◌, ◌==◌, nat_le, Bool, true, not, ◌||◌, ◌&&◌, if◌then◌else◌, List, [], ◌∷◌}
 use Rattle.std.specs.List.{list_all}
 
 -- a word and the offset of its first byte
@@ -32,8 +32,8 @@ ends_open before (byte ∷ bytes) = ends_open (is_white_space byte) bytes
 
 -- the text is empty or ends with white space
 abbrev pub IsWhole : List ℕ → Type 0
-IsWhole text = IsTrue (ends_open true text)
+IsWhole text = ends_open true text ≡ true
 
 -- the bytes are a word or nothing
 abbrev pub IsBlack : List ℕ → Type 0
-IsBlack bytes = IsTrue (list_all (λ byte. not (is_white_space byte)) bytes)
+IsBlack bytes = list_all (λ byte. not (is_white_space byte)) bytes ≡ true

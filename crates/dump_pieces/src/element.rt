@@ -11,13 +11,14 @@ ghost use Rattle.dump_pieces.specs.Header.{END};
 use crate::check::fault_if;
 use crate::codes::{Code, Codes};
 use crate::digits::Digits;
+use crate::entry::Entry;
 use crate::keyword::END_WORD;
 use crate::letters::is_digit;
 use crate::reading::{Begun, Reading, Said, VectorStart};
 use crate::spelling::Spelling;
 use crate::time_digits::{TOO_LARGE, TimeDigits};
 use crate::word::Word;
-use crate::{DumpFault, DumpKind, Item};
+use crate::{DumpFault, DumpKind};
 
 /// The widest value that is kept, in bits.
 const WIDEST: u32 = 128;
@@ -92,16 +93,16 @@ fn is_back(last: Option<u64>, time: u64) -> bool
 }
 
 /// A time is said where it is another one than the last.
-fn new_time(last: Option<u64>, time: u64) -> Option<Item>
+fn new_time(last: Option<u64>, time: u64) -> Option<Entry>
     ensures { result ≡ new_time last time }
 {
     match last {
-        None => Some(Item::Time(time)),
+        None => Some(Entry::Time(time)),
         Some(last) => {
             if time == last {
                 None
             } else {
-                Some(Item::Time(time))
+                Some(Entry::Time(time))
             }
         }
     }
@@ -132,7 +133,7 @@ fn begins(last: Option<u64>, begun: Begun) -> Said
 }
 
 /// The last word of what says this.
-fn whole(says: Option<Item>, last: Option<u64>) -> Said
+fn whole(says: Option<Entry>, last: Option<u64>) -> Said
     ensures { result ≡ record { says = says; reading = record { last = last; begun = Begun.Nothing } } }
 {
     Said {
@@ -145,7 +146,7 @@ fn whole(says: Option<Item>, last: Option<u64>) -> Said
 }
 
 /// What an item says that this word ends.
-fn saying(last: Option<u64>, says: Result<Option<Item>, DumpFault>) -> Result<Said, DumpFault>
+fn saying(last: Option<u64>, says: Result<Option<Entry>, DumpFault>) -> Result<Said, DumpFault>
     ensures { Gives result (saying last says) }
 {
     match says {
@@ -238,7 +239,7 @@ fn is_passed_letter(byte: u8) -> bool
 }
 
 /// A change to a digit of the code that stands directly behind it.
-fn read_scalar(codes: &Codes, digit: u8, code: &[u8], at: u64) -> Result<Option<Item>, DumpFault>
+fn read_scalar(codes: &Codes, digit: u8, code: &[u8], at: u64) -> Result<Option<Entry>, DumpFault>
     ensures { result ≡ scalar codes.now digit code.now at }
 {
     if code.is_empty() {
@@ -277,7 +278,7 @@ fn read_change(
     first: u64,
     code: &[u8],
     at: u64,
-) -> Result<Option<Item>, DumpFault>
+) -> Result<Option<Entry>, DumpFault>
     requires { 0 < digits.now.count }
     ensures { (word : List ℕ) → AreDigitsOf digits.now word → result ≡ change codes.now word first code.now at }
 {
@@ -291,7 +292,7 @@ fn read_change(
 }
 
 /// The value of a code that digits write.
-fn read_value(code: Code, digits: &Digits, first: u64) -> Result<Option<Item>, DumpFault>
+fn read_value(code: Code, digits: &Digits, first: u64) -> Result<Option<Entry>, DumpFault>
     requires { 0 < digits.now.count }
     ensures { (word : List ℕ) → AreDigitsOf digits.now word → result ≡ value_for code word first }
 {
@@ -302,7 +303,7 @@ fn read_value(code: Code, digits: &Digits, first: u64) -> Result<Option<Item>, D
         return Ok(None);
     }
     let value = digits.value(code.size as u8);
-    Ok(Some(Item::Value {
+    Ok(Some(Entry::Value {
         code: code.number,
         value,
     }))

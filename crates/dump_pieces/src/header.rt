@@ -1,34 +1,22 @@
 use crate::body::Body;
 use crate::declarations::Declarations;
-use crate::letters::is_white_space;
+use crate::header_reader::HeaderReader;
 use crate::sections::Sections;
-use crate::{DumpFault, DumpKind, Fed, Vars};
+use crate::{DumpFault, Fed, Vars};
 use std::alloc::Global;
-
-/// The longest header, in bytes.
-const LONGEST: u64 = 67_108_864;
 
 /// Reads the header of a dump piece by piece.
 #[derive(Drop)]
 pub struct Header {
-    sections: Sections,
-    /// The bytes of the word that may go on.
-    word: Vec<u8>,
-    /// How many bytes were read.
-    at: u64,
-    /// Whether the input has ended.
-    is_at_end: bool,
-    fault: Option<DumpFault>,
+    pub(crate) reader: HeaderReader,
+    pub(crate) fault: Option<DumpFault>,
 }
 
 impl Header {
     /// A header of which nothing was read. It takes no memory.
     pub fn new(alloc: Global) -> Header {
         Header {
-            sections: Sections::new(alloc),
-            word: Vec::new(alloc),
-            at: 0,
-            is_at_end: false,
+            reader: HeaderReader::new(alloc),
             fault: None,
         }
     }
@@ -39,11 +27,10 @@ impl Header {
         if let Some(fault) = self.fault {
             return Err(fault);
         }
-        let fed = if piece.is_empty() {
-            self.end()
-        } else {
-            self.read(piece)
-        };
+        if !self.reader.progress.is_going() {
+            return Ok(Fed::Done { used: 0 });
+        }
+        let fed = self.reader.feed(piece);
         if let Err(fault) = fed {
             self.fault = Some(fault);
         }
@@ -52,13 +39,13 @@ impl Header {
 
     /// The variables and the body of a header that is done. It takes no memory.
     pub fn split(self) -> (Vars, Body) {
-        let Header {
+        let Header { reader, fault: _ } = self;
+        let HeaderReader {
             sections,
             word: _,
             at,
-            is_at_end,
-            fault,
-        } = self;
+            progress,
+        } = reader;
         let Sections {
             declared,
             section: _,
@@ -69,63 +56,6 @@ impl Header {
             codes,
             scopes: _,
         } = declared;
-        (vars, Body::new(codes, at, is_at_end))
-    }
-
-    /// Reads a piece that is not empty.
-    fn read(&mut self, piece: &[u8]) -> Result<Fed, DumpFault> {
-        for (place, byte) in piece.iter().enumerate() {
-            if self.read_byte(*byte)? {
-                return Ok(Fed::Done { used: place + 1 });
-            }
-        }
-        Ok(Fed::More)
-    }
-
-    /// Reads a byte, and says whether the header ends before it.
-    fn read_byte(&mut self, byte: u8) -> Result<bool, DumpFault> {
-        if is_white_space(byte) {
-            let is_done = self.end_word()?;
-            if !is_done {
-                self.check_limit()?;
-            }
-            self.at += 1;
-            Ok(is_done)
-        } else {
-            self.check_limit()?;
-            self.word.push(byte)?;
-            self.at += 1;
-            Ok(false)
-        }
-    }
-
-    /// A header that goes on has room for a byte more.
-    fn check_limit(&self) -> Result<(), DumpFault> {
-        if self.at < LONGEST {
-            Ok(())
-        } else {
-            Err(DumpFault::at(DumpKind::HeaderTooLong, LONGEST))
-        }
-    }
-
-    /// Ends the word that may go on, if there is one, and says whether it is the last of the header.
-    fn end_word(&mut self) -> Result<bool, DumpFault> {
-        if self.word.is_empty() {
-            return Ok(false);
-        }
-        let at = self.at - self.word.len() as u64;
-        let is_last = self.sections.read(self.word.as_slice(), at)?;
-        self.word.clear();
-        Ok(is_last)
-    }
-
-    /// Ends the input.
-    fn end(&mut self) -> Result<Fed, DumpFault> {
-        if self.end_word()? {
-            self.is_at_end = true;
-            Ok(Fed::Done { used: 0 })
-        } else {
-            Err(DumpFault::at(DumpKind::Truncated, self.at))
-        }
+        (vars, Body::new(codes, at, progress))
     }
 }

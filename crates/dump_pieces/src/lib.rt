@@ -5,17 +5,21 @@
 #![tactic(auto)]
 
 mod body;
+mod body_reader;
 mod check;
 mod codes;
 mod declarations;
 mod digits;
 mod element;
+mod entry;
 mod fault;
 mod header;
+mod header_reader;
 mod item;
 mod keyword;
 mod letters;
 mod masks;
+mod progress;
 mod reading;
 mod sections;
 mod size;

@@ -1,7 +1,7 @@
 ghost use Rattle.std.specs.Prelude.{◌≡◌, ◌<◌};
 
-use crate::Item;
 use crate::digits::Digits;
+use crate::entry::Entry;
 
 /// A change to some digits, whose code is to come.
 #[derive(Clone, Copy)]
@@ -31,8 +31,13 @@ pub(crate) struct Reading {
 }
 
 impl Reading {
+    ghost use Rattle.dump_pieces.specs.Body.{BodyReading, has_begun};
+    ghost use Rattle.dump_pieces.specs.Holding.{IsReading};
+
     /// Whether a change or a comment has begun.
-    pub(crate) fn has_begun(&self) -> bool {
+    pub(crate) fn has_begun(&self) -> bool
+        ensures { (reading : BodyReading) → IsReading self.now reading → result ≡ has_begun reading.begun }
+    {
         !matches!(self.begun, Begun::Nothing)
     }
 }
@@ -40,6 +45,6 @@ impl Reading {
 /// What a word says, and how reading goes on.
 #[derive(Clone, Copy)]
 pub(crate) struct Said {
-    pub(crate) says: Option<Item>,
+    pub(crate) says: Option<Entry>,
     pub(crate) reading: Reading,
 }

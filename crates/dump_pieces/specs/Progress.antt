@@ -1,0 +1,13 @@
+-- How far a header was read.
+use Rattle.std.specs.Prelude.{ℕ, Bool, true, false}
+use Rattle.dump_pieces.specs.declared.progress.Progress.{Progress}
+use Rattle.dump_pieces.specs.declared.progress.Progress.TheVariants.{Going, Done, AtEnd}
+
+abbrev pub is_going : Progress → Bool
+is_going Going = true
+is_going _ = false
+
+-- how many bytes were read at most: the white space behind a header is one more than its limit
+abbrev pub longest_of : Progress → ℕ
+longest_of Going = 67108864
+longest_of _ = 67108865

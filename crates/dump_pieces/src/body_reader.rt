@@ -1,0 +1,172 @@
+ghost use Rattle.std.specs.Prelude.{◌≡◌, ◌<◌, ◌≤◌, ◌++◌, ◌∷◌, [], ℕ, true, false, List, None, length, OnOk, IfOk, IfErr};
+ghost use Rattle.dump_pieces.specs.Words.{is_white_space as is_space};
+ghost use Rattle.dump_pieces.specs.Reading.{Body as SpecBody, body};
+ghost use Rattle.dump_pieces.specs.Body.{nothing};
+ghost use Rattle.dump_pieces.specs.Text.{Stands, HasFault, EndsWithFault, is_alone, is_lone, is_one_digit};
+ghost use Rattle.dump_pieces.specs.Holding.{IsWord, IsSpelling};
+ghost use Rattle.dump_pieces.specs.declared.fault.DumpFault.TheVariants as dump_fault;
+
+use crate::codes::Codes;
+use crate::element::read_word;
+use crate::entry::Entry;
+use crate::letters::{is_digit, is_white_space};
+use crate::reading::{Begun, Reading};
+use crate::spelling::Spelling;
+use crate::word::Word;
+use crate::{DumpFault, DumpKind, Item, Step};
+
+/// The longest dump, in bytes.
+const LONGEST: u64 = 1_099_511_627_776;
+
+/// Reads the bytes of a body.
+#[derive(Drop)]
+pub(crate) struct BodyReader {
+    pub(crate) codes: Codes,
+    /// How many bytes of the dump were read.
+    pub(crate) at: u64,
+    pub(crate) reading: Reading,
+    /// The word that may go on.
+    pub(crate) word: Word,
+    /// Where that word stands.
+    pub(crate) word_at: u64,
+    ghost within: { at ≤ 1099511627776 },
+}
+
+impl BodyReader {
+    ghost use Rattle.dump_pieces.specs.BodyStanding.{BodyStands, SaysNext, HasStepped, EndsSaying};
+
+    /// The body behind a header of so many bytes.
+    pub(crate) fn new(codes: Codes, at: u64) -> Self
+        requires { at ≤ 67108865 }
+        ensures { (text : List ℕ) (b : SpecBody) → Stands text (body b) [] → at ≡ length text → codes ≡ b.codes → b.reading ≡ record { last = None; begun = nothing } → BodyStands result text b }
+    {
+        BodyReader {
+            codes,
+            at,
+            reading: Reading {
+                last: None,
+                begun: Begun::Nothing,
+            },
+            word: Word::None,
+            word_at: at,
+        }
+    }
+
+    /// Reads a piece that is not empty up to what it says next.
+    pub(crate) fn read(&mut self, piece: &[u8]) -> Result<Step, DumpFault>
+        ensures ok { IfOk result (λ step. (text : List ℕ) (b : SpecBody) → BodyStands self.old text b → HasStepped step.item step.used self.new text piece.now b) }
+        ensures fault { IfErr result (λ fault. (text : List ℕ) (b : SpecBody) → BodyStands self.old text b → HasFault (text ++ piece.now) fault) }
+    {
+        for (place, byte) in piece.iter().enumerate() {
+            if let Some(entry) = self.read_byte(*byte)? {
+                return Ok(Step {
+                    item: entry.item(),
+                    used: place + 1,
+                });
+            }
+        }
+        Ok(Step {
+            item: Item::More,
+            used: piece.len(),
+        })
+    }
+
+    /// Reads a byte, and gives what the word says that ends before it.
+    fn read_byte(&mut self, byte: u8) -> Result<Option<Entry>, DumpFault>
+        ensures ok { IfOk result (λ says. (text : List ℕ) (b : SpecBody) → BodyStands self.old text b → SaysNext says self.new (text ++ byte ∷ []) b) }
+        ensures fault { IfErr result (λ fault. (text : List ℕ) (b : SpecBody) → BodyStands self.old text b → HasFault (text ++ byte ∷ []) fault) }
+    {
+        if is_white_space(byte) {
+            self.read_space()
+        } else {
+            self.push(byte)?;
+            Ok(None)
+        }
+    }
+
+    /// Reads a byte of white space, and gives what the word says that ends before it.
+    fn read_space(&mut self) -> Result<Option<Entry>, DumpFault>
+        ensures ok { IfOk result (λ says. (text : List ℕ) (space : ℕ) (b : SpecBody) → is_space space ≡ true → BodyStands self.old text b → SaysNext says self.new (text ++ space ∷ []) b) }
+        ensures fault { IfErr result (λ fault. (text : List ℕ) (space : ℕ) (b : SpecBody) → is_space space ≡ true → BodyStands self.old text b → HasFault (text ++ space ∷ []) fault) }
+    {
+        let said = read_word(&self.codes, self.reading, &self.word, self.word_at)?;
+        check_room(self.at)?;
+        self.reading = said.reading;
+        self.word = Word::None;
+        self.at += 1;
+        Ok(said.says)
+    }
+
+    /// Reads a byte of a word.
+    fn push(&mut self, byte: u8) -> Result<(), DumpFault>
+        ensures ok { OnOk result ((text : List ℕ) (b : SpecBody) → is_space byte ≡ false → BodyStands self.old text b → BodyStands self.new (text ++ byte ∷ []) b) }
+        ensures fault { IfErr result (λ fault. (text : List ℕ) (b : SpecBody) → is_space byte ≡ false → BodyStands self.old text b → HasFault (text ++ byte ∷ []) fault) }
+    {
+        check_room(self.at)?;
+        if matches!(self.word, Word::None) {
+            self.word = Word::begin(byte, self.reading.has_begun());
+            self.word_at = self.at;
+        } else {
+            self.word.push(byte);
+        }
+        self.at += 1;
+        Ok(())
+    }
+
+    /// Ends the input, and gives what the last word says.
+    pub(crate) fn end(&self) -> Result<Option<Entry>, DumpFault>
+        ensures ok { IfOk result (λ says. (text : List ℕ) (b : SpecBody) → BodyStands self.now text b → EndsSaying says text b) }
+        ensures fault { IfErr result (λ fault. (text : List ℕ) (b : SpecBody) → BodyStands self.now text b → EndsWithFault text fault) }
+    {
+        if self.is_alone() {
+            return Err(DumpFault::at(DumpKind::Truncated, self.at));
+        }
+        let said = read_word(&self.codes, self.reading, &self.word, self.word_at)?;
+        if said.reading.has_begun() {
+            return Err(DumpFault::at(DumpKind::Truncated, self.at));
+        }
+        Ok(said.says)
+    }
+
+    /// Whether the word that may go on is the first character of a time or a change, and no more.
+    fn is_alone(&self) -> bool
+        ensures { (text : List ℕ) (b : SpecBody) (stands : BodyStands self.now text b) → result ≡ is_alone (body b) stands.word }
+    {
+        !self.reading.has_begun() && is_lone(&self.word)
+    }
+}
+
+/// A body has room for a byte more.
+fn check_room(at: u64) -> Result<(), DumpFault>
+    ensures room { OnOk result (at < 1099511627776) }
+    ensures fault { IfErr result (λ fault. fault ≡ dump_fault.At DumpKind.DumpTooLong 1099511627776) }
+    ensures no_room { IfErr result (λ fault. 1099511627776 ≤ at) }
+{
+    if at < LONGEST {
+        Ok(())
+    } else {
+        Err(DumpFault::at(DumpKind::DumpTooLong, LONGEST))
+    }
+}
+
+/// Whether the word is the first character of a time or a change, and no more.
+fn is_lone(word: &Word) -> bool
+    ensures { (bytes : List ℕ) → IsWord word.now false bytes → result ≡ is_lone bytes }
+{
+    match word {
+        Word::None => false,
+        Word::Time(digits) => !digits.is_some,
+        Word::Digits(digits) => digits.count == 0,
+        Word::Other(spelling) => is_one_digit(spelling),
+    }
+}
+
+/// Whether the word is a digit of a value, and no more.
+fn is_one_digit(word: &Spelling) -> bool
+    ensures { (bytes : List ℕ) → IsSpelling word.now bytes → result ≡ is_one_digit bytes }
+{
+    match word.bytes() {
+        Some([digit]) => is_digit(*digit),
+        _ => false,
+    }
+}
