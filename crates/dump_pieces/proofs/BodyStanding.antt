@@ -11,8 +11,11 @@ use Rattle.dump_pieces.specs.Body.{BodyReading, Said, nothing, has_begun, last_s
 use Rattle.dump_pieces.specs.Reading.{Body, Meaning, body, fault, after_body_word}
 use Rattle.dump_pieces.specs.Text.{Stands, after, is_alone, is_open, HasFault, behind_a_word, in_a_word, EndsWithFault, in_the_last_word, cut_short, EndsAs}
 use Rattle.dump_pieces.specs.Holding.{IsReading, IsWord, IsSaid, Gives}
-use Rattle.dump_pieces.specs.BodyStanding.{BodyStands, HasSaid, SaysNext, EndsSaying}
+use Rattle.dump_pieces.specs.BodyStanding.{BodyStands, HasSaid, SaysNext, EndsSaying, HasEntry, HasStepped, StepsOn, IsFaultAt}
+use Rattle.dump_pieces.specs.Entries.{item_of, last_step}
+use Rattle.dump_pieces.specs.declared.item.Item.{Item}
 use Rattle.dump_pieces.specs.declared.entry.Entry.{Entry}
+use Rattle.dump_pieces.specs.declared.entry.Entry.TheVariants as entry
 use Rattle.dump_pieces.specs.declared.body_reader.BodyReader.{BodyReader}
 use Rattle.dump_pieces.specs.declared.word.Word.TheVariants as word_row
 use Rattle.dump_pieces.specs.declared.reading.Said.{Said as SaidRow}
@@ -67,8 +70,8 @@ abbrev pub Reads : BodyReader → Result SaidRow DumpFault → Type 0
 Reads reader answered = (reading : BodyReading) (bytes : List ℕ) → IsReading reader.reading reading → IsWord reader.word (has_begun reading.begun) bytes → Gives answered (last_said reader.codes reading reader.word_at bytes)
 
 pub space_said : (old new : BodyReader) (text : List ℕ) (space : ℕ) (b : Body) (kept : SaidRow) → is_white_space space ≡ true → BodyStands old text b → Reads old (Ok kept) → old.at < 1099511627776
-    → new.codes ≡ old.codes → new.at ≡ old.at + 1 → new.reading ≡ kept.reading → new.word ≡ word_row.None → SaysNext kept.says new (text ++ space ∷ []) b
-space_said old new text space b kept white s reads room codes at reading word =
+    → new.codes ≡ old.codes → new.at ≡ old.at + 1 → new.reading ≡ kept.reading → new.word ≡ word_row.None → new.is_at_end ≡ old.is_at_end → SaysNext kept.says new (text ++ space ∷ []) b
+space_said old new text space b kept white s reads room codes at reading word going =
     let a = gives_ok kept _ (reads b.reading s.word s.reading s.kept) in
     let long = s.at in
     let next = with_said b a.said in
@@ -82,6 +85,7 @@ space_said old new text space b kept white s reads room codes at reading word =
         reading = subst (λ r. IsReading r a.said.1) (sym reading) a.same.reading;
         kept = subst (λ w. IsWord w (has_begun a.said.1.begun) []) (sym word) refl;
         place = λ some. absurd (omega (arith, some));
+        goes_on = going ∙ s.goes_on;
       };
       said = record { items = ap (λ (says : Option Entry). b.items ++ option_to_list says) (sym a.same.says); vars = refl };
     }
@@ -104,9 +108,9 @@ push_no_room old text byte b f black s full is =
 
 -- a byte of a word
 pub pushed : (old new : BodyReader) (text : List ℕ) (byte : ℕ) (b : Body) → is_white_space byte ≡ false → (s : BodyStands old text b) → old.at < 1099511627776
-    → new.codes ≡ old.codes → new.at ≡ old.at + 1 → new.reading ≡ old.reading → IsWord new.word (has_begun b.reading.begun) (s.word ++ byte ∷ []) → new.word_at + length (s.word ++ byte ∷ []) ≡ length text + 1
+    → new.codes ≡ old.codes → new.at ≡ old.at + 1 → new.reading ≡ old.reading → IsWord new.word (has_begun b.reading.begun) (s.word ++ byte ∷ []) → new.word_at + length (s.word ++ byte ∷ []) ≡ length text + 1 → new.is_at_end ≡ old.is_at_end
     → BodyStands new (text ++ byte ∷ []) b
-pushed old new text byte b black s room codes at reading word place =
+pushed old new text byte b black s room codes at reading word place going =
     let long = s.at in
     record {
       word = s.word ++ byte ∷ [];
@@ -116,7 +120,17 @@ pushed old new text byte b black s room codes at reading word place =
       reading = subst (λ r. IsReading r b.reading) (sym reading) s.reading;
       kept = word;
       place = λ some. omega (arith, place, length-append text (byte ∷ []));
+      goes_on = going ∙ s.goes_on;
     }
+
+-- where the word stands with one byte more
+pub placed : (reader : BodyReader) (text : List ℕ) (b : Body) (s : BodyStands reader text b) (place byte : ℕ) → (length s.word ≡ 0 → place ≡ reader.at) → (0 < length s.word → place ≡ reader.word_at) → place + length (s.word ++ byte ∷ []) ≡ length text + 1
+placed reader text b s place byte none some =
+    let long = s.at in
+    elim (cases_lt 0 (length s.word)) [
+      | inl more ↦ let before = s.place more in let same = some more in omega (arith, before, same, length-append s.word (byte ∷ []))
+      | inr first ↦ let same = none (omega arith) in omega (arith, same, long, length-append s.word (byte ∷ []))
+    ]
 
 -- nothing was said
 pub says_nothing : (reader : BodyReader) (text : List ℕ) (b : Body) → BodyStands reader text b → SaysNext None reader text b
@@ -154,8 +168,8 @@ pub ends_open : (reader : BodyReader) (text : List ℕ) (b : Body) (kept : SaidR
     → ((reading : BodyReading) → IsReading kept.reading reading → begun ≡ has_begun reading.begun) → begun ≡ true → f ≡ At Truncated reader.at → EndsWithFault text f
 ends_open reader text b kept begun f s reads has goes_on is =
     let a = gives_ok kept _ (reads b.reading s.word s.reading s.kept) in
-    let open : is_open (after (body b) (length text) s.word) ≡ true = ap is_open (read_ok reader text b s a.said a.is) ∙ sym (has a.said.1 a.same.reading) ∙ goes_on in
-    cut_at reader text f s.at is (cut_short text s.word (body b) s.stands (or_second _ _ open))
+    let opened : is_open (after (body b) (length text) s.word) ≡ true = ap is_open (read_ok reader text b s a.said a.is) ∙ sym (has a.said.1 a.same.reading) ∙ goes_on in
+    cut_at reader text f s.at is (cut_short text s.word (body b) s.stands (or_second _ _ opened))
 
 -- ---- pieces
 
@@ -173,5 +187,29 @@ says_then says reader text b next first then = record {
 pub fault_in_piece : (text piece : List ℕ) (place byte : ℕ) (f : DumpFault) → place < length piece → HasFault ((text ++ take place piece) ++ get_or piece place byte ∷ []) f → HasFault (text ++ piece) f
 fault_in_piece text piece place byte f within found =
     let whole : ((text ++ take place piece) ++ get_or piece place byte ∷ []) ++ drop (place + 1) piece ≡ text ++ piece =
-        ap (λ (t : List ℕ). t ++ drop (place + 1) piece) (one_more text piece place byte within) ∙ append_assoc text (take (place + 1) piece) (drop (place + 1) piece) ∙ ap (λ (t : List ℕ). text ++ t) (take-append-drop (place + 1) piece) in
+    ap (λ (t : List ℕ). t ++ drop (place + 1) piece) (one_more text piece place byte within) ∙ append_assoc text (take (place + 1) piece) (drop (place + 1) piece) ∙ ap (λ (t : List ℕ). text ++ t) (take-append-drop (place + 1) piece) in
     subst (λ (t : List ℕ). HasFault t f) whole (fault_stays ((text ++ take place piece) ++ get_or piece place byte ∷ []) (drop (place + 1) piece) f found)
+
+-- an entry of the piece
+pub has_entry : (says : Entry) (used : ℕ) (reader : BodyReader) (text piece : List ℕ) (b : Body) → HasEntry says used reader text piece b → HasStepped (item_of says) used reader text piece b
+has_entry (entry.Time time) used reader text piece b h = h
+has_entry (entry.Value code value) used reader text piece b h = h
+
+pub has_stepped : (says : Item) (used : ℕ) (reader : BodyReader) (text piece : List ℕ) (b : Body) → 0 < length piece → HasStepped says used reader text piece b → StepsOn says used reader text piece b
+has_stepped says used reader text [] b some h = absurd (omega arith)
+has_stepped says used reader text (byte ∷ piece) b some h = h
+
+pub fault_at : (text piece : List ℕ) (f : DumpFault) → 0 < length piece → HasFault (text ++ piece) f → IsFaultAt text piece f
+fault_at text [] f some h = absurd (omega arith)
+fault_at text (byte ∷ piece) f some h = h
+
+pub fault_at_end : (text piece : List ℕ) (f : DumpFault) → length piece ≡ 0 → EndsWithFault text f → IsFaultAt text piece f
+fault_at_end text [] f none h = h
+fault_at_end text (byte ∷ piece) f none h = absurd (omega arith)
+
+-- what the last word says
+pub last_steps : (says : Option Entry) (reader : BodyReader) (text piece : List ℕ) (b : Body) → length piece ≡ 0 → reader.is_at_end ≡ true → EndsSaying says text b → StepsOn (last_step says).item (last_step says).used reader text piece b
+last_steps None reader text [] b none at_end h = record { none = refl; next = h.next; ended = record { at_end = at_end; ends = h.ends }; said = h.said }
+last_steps (Some (entry.Time time)) reader text [] b none at_end h = record { none = refl; next = h.next; ended = record { at_end = at_end; ends = h.ends }; said = h.said }
+last_steps (Some (entry.Value code value)) reader text [] b none at_end h = record { none = refl; next = h.next; ended = record { at_end = at_end; ends = h.ends }; said = h.said }
+last_steps says reader text (byte ∷ piece) b none at_end h = absurd (omega arith)

@@ -89,5 +89,5 @@ pub fault_in_piece : (text piece : List ℕ) (place byte : ℕ) (f : DumpFault) 
 fault_in_piece text piece place byte NoMemory within found = tt
 fault_in_piece text piece place byte (At kind at) within found =
     let whole : ((text ++ take place piece) ++ get_or piece place byte ∷ []) ++ drop (place + 1) piece ≡ text ++ piece =
-        ap (λ (t : List ℕ). t ++ drop (place + 1) piece) (one_more text piece place byte within) ∙ append_assoc text (take (place + 1) piece) (drop (place + 1) piece) ∙ ap (λ (t : List ℕ). text ++ t) (take-append-drop (place + 1) piece) in
+    ap (λ (t : List ℕ). t ++ drop (place + 1) piece) (one_more text piece place byte within) ∙ append_assoc text (take (place + 1) piece) (drop (place + 1) piece) ∙ ap (λ (t : List ℕ). text ++ t) (take-append-drop (place + 1) piece) in
     subst (λ (t : List ℕ). HasFault t (At kind at)) whole (fault_stays ((text ++ take place piece) ++ get_or piece place byte ∷ []) (drop (place + 1) piece) (At kind at) found)

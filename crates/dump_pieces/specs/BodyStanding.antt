@@ -1,9 +1,10 @@
 -- Where the reader of a body stands after a text.
-use Rattle.std.specs.Prelude.{◌≡◌, ◌<◌, ◌≤◌, ℕ, ◌+◌, List, [], ◌∷◌, ◌++◌, length, take, Option, None, Some}
+use Rattle.std.specs.Prelude.{◌≡◌, ◌<◌, ◌≤◌, ℕ, ◌+◌, true, false, List, [], ◌∷◌, ◌++◌, length, take, Option, None, Some}
 use Rattle.std.specs.Option.{option_to_list}
 use Rattle.dump_pieces.specs.Reading.{Body, body}
 use Rattle.dump_pieces.specs.Body.{has_begun}
-use Rattle.dump_pieces.specs.Text.{Stands, EndsAs}
+use Rattle.dump_pieces.specs.Text.{Stands, HasFault, EndsWithFault, EndsAs}
+use Rattle.dump_pieces.specs.declared.fault.DumpFault.{DumpFault}
 use Rattle.dump_pieces.specs.Holding.{IsReading, IsWord}
 use Rattle.dump_pieces.specs.declared.entry.Entry.{Entry}
 use Rattle.dump_pieces.specs.declared.entry.Entry.TheVariants as entry
@@ -20,6 +21,12 @@ pub record BodyStands (reader : BodyReader) (text : List ℕ) (b : Body) : Type 
   pub reading : IsReading reader.reading b.reading
   pub kept : IsWord reader.word (has_begun b.reading.begun) word
   pub place : 0 < length word → reader.word_at + length word ≡ length text
+  pub goes_on : reader.is_at_end ≡ false
+
+-- the text was the whole input, and it is a dump
+pub record BodyEnded (reader : BodyReader) (text : List ℕ) (b : Body) : Type 0 where
+  pub at_end : reader.is_at_end ≡ true
+  pub ends : EndsAs text b
 
 -- the body has this entry more, or none, and the variables that it had
 pub record HasSaid (says : Option Entry) (b next : Body) : Type 0 where
@@ -55,3 +62,34 @@ HasStepped (item.Time time) used reader text piece b = HasEntry (entry.Time time
 HasStepped (item.Value code value) used reader text piece b = HasEntry (entry.Value code value) used reader text piece b
 HasStepped item.More used reader text piece b = IsUsedUp used reader text piece b
 HasStepped item.End used reader text piece b = ⊥
+
+-- the first fault of a text and the next piece, of which an empty one is the end
+abbrev pub IsFaultAt : List ℕ → List ℕ → DumpFault → Type 0
+IsFaultAt text [] f = EndsWithFault text f
+IsFaultAt text (byte ∷ piece) f = HasFault (text ++ byte ∷ piece) f
+
+-- the input ended, and its last word says an entry
+pub record SaysLast (says : Entry) (used : ℕ) (reader : BodyReader) (text : List ℕ) (b : Body) : Type 0 where
+  pub none : used ≡ 0
+  pub next : Body
+  pub ended : BodyEnded reader text next
+  pub said : HasSaid (Some says) b next
+
+-- the input ended, and it says nothing more
+pub record SaysNoMore (used : ℕ) (reader : BodyReader) (text : List ℕ) (b : Body) : Type 0 where
+  pub none : used ≡ 0
+  pub next : Body
+  pub ended : BodyEnded reader text next
+  pub said : HasSaid None b next
+
+-- what the end of the input came to
+abbrev pub EndsWith : Item → ℕ → BodyReader → List ℕ → Body → Type 0
+EndsWith (item.Time time) used reader text b = SaysLast (entry.Time time) used reader text b
+EndsWith (item.Value code value) used reader text b = SaysLast (entry.Value code value) used reader text b
+EndsWith item.More used reader text b = ⊥
+EndsWith item.End used reader text b = SaysNoMore used reader text b
+
+-- what the next piece came to, of which an empty one is the end
+abbrev pub StepsOn : Item → ℕ → BodyReader → List ℕ → List ℕ → Body → Type 0
+StepsOn says used reader text [] b = EndsWith says used reader text b
+StepsOn says used reader text (byte ∷ piece) b = HasStepped says used reader text (byte ∷ piece) b

@@ -14,3 +14,4 @@ pub mod Progress
 pub mod Standing
 pub mod Entries
 pub mod BodyStanding
+pub mod Pieces

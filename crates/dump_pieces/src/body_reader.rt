@@ -1,9 +1,10 @@
-ghost use Rattle.std.specs.Prelude.{◌≡◌, ◌<◌, ◌≤◌, ◌++◌, ◌∷◌, [], ℕ, true, false, List, None, length, OnOk, IfOk, IfErr};
+ghost use Rattle.std.specs.Prelude.{◌≡◌, ◌<◌, ◌≤◌, ◌++◌, ◌∷◌, [], ℕ, Ok, true, false, List, None, length, OnOk, IfOk, IfErr};
 ghost use Rattle.dump_pieces.specs.Words.{is_white_space as is_space};
 ghost use Rattle.dump_pieces.specs.Reading.{Body as SpecBody, body};
 ghost use Rattle.dump_pieces.specs.Body.{nothing};
 ghost use Rattle.dump_pieces.specs.Text.{Stands, HasFault, EndsWithFault, is_alone, is_lone, is_one_digit};
 ghost use Rattle.dump_pieces.specs.Holding.{IsWord, IsSpelling};
+ghost use Rattle.dump_pieces.specs.Entries.{last_step};
 ghost use Rattle.dump_pieces.specs.declared.fault.DumpFault.TheVariants as dump_fault;
 
 use crate::codes::Codes;
@@ -29,16 +30,19 @@ pub(crate) struct BodyReader {
     pub(crate) word: Word,
     /// Where that word stands.
     pub(crate) word_at: u64,
+    /// Whether the input has ended.
+    pub(crate) is_at_end: bool,
     ghost within: { at ≤ 1099511627776 },
 }
 
 impl BodyReader {
-    ghost use Rattle.dump_pieces.specs.BodyStanding.{BodyStands, SaysNext, HasStepped, EndsSaying};
+    ghost use Rattle.dump_pieces.specs.BodyStanding.{BodyStands, BodyEnded, SaysNext, HasStepped, EndsSaying, StepsOn, IsFaultAt};
 
     /// The body behind a header of so many bytes.
-    pub(crate) fn new(codes: Codes, at: u64) -> Self
+    pub(crate) fn new(codes: Codes, at: u64, is_at_end: bool) -> Self
         requires { at ≤ 67108865 }
-        ensures { (text : List ℕ) (b : SpecBody) → Stands text (body b) [] → at ≡ length text → codes ≡ b.codes → b.reading ≡ record { last = None; begun = nothing } → BodyStands result text b }
+        ensures at_end { result.is_at_end ≡ is_at_end }
+        ensures stands { (text : List ℕ) (b : SpecBody) → Stands text (body b) [] → at ≡ length text → codes ≡ b.codes → b.reading ≡ record { last = None; begun = nothing } → is_at_end ≡ false → BodyStands result text b }
     {
         BodyReader {
             codes,
@@ -49,11 +53,33 @@ impl BodyReader {
             },
             word: Word::None,
             word_at: at,
+            is_at_end,
+        }
+    }
+
+    /// What the dump says next.
+    pub(crate) fn step(&mut self, piece: &[u8]) -> Result<Step, DumpFault>
+        ensures ok { IfOk result (λ step. (text : List ℕ) (b : SpecBody) → BodyStands self.old text b → StepsOn step.item step.used self.new text piece.now b) }
+        ensures fault { IfErr result (λ fault. (text : List ℕ) (b : SpecBody) → BodyStands self.old text b → IsFaultAt text piece.now fault) }
+        ensures ended { (text : List ℕ) (b : SpecBody) → BodyEnded self.old text b → (result ≡ Ok (record { item = Item.End; used = length piece.now })) × BodyEnded self.new text b }
+    {
+        if self.is_at_end {
+            Ok(Step {
+                item: Item::End,
+                used: piece.len(),
+            })
+        } else if piece.is_empty() {
+            let says = self.end()?;
+            self.is_at_end = true;
+            Ok(last_step(says))
+        } else {
+            self.read(piece)
         }
     }
 
     /// Reads a piece that is not empty up to what it says next.
-    pub(crate) fn read(&mut self, piece: &[u8]) -> Result<Step, DumpFault>
+    fn read(&mut self, piece: &[u8]) -> Result<Step, DumpFault>
+        requires { 0 < length piece.now }
         ensures ok { IfOk result (λ step. (text : List ℕ) (b : SpecBody) → BodyStands self.old text b → HasStepped step.item step.used self.new text piece.now b) }
         ensures fault { IfErr result (λ fault. (text : List ℕ) (b : SpecBody) → BodyStands self.old text b → HasFault (text ++ piece.now) fault) }
     {
@@ -103,18 +129,16 @@ impl BodyReader {
         ensures fault { IfErr result (λ fault. (text : List ℕ) (b : SpecBody) → is_space byte ≡ false → BodyStands self.old text b → HasFault (text ++ byte ∷ []) fault) }
     {
         check_room(self.at)?;
-        if matches!(self.word, Word::None) {
-            self.word = Word::begin(byte, self.reading.has_begun());
-            self.word_at = self.at;
-        } else {
-            self.word.push(byte);
-        }
+        let start = self.word.start(self.word_at, self.at);
+        let has_begun = self.reading.has_begun();
+        self.word.push(byte, has_begun);
+        self.word_at = start;
         self.at += 1;
         Ok(())
     }
 
     /// Ends the input, and gives what the last word says.
-    pub(crate) fn end(&self) -> Result<Option<Entry>, DumpFault>
+    fn end(&self) -> Result<Option<Entry>, DumpFault>
         ensures ok { IfOk result (λ says. (text : List ℕ) (b : SpecBody) → BodyStands self.now text b → EndsSaying says text b) }
         ensures fault { IfErr result (λ fault. (text : List ℕ) (b : SpecBody) → BodyStands self.now text b → EndsWithFault text fault) }
     {
@@ -168,5 +192,21 @@ fn is_one_digit(word: &Spelling) -> bool
     match word.bytes() {
         Some([digit]) => is_digit(*digit),
         _ => false,
+    }
+}
+
+/// The step at the end of the input, where the last word says this or nothing.
+fn last_step(says: Option<Entry>) -> Step
+    ensures { result ≡ last_step says }
+{
+    match says {
+        Some(entry) => Step {
+            item: entry.item(),
+            used: 0,
+        },
+        None => Step {
+            item: Item::End,
+            used: 0,
+        },
     }
 }

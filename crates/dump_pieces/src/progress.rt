@@ -1,5 +1,5 @@
 ghost use Rattle.std.specs.Prelude.{◌≡◌};
-ghost use Rattle.dump_pieces.specs.Progress.{is_going};
+ghost use Rattle.dump_pieces.specs.Progress.{is_going, is_at_end};
 
 /// How far a header was read.
 #[derive(Clone, Copy, Debug, PartialEq, Eq)]
@@ -18,5 +18,12 @@ impl Progress {
         ensures { result ≡ is_going self }
     {
         matches!(self, Progress::Going)
+    }
+
+    /// Whether the input has ended.
+    pub(crate) fn is_at_end(self) -> bool
+        ensures { result ≡ is_at_end self }
+    {
+        matches!(self, Progress::AtEnd)
     }
 }

@@ -22,7 +22,7 @@ impl Word {
     ghost use Rattle.dump_pieces.specs.Holding.{IsWord};
 
     /// The word of one byte. Where a change or a comment has begun, a word is only its bytes.
-    pub(crate) fn begin(byte: u8, has_begun: bool) -> Word
+    fn begin(byte: u8, has_begun: bool) -> Word
         ensures { IsWord result has_begun (byte ∷ []) }
     {
         if has_begun || !is_marker(byte) {
@@ -36,15 +36,26 @@ impl Word {
         }
     }
 
-    /// The word with one byte more.
-    pub(crate) fn push(&mut self, byte: u8)
-        ensures { (has_begun : Bool) (bytes : List ℕ) → 0 < length bytes → IsWord self.old has_begun bytes → IsWord self.new has_begun (bytes ++ byte ∷ []) }
+    /// Adds a byte, with which the word begins where there is none.
+    pub(crate) fn push(&mut self, byte: u8, has_begun: bool)
+        ensures { (bytes : List ℕ) → IsWord self.old has_begun bytes → IsWord self.new has_begun (bytes ++ byte ∷ []) }
     {
         match self {
-            Word::None => {}
+            Word::None => *self = Word::begin(byte, has_begun),
             Word::Time(digits) => *digits = digits.with_byte(byte),
             Word::Digits(digits) => *digits = digits.with_byte(byte),
             Word::Other(spelling) => spelling.push(byte),
+        }
+    }
+
+    /// Where the word stands: where it stood, or here where there is none.
+    pub(crate) fn start(&self, word_at: u64, here: u64) -> u64
+        ensures none { (has_begun : Bool) (bytes : List ℕ) → IsWord self.now has_begun bytes → length bytes ≡ 0 → result ≡ here }
+        ensures some { (has_begun : Bool) (bytes : List ℕ) → IsWord self.now has_begun bytes → 0 < length bytes → result ≡ word_at }
+    {
+        match self {
+            Word::None => here,
+            Word::Time(_) | Word::Digits(_) | Word::Other(_) => word_at,
         }
     }
 }
