@@ -8,3 +8,4 @@ pub mod WordTests
 pub mod TextLemmas
 pub mod HeaderStanding
 pub mod BodyStanding
+pub mod Splitting

@@ -1,6 +1,7 @@
 use Rattle.std.proofs.Common.{ℕ, List, Option, Some, None, ◌++◌, take, length, get_or, ◌+◌, refl, sym, ap, subst, ◌∙◌, arith}
 use Rattle.std.proofs.lemmas.Result.{err_from_is_err_and}
-use Rattle.dump_pieces.specs.BodyStanding.{SaysNext, HasStepped}
+use Rattle.std.proofs.lemmas.List.{take_all}
+use Rattle.dump_pieces.specs.BodyStanding.{SaysNext}
 use Rattle.dump_pieces.proofs.HeaderStanding.{one_more}
 use Rattle.dump_pieces.proofs.BodyStanding.{read_none, says_then, fault_in_piece, has_entry}
 use Rattle.dump_pieces.proofs.body_reader.BodyReader.read.Goals as goal
@@ -25,7 +26,15 @@ returns-in-Some-clause-ok c = λ text b s.
     (record { at_least = omega arith; at_most = omega arith; next = subst (λ says. SaysNext says c.read_byte.new.self (text ++ take (c.loop-place.place + 1) c.args.piece.now) b) c.in-Some.is said }))
 
 pub loop-place-preserved : goal.loop-place-preserved
-loop-place-preserved c = ?
+loop-place-preserved c = λ text b s.
+    let first = c.loop-place.invariant text b s in
+    let second = c.in_ok-entry.ensures.ok (text ++ take c.loop-place.place c.args.piece.now) first.next first.stands in
+    let whole = subst (λ (t : List ℕ). SaysNext c.in_ok-entry.field-0 c.read_byte.new.self t first.next) (one_more text c.args.piece.now c.loop-place.place _ c.loop-place-test.true) second in
+    let said = says_then c.in_ok-entry.field-0 c.read_byte.new.self (text ++ take (c.loop-place.place + 1) c.args.piece.now) b first.next first.said whole in
+    subst (λ says. SaysNext says c.read_byte.new.self (text ++ take (c.loop-place.place + 1) c.args.piece.now) b) c.in_default.is said
 
 pub returns-clause-ok : goal.returns-clause-ok
-returns-clause-ok c = ?
+returns-clause-ok c = λ text b s. record {
+  all = refl;
+  next = subst (λ (t : List ℕ). SaysNext None c.loop-place.self (text ++ t) b) (take_all c.loop-place.place c.args.piece.now c.loop-place-test.false) (c.loop-place.invariant text b s);
+}
