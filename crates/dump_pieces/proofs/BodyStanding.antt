@@ -1,15 +1,15 @@
 -- The reader of a body behind one byte more, or at the end.
-use Rattle.std.proofs.Common.{◌≡◌, ℕ, ◌+◌, ◌-◌, ◌<◌, ◌≤◌, Bool, true, false, cond, List, [], ◌∷◌, ◌++◌, length, take, drop, get_or, Option, Some, None, Result, Ok, Err, refl, sym, ap, subst, ◌∙◌, append_assoc, inl, inr, arith}
-use Rattle.std.specs.Prelude.{not, ◌&&◌, ◌||◌}
+use Rattle.std.proofs.Common.{◌≡◌, ℕ, ◌+◌, ◌-◌, ◌<◌, ◌≤◌, Bool, true, false, List, [], ◌∷◌, ◌++◌, length, take, drop, get_or, Option, Some, None, Result, Ok, Err, refl, sym, ap, subst, ◌∙◌, append_assoc, inl, inr, arith}
+use Rattle.std.specs.Prelude.{◌||◌}
 use Rattle.std.specs.Option.{option_to_list}
 use Rattle.std.proofs.lemmas.Bool.{cases_lt}
 use Rattle.std.proofs.lemmas.List.{length-append, append-nil, take-append-drop}
 use Rattle.dump_pieces.specs.Words.{is_white_space}
 use Rattle.dump_pieces.specs.Answer.{Answer}
 use Rattle.dump_pieces.specs.Codes.{Code}
-use Rattle.dump_pieces.specs.Body.{BodyReading, Said, nothing, has_begun, last_said}
-use Rattle.dump_pieces.specs.Reading.{Body, Meaning, body, fault, after_body_word}
-use Rattle.dump_pieces.specs.Text.{Stands, after, is_alone, is_open, HasFault, behind_a_word, in_a_word, EndsWithFault, in_the_last_word, cut_short, EndsAs}
+use Rattle.dump_pieces.specs.Body.{BodyReading, Said, has_begun, last_said}
+use Rattle.dump_pieces.specs.Reading.{Body, body, fault, after_body_word}
+use Rattle.dump_pieces.specs.Text.{after, is_alone, is_open, HasFault, behind_a_word, in_a_word, EndsWithFault, in_the_last_word, cut_short}
 use Rattle.dump_pieces.specs.Holding.{IsReading, IsWord, IsSaid, Gives}
 use Rattle.dump_pieces.specs.BodyStanding.{BodyStands, HasSaid, SaysNext, EndsSaying, HasEntry, HasStepped, StepsOn, IsFaultAt}
 use Rattle.dump_pieces.specs.Entries.{item_of, last_step}

@@ -1,11 +1,11 @@
 -- The reader of a header behind one byte more, or at the end.
-use Rattle.std.proofs.Common.{◌≡◌, ℕ, ◌+◌, ◌<◌, ◌≤◌, Bool, true, false, cond, List, [], ◌∷◌, ◌++◌, length, take, drop, get_or, Result, Ok, Err, refl, sym, ap, subst, ◌∙◌, append_assoc, arith}
+use Rattle.std.proofs.Common.{◌≡◌, ℕ, ◌+◌, ◌<◌, ◌≤◌, Bool, true, false, cond, List, [], ◌∷◌, ◌++◌, length, take, drop, get_or, Ok, refl, sym, ap, subst, ◌∙◌, append_assoc, arith}
 use Rattle.std.proofs.lemmas.List.{length-append, append-nil, take_more, take-append-drop}
 use Rattle.dump_pieces.specs.Words.{is_white_space}
 use Rattle.dump_pieces.specs.Answer.{Answer, IsFault}
-use Rattle.dump_pieces.specs.Reading.{HeaderReading, header, body, body_after, last_word}
-use Rattle.dump_pieces.specs.Text.{Stands, HasFault, EndsWithFault, EndsAs}
-use Rattle.dump_pieces.specs.Views.{reading_of, declared_of}
+use Rattle.dump_pieces.specs.Reading.{HeaderReading, header, body_after, last_word}
+use Rattle.dump_pieces.specs.Text.{Stands, HasFault, EndsAs}
+use Rattle.dump_pieces.specs.Views.{reading_of}
 use Rattle.dump_pieces.specs.Progress.{is_going}
 use Rattle.dump_pieces.specs.Standing.{HeaderMeans, HeaderStands, IsFoundFault, IsFaultAtEnd}
 use Rattle.dump_pieces.specs.declared.header_reader.HeaderReader.{HeaderReader}
@@ -14,7 +14,7 @@ use Rattle.dump_pieces.specs.declared.progress.Progress.TheVariants.{Going, Done
 use Rattle.dump_pieces.specs.declared.fault.DumpFault.{DumpFault}
 use Rattle.dump_pieces.specs.declared.fault.DumpFault.TheVariants.{NoMemory, At}
 use Rattle.dump_pieces.specs.declared.fault.DumpKind.TheVariants.{Truncated, HeaderTooLong}
-use Rattle.dump_pieces.proofs.TextLemmas.{stands_byte, fault_stays, header_goes_on, header_is_done, header_fault, header_too_long, header_word_too_long, header_ends, header_ends_with_fault, header_cut_short}
+use Rattle.dump_pieces.proofs.TextLemmas.{fault_stays, header_goes_on, header_is_done, header_fault, header_too_long, header_word_too_long, header_ends, header_ends_with_fault, header_cut_short}
 
 going_means : (progress : Progress) (reader : HeaderReader) (text : List ℕ) → is_going progress ≡ true → HeaderMeans progress reader text → Stands text (header (reading_of reader.sections)) reader.word.items
 going_means Going reader text going means = means

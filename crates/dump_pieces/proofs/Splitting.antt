@@ -1,6 +1,6 @@
 -- The body behind a header.
-use Rattle.std.proofs.Common.{◌≡◌, ℕ, false, List, [], length, Option, None, refl, sym, subst, ◌∙◌}
-use Rattle.dump_pieces.specs.Body.{BodyReading, nothing}
+use Rattle.std.proofs.Common.{◌≡◌, ℕ, false, List, [], length, Option, None, refl, sym, subst}
+use Rattle.dump_pieces.specs.Body.{nothing}
 use Rattle.dump_pieces.specs.Reading.{Body, body, body_after}
 use Rattle.dump_pieces.specs.Text.{Stands}
 use Rattle.dump_pieces.specs.Views.{declared_of}

@@ -1,12 +1,10 @@
 -- A text of which the words so far are known, one byte more at its end.
-use Rattle.std.proofs.Common.{◌≡◌, ℕ, suc, ◌+◌, ◌-◌, ◌<◌, ◌≤◌, Bool, true, false, cond, eqb, ◌&&◌, List, [], ◌∷◌, ◌++◌, length, Result, Ok, Err, refl, sym, ap, subst, ◌∙◌, append_assoc, inl, inr, arith}
+use Rattle.std.proofs.Common.{◌≡◌, ℕ, ◌+◌, ◌-◌, ◌≤◌, Bool, true, false, cond, eqb, ◌&&◌, List, [], ◌∷◌, ◌++◌, length, Ok, Err, refl, sym, ap, subst, ◌∙◌, append_assoc, inl, inr, arith}
 use Rattle.std.specs.Prelude.{not}
-use Rattle.std.specs.List.{list_all}
 use Rattle.std.proofs.lemmas.Bool.{cases_Bool}
 use Rattle.std.proofs.lemmas.Bool.Decides.{nat_tests}
 use Rattle.std.proofs.lemmas.List.{length-append, append-nil}
-use Rattle.dump_pieces.specs.Words.{Word, is_white_space, joined, words_from, words_of, ends_open, IsWhole, IsBlack}
-use Rattle.dump_pieces.specs.Answer.{Answer}
+use Rattle.dump_pieces.specs.Words.{Word, is_white_space, joined, words_from, words_of, ends_open, IsBlack}
 use Rattle.dump_pieces.specs.Reading.{HeaderReading, Meaning, header, body, fault, with_word, meaning_after, meaning_of, start, last_word, after_header_word, body_after}
 use Rattle.dump_pieces.specs.Text.{room_of, stop_of, Stands, word_at, after, HasFault, behind_a_word, in_a_word, EndsWithFault, in_the_last_word, cut_short, EndsAs}
 use Rattle.dump_pieces.specs.declared.fault.DumpFault.{DumpFault}

@@ -1,11 +1,9 @@
 -- Tests on the bytes of a word, one more at its end.
-use Rattle.std.proofs.Common.{◌≡◌, ℕ, ◌+◌, ◌<◌, ◌≤◌, Bool, true, false, List, [], ◌∷◌, ◌++◌, length, refl, sym, arith}
-use Rattle.std.specs.Prelude.{nat_lt}
+use Rattle.std.proofs.Common.{◌≡◌, ℕ, ◌+◌, ◌<◌, Bool, true, false, List, [], ◌∷◌, ◌++◌, length, refl, arith}
 use Rattle.std.proofs.lemmas.Bool.Decides.{nat_tests}
 use Rattle.std.proofs.lemmas.List.{length-append}
 use Rattle.dump_pieces.specs.Body.{is_marker}
-use Rattle.dump_pieces.specs.Holding.{has_no_marker, is_other, IsOtherWord, IsSpelling}
-use Rattle.dump_pieces.specs.declared.spelling.Spelling.{Spelling}
+use Rattle.dump_pieces.specs.Holding.{is_other}
 
 pub other_first : (has_begun : Bool) (byte : ℕ) → (has_begun ≡ false → is_marker byte ≡ false) → is_other has_begun (byte ∷ []) ≡ true
 other_first true byte free = refl

@@ -1,5 +1,5 @@
 -- What the calls of the reader leave, in whatever pieces a dump comes.
-use Rattle.std.specs.Prelude.{◌≡◌, ◌<◌, ◌≤◌, ℕ, Bool, true, false, List, [], ◌∷◌, ◌++◌, length, take, Option, None, Some}
+use Rattle.std.specs.Prelude.{◌≡◌, ◌<◌, ◌≤◌, ℕ, Bool, true, false, List, [], ◌++◌, length, take, None, Some}
 use Rattle.dump_pieces.specs.Reading.{Body}
 use Rattle.dump_pieces.specs.Progress.{is_going}
 use Rattle.dump_pieces.specs.Standing.{HeaderStands}

@@ -1,7 +1,7 @@
 -- How far a header was read.
 use Rattle.std.specs.Prelude.{ℕ, Bool, true, false}
 use Rattle.dump_pieces.specs.declared.progress.Progress.{Progress}
-use Rattle.dump_pieces.specs.declared.progress.Progress.TheVariants.{Going, Done, AtEnd}
+use Rattle.dump_pieces.specs.declared.progress.Progress.TheVariants.{Going, AtEnd}
 
 abbrev pub is_going : Progress → Bool
 is_going Going = true

@@ -4,13 +4,13 @@ use Rattle.std.specs.Option.{option_to_list}
 use Rattle.dump_pieces.specs.Words.{Word}
 use Rattle.dump_pieces.specs.Codes.{Code}
 use Rattle.dump_pieces.specs.Header.{END, Declared, keyword_of, keyword_fault, field_fault, end_fault, with_section}
-use Rattle.dump_pieces.specs.Body.{BodyReading, Begun, nothing, Said, next_word}
+use Rattle.dump_pieces.specs.Body.{BodyReading, nothing, Said, next_word}
 use Rattle.dump_pieces.specs.Answer.{Answer, unless}
 use Rattle.dump_pieces.specs.declared.vars.Var.{Var}
 use Rattle.dump_pieces.specs.declared.entry.Entry.{Entry}
 use Rattle.dump_pieces.specs.declared.fault.DumpFault.{DumpFault}
 use Rattle.dump_pieces.specs.declared.keyword.Keyword.{Keyword}
-use Rattle.dump_pieces.specs.declared.keyword.Keyword.TheVariants.{Scope, Upscope, Variable, EndDefinitions, Passed}
+use Rattle.dump_pieces.specs.declared.keyword.Keyword.TheVariants.{EndDefinitions}
 
 -- a section that is open: its keyword and its first four fields
 pub record Section : Type 0 where

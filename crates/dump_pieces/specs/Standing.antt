@@ -1,6 +1,6 @@
 -- Where the reader of a header stands after a text.
 use Rattle.std.specs.Prelude.{◌≡◌, ◌<◌, ◌≤◌, ℕ, true, false, List, [], ◌∷◌, ◌++◌, length, take}
-use Rattle.dump_pieces.specs.Reading.{Body, header, body, body_after}
+use Rattle.dump_pieces.specs.Reading.{header, body, body_after}
 use Rattle.dump_pieces.specs.Text.{Stands, HasFault, EndsWithFault, EndsAs}
 use Rattle.dump_pieces.specs.Views.{reading_of, declared_of}
 use Rattle.dump_pieces.specs.Progress.{is_going}

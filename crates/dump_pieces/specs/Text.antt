@@ -1,9 +1,9 @@
 -- What a text means so far, and where its first fault stands, in whatever pieces it comes.
-use Rattle.std.specs.Prelude.{◌≡◌, ◌≤◌, ℕ, ◌-◌, ◌==◌, Bool, true, false, not, ◌&&◌, ◌||◌, List, [], ◌∷◌, ◌++◌, length}
+use Rattle.std.specs.Prelude.{◌≡◌, ◌≤◌, ℕ, ◌-◌, Bool, true, false, not, ◌&&◌, ◌||◌, List, [], ◌∷◌, ◌++◌, length}
 use Rattle.dump_pieces.specs.Words.{Word, words_of, is_white_space, IsWhole, IsBlack}
 use Rattle.dump_pieces.specs.Values.{is_digit}
-use Rattle.dump_pieces.specs.Body.{Begun, nothing, has_begun, is_marker}
-use Rattle.dump_pieces.specs.Reading.{HeaderReading, Body, Meaning, header, body, fault, meaning_after, meaning_of}
+use Rattle.dump_pieces.specs.Body.{has_begun, is_marker}
+use Rattle.dump_pieces.specs.Reading.{Body, Meaning, header, body, fault, meaning_after, meaning_of}
 use Rattle.dump_pieces.specs.declared.fault.DumpFault.{DumpFault}
 use Rattle.dump_pieces.specs.declared.fault.DumpFault.TheVariants.{At}
 use Rattle.dump_pieces.specs.declared.fault.DumpKind.TheVariants.{Truncated, HeaderTooLong, DumpTooLong}

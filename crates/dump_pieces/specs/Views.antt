@@ -1,5 +1,5 @@
 -- What contracts see of the types of the code.
-use Rattle.std.specs.Prelude.{◌≡◌, ℕ, List, [], ◌∷◌, map, unwrap_or, Option, option_map}
+use Rattle.std.specs.Prelude.{ℕ, List, [], map, unwrap_or, Option, option_map}
 use Rattle.dump_pieces.specs.Header.{Declared}
 use Rattle.dump_pieces.specs.Reading.{HeaderReading, Section}
 use Rattle.dump_pieces.specs.declared.declarations.Declarations.{Declarations}

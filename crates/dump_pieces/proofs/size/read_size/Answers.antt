@@ -1,5 +1,5 @@
-use Rattle.std.proofs.Common.{arith, sym, ◌∙◌}
-use Rattle.dump_pieces.proofs.DecimalTests.{size_of_some, size_of_zero, size_of_none}
+use Rattle.std.proofs.Common.{arith}
+use Rattle.dump_pieces.proofs.DecimalTests.{size_of_some, size_of_none}
 use Rattle.dump_pieces.proofs.size.read_size.Goals as goal
 
 pub returns-in_err-size : goal.returns-in_err-size

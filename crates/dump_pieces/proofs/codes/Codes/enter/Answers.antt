@@ -1,4 +1,4 @@
-use Rattle.std.proofs.Common.{sym, ◌∙◌, ap, List, ℕ}
+use Rattle.std.proofs.Common.{◌∙◌, ap, List, ℕ}
 use Rattle.dump_pieces.specs.Codes.{Code, entered}
 use Rattle.dump_pieces.specs.CodeViews.{with_text}
 use Rattle.dump_pieces.proofs.CodeLemmas.{codes_in, insert_entry-entered}

@@ -1,4 +1,4 @@
-use Rattle.std.proofs.Common.{sym, ◌∙◌}
+use Rattle.std.proofs.Common.{◌∙◌}
 use Rattle.dump_pieces.proofs.CodeLemmas.{lookup-code_of}
 use Rattle.dump_pieces.proofs.codes.Codes.find.Goals as goal
 

@@ -1,6 +1,4 @@
-use Rattle.std.proofs.Common.{◌∙◌, ap}
-use Rattle.four_state.specs.Vector.{Vector}
-use Rattle.four_state.specs.Parts.{extended_vector}
+use Rattle.std.proofs.Common.{◌∙◌}
 use Rattle.dump_pieces.proofs.DigitLemmas.{value_of_digits}
 use Rattle.dump_pieces.proofs.digits.Digits.value.Goals as goal
 

@@ -1,4 +1,3 @@
-use Rattle.std.proofs.Common.{◌≡◌, true, false}
 use Rattle.std.proofs.lemmas.Result.{err_from_is_err_and}
 use Rattle.dump_pieces.proofs.HeaderStanding.{end_kept, end_fault, end_cut_short}
 use Rattle.dump_pieces.proofs.header_reader.HeaderReader.end.Goals as goal

@@ -1,4 +1,4 @@
-use Rattle.std.proofs.Common.{ℕ, not, List, ◌++◌, take, length, get_or, subst, ap, ◌∙◌, arith}
+use Rattle.std.proofs.Common.{ℕ, not, List, ◌++◌, take, subst, ap, ◌∙◌, arith}
 use Rattle.std.proofs.lemmas.Result.{err_from_is_err_and}
 use Rattle.dump_pieces.specs.Standing.{HeaderStands}
 use Rattle.dump_pieces.proofs.HeaderStanding.{one_more, fault_in_piece}
