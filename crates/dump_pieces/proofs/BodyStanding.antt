@@ -9,7 +9,7 @@ use Rattle.dump_pieces.specs.Answer.{Answer}
 use Rattle.dump_pieces.specs.Codes.{Code}
 use Rattle.dump_pieces.specs.Body.{BodyReading, Said, has_begun, last_said}
 use Rattle.dump_pieces.specs.Reading.{Body, body, fault, after_body_word}
-use Rattle.dump_pieces.specs.Text.{after, is_alone, is_open, HasFault, behind_a_word, in_a_word, EndsWithFault, in_the_last_word, cut_short}
+use Rattle.dump_pieces.specs.Text.{Stands, after, is_alone, is_open, HasFault, behind_a_word, in_a_word, EndsWithFault, in_the_last_word, cut_short}
 use Rattle.dump_pieces.specs.Holding.{IsReading, IsWord, IsSaid, Gives}
 use Rattle.dump_pieces.specs.BodyStanding.{BodyStands, HasSaid, SaysNext, EndsSaying, HasEntry, HasStepped, StepsOn, IsFaultAt}
 use Rattle.dump_pieces.specs.Entries.{item_of, last_step}
@@ -22,7 +22,7 @@ use Rattle.dump_pieces.specs.declared.reading.Said.{Said as SaidRow}
 use Rattle.dump_pieces.specs.declared.fault.DumpFault.{DumpFault}
 use Rattle.dump_pieces.specs.declared.fault.DumpFault.TheVariants.{At}
 use Rattle.dump_pieces.specs.declared.fault.DumpKind.TheVariants.{Truncated, DumpTooLong}
-use Rattle.dump_pieces.proofs.TextLemmas.{stands_behind, stands_byte, fault_stays}
+use Rattle.dump_pieces.proofs.TextLemmas.{with_room, has_room, stands_behind, stands_byte, fault_stays}
 use Rattle.dump_pieces.proofs.HeaderStanding.{one_more}
 
 -- what a word says, if reading gave something
@@ -44,16 +44,16 @@ last_said-at : (table : List Code) (reading : BodyReading) (at other : ℕ) (wor
 last_said-at table reading at other [] same = refl
 last_said-at table reading at other (byte ∷ word) same = ap (λ (k : ℕ). last_said table reading k (byte ∷ word)) (same (omega arith))
 
-after_body : (b : Body) (end : ℕ) (word : List ℕ) → after (body b) end word ≡ after_body_word b (last_said b.codes b.reading (end - length word) word)
-after_body b end [] = ap (λ (items : List Entry). body (record b { items = items })) (sym (append-nil b.items))
-after_body b end (byte ∷ word) = refl
+after_body : (text word : List ℕ) (b : Body) → Stands text (body b) word → after (body b) (length text) word ≡ after_body_word b (last_said b.codes b.reading (length text - length word) word)
+after_body text [] b s = ap (λ (items : List Entry). body (record b { items = items })) (sym (append-nil b.items))
+after_body text (byte ∷ word) b s = with_room (body b) (record { at = length text - length (byte ∷ word); bytes = byte ∷ word }) (has_room text (byte ∷ word) (body b) s)
 
 -- what the last word of the text says is what the reader reads
 read_last : (reader : BodyReader) (text : List ℕ) (b : Body) (s : BodyStands reader text b) → after (body b) (length text) s.word ≡ after_body_word b (last_said reader.codes b.reading reader.word_at s.word)
 read_last reader text b s =
     let place = s.place in
     let same : 0 < length s.word → length text - length s.word ≡ reader.word_at = λ some. let p = place some in omega (arith, p) in
-    after_body b (length text) s.word ∙ ap (after_body_word b) (last_said-at b.codes b.reading _ reader.word_at s.word same ∙ ap (λ (table : List Code). last_said table b.reading reader.word_at s.word) (sym s.codes))
+    after_body text s.word b s.stands ∙ ap (after_body_word b) (last_said-at b.codes b.reading _ reader.word_at s.word same ∙ ap (λ (table : List Code). last_said table b.reading reader.word_at s.word) (sym s.codes))
 
 -- the body with what a word says
 abbrev pub with_said : Body → Said → Body

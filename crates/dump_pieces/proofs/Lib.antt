@@ -9,3 +9,4 @@ pub mod TextLemmas
 pub mod HeaderStanding
 pub mod BodyStanding
 pub mod Splitting
+pub mod FaultLaws

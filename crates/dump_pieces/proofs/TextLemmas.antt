@@ -1,12 +1,12 @@
 -- A text of which the words so far are known, one byte more at its end.
 use Rattle.std.proofs.Common.{◌≡◌, ℕ, ◌+◌, ◌-◌, ◌≤◌, Bool, true, false, cond, eqb, ◌&&◌, List, [], ◌∷◌, ◌++◌, length, Ok, Err, refl, sym, ap, subst, ◌∙◌, append_assoc, inl, inr, arith}
-use Rattle.std.specs.Prelude.{not}
+use Rattle.std.specs.Prelude.{not, nat_lt}
 use Rattle.std.proofs.lemmas.Bool.{cases_Bool}
 use Rattle.std.proofs.lemmas.Bool.Decides.{nat_tests}
 use Rattle.std.proofs.lemmas.List.{length-append, append-nil}
-use Rattle.dump_pieces.specs.Words.{Word, is_white_space, joined, words_from, words_of, ends_open, IsBlack}
-use Rattle.dump_pieces.specs.Reading.{HeaderReading, Meaning, header, body, fault, with_word, meaning_after, meaning_of, start, last_word, after_header_word, body_after}
-use Rattle.dump_pieces.specs.Text.{room_of, stop_of, Stands, word_at, after, HasFault, behind_a_word, in_a_word, EndsWithFault, in_the_last_word, cut_short, EndsAs}
+use Rattle.dump_pieces.specs.Words.{Word, is_white_space, joined, words_from, words_of, ends_open, IsWhole, IsBlack}
+use Rattle.dump_pieces.specs.Reading.{HeaderReading, Meaning, header, body, fault, room_of, stop_of, reading_on, with_word, meaning_after, meaning_of, start, last_word, after_header_word, body_after}
+use Rattle.dump_pieces.specs.Text.{Stands, word_at, after, HasFault, behind_a_word, in_a_word, EndsWithFault, in_the_last_word, cut_short, EndsAs}
 use Rattle.dump_pieces.specs.declared.fault.DumpFault.{DumpFault}
 use Rattle.dump_pieces.specs.declared.fault.DumpFault.TheVariants.{At}
 use Rattle.dump_pieces.specs.declared.fault.DumpKind.TheVariants.{Truncated, HeaderTooLong}
@@ -25,7 +25,7 @@ words_from-space at (byte ∷ text) space white = ap (λ (words : List Word). co
 joined-next : (at byte : ℕ) (bytes : List ℕ) (words : List Word) → joined at byte (record { at = at + 1; bytes = bytes } ∷ words) ≡ record { at = at; bytes = byte ∷ bytes } ∷ words
 joined-next at byte bytes words = let same : eqb (at + 1) (at + 1) ≡ true = grind (arith, nat_tests) in rw same refl
 
-black-first : (byte : ℕ) (word : List ℕ) → IsBlack (byte ∷ word) → (is_white_space byte ≡ false) × IsBlack word
+pub black-first : (byte : ℕ) (word : List ℕ) → IsBlack (byte ∷ word) → (is_white_space byte ≡ false) × IsBlack word
 black-first byte word black = elim (cases_Bool (is_white_space byte)) [
   | inl white ↦ absurd (let no : false ≡ true = rw white at black in cc)
   | inr other ↦ (other, rw other at black)
@@ -63,7 +63,7 @@ words_from-word before at (byte ∷ front) word whole black =
           ∙ ap (λ (k : ℕ). joined at byte (words_from (at + 1) front) ++ word_at k word) same)
     ]
 
-meaning-append : (means : Meaning) (words others : List Word) → meaning_after means (words ++ others) ≡ meaning_after (meaning_after means words) others
+pub meaning-append : (means : Meaning) (words others : List Word) → meaning_after means (words ++ others) ≡ meaning_after (meaning_after means words) others
 meaning-append means [] others = refl
 meaning-append means (word ∷ words) others = meaning-append (with_word means word) words others
 
@@ -79,14 +79,19 @@ meaning_at_end text word means s =
 longer : (text : List ℕ) (byte : ℕ) → length (text ++ byte ∷ []) ≡ length text + 1
 longer text byte = length-append text (byte ∷ [])
 
+-- behind white space the text is whole words, whose meaning is known
+pub meaning_behind : (text word : List ℕ) (means next : Meaning) (space : ℕ) → Stands text means word → is_white_space space ≡ true → after means (length text) word ≡ next → IsWhole (text ++ space ∷ []) × (meaning_of (words_of (text ++ space ∷ [])) ≡ next)
+meaning_behind text word means next space s white e =
+    (ends-push true text space ∙ white, ap (λ (words : List Word). meaning_of words) (words_from-space 0 text space white) ∙ meaning_at_end text word means s ∙ e)
+
 -- behind white space the text is whole words
 pub stands_behind : (text word : List ℕ) (means next : Meaning) (space : ℕ) → Stands text means word → is_white_space space ≡ true → after means (length text) word ≡ next → length text + 1 ≤ room_of next → Stands (text ++ space ∷ []) next []
 stands_behind text word means next space s white e room = record {
   front = text ++ space ∷ [];
   split = sym (append-nil (text ++ space ∷ []));
-  whole = ends-push true text space ∙ white;
+  whole = (meaning_behind text word means next space s white e).0;
   black = refl;
-  meaning = ap (λ (words : List Word). meaning_of words) (words_from-space 0 text space white) ∙ meaning_at_end text word means s ∙ e;
+  meaning = (meaning_behind text word means next space s white e).1;
   within = omega (arith, longer text space, room);
 }
 
@@ -113,30 +118,41 @@ fault_stays text more f (in_a_word before word rest means byte s black room) = s
 
 -- ---- the header
 
-after_header : (reading : HeaderReading) (end : ℕ) (word : List ℕ) → after (header reading) end word ≡ after_header_word (last_word reading end word)
-after_header reading end [] = refl
-after_header reading end (byte ∷ word) = refl
+-- a word for which there is room
+pub with_room : (means : Meaning) (word : Word) → word.at + length word.bytes ≤ room_of means → with_word means word ≡ reading_on means word
+with_room means word room = let fits : nat_lt (room_of means) (word.at + length word.bytes) ≡ false = grind (arith, nat_tests) in rw fits refl
+
+-- there is room for the last word of a text
+pub has_room : (text word : List ℕ) (means : Meaning) → Stands text means word → length text - length word + length word ≤ room_of means
+has_room text word means s =
+    let long : length text ≡ length s.front + length word = ap length s.split ∙ length-append s.front word in
+    let within = s.within in
+    omega (arith, long, within)
+
+after_header : (text word : List ℕ) (reading : HeaderReading) → Stands text (header reading) word → after (header reading) (length text) word ≡ after_header_word (last_word reading (length text) word)
+after_header text [] reading s = refl
+after_header text (byte ∷ word) reading s = with_room (header reading) (record { at = length text - length (byte ∷ word); bytes = byte ∷ word }) (has_room text (byte ∷ word) (header reading) s)
 
 pub header_goes_on : (text word : List ℕ) (reading next : HeaderReading) (space : ℕ) → Stands text (header reading) word → is_white_space space ≡ true → last_word reading (length text) word ≡ Ok (false, next) → length text + 1 ≤ 67108864 → Stands (text ++ space ∷ []) (header next) []
-header_goes_on text word reading next space s white e room = stands_behind text word (header reading) (header next) space s white (after_header reading (length text) word ∙ ap after_header_word e) room
+header_goes_on text word reading next space s white e room = stands_behind text word (header reading) (header next) space s white (after_header text word reading s ∙ ap after_header_word e) room
 
 pub header_is_done : (text word : List ℕ) (reading next : HeaderReading) (space : ℕ) → Stands text (header reading) word → is_white_space space ≡ true → last_word reading (length text) word ≡ Ok (true, next) → Stands (text ++ space ∷ []) (body (body_after next.declared)) []
-header_is_done text word reading next space s white e = let within = s.within in stands_behind text word (header reading) (body (body_after next.declared)) space s white (after_header reading (length text) word ∙ ap after_header_word e) (omega (arith, within))
+header_is_done text word reading next space s white e = let within = s.within in stands_behind text word (header reading) (body (body_after next.declared)) space s white (after_header text word reading s ∙ ap after_header_word e) (omega (arith, within))
 
 pub header_fault : (text word : List ℕ) (reading : HeaderReading) (f : DumpFault) (space : ℕ) → Stands text (header reading) word → is_white_space space ≡ true → last_word reading (length text) word ≡ Err f → HasFault (text ++ space ∷ []) f
-header_fault text word reading f space s white e = behind_a_word text word [] (header reading) (fault f) space s white (after_header reading (length text) word ∙ ap after_header_word e) (omega arith)
+header_fault text word reading f space s white e = behind_a_word text word [] (header reading) (fault f) space s white (after_header text word reading s ∙ ap after_header_word e) (omega arith)
 
 pub header_too_long : (text word : List ℕ) (reading next : HeaderReading) (space : ℕ) → Stands text (header reading) word → is_white_space space ≡ true → last_word reading (length text) word ≡ Ok (false, next) → 67108864 ≤ length text → HasFault (text ++ space ∷ []) (At HeaderTooLong 67108864)
-header_too_long text word reading next space s white e room = behind_a_word text word [] (header reading) (header next) space s white (after_header reading (length text) word ∙ ap after_header_word e) room
+header_too_long text word reading next space s white e room = behind_a_word text word [] (header reading) (header next) space s white (after_header text word reading s ∙ ap after_header_word e) room
 
 pub header_word_too_long : (text word : List ℕ) (reading : HeaderReading) (byte : ℕ) → Stands text (header reading) word → is_white_space byte ≡ false → 67108864 ≤ length text → HasFault (text ++ byte ∷ []) (At HeaderTooLong 67108864)
 header_word_too_long text word reading byte s black room = in_a_word text word [] (header reading) byte s black room
 
 pub header_ends : (text word : List ℕ) (reading next : HeaderReading) → Stands text (header reading) word → last_word reading (length text) word ≡ Ok (true, next) → EndsAs text (body_after next.declared)
-header_ends text word reading next s e = record { word = word; means = header reading; stands = s; whole = refl; meaning = after_header reading (length text) word ∙ ap after_header_word e; closed = refl }
+header_ends text word reading next s e = record { word = word; means = header reading; stands = s; whole = refl; meaning = after_header text word reading s ∙ ap after_header_word e; closed = refl }
 
 pub header_ends_with_fault : (text word : List ℕ) (reading : HeaderReading) (f : DumpFault) → Stands text (header reading) word → last_word reading (length text) word ≡ Err f → EndsWithFault text f
-header_ends_with_fault text word reading f s e = in_the_last_word text word (header reading) f s refl (after_header reading (length text) word ∙ ap after_header_word e)
+header_ends_with_fault text word reading f s e = in_the_last_word text word (header reading) f s refl (after_header text word reading s ∙ ap after_header_word e)
 
 pub header_cut_short : (text word : List ℕ) (reading next : HeaderReading) → Stands text (header reading) word → last_word reading (length text) word ≡ Ok (false, next) → EndsWithFault text (At Truncated (length text))
-header_cut_short text word reading next s e = cut_short text word (header reading) s (rw (after_header reading (length text) word ∙ ap after_header_word e) refl)
+header_cut_short text word reading next s e = cut_short text word (header reading) s (rw (after_header text word reading s ∙ ap after_header_word e) refl)

@@ -15,3 +15,4 @@ pub mod Standing
 pub mod Entries
 pub mod BodyStanding
 pub mod Pieces
+pub mod Example

@@ -1,5 +1,5 @@
 -- The words of a dump in order: what those so far mean.
-use Rattle.std.specs.Prelude.{ℕ, ◌-◌, nat_lt, Bool, true, false, bytes_eq, if◌then◌else◌, List, [], ◌∷◌, ◌++◌, length, Option, Some, None, Ok, Err}
+use Rattle.std.specs.Prelude.{ℕ, ◌+◌, ◌-◌, nat_lt, Bool, true, false, bytes_eq, if◌then◌else◌, List, [], ◌∷◌, ◌++◌, length, Option, Some, None, Ok, Err}
 use Rattle.std.specs.Option.{option_to_list}
 use Rattle.dump_pieces.specs.Words.{Word}
 use Rattle.dump_pieces.specs.Codes.{Code}
@@ -9,6 +9,8 @@ use Rattle.dump_pieces.specs.Answer.{Answer, unless}
 use Rattle.dump_pieces.specs.declared.vars.Var.{Var}
 use Rattle.dump_pieces.specs.declared.entry.Entry.{Entry}
 use Rattle.dump_pieces.specs.declared.fault.DumpFault.{DumpFault}
+use Rattle.dump_pieces.specs.declared.fault.DumpFault.TheVariants.{At}
+use Rattle.dump_pieces.specs.declared.fault.DumpKind.TheVariants.{HeaderTooLong, DumpTooLong}
 use Rattle.dump_pieces.specs.declared.keyword.Keyword.{Keyword}
 use Rattle.dump_pieces.specs.declared.keyword.Keyword.TheVariants.{EndDefinitions}
 
@@ -82,11 +84,27 @@ abbrev pub after_body_word : Body → Answer Said → Meaning
 after_body_word b (Ok (says, reading)) = body (record b { items = b.items ++ option_to_list says; reading = reading })
 after_body_word b (Err f) = fault f
 
+-- how many bytes a text can have while its words mean this; a fault leaves no room
+abbrev pub room_of : Meaning → ℕ
+room_of (header reading) = 67108864
+room_of (body b) = 1099511627776
+room_of (fault f) = 0
+
+-- the fault that stands where there is no more room
+abbrev pub stop_of : Meaning → DumpFault
+stop_of (header reading) = At HeaderTooLong 67108864
+stop_of (body b) = At DumpTooLong 1099511627776
+stop_of (fault f) = f
+
+-- one word more, for which there is room
+abbrev pub reading_on : Meaning → Word → Meaning
+reading_on (header reading) word = after_header_word (header_word reading word)
+reading_on (body b) word = after_body_word b (next_word b.codes b.reading word)
+reading_on (fault f) word = fault f
+
 -- one word more
 abbrev pub with_word : Meaning → Word → Meaning
-with_word (header reading) word = after_header_word (header_word reading word)
-with_word (body b) word = after_body_word b (next_word b.codes b.reading word)
-with_word (fault f) word = fault f
+with_word means word = if nat_lt (room_of means) (word.at + length word.bytes) then fault (stop_of means) else reading_on means word
 
 -- words behind what has a meaning
 abbrev pub meaning_after : Meaning → List Word → Meaning

@@ -3,22 +3,10 @@ use Rattle.std.specs.Prelude.{◌≡◌, ◌≤◌, ℕ, ◌-◌, Bool, true, fa
 use Rattle.dump_pieces.specs.Words.{Word, words_of, is_white_space, IsWhole, IsBlack}
 use Rattle.dump_pieces.specs.Values.{is_digit}
 use Rattle.dump_pieces.specs.Body.{has_begun, is_marker}
-use Rattle.dump_pieces.specs.Reading.{Body, Meaning, header, body, fault, meaning_after, meaning_of}
+use Rattle.dump_pieces.specs.Reading.{Body, Meaning, header, body, fault, room_of, stop_of, meaning_after, meaning_of}
 use Rattle.dump_pieces.specs.declared.fault.DumpFault.{DumpFault}
 use Rattle.dump_pieces.specs.declared.fault.DumpFault.TheVariants.{At}
-use Rattle.dump_pieces.specs.declared.fault.DumpKind.TheVariants.{Truncated, HeaderTooLong, DumpTooLong}
-
--- how many bytes a text can have while its words mean this; a fault leaves no room
-abbrev pub room_of : Meaning → ℕ
-room_of (header reading) = 67108864
-room_of (body b) = 1099511627776
-room_of (fault f) = 0
-
--- the fault that stands where there is no more room
-abbrev pub stop_of : Meaning → DumpFault
-stop_of (header reading) = At HeaderTooLong 67108864
-stop_of (body b) = At DumpTooLong 1099511627776
-stop_of (fault f) = f
+use Rattle.dump_pieces.specs.declared.fault.DumpKind.TheVariants.{Truncated}
 
 -- The text is whole words that mean this, and then the bytes of a word that may go on, and there was room for it.
 pub record Stands (text : List ℕ) (means : Meaning) (word : List ℕ) : Type 0 where

@@ -17,6 +17,7 @@ mod header;
 mod header_reader;
 mod item;
 mod keyword;
+mod laws;
 mod letters;
 mod masks;
 mod progress;
@@ -32,6 +33,7 @@ pub use body::Body;
 pub use fault::{DumpFault, DumpKind};
 pub use header::Header;
 pub use item::{Fed, Item, Step};
+pub use laws::{example_dump, one_reading};
 pub use vars::{Var, Vars};
 
 #[cfg(test)]
