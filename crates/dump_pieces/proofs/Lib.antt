@@ -10,3 +10,4 @@ pub mod HeaderStanding
 pub mod BodyStanding
 pub mod Splitting
 pub mod FaultLaws
+pub mod FaultNames

@@ -16,3 +16,4 @@ pub mod Entries
 pub mod BodyStanding
 pub mod Pieces
 pub mod Example
+pub mod Named
