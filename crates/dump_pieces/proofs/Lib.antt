@@ -11,3 +11,4 @@ pub mod BodyStanding
 pub mod Splitting
 pub mod FaultLaws
 pub mod FaultNames
+pub mod RisingTimes

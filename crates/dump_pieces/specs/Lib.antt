@@ -17,3 +17,4 @@ pub mod BodyStanding
 pub mod Pieces
 pub mod Example
 pub mod Named
+pub mod Times

@@ -1,9 +1,10 @@
 //! What holds of all texts, in whatever pieces they come.
 
-ghost use Rattle.std.specs.Prelude.{◌≡◌, ℕ, List};
+ghost use Rattle.std.specs.Prelude.{◌≡◌, ℕ, List, None};
 ghost use Rattle.dump_pieces.specs.Reading.{Meaning, Body};
 ghost use Rattle.dump_pieces.specs.Text.{Stands, HasFault, EndsAs, EndsWithFault};
 ghost use Rattle.dump_pieces.specs.declared.fault.DumpFault.{DumpFault};
+ghost use Rattle.dump_pieces.specs.Times.{Rises};
 ghost use Rattle.dump_pieces.specs.Named.{IsNamed};
 ghost use Rattle.dump_pieces.specs.Example.{example_text, example_body};
 
@@ -17,6 +18,11 @@ pub fn one_reading()
     ensures named { (text : List ℕ) (f : DumpFault) → HasFault text f → IsNamed f }
     ensures named_at_end { (text : List ℕ) (f : DumpFault) → EndsWithFault text f → IsNamed f }
     ensures no_fault_at_end { (text : List ℕ) (b : Body) (f : DumpFault) → EndsAs text b → EndsWithFault text f → ⊥ }
+{}
+
+/// The times of a dump rise.
+pub fn rising_times()
+    ensures { (text : List ℕ) (b : Body) → EndsAs text b → Rises None b.items }
 {}
 
 /// The dump of an example is the one that is expected.
