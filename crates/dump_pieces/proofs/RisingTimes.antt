@@ -1,6 +1,6 @@
 -- The times that a text says rise.
 use Rattle.std.proofs.Common.{◌≡◌, ℕ, ◌+◌, ◌-◌, ◌<◌, Bool, true, false, cond, eqb, List, [], ◌∷◌, ◌++◌, length, Option, Some, None, Ok, Err, refl, sym, ap, subst, ◌∙◌, inl, inr, arith}
-use Rattle.std.specs.Prelude.{bytes_eq, codes, not, ◌||◌, nat_lt}
+use Rattle.std.specs.Prelude.{bytes_eq, codes, not, ◌||◌, ◌^◌, nat_lt, nat_le}
 use Rattle.std.specs.Option.{option_to_list}
 use Rattle.std.proofs.lemmas.Bool.{cases_Bool, eqb-true}
 use Rattle.std.proofs.lemmas.Bool.Decides.{nat_tests}
@@ -11,7 +11,7 @@ use Rattle.dump_pieces.specs.Words.{Word, words_of}
 use Rattle.dump_pieces.specs.Values.{is_digit}
 use Rattle.dump_pieces.specs.Codes.{Code, code_of}
 use Rattle.dump_pieces.specs.Answer.{Answer, fault_if, unless}
-use Rattle.dump_pieces.specs.Header.{END}
+use Rattle.dump_pieces.specs.Header.{END, is_decimal}
 use Rattle.dump_pieces.specs.Body.{BodyReading, Begun, nothing, digits, passed, comment, Said, said, begins, is_back, new_time, time_fault, value_of, change_of, change, saying, scalar, time_word, digits_word, are_digits, is_group_word, is_passed_letter, dollar_word, first_word, behind_letter, word_after, next_word}
 use Rattle.dump_pieces.specs.Reading.{HeaderReading, header_word, Body, Meaning, header, body, fault, after_header_word, after_body_word, room_of, stop_of, reading_on, with_word, meaning_after, meaning_of, start}
 use Rattle.dump_pieces.specs.Text.{Stands, word_at, after, EndsAs}
@@ -20,7 +20,7 @@ use Rattle.dump_pieces.specs.declared.entry.Entry.{Entry}
 use Rattle.dump_pieces.specs.declared.entry.Entry.TheVariants.{Time, Value}
 use Rattle.dump_pieces.specs.declared.fault.DumpFault.{DumpFault}
 use Rattle.dump_pieces.specs.declared.fault.DumpFault.TheVariants.{At}
-use Rattle.dump_pieces.specs.declared.fault.DumpKind.TheVariants.{BadChange, Gap}
+use Rattle.dump_pieces.specs.declared.fault.DumpKind.TheVariants.{BadChange, TimeTooLarge, TimeBack, Gap}
 
 -- the last time behind entries
 abbrev pub latest : Option ℕ → List Entry → Option ℕ
@@ -103,7 +103,7 @@ unless_timely last t None h = answers (said (new_time last t) (Some t)) (time_sa
 unless_timely last t (Some f) h = fails f
 
 time_timely : (word : List ℕ) (at : ℕ) (last : Option ℕ) → AnswersTimely last (time_word word at last)
-time_timely word at last = unless_timely last (decimal_value word) (time_fault last word at) (λ e. last_test _ _ (is_back last (decimal_value word)) _ _ _ e)
+time_timely word at last = unless_timely last (decimal_value word) (time_fault last word at) (λ e. last_test (not (is_decimal word)) (nat_le (2 ^ 63) (decimal_value word)) (is_back last (decimal_value word)) (At BadChange at) (At TimeTooLarge at) (At TimeBack at) e)
 
 -- ---- words
 
