@@ -1,0 +1,14 @@
+pub mod CodeLemmas
+pub mod DecimalTests
+pub mod Paths
+pub mod MaskLemmas
+pub mod DigitLemmas
+pub mod TimeLemmas
+pub mod WordTests
+pub mod TextLemmas
+pub mod HeaderStanding
+pub mod BodyStanding
+pub mod Splitting
+pub mod FaultLaws
+pub mod FaultNames
+pub mod RisingTimes

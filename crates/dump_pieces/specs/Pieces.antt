@@ -1,0 +1,65 @@
+-- What the calls of the reader leave, in whatever pieces a dump comes.
+use Rattle.std.specs.Prelude.{◌≡◌, ◌<◌, ◌≤◌, ℕ, Bool, true, false, List, [], ◌++◌, length, take, None, Some}
+use Rattle.dump_pieces.specs.Reading.{Body}
+use Rattle.dump_pieces.specs.Progress.{is_going}
+use Rattle.dump_pieces.specs.Standing.{HeaderStands}
+use Rattle.dump_pieces.specs.BodyStanding.{BodyStands, BodyEnded, StepsOn}
+pub use Rattle.dump_pieces.specs.BodyStanding.{IsFaultAt}
+use Rattle.dump_pieces.specs.declared.fault.DumpFault.{DumpFault}
+use Rattle.dump_pieces.specs.declared.vars.Var.{Var}
+use Rattle.dump_pieces.specs.declared.item.Item.{Item}
+use Rattle.dump_pieces.specs.declared.item.Fed.{Fed}
+use Rattle.dump_pieces.specs.declared.item.Fed.TheVariants as fed_row
+use Rattle.dump_pieces.specs.declared.header.Header.{Header}
+use Rattle.dump_pieces.specs.declared.body.Body.{Body as BodyRow}
+
+-- this text was read, and the header goes on
+pub record HasRead (h : Header) (text : List ℕ) : Type 0 where
+  pub sound : h.fault ≡ None
+  pub goes_on : is_going h.reader.progress ≡ true
+  pub stands : HeaderStands h.reader text
+
+-- this text was read, and the header is done
+pub record IsRead (h : Header) (text : List ℕ) : Type 0 where
+  pub sound : h.fault ≡ None
+  pub done : is_going h.reader.progress ≡ false
+  pub stands : HeaderStands h.reader text
+
+-- this fault was answered
+abbrev pub HasFailed : Header → DumpFault → Type 0
+HasFailed h fault = h.fault ≡ Some fault
+
+-- what the next piece came to: it is not empty, and is used up, or the header is done behind so many of its bytes
+abbrev pub Feeds : Fed → Header → List ℕ → List ℕ → Type 0
+Feeds fed_row.More h text piece = (0 < length piece) × HasRead h (text ++ piece)
+Feeds (fed_row.Done used) h text piece = (used ≤ length piece) × IsRead h (text ++ take used piece)
+
+-- this text was read, its words mean this body, and the body goes on
+pub record BodyHasRead (body : BodyRow) (text : List ℕ) (b : Body) : Type 0 where
+  pub sound : body.fault ≡ None
+  pub stands : BodyStands body.reader text b
+
+-- this text was the whole input, and it is the dump of this body
+pub record BodyHasEnded (body : BodyRow) (text : List ℕ) (b : Body) : Type 0 where
+  pub sound : body.fault ≡ None
+  pub ended : BodyEnded body.reader text b
+
+abbrev pub BodyHasFailed : BodyRow → DumpFault → Type 0
+BodyHasFailed body fault = body.fault ≡ Some fault
+
+-- the body goes on or not
+abbrev pub BodyIs : Bool → BodyRow → List ℕ → Body → Type 0
+BodyIs false body text b = BodyHasRead body text b
+BodyIs true body text b = BodyHasEnded body text b
+
+-- the variables of the text, and a body that has said nothing
+pub record Splits (vars : List Var) (body : BodyRow) (text : List ℕ) : Type 0 where
+  pub b : Body
+  pub vars_are : vars ≡ b.vars
+  pub none : b.items ≡ []
+  pub stands : BodyIs body.reader.is_at_end body text b
+
+-- what the next piece came to
+pub record StepsTo (says : Item) (used : ℕ) (body : BodyRow) (text piece : List ℕ) (b : Body) : Type 0 where
+  pub sound : body.fault ≡ None
+  pub steps : StepsOn says used body.reader text piece b

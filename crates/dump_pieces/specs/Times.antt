@@ -1,0 +1,15 @@
+-- The times of a dump rise.
+use Rattle.std.specs.Prelude.{◌<◌, ℕ, List, [], ◌∷◌, Option, None, Some}
+use Rattle.dump_pieces.specs.declared.entry.Entry.{Entry}
+use Rattle.dump_pieces.specs.declared.entry.Entry.TheVariants.{Time, Value}
+
+-- the time is greater than the last one, if there was one
+abbrev pub IsLater : Option ℕ → ℕ → Type 0
+IsLater None time = Unit {0}
+IsLater (Some last) time = last < time
+
+-- from the last time on, if there was one, each time is greater than the one before
+abbrev pub Rises : Option ℕ → List Entry → Type 0
+Rises last [] = Unit {0}
+Rises last (Time time ∷ entries) = IsLater last time × Rises (Some time) entries
+Rises last (Value code value ∷ entries) = Rises last entries

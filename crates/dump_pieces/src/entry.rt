@@ -1,0 +1,24 @@
+ghost use Rattle.std.specs.Prelude.{◌≡◌};
+ghost use Rattle.dump_pieces.specs.Entries.{item_of};
+
+use crate::Item;
+use four_state::Four;
+
+/// What a body says: a new time, or a change.
+#[derive(Clone, Copy)]
+pub(crate) enum Entry {
+    Time(u64),
+    Value { code: u32, value: Four },
+}
+
+impl Entry {
+    /// What a step of the body says.
+    pub(crate) fn item(self) -> Item
+        ensures { result ≡ item_of self }
+    {
+        match self {
+            Entry::Time(time) => Item::Time(time),
+            Entry::Value { code, value } => Item::Value { code, value },
+        }
+    }
+}

@@ -1,0 +1,31 @@
+use four_state::Four;
+
+/// What a piece of the header came to.
+#[derive(Clone, Copy, Debug, PartialEq, Eq)]
+pub enum Fed {
+    /// The piece is used up.
+    More,
+    /// The header ends behind so many bytes of the piece.
+    Done { used: usize },
+}
+
+/// What the body says next.
+#[derive(Clone, Copy, Debug, PartialEq, Eq)]
+pub enum Item {
+    /// A time that is greater than the one before, in the dump's units.
+    Time(u64),
+    /// A change of a code to a value of the code's size. Changes before the first time belong to it, and of several
+    /// changes of one code between two times the last holds.
+    Value { code: u32, value: Four },
+    /// The piece is used up.
+    More,
+    /// The dump is at its end.
+    End,
+}
+
+/// What the body says next, and how many bytes of the piece were used for it.
+#[derive(Clone, Copy, Debug, PartialEq, Eq)]
+pub struct Step {
+    pub item: Item,
+    pub used: usize,
+}
