@@ -1,0 +1,5 @@
+pub mod ScopeLemmas
+pub mod ContextLemmas
+pub mod PartLemmas
+pub mod Texts
+pub mod Examples

@@ -1,0 +1,5 @@
+pub mod Scope
+pub mod NamesView
+pub mod Meaning
+pub mod Faults
+pub mod Loops

@@ -1,0 +1,59 @@
+ghost use Rattle.std.specs.Prelude.{◌≡◌, None, Some, OnOk, OnErr, IfSome};
+ghost use Rattle.std.specs.Option.{option_copied};
+ghost use Rattle.elab_const.specs.Scope.{IsEntry, look_up, with_entry};
+
+use crate::Entry;
+use cov_host::NoMemory;
+use indexmap::IndexMap;
+use std::alloc::Global;
+use std::marker::Model;
+
+/// What each name stands for.
+#[derive(Drop)]
+pub struct Scope {
+    alloc: Global,
+    entries: IndexMap<Vec<u8>, Entry>,
+}
+
+impl Model for Scope {
+    ghost use Rattle.std.specs.Prelude.{ℕ, List, map};
+    ghost use Rattle.std.specs.Prelude.{All};
+    ghost use Rattle.elab_const.specs.Scope.{Entry, IsEntry};
+
+    ghost Value = { List (List ℕ × Entry) };
+
+    ghost view = { λ s. map (λ bound. (bound.0.items, bound.1)) s.entries.entries };
+
+    ghost invariant = { λ s. All (λ bound. IsEntry bound.1) s.entries.entries };
+}
+
+impl Scope {
+    /// No names yet. It takes no memory.
+    pub fn new(alloc: Global) -> Scope
+        ensures { look_up result ≡ (λ name. None) }
+    {
+        Scope {
+            alloc,
+            entries: IndexMap::new(alloc),
+        }
+    }
+
+    /// Lets a name stand for an entry, in the place of what it stood for. After a refusal nothing has changed.
+    pub fn insert(&mut self, name: &str, entry: Entry) -> Result<(), NoMemory>
+        requires { IsEntry entry }
+        ensures ok { OnOk result (look_up self.new ≡ with_entry name.now entry (look_up self.old)) }
+        ensures err { OnErr result (self.new ≡ self.old) }
+    {
+        let key = Vec::from_slice(self.alloc, name.as_bytes())?;
+        let _ = self.entries.insert(key, entry)?;
+        Ok(())
+    }
+
+    /// What a name stands for.
+    pub(crate) fn get(&self, name: &[u8]) -> Option<&Entry>
+        ensures value { option_copied result ≡ look_up self.now name.now }
+        ensures within { IfSome result (λ entry. IsEntry entry.now) }
+    {
+        self.entries.get(name)
+    }
+}
