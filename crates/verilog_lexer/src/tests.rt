@@ -143,7 +143,7 @@ const CASES: [Case; 59] = [
 ];
 
 #[rattlefmt::skip]
-const REFUSALS: [Refusal; 41] = [
+const REFUSALS: [Refusal; 60] = [
     // a byte of no token
     Refusal { source: "a\n  \x7f", kind: LexKind::BadByte, line: 2, column: 3, detail: "" },
     // a backslash begins no token
@@ -226,6 +226,44 @@ const REFUSALS: [Refusal; 41] = [
     Refusal { source: "`define A `B\n`define B `A\nmodule m(input [`A:0] a);\nendmodule\n", kind: LexKind::MacroDepth, line: 3, column: 17, detail: "" },
     // an include that is not there
     Refusal { source: "\n`include \"x.vh\"", kind: LexKind::IncludeMissing, line: 2, column: 1, detail: "x.vh" },
+    // example case attribute-without-end
+    Refusal { source: "module m(input a);\nendmodule\n(* never ends\n", kind: LexKind::OpenComment, line: 3, column: 1, detail: "" },
+    // example case backslash-outside-strings
+    Refusal { source: "module m(input a);\n  \\\nendmodule\n", kind: LexKind::BadByte, line: 2, column: 3, detail: "" },
+    // example case byte-of-no-token
+    Refusal { source: "module m(input a);\n  \u{7f}\nendmodule\n", kind: LexKind::BadByte, line: 2, column: 3, detail: "" },
+    // example case comment-without-end
+    Refusal { source: "module m(input a);\nendmodule\n/* never ends\n", kind: LexKind::OpenComment, line: 3, column: 1, detail: "" },
+    // example case define-with-arguments
+    Refusal { source: "module m(input a);\n  `define F(x) x\nendmodule\n", kind: LexKind::UnknownDirective, line: 2, column: 3, detail: "" },
+    // example case endif-without-condition
+    Refusal { source: "module m(input a);\n  `endif\nendmodule\n", kind: LexKind::OpenCondition, line: 2, column: 3, detail: "" },
+    // example case escaped-identifier
+    Refusal { source: "module m(input \\a ); endmodule", kind: LexKind::BadByte, line: 1, column: 16, detail: "" },
+    // example case fault-in-source-of-folder
+    Refusal { source: "\\\n", kind: LexKind::BadByte, line: 1, column: 1, detail: "" },
+    // example case lexing-before-parsing
+    Refusal { source: "module m(input a) endmodule\n\\\n", kind: LexKind::BadByte, line: 2, column: 1, detail: "" },
+    // example case literal-decimal-of-128-bits-too-large
+    Refusal { source: "module m(input a, output [7:0] y); assign y = 128'd340282366920938463463374607431768211456; endmodule", kind: LexKind::BadNumber, line: 1, column: 47, detail: "" },
+    // example case literal-of-size-129
+    Refusal { source: "module m(input a, output [7:0] y); assign y = 129'b1; endmodule", kind: LexKind::BadNumber, line: 1, column: 47, detail: "" },
+    // example case literal-of-size-zero
+    Refusal { source: "module m(input a, output [7:0] y); assign y = 0'b1; endmodule", kind: LexKind::BadNumber, line: 1, column: 47, detail: "" },
+    // example case literal-plain-decimal-too-large
+    Refusal { source: "module m(input a, output [7:0] y); assign y = 4294967296; endmodule", kind: LexKind::BadNumber, line: 1, column: 47, detail: "" },
+    // example case literal-unsized-decimal-too-large
+    Refusal { source: "module m(input a, output [7:0] y); assign y = 'd4294967296; endmodule", kind: LexKind::BadNumber, line: 1, column: 47, detail: "" },
+    // example case literal-without-digits
+    Refusal { source: "module m(input a, output [7:0] y); assign y = 4'b; endmodule", kind: LexKind::BadNumber, line: 1, column: 47, detail: "" },
+    // example case literal-without-size-and-digits
+    Refusal { source: "module m(input a, output [7:0] y); assign y = 'h; endmodule", kind: LexKind::BadNumber, line: 1, column: 47, detail: "" },
+    // example case macro-that-names-itself
+    Refusal { source: "`define LOOP `LOOP\nmodule m(input [`LOOP:0] a);\nendmodule\n", kind: LexKind::MacroDepth, line: 2, column: 17, detail: "" },
+    // example case string-over-line-end
+    Refusal { source: "module m(input a);\n  initial $display(\"open\n\");\nendmodule\n", kind: LexKind::BadByte, line: 2, column: 20, detail: "" },
+    // example case unknown-macro-within-macro
+    Refusal { source: "`define OUTER `INNER\nmodule m(input [`OUTER:0] a);\nendmodule\n", kind: LexKind::UnknownMacro, line: 2, column: 17, detail: "INNER" },
 ];
 
 /// Sources with one root.
