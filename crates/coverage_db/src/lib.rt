@@ -6,6 +6,8 @@ mod bare_line;
 mod db;
 mod difference;
 mod draft;
+#[cfg(test)]
+mod example_cases;
 mod fault;
 mod fields;
 mod head;

@@ -1,6 +1,7 @@
 ghost use Rattle.std.specs.Prelude.{IfSome};
 ghost use Rattle.coverage_db.specs.Table.{IsTable};
 
+use crate::example_cases::{MERGES, NO_DATABASES, OTHER_DESIGNS as EXAMPLE_DESIGNS};
 use crate::{Db, DbFault, DbKind, MergeFault, merge, read_db, write_db};
 use cov_host::{NoMemory, Text};
 use std::alloc::Global;
@@ -191,7 +192,37 @@ fn tables_are_merged_in_any_order(rt: HostRuntime) {
 #[test]
 fn other_designs_are_refused(rt: HostRuntime) {
     for (text, line, left, right) in OTHER_DESIGNS {
-        assert!(rt; is_refused(rt.alloc(), text, line, left, right));
+        assert!(rt; is_refused(rt.alloc(), DESIGN, text, line, left, right));
+    }
+}
+
+#[test]
+fn example_cases_have_their_faults(rt: HostRuntime) {
+    for case in &NO_DATABASES {
+        assert!(rt; has_fault(read_db(rt.alloc(), case.text), case.kind, case.line));
+    }
+}
+
+#[test]
+fn example_cases_of_other_designs_are_refused(rt: HostRuntime) {
+    for case in &EXAMPLE_DESIGNS {
+        assert!(rt;
+            is_refused(
+                rt.alloc(),
+                case.left,
+                case.right,
+                case.line,
+                case.first,
+                case.second
+            )
+        );
+    }
+}
+
+#[test]
+fn example_cases_are_merged(rt: HostRuntime) {
+    for case in &MERGES {
+        assert!(rt; is_text(merged_all(rt.alloc(), case.inputs), case.text));
     }
 }
 
@@ -245,6 +276,16 @@ fn merged(alloc: Global, left: &[u8], right: &[u8]) -> Option<Text> {
     }
 }
 
+/// The merge of texts one after the other.
+fn merged_all(alloc: Global, texts: &[&[u8]]) -> Option<Text> {
+    let (first, others) = texts.split_first()?;
+    let mut text = written(alloc, first)?;
+    for other in others {
+        text = merged(alloc, text.as_slice(), other)?;
+    }
+    Some(text)
+}
+
 fn is_text(text: Option<Text>, expected: &[u8]) -> bool {
     match text {
         Some(text) => text.as_slice() == expected,
@@ -265,9 +306,16 @@ fn has_fault(read: Result<Db, DbFault>, kind: DbKind, line: u32) -> bool {
     }
 }
 
-/// Whether the merge of the first design with the text is refused at the line, with these two lines.
-fn is_refused(alloc: Global, text: &[u8], number: u32, first: &[u8], second: &[u8]) -> bool {
-    let (Some(design), Some(other)) = (table(alloc, DESIGN), table(alloc, text)) else {
+/// Whether the merge of two texts is refused at the line, with these two lines.
+fn is_refused(
+    alloc: Global,
+    design: &[u8],
+    text: &[u8],
+    number: u32,
+    first: &[u8],
+    second: &[u8],
+) -> bool {
+    let (Some(design), Some(other)) = (table(alloc, design), table(alloc, text)) else {
         return false;
     };
     match merge(alloc, design, &other) {
