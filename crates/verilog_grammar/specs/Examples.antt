@@ -1,6 +1,6 @@
 -- Texts of the language with what they say. In a text of an example spaces stand between the tokens, and the column of a
 -- token is its number.
-use Rattle.std.specs.Prelude.{◌≡◌, ℕ, suc, ◌==◌, if◌then◌else◌, List, [], ◌∷◌, ◌++◌, codes, Result, Ok, Err}
+use Rattle.std.specs.Prelude.{◌≡◌, ℕ, suc, ◌==◌, if◌then◌else◌, List, [], ◌∷◌, ◌++◌, codes, None, Some, Result, Ok, Err}
 use Rattle.std.specs.Char.{is_ascii_digit}
 use Rattle.cov_host.specs.Identifier.{is_reserved, begins_name}
 use Rattle.cov_host.specs.declared.place.Place.{Place}
@@ -8,7 +8,8 @@ use Rattle.four_state.specs.declared.operator.Binary.TheVariants.{Subtract, Mult
 use Rattle.verilog_lexer.specs.Tokens.{Lexeme}
 use Rattle.verilog_lexer.specs.declared.token.TokenKind.{TokenKind}
 use Rattle.verilog_lexer.specs.declared.token.TokenKind.TheVariants as lexical
-use Rattle.verilog_tree.specs.Tree.{Expr, identifier, bit_select, binary_operator, conditional, if_statement, null_statement, a_statement, no_statements, Item, continuous_item, initial_item, Module}
+use Rattle.verilog_tree.specs.declared.item.Named.{Named}
+use Rattle.verilog_tree.specs.Tree.{Expr, identifier, bit_select, binary_operator, conditional, if_statement, null_statement, a_statement, no_statements, Item, continuous_item, initial_item, instance_item, Module}
 use Rattle.grammar_rules.specs.Rule.{Wrong, unexpected, too_deep, Fault}
 use Rattle.grammar_rules.specs.Grammar.{whole}
 use Rattle.verilog_grammar.specs.Language.{verilog}
@@ -50,6 +51,9 @@ module_with items = record { name = record { name = codes "m"; place = at 2 }; p
 abbrev pub name_at : ℕ → List ℕ → Expr
 name_at n text = identifier (at n) text
 
+abbrev pub name_of : ℕ → List ℕ → Named
+name_of n text = record { name = text; place = at n }
+
 -- the assignment of an expression to y, as the first item
 abbrev pub assigned : Expr → List Module
 assigned e = module_with (record { place = at 4; form = continuous_item (name_at 5 (codes "y")) e } ∷ [])
@@ -66,6 +70,9 @@ pub record ReadsTexts : Type 0 where
   -- an else belongs to the nearest if
   pub nearest : said 256 (codes "module m ; initial if ( a ) if ( b ) ; else ; endmodule") ≡
       Ok (module_with (record { place = at 4; form = initial_item (if_statement (at 5) (name_at 7 (codes "a")) (if_statement (at 9) (name_at 11 (codes "b")) (null_statement (at 13)) (a_statement (null_statement (at 15)) no_statements)) no_statements) } ∷ []))
+  -- nothing between the parentheses is no connection
+  pub no_connection : said 256 (codes "module m ; n u ( ) ; endmodule") ≡ Ok (module_with (record { place = at 4; form = instance_item (record { of_module = name_of 4 (codes "n"); overrides = []; ones = record { name = name_of 5 (codes "u"); given = [] } ∷ [] }) } ∷ []))
+  pub two_connections : said 256 (codes "module m ; n u ( , a ) ; endmodule") ≡ Ok (module_with (record { place = at 4; form = instance_item (record { of_module = name_of 4 (codes "n"); overrides = []; ones = record { name = name_of 5 (codes "u"); given = record { name = None; value = None } ∷ record { name = None; value = Some (name_at 8 (codes "a")) } ∷ [] } ∷ [] }) } ∷ []))
   -- no token goes on with these
   pub no_semicolon : said 256 (codes "module m ( input a ) endmodule") ≡ wrong unexpected 1
   pub delay : said 256 (codes "module m ; initial # 5 ; endmodule") ≡ wrong unexpected 4

@@ -42,6 +42,20 @@ tighter level.BitwiseOr = level.BitwiseXor
 tighter level.LogicalAnd = level.BitwiseOr
 tighter level.LogicalOr = level.LogicalAnd
 
+-- the level of which a level is the operands'
+abbrev pub looser : Level → Level
+looser level.Unary = level.Product
+looser level.Product = level.Sum
+looser level.Sum = level.Shift
+looser level.Shift = level.Relation
+looser level.Relation = level.Equality
+looser level.Equality = level.BitwiseAnd
+looser level.BitwiseAnd = level.BitwiseXor
+looser level.BitwiseXor = level.BitwiseOr
+looser level.BitwiseOr = level.LogicalAnd
+looser level.LogicalAnd = level.LogicalOr
+looser level.LogicalOr = level.LogicalOr
+
 -- how many levels are tighter
 abbrev pub rank : Level → ℕ
 rank level.Unary = 0

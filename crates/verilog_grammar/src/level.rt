@@ -18,11 +18,11 @@ pub enum Level {
 }
 
 impl Level {
-    ghost use Rattle.verilog_grammar.specs.Language.{tighter, rank};
+    ghost use Rattle.verilog_grammar.specs.Language.{tighter, looser};
 
     /// The level of the operands, its own for the tightest.
     pub fn tighter(self) -> Level
-        ensures level { result ≡ tighter self }
+        ensures { result ≡ tighter self }
     {
         match self {
             Level::Unary | Level::Product => Level::Unary,
@@ -35,6 +35,24 @@ impl Level {
             Level::BitwiseOr => Level::BitwiseXor,
             Level::LogicalAnd => Level::BitwiseOr,
             Level::LogicalOr => Level::LogicalAnd,
+        }
+    }
+
+    /// The next looser level, its own for the loosest.
+    pub fn looser(self) -> Level
+        ensures { result ≡ looser self }
+    {
+        match self {
+            Level::Unary => Level::Product,
+            Level::Product => Level::Sum,
+            Level::Sum => Level::Shift,
+            Level::Shift => Level::Relation,
+            Level::Relation => Level::Equality,
+            Level::Equality => Level::BitwiseAnd,
+            Level::BitwiseAnd => Level::BitwiseXor,
+            Level::BitwiseXor => Level::BitwiseOr,
+            Level::BitwiseOr => Level::LogicalAnd,
+            Level::LogicalAnd | Level::LogicalOr => Level::LogicalOr,
         }
     }
 }

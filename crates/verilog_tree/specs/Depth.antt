@@ -8,6 +8,10 @@ pub use Rattle.verilog_tree.specs.declared.depth.Depth.{Depth}
 abbrev pub alone : Place → Depth
 alone place = record { height = 1; place = place }
 
+-- no part
+abbrev pub none : Place → Depth
+none place = record { height = 0; place = place }
+
 -- the deeper of two parts that stand one behind the other, the first where they are equally deep
 abbrev pub deeper : Depth → Depth → Depth
 deeper a b = if nat_le b.height a.height then a else b
@@ -27,11 +31,12 @@ abbrev mutual
   depth (unary_operator p op a) = under (depth a)
   depth (binary_operator p op a b) = under (deeper (depth a) (depth b))
   depth (conditional p c a b) = under (deeper (deeper (depth c) (depth a)) (depth b))
-  depth (concatenation p es) = under (deepest_of p es)
-  depth (replication p n es) = under (deeper (depth n) (deepest_of p es))
+  depth (concatenation p es) = under (deepest_of (none p) es)
+  depth (replication p n es) = under (deepest_of (depth n) es)
   depth (sign_cast p s a) = under (depth a)
   depth (parentheses p a) = under (depth a)
 
-  pub deepest_of : Place → Exprs → Depth
-  deepest_of p no_exprs = record { height = 0; place = p }
-  deepest_of p (an_expr e es) = deeper (depth e) (deepest_of p es)
+  -- the deepest of one that stands before and of all of these
+  pub deepest_of : Depth → Exprs → Depth
+  deepest_of d no_exprs = d
+  deepest_of d (an_expr e es) = deepest_of (deeper d (depth e)) es

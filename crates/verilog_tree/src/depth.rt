@@ -1,13 +1,13 @@
-ghost use Rattle.std.specs.Prelude.{◌≡◌, ◌-◌, ◌<◌, ◌^◌};
-ghost use Rattle.verilog_tree.specs.Depth.{alone, deeper, under};
+ghost use Rattle.std.specs.Prelude.{◌≡◌, IfOk};
+ghost use Rattle.verilog_tree.specs.Depth.{alone, none, deeper, under};
 
-use cov_host::Place;
+use cov_host::{NoMemory, Place};
 
 /// How deep an expression nests: that of a number or a name is 1, and that of any other is one more than the greatest
 /// of the expressions directly in it. The place is where the first of the innermost ones begins.
 #[derive(Clone, Copy, Debug, PartialEq, Eq)]
 pub struct Depth {
-    pub height: u32,
+    pub height: u64,
     pub place: Place,
 }
 
@@ -17,6 +17,13 @@ impl Depth {
         ensures { result ≡ alone place }
     {
         Depth { height: 1, place }
+    }
+
+    /// Of no expression.
+    pub fn none(place: Place) -> Depth
+        ensures { result ≡ none place }
+    {
+        Depth { height: 0, place }
     }
 
     /// The greater of two expressions, of which `other` stands behind, and the first where they are equal.
@@ -30,14 +37,16 @@ impl Depth {
         }
     }
 
-    /// Of an expression of which this is the deepest part.
-    pub fn under(self) -> Depth
-        requires { self.height < 2 ^ 32 - 1 }
-        ensures { result ≡ under self }
+    /// Of an expression of which this is the deepest part. A depth of 2^64 has no memory.
+    pub fn under(self) -> Result<Depth, NoMemory>
+        ensures { IfOk result (λ d. d ≡ under self) }
     {
-        Depth {
+        if self.height == u64::MAX {
+            return Err(NoMemory);
+        }
+        Ok(Depth {
             height: self.height + 1,
             place: self.place,
-        }
+        })
     }
 }

@@ -2,6 +2,7 @@
 //! first tokens.
 #![tactic(auto)]
 
+mod copy;
 mod depth;
 mod expr;
 mod item;
