@@ -17,3 +17,4 @@ pub mod Answers
 pub mod Loops
 pub mod Exact
 pub mod Example
+pub mod Holds

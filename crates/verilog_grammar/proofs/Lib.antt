@@ -1,1 +1,2 @@
 pub mod Verilog
+pub mod Low

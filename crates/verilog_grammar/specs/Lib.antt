@@ -7,3 +7,4 @@ pub mod Statements
 pub mod Modules
 pub mod Verilog
 pub mod Examples
+pub mod Height

@@ -1,8 +1,12 @@
 //! The grammar of the language as a value of rules, and its laws.
 #![tactic(auto)]
 
+ghost use Rattle.std.specs.Prelude.{ℕ, ◌≤◌, List};
+ghost use Rattle.verilog_lexer.specs.Tokens.{Lexeme};
 ghost use Rattle.grammar_rules.specs.Laws.{IsExact};
-ghost use Rattle.verilog_grammar.specs.Language.{verilog};
+ghost use Rattle.grammar_rules.specs.Grammar.{Nests};
+ghost use Rattle.verilog_grammar.specs.Language.{verilog, Phrase, Value};
+ghost use Rattle.verilog_grammar.specs.Height.{height};
 ghost use Rattle.verilog_grammar.specs.Verilog.{grammar};
 ghost use Rattle.verilog_grammar.specs.Examples.{ReadsTexts};
 
@@ -15,9 +19,13 @@ pub use kind::{KEYWORDS, Kind, OPERATORS, SYSTEM_NAMES};
 pub use level::Level;
 
 /// Tokens spell at most one list of modules, reading from left to right finds it, and each fault stands at the first
-/// token with which nothing goes on, or where the tokens end.
-#[tactic(auto, using(crate::proofs::Verilog::verilog_exact, crate::proofs::Verilog::reads_texts))]
+/// token with which nothing goes on, or where the tokens end. What is spelled within a depth is no higher.
+#[tactic(auto, using(crate::proofs::Verilog::verilog_exact, crate::proofs::Verilog::reads_texts, crate::proofs::Low::phrase_low))]
 pub fn grammar_is_exact()
     ensures laws { IsExact verilog grammar }
     ensures texts { ReadsTexts }
+    ensures low { (d : ℕ) (p : Phrase) (v : Value p) (i o : List Lexeme) → Nests verilog grammar d p v i o → height p v ≤ d }
 {}
+
+#[cfg(test)]
+mod tests;

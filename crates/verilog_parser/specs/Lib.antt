@@ -1,3 +1,5 @@
 pub mod Cursor
 pub mod Measured
+pub mod LeftOut
 pub mod Gives
+pub mod Answer

@@ -128,6 +128,7 @@ impl<'t, 'a> Cursor<'t, 'a> {
     }
 
     /// Takes a token of this kind.
+    #[tactic(auto, using(crate::proofs::Cursor::take_matched, crate::proofs::Cursor::take_missed))]
     pub(crate) fn take(&mut self, kind: Kind) -> Result<Token<'a>, ReadFault>
         ensures { Gives lexeme (take_one verilog (code kind ∷ []) self.old) result self.new }
     {
