@@ -42,7 +42,7 @@ tighter level.BitwiseOr = level.BitwiseXor
 tighter level.LogicalAnd = level.BitwiseOr
 tighter level.LogicalOr = level.LogicalAnd
 
--- the level of which a level is the operands'
+-- the level whose operands have a level
 abbrev pub looser : Level → Level
 looser level.Unary = level.Product
 looser level.Product = level.Sum
