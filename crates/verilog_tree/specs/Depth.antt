@@ -1,5 +1,5 @@
 -- How deep expressions nest, and where the first of their innermost parts begins.
-use Rattle.std.specs.Prelude.{ℕ, suc, nat_le, if◌then◌else◌}
+use Rattle.std.specs.Prelude.{suc, nat_le, if◌then◌else◌}
 use Rattle.cov_host.specs.declared.place.Place.{Place}
 use Rattle.verilog_tree.specs.Tree.{Expr, literal, identifier, bit_select, part_select, indexed_part, unary_operator, binary_operator, conditional, concatenation, replication, sign_cast, parentheses, Exprs, no_exprs, an_expr}
 pub use Rattle.verilog_tree.specs.declared.depth.Depth.{Depth}

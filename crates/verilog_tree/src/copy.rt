@@ -73,9 +73,7 @@ pub(crate) fn copied(alloc: Global, expr: &Expr) -> Result<Expr, NoMemory>
             bracket: *bracket,
         },
         ExprForm::Unary(op, a) => ExprForm::Unary(*op, boxed(alloc, a)?),
-        ExprForm::Binary(op, a, b) => {
-            ExprForm::Binary(*op, boxed(alloc, a)?, boxed(alloc, b)?)
-        }
+        ExprForm::Binary(op, a, b) => { ExprForm::Binary(*op, boxed(alloc, a)?, boxed(alloc, b)?) }
         ExprForm::Choice { test, yes, no } => ExprForm::Choice {
             test: boxed(alloc, test)?,
             yes: boxed(alloc, yes)?,
