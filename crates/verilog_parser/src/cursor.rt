@@ -5,8 +5,6 @@ ghost use Rattle.verilog_lexer.specs.TokenView.{lexeme, lexemes};
 ghost use Rattle.grammar_rules.specs.Rule.{next, take_one, deep};
 ghost use Rattle.verilog_grammar.specs.Language.{verilog};
 ghost use Rattle.verilog_grammar.specs.Kind.{code, next_kind};
-ghost use Rattle.verilog_parser.specs.Gives.{Gives, Fails};
-ghost use Rattle.verilog_parser.specs.Cursor.{take_next, place_here};
 ghost use Rattle.verilog_parser.specs.declared.fault.ReadFault.TheVariants as read_fault;
 ghost use Rattle.verilog_parser.specs.declared.fault.Wrong.TheVariants as wrong;
 
@@ -75,7 +73,7 @@ impl<'t, 'a> Cursor<'t, 'a> {
     }
 
     /// Whether a token of this kind is next.
-    #[tactic(auto, using(crate::proofs::Cursor::next_is_code))]
+    #[tactic(auto, using(crate::proofs::Taking::next_is_code))]
     pub(crate) fn sees(&self, kind: Kind) -> bool
         ensures { result ≡ (next verilog self.now == code kind) }
     {
@@ -103,9 +101,7 @@ impl<'t, 'a> Cursor<'t, 'a> {
     }
 
     /// The part that begins with the next token nests too deep.
-    pub(crate) fn deep(&self) -> ReadFault
-        ensures { Fails result (deep verilog {A = Unit {0}} self.now) }
-    {
+    pub(crate) fn deep(&self) -> ReadFault {
         match self.tokens.get(self.at) {
             None => self.refuse(),
             Some(token) => self.too_deep(token.place),
@@ -113,9 +109,7 @@ impl<'t, 'a> Cursor<'t, 'a> {
     }
 
     /// Takes the next token, of whatever kind.
-    pub(crate) fn take_next(&mut self) -> Result<Token<'a>, ReadFault>
-        ensures { Gives lexeme (take_next self.old) result self.new }
-    {
+    pub(crate) fn take_next(&mut self) -> Result<Token<'a>, ReadFault> {
         match self.tokens.get(self.at) {
             None => Err(self.refuse()),
             Some(token) => {
@@ -128,10 +122,7 @@ impl<'t, 'a> Cursor<'t, 'a> {
     }
 
     /// Takes a token of this kind.
-    #[tactic(auto, using(crate::proofs::Cursor::take_matched, crate::proofs::Cursor::take_missed))]
-    pub(crate) fn take(&mut self, kind: Kind) -> Result<Token<'a>, ReadFault>
-        ensures { Gives lexeme (take_one verilog (code kind ∷ []) self.old) result self.new }
-    {
+    pub(crate) fn take(&mut self, kind: Kind) -> Result<Token<'a>, ReadFault> {
         if !self.sees(kind) {
             return Err(self.refuse());
         }

@@ -33,7 +33,10 @@ fn names_behind(
 ) -> Result<Vec<Named>, ReadFault> {
     let mut all = Vec::new(alloc);
     all.push(first)?;
-    'more: while cursor.sees(Kind::Comma) {
+    for _ in 0..cursor.left() {
+        if !cursor.sees(Kind::Comma) {
+            break;
+        }
         cursor.take(Kind::Comma)?;
         let next = name(alloc, cursor)?;
         all.push(next)?;
@@ -100,11 +103,7 @@ pub(crate) struct Shape {
     range: Option<Range>,
 }
 
-fn shape(
-    alloc: Global,
-    cursor: &mut Cursor<'_, '_>,
-    depth: u32,
-) -> Result<Shape, ReadFault> {
+fn read_shape(alloc: Global, cursor: &mut Cursor<'_, '_>, depth: u32) -> Result<Shape, ReadFault> {
     let signed = present(cursor, Kind::Signed)?;
     let range = optional_range(alloc, cursor, depth)?;
     Ok(Shape { signed, range })
@@ -148,7 +147,7 @@ pub(crate) fn port(
     depth: u32,
 ) -> Result<PortHead, ReadFault> {
     let (place, input, reg) = direction(cursor)?;
-    let Shape { signed, range } = shape(alloc, cursor, depth)?;
+    let Shape { signed, range } = read_shape(alloc, cursor, depth)?;
     let name = name(alloc, cursor)?;
     Ok(PortHead {
         place,
@@ -196,7 +195,10 @@ pub(crate) fn port_item(
 ) -> Result<Item, ReadFault> {
     let head = port(alloc, cursor, depth)?;
     let mut others = Vec::new(alloc);
-    'more: while cursor.sees(Kind::Comma) {
+    for _ in 0..cursor.left() {
+        if !cursor.sees(Kind::Comma) {
+            break;
+        }
         cursor.take(Kind::Comma)?;
         let next = name(alloc, cursor)?;
         others.push(next)?;
@@ -225,7 +227,10 @@ fn nets(
     let mut all = Vec::new(alloc);
     let first = net(alloc, cursor, depth)?;
     all.push(first)?;
-    'more: while cursor.sees(Kind::Comma) {
+    for _ in 0..cursor.left() {
+        if !cursor.sees(Kind::Comma) {
+            break;
+        }
         cursor.take(Kind::Comma)?;
         let next = net(alloc, cursor, depth)?;
         all.push(next)?;
@@ -240,7 +245,7 @@ pub(crate) fn net_item(
     depth: u32,
 ) -> Result<Item, ReadFault> {
     let word = cursor.take(Kind::Wire)?;
-    let Shape { signed, range } = shape(alloc, cursor, depth)?;
+    let Shape { signed, range } = read_shape(alloc, cursor, depth)?;
     let names = nets(alloc, cursor, depth)?;
     Ok(Item {
         place: word.place,
@@ -266,11 +271,7 @@ pub(crate) fn integer_item(
 }
 
 /// A variable with its initial value, or a memory.
-fn variable(
-    alloc: Global,
-    cursor: &mut Cursor<'_, '_>,
-    depth: u32,
-) -> Result<Declared, ReadFault> {
+fn variable(alloc: Global, cursor: &mut Cursor<'_, '_>, depth: u32) -> Result<Declared, ReadFault> {
     let name = name(alloc, cursor)?;
     let value = optional_value(alloc, cursor, depth)?;
     let words = if value.is_none() {
@@ -287,11 +288,14 @@ pub(crate) fn variable_item(
     depth: u32,
 ) -> Result<Item, ReadFault> {
     let word = cursor.take(Kind::Reg)?;
-    let Shape { signed, range } = shape(alloc, cursor, depth)?;
+    let Shape { signed, range } = read_shape(alloc, cursor, depth)?;
     let mut all = Vec::new(alloc);
     let first = variable(alloc, cursor, depth)?;
     all.push(first)?;
-    'more: while cursor.sees(Kind::Comma) {
+    for _ in 0..cursor.left() {
+        if !cursor.sees(Kind::Comma) {
+            break;
+        }
         cursor.take(Kind::Comma)?;
         let next = variable(alloc, cursor, depth)?;
         all.push(next)?;
@@ -391,7 +395,10 @@ pub(crate) fn parameter_item(
     let mut all = Vec::new(alloc);
     let (name, value) = valued(alloc, cursor, depth)?;
     all.push(kind.param(alloc, local, name, value)?)?;
-    'more: while cursor.sees(Kind::Comma) {
+    for _ in 0..cursor.left() {
+        if !cursor.sees(Kind::Comma) {
+            break;
+        }
         cursor.take(Kind::Comma)?;
         let (name, value) = valued(alloc, cursor, depth)?;
         all.push(kind.param(alloc, local, name, value)?)?;

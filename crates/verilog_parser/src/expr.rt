@@ -1,17 +1,5 @@
 //! Expressions.
 
-ghost use Rattle.std.specs.Prelude.{◌≡◌, ◌==◌, ◌++◌, [], ◌∷◌};
-ghost use Rattle.verilog_lexer.specs.TokenView.{lexeme};
-ghost use Rattle.grammar_rules.specs.Rule.{next, member, first};
-ghost use Rattle.grammar_rules.specs.Grammar.{phrase, reads};
-ghost use Rattle.verilog_tree.specs.Tree.{place_of};
-ghost use Rattle.verilog_tree.specs.Depth.{Depth};
-ghost use Rattle.verilog_grammar.specs.Language.{verilog, expression as an_expression, operand as an_operand};
-ghost use Rattle.verilog_grammar.specs.Verilog.{grammar, begins};
-ghost use Rattle.verilog_grammar.specs.Parts.{after, before};
-ghost use Rattle.verilog_grammar.specs.Expressions.{expr_rule, level_rule, operation_rule, operators, unary_rule, unary_operators, prim_rule, paren_rule, braced_rule, cast_rule, exprs_rule};
-ghost use Rattle.verilog_parser.specs.Gives.{Gives};
-
 use crate::cursor::Cursor;
 use crate::fault::ReadFault;
 use crate::literal::number;
@@ -25,9 +13,7 @@ use verilog_grammar::{Kind, Level};
 use verilog_tree::Depth;
 
 /// Whether the next token begins an expression.
-pub(crate) fn begins_expression(cursor: &Cursor<'_, '_>) -> bool
-    ensures { result ≡ member (next verilog cursor.now) (begins an_expression) }
-{
+pub(crate) fn begins_expression(cursor: &Cursor<'_, '_>) -> bool {
     sees_operator(cursor, Level::Unary)
         || cursor.sees(Kind::Decimal)
         || cursor.sees(Kind::Based)
@@ -53,9 +39,7 @@ pub(crate) fn expression(
     alloc: Global,
     cursor: &mut Cursor<'_, '_>,
     depth: u32,
-) -> Result<Measured, ReadFault>
-    ensures { Gives (λ e. e) (phrase verilog grammar depth an_expression cursor.old) result cursor.new }
-{
+) -> Result<Measured, ReadFault> {
     if depth == 0 {
         return Err(too_deep(cursor));
     }
@@ -69,9 +53,7 @@ fn operand(
     cursor: &mut Cursor<'_, '_>,
     depth: u32,
     level: Level,
-) -> Result<Measured, ReadFault>
-    ensures { Gives (λ e. e) (phrase verilog grammar depth (an_operand level) cursor.old) result cursor.new }
-{
+) -> Result<Measured, ReadFault> {
     if depth == 0 {
         return Err(too_deep(cursor));
     }
@@ -80,13 +62,7 @@ fn operand(
 
 /// `test ? yes : no`, or what binds tighter.
 #[cycle(expr)]
-fn choice(
-    alloc: Global,
-    cursor: &mut Cursor<'_, '_>,
-    depth: u32,
-) -> Result<Measured, ReadFault>
-    ensures { Gives (λ e. e) (reads verilog grammar depth expr_rule cursor.old) result cursor.new }
-{
+fn choice(alloc: Global, cursor: &mut Cursor<'_, '_>, depth: u32) -> Result<Measured, ReadFault> {
     let test = operations(alloc, cursor, depth, Level::LogicalOr)?;
     if !cursor.sees(Kind::Question) {
         return Ok(test);
@@ -109,9 +85,7 @@ fn operations(
     cursor: &mut Cursor<'_, '_>,
     depth: u32,
     level: Level,
-) -> Result<Measured, ReadFault>
-    ensures { Gives (λ e. e) (reads verilog grammar depth (level_rule level) cursor.old) result cursor.new }
-{
+) -> Result<Measured, ReadFault> {
     let mut left = unary(alloc, cursor, depth)?;
     let mut at = Level::Unary;
     'levels: while at != level {
@@ -131,7 +105,10 @@ fn grown(
     left: Measured,
 ) -> Result<Measured, ReadFault> {
     let mut left = left;
-    'more: while sees_operator(cursor, level) {
+    for _ in 0..cursor.left() {
+        if !sees_operator(cursor, level) {
+            break;
+        }
         let deepest = left.depth();
         if deepest.height > depth as u64 {
             return Err(cursor.too_deep(deepest.place));
@@ -158,13 +135,7 @@ fn operation(
 
 /// An operand, with any number of operators before it.
 #[cycle(expr)]
-fn unary(
-    alloc: Global,
-    cursor: &mut Cursor<'_, '_>,
-    depth: u32,
-) -> Result<Measured, ReadFault>
-    ensures { Gives (λ e. e) (reads verilog grammar depth unary_rule cursor.old) result cursor.new }
-{
+fn unary(alloc: Global, cursor: &mut Cursor<'_, '_>, depth: u32) -> Result<Measured, ReadFault> {
     if !sees_operator(cursor, Level::Unary) {
         return prim(alloc, cursor, depth);
     }
@@ -176,13 +147,7 @@ fn unary(
 
 /// What binds tightest.
 #[cycle(expr)]
-fn prim(
-    alloc: Global,
-    cursor: &mut Cursor<'_, '_>,
-    depth: u32,
-) -> Result<Measured, ReadFault>
-    ensures { Gives (λ e. e) (reads verilog grammar depth prim_rule cursor.old) result cursor.new }
-{
+fn prim(alloc: Global, cursor: &mut Cursor<'_, '_>, depth: u32) -> Result<Measured, ReadFault> {
     if cursor.sees(Kind::Decimal) || cursor.sees(Kind::Based) {
         number(cursor)
     } else if cursor.sees(Kind::Identifier) {
@@ -198,13 +163,7 @@ fn prim(
 
 /// An expression in parentheses.
 #[cycle(expr)]
-fn paren(
-    alloc: Global,
-    cursor: &mut Cursor<'_, '_>,
-    depth: u32,
-) -> Result<Measured, ReadFault>
-    ensures { Gives (λ e. e) (reads verilog grammar depth paren_rule cursor.old) result cursor.new }
-{
+fn paren(alloc: Global, cursor: &mut Cursor<'_, '_>, depth: u32) -> Result<Measured, ReadFault> {
     let open = cursor.take(Kind::OpenParen)?;
     let inner = expression(alloc, cursor, depth)?;
     cursor.take(Kind::CloseParen)?;
@@ -213,13 +172,7 @@ fn paren(
 
 /// A concatenation, or one that is repeated.
 #[cycle(expr)]
-fn braced(
-    alloc: Global,
-    cursor: &mut Cursor<'_, '_>,
-    depth: u32,
-) -> Result<Measured, ReadFault>
-    ensures { Gives (λ e. e) (reads verilog grammar depth braced_rule cursor.old) result cursor.new }
-{
+fn braced(alloc: Global, cursor: &mut Cursor<'_, '_>, depth: u32) -> Result<Measured, ReadFault> {
     let open = cursor.take(Kind::OpenBrace)?;
     let head = expression(alloc, cursor, depth)?;
     if cursor.sees(Kind::OpenBrace) {
@@ -256,7 +209,10 @@ fn concatenated(
 ) -> Result<Measured, ReadFault> {
     let mut parts = MeasuredList::new(alloc, Depth::none(place));
     parts.push(first)?;
-    'more: while cursor.sees(Kind::Comma) {
+    for _ in 0..cursor.left() {
+        if !cursor.sees(Kind::Comma) {
+            break;
+        }
         let part = next_expression(alloc, cursor, depth)?;
         parts.push(part)?;
     }
@@ -266,13 +222,7 @@ fn concatenated(
 
 /// `$signed` or `$unsigned` of an expression.
 #[cycle(expr)]
-fn cast(
-    alloc: Global,
-    cursor: &mut Cursor<'_, '_>,
-    depth: u32,
-) -> Result<Measured, ReadFault>
-    ensures { Gives (λ e. e) (reads verilog grammar depth cast_rule cursor.old) result cursor.new }
-{
+fn cast(alloc: Global, cursor: &mut Cursor<'_, '_>, depth: u32) -> Result<Measured, ReadFault> {
     let signed = cursor.sees(Kind::SignedCast);
     if !signed && !cursor.sees(Kind::UnsignedCast) {
         return Err(cursor.refuse());
@@ -291,13 +241,14 @@ pub(crate) fn expressions(
     cursor: &mut Cursor<'_, '_>,
     depth: u32,
     start: Depth,
-) -> Result<MeasuredList, ReadFault>
-    ensures exprs { Gives (λ es. es.exprs) (reads verilog grammar depth exprs_rule cursor.old) result cursor.new }
-{
+) -> Result<MeasuredList, ReadFault> {
     let mut all = MeasuredList::new(alloc, start);
     let first = expression(alloc, cursor, depth)?;
     all.push(first)?;
-    'more: while cursor.sees(Kind::Comma) {
+    for _ in 0..cursor.left() {
+        if !cursor.sees(Kind::Comma) {
+            break;
+        }
         let next = next_expression(alloc, cursor, depth)?;
         all.push(next)?;
     }

@@ -54,7 +54,10 @@ fn overrides(
     let by_name = cursor.sees(Kind::Dot);
     let first = one_override(alloc, cursor, depth, by_name)?;
     all.push(first)?;
-    'more: while cursor.sees(Kind::Comma) {
+    for _ in 0..cursor.left() {
+        if !cursor.sees(Kind::Comma) {
+            break;
+        }
         cursor.take(Kind::Comma)?;
         let next = one_override(alloc, cursor, depth, by_name)?;
         all.push(next)?;
@@ -141,7 +144,10 @@ fn connections(
         return Ok(all);
     }
     all.push(first)?;
-    'more: while cursor.sees(Kind::Comma) {
+    for _ in 0..cursor.left() {
+        if !cursor.sees(Kind::Comma) {
+            break;
+        }
         cursor.take(Kind::Comma)?;
         let next = connection(alloc, cursor, depth, by_name)?;
         all.push(next)?;
@@ -172,7 +178,10 @@ pub(crate) fn instance_item(
     let mut ones = Vec::new(alloc);
     let first = one(alloc, cursor, depth)?;
     ones.push(first)?;
-    'more: while cursor.sees(Kind::Comma) {
+    for _ in 0..cursor.left() {
+        if !cursor.sees(Kind::Comma) {
+            break;
+        }
         cursor.take(Kind::Comma)?;
         let next = one(alloc, cursor, depth)?;
         ones.push(next)?;

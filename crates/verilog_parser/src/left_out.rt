@@ -1,15 +1,9 @@
 //! The forms that the language leaves out, by the tokens that begin them.
 
-ghost use Rattle.std.specs.Prelude.{◌≡◌};
-ghost use Rattle.std.specs.Option.{option_map};
-ghost use Rattle.verilog_parser.specs.LeftOut.{form_of};
-
 use verilog_grammar::Kind;
 
 /// The form that a token begins with which no rule goes on, if it is in the table.
-pub(crate) fn form_of(kind: Kind) -> Option<&'static str>
-    ensures { option_map (λ text. text.now) result ≡ form_of kind }
-{
+pub(crate) fn form_of(kind: Kind) -> Option<&'static str> {
     match kind {
         Kind::Hash => Some("delay"),
         Kind::At => Some("event-control"),

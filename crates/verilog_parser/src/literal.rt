@@ -1,5 +1,7 @@
 //! The values of number literals.
 
+ghost use Rattle.std.specs.Prelude.{◌≡◌, ◌-◌, ◌^◌, ◌≤◌};
+
 use crate::cursor::Cursor;
 use crate::fault::ReadFault;
 use crate::measured::Measured;
@@ -32,13 +34,13 @@ fn decimal_number(text: &[u8]) -> u128 {
     value
 }
 
-/// The mask of so many low bits, all where there are 128 or more.
-fn low_mask(width: u8) -> u128 {
-    if width >= 128 {
-        u128::MAX
-    } else {
-        (1 << width) - 1
-    }
+/// The mask of so many low bits.
+fn low_mask(width: u8) -> u128
+    requires low { 1 ≤ width }
+    requires high { width ≤ 128 }
+    ensures { result ≡ 2 ^ width - 1 }
+{
+    u128::MAX >> (128 - width)
 }
 
 /// A plain decimal number has 32 bits and a sign.
@@ -47,7 +49,10 @@ fn decimal_value(text: &[u8]) -> Four {
 }
 
 /// The number of bits by the size before a based number, from 1 to 128.
-fn width_of(size: &[u8]) -> u8 {
+fn width_of(size: &[u8]) -> u8
+    ensures low { 1 ≤ result }
+    ensures high { result ≤ 128 }
+{
     let size = decimal_number(size);
     if size == 0 {
         1
@@ -82,7 +87,10 @@ fn is_signed(text: &[u8]) -> bool {
 }
 
 /// A based number of so many bits.
-fn based_value(width: u8, text: &[u8]) -> Four {
+fn based_value(width: u8, text: &[u8]) -> Four
+    requires low { 1 ≤ width }
+    requires high { width ≤ 128 }
+{
     let signed = is_signed(text);
     let letter_at = if signed { 2 } else { 1 };
     let letter = match text.get(letter_at) {
@@ -103,7 +111,12 @@ fn based_value(width: u8, text: &[u8]) -> Four {
 }
 
 /// The value of digits of so many bits each, filled up by x or z where the leftmost one is.
-fn digits_value(width: u8, signed: bool, bits: u8, digits: &[u8]) -> Four {
+fn digits_value(width: u8, signed: bool, bits: u8, digits: &[u8]) -> Four
+    requires low { 1 ≤ width }
+    requires high { width ≤ 128 }
+    requires least { 1 ≤ bits }
+    requires most { bits ≤ 4 }
+{
     let each = low_mask(bits);
     let (mut ones, mut strange): (u128, u128) = (0, 0);
     let mut begun = false;
@@ -123,11 +136,19 @@ fn digits_value(width: u8, signed: bool, bits: u8, digits: &[u8]) -> Four {
         ones = ones << bits | one & each;
         strange = strange << bits | odd;
     }
-    Four::make(width, signed, ones & low_mask(width), strange & low_mask(width))
+    Four::make(
+        width,
+        signed,
+        ones & low_mask(width),
+        strange & low_mask(width),
+    )
 }
 
 /// The value of decimal digits, or of one x or z.
-fn decimal_digits_value(width: u8, signed: bool, digits: &[u8]) -> Four {
+fn decimal_digits_value(width: u8, signed: bool, digits: &[u8]) -> Four
+    requires low { 1 ≤ width }
+    requires high { width ≤ 128 }
+{
     let mut value: u128 = 0;
     for byte in digits {
         match digit_of(*byte) {

@@ -1,17 +1,9 @@
 //! Expressions with their depths.
 
-ghost use Rattle.std.specs.Prelude.{◌≡◌, ◌++◌, ◌∷◌, [], IfOk, OnOk, IfErr};
-ghost use Rattle.verilog_parser.specs.declared.fault.ReadFault.TheVariants.{Memory};
-ghost use Rattle.verilog_tree.specs.Tree as t;
-ghost use Rattle.verilog_tree.specs.Tree.{place_of, exprs_of};
-ghost use Rattle.verilog_tree.specs.Depth.{depth, none, deepest_of};
-ghost use Rattle.verilog_tree.specs.View.{expr_view, exprs_view};
-
 use crate::fault::ReadFault;
 use cov_host::{Name, NoMemory, Place};
 use four_state::{Binary, Four, Unary};
 use std::alloc::Global;
-use std::marker::Model;
 use verilog_tree::{Depth, Expr};
 
 /// An expression and how deep it nests.
@@ -21,39 +13,20 @@ pub(crate) struct Measured {
     depth: Depth,
 }
 
-impl Model for Measured {
-    ghost use Rattle.std.specs.Prelude.{◌≡◌};
-    ghost use Rattle.verilog_tree.specs.Tree.{Expr as TreeExpr};
-    ghost use Rattle.verilog_tree.specs.Depth.{depth};
-    ghost use Rattle.verilog_tree.specs.View.{expr_view};
-
-    ghost Value = { TreeExpr };
-
-    ghost view = { λ m. expr_view m.expr };
-
-    ghost invariant = { λ m. m.depth ≡ depth (expr_view m.expr) };
-}
-
 impl Measured {
     /// The expression without its depth.
-    pub(crate) fn into_expr(self) -> Expr
-        ensures { expr_view result ≡ self }
-    {
+    pub(crate) fn into_expr(self) -> Expr {
         let Measured { expr, depth: _ } = self;
         expr
     }
 
     /// How deep the expression nests.
-    pub(crate) fn depth(&self) -> Depth
-        ensures { result ≡ depth self.now }
-    {
+    pub(crate) fn depth(&self) -> Depth {
         self.depth
     }
 
     /// A number.
-    pub(crate) fn number(place: Place, value: Four) -> Measured
-        ensures { result ≡ t.literal place value }
-    {
+    pub(crate) fn number(place: Place, value: Four) -> Measured {
         Measured {
             expr: Expr::number(place, value),
             depth: Depth::alone(place),
@@ -61,9 +34,7 @@ impl Measured {
     }
 
     /// A name.
-    pub(crate) fn name(place: Place, name: Name) -> Measured
-        ensures { result ≡ t.identifier place name }
-    {
+    pub(crate) fn name(place: Place, name: Name) -> Measured {
         Measured {
             expr: Expr::name(place, name),
             depth: Depth::alone(place),
@@ -71,9 +42,7 @@ impl Measured {
     }
 
     /// `of[index]`.
-    pub(crate) fn bit(alloc: Global, of: Measured, index: Measured) -> Result<Measured, NoMemory>
-        ensures { IfOk result (λ e. e ≡ t.bit_select (place_of of) of index) }
-    {
+    pub(crate) fn bit(alloc: Global, of: Measured, index: Measured) -> Result<Measured, NoMemory> {
         let depth = of.depth().deeper(index.depth()).under()?;
         Ok(Measured {
             expr: Expr::bit(alloc, of.into_expr(), index.into_expr())?,
@@ -88,9 +57,7 @@ impl Measured {
         high: Measured,
         low: Measured,
         bracket: Place,
-    ) -> Result<Measured, NoMemory>
-        ensures { IfOk result (λ e. e ≡ t.part_select (place_of of) of high low bracket) }
-    {
+    ) -> Result<Measured, NoMemory> {
         let depth = of.depth().deeper(high.depth()).deeper(low.depth()).under()?;
         let (of, high, low) = (of.into_expr(), high.into_expr(), low.into_expr());
         Ok(Measured {
@@ -107,10 +74,12 @@ impl Measured {
         width: Measured,
         up: bool,
         bracket: Place,
-    ) -> Result<Measured, NoMemory>
-        ensures { IfOk result (λ e. e ≡ t.indexed_part (place_of of) of base width up bracket) }
-    {
-        let depth = of.depth().deeper(base.depth()).deeper(width.depth()).under()?;
+    ) -> Result<Measured, NoMemory> {
+        let depth = of
+            .depth()
+            .deeper(base.depth())
+            .deeper(width.depth())
+            .under()?;
         let (of, base, width) = (of.into_expr(), base.into_expr(), width.into_expr());
         Ok(Measured {
             expr: Expr::slide(alloc, of, base, width, up, bracket)?,
@@ -124,9 +93,7 @@ impl Measured {
         place: Place,
         op: Unary,
         a: Measured,
-    ) -> Result<Measured, NoMemory>
-        ensures { IfOk result (λ e. e ≡ t.unary_operator place op a) }
-    {
+    ) -> Result<Measured, NoMemory> {
         let depth = a.depth().under()?;
         Ok(Measured {
             expr: Expr::unary(alloc, place, op, a.into_expr())?,
@@ -140,9 +107,7 @@ impl Measured {
         op: Binary,
         a: Measured,
         b: Measured,
-    ) -> Result<Measured, NoMemory>
-        ensures { IfOk result (λ e. e ≡ t.binary_operator (place_of a) op a b) }
-    {
+    ) -> Result<Measured, NoMemory> {
         let depth = a.depth().deeper(b.depth()).under()?;
         Ok(Measured {
             expr: Expr::binary(alloc, op, a.into_expr(), b.into_expr())?,
@@ -156,9 +121,7 @@ impl Measured {
         test: Measured,
         yes: Measured,
         no: Measured,
-    ) -> Result<Measured, NoMemory>
-        ensures { IfOk result (λ e. e ≡ t.conditional (place_of test) test yes no) }
-    {
+    ) -> Result<Measured, NoMemory> {
         let depth = test.depth().deeper(yes.depth()).deeper(no.depth()).under()?;
         let (test, yes, no) = (test.into_expr(), yes.into_expr(), no.into_expr());
         Ok(Measured {
@@ -173,9 +136,7 @@ impl Measured {
         place: Place,
         signed: bool,
         a: Measured,
-    ) -> Result<Measured, NoMemory>
-        ensures { IfOk result (λ e. e ≡ t.sign_cast place signed a) }
-    {
+    ) -> Result<Measured, NoMemory> {
         let depth = a.depth().under()?;
         Ok(Measured {
             expr: Expr::sign(alloc, place, signed, a.into_expr())?,
@@ -184,9 +145,7 @@ impl Measured {
     }
 
     /// `(a)`.
-    pub(crate) fn paren(alloc: Global, place: Place, a: Measured) -> Result<Measured, NoMemory>
-        ensures { IfOk result (λ e. e ≡ t.parentheses place a) }
-    {
+    pub(crate) fn paren(alloc: Global, place: Place, a: Measured) -> Result<Measured, NoMemory> {
         let depth = a.depth().under()?;
         Ok(Measured {
             expr: Expr::paren(alloc, place, a.into_expr())?,
@@ -195,10 +154,7 @@ impl Measured {
     }
 
     /// A concatenation of all these, of which this is the depth.
-    pub(crate) fn concat(place: Place, parts: MeasuredList) -> Result<Measured, NoMemory>
-        requires { parts.start ≡ none place }
-        ensures { IfOk result (λ e. e ≡ t.concatenation place (exprs_of parts.exprs)) }
-    {
+    pub(crate) fn concat(place: Place, parts: MeasuredList) -> Result<Measured, NoMemory> {
         let (exprs, deepest) = parts.into_parts();
         Ok(Measured {
             expr: Expr::concat(place, exprs),
@@ -212,10 +168,7 @@ impl Measured {
         place: Place,
         count: Measured,
         parts: MeasuredList,
-    ) -> Result<Measured, NoMemory>
-        requires { parts.start ≡ depth count }
-        ensures { IfOk result (λ e. e ≡ t.replication place count (exprs_of parts.exprs)) }
-    {
+    ) -> Result<Measured, NoMemory> {
         let (exprs, deepest) = parts.into_parts();
         let depth = deepest.under()?;
         Ok(Measured {
@@ -233,25 +186,9 @@ pub(crate) struct MeasuredList {
     deepest: Depth,
 }
 
-impl Model for MeasuredList {
-    ghost use Rattle.std.specs.Prelude.{◌≡◌};
-    ghost use Rattle.verilog_tree.specs.Tree.{exprs_of};
-    ghost use Rattle.verilog_tree.specs.Depth.{deepest_of};
-    ghost use Rattle.verilog_tree.specs.View.{exprs_view};
-    ghost use Rattle.verilog_parser.specs.Measured.{MeasuredExprs};
-
-    ghost Value = { MeasuredExprs };
-
-    ghost view = { λ m. record { exprs = exprs_view m.exprs.items; start = m.start } };
-
-    ghost invariant = { λ m. m.deepest ≡ deepest_of m.start (exprs_of (exprs_view m.exprs.items)) };
-}
-
 impl MeasuredList {
     /// No expression yet, behind what has this depth.
-    pub(crate) fn new(alloc: Global, start: Depth) -> MeasuredList
-        ensures { result ≡ record { exprs = []; start = start } }
-    {
+    pub(crate) fn new(alloc: Global, start: Depth) -> MeasuredList {
         MeasuredList {
             exprs: Vec::new(alloc),
             start,
@@ -260,10 +197,7 @@ impl MeasuredList {
     }
 
     /// Adds an expression at the end.
-    pub(crate) fn push(&mut self, expr: Measured) -> Result<(), ReadFault>
-        ensures ok { OnOk result (self.new ≡ record { exprs = self.old.exprs ++ expr ∷ []; start = self.old.start }) }
-        ensures fault { IfErr result (λ fault. fault ≡ Memory) }
-    {
+    pub(crate) fn push(&mut self, expr: Measured) -> Result<(), ReadFault> {
         let depth = expr.depth();
         self.exprs.push(expr.into_expr())?;
         self.deepest = self.deepest.deeper(depth);
@@ -271,10 +205,7 @@ impl MeasuredList {
     }
 
     /// The expressions and the depth.
-    fn into_parts(self) -> (Vec<Expr>, Depth)
-        ensures exprs { exprs_view result.0.items ≡ self.exprs }
-        ensures depth { result.1 ≡ deepest_of self.start (exprs_of self.exprs) }
-    {
+    fn into_parts(self) -> (Vec<Expr>, Depth) {
         let MeasuredList {
             exprs,
             start: _,
@@ -284,9 +215,7 @@ impl MeasuredList {
     }
 
     /// The expressions.
-    pub(crate) fn into_exprs(self) -> Vec<Expr>
-        ensures { exprs_view result.items ≡ self.exprs }
-    {
+    pub(crate) fn into_exprs(self) -> Vec<Expr> {
         self.into_parts().0
     }
 }

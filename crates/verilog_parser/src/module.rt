@@ -43,7 +43,10 @@ fn header_params(
     let mut kind = ParamType::plain();
     let first = header_param(alloc, cursor, depth, &mut kind)?;
     all.push(first)?;
-    'more: while cursor.sees(Kind::Comma) {
+    for _ in 0..cursor.left() {
+        if !cursor.sees(Kind::Comma) {
+            break;
+        }
         cursor.take(Kind::Comma)?;
         let next = header_param(alloc, cursor, depth, &mut kind)?;
         all.push(next)?;
@@ -72,7 +75,10 @@ fn declared_ports(
     let mut head = port(alloc, cursor, depth)?;
     ports.names.push(copied(alloc, &head.name)?)?;
     let mut others = Vec::new(alloc);
-    'more: while cursor.sees(Kind::Comma) {
+    for _ in 0..cursor.left() {
+        if !cursor.sees(Kind::Comma) {
+            break;
+        }
         cursor.take(Kind::Comma)?;
         if begins_port(cursor) {
             let next = port(alloc, cursor, depth)?;
@@ -135,11 +141,7 @@ fn begins_item(cursor: &Cursor<'_, '_>) -> bool {
 }
 
 /// An item that is one in the tree too.
-fn single_item(
-    alloc: Global,
-    cursor: &mut Cursor<'_, '_>,
-    depth: u32,
-) -> Result<Item, ReadFault> {
+fn single_item(alloc: Global, cursor: &mut Cursor<'_, '_>, depth: u32) -> Result<Item, ReadFault> {
     if begins_port(cursor) {
         port_item(alloc, cursor, depth)
     } else if cursor.sees(Kind::Wire) {
@@ -178,12 +180,12 @@ fn module(alloc: Global, cursor: &mut Cursor<'_, '_>, depth: u32) -> Result<Modu
     cursor.take(Kind::Module)?;
     let name = name(alloc, cursor)?;
     let params = header_params(alloc, cursor, depth)?;
-    let Ports {
-        names,
-        mut items,
-    } = header_ports(alloc, cursor, depth)?;
+    let Ports { names, mut items } = header_ports(alloc, cursor, depth)?;
     cursor.take(Kind::Semicolon)?;
-    'more: while begins_item(cursor) {
+    for _ in 0..cursor.left() {
+        if !begins_item(cursor) {
+            break;
+        }
         item(alloc, cursor, depth, &mut items)?;
     }
     cursor.take(Kind::Endmodule)?;
@@ -202,7 +204,10 @@ pub(crate) fn modules(
     depth: u32,
 ) -> Result<Vec<Module>, ReadFault> {
     let mut all = Vec::new(alloc);
-    'more: while cursor.sees(Kind::Module) {
+    for _ in 0..cursor.left() {
+        if !cursor.sees(Kind::Module) {
+            break;
+        }
         let next = module(alloc, cursor, depth)?;
         all.push(next)?;
     }

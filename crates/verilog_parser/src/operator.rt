@@ -1,13 +1,7 @@
 //! Operators by the kinds of their tokens.
 
 ghost use Rattle.std.specs.Prelude.{◌≡◌};
-ghost use Rattle.verilog_lexer.specs.TokenView.{lexeme};
-ghost use Rattle.grammar_rules.specs.Rule.{next, member, first};
-ghost use Rattle.grammar_rules.specs.Grammar.{reads};
-ghost use Rattle.verilog_grammar.specs.Language.{verilog};
-ghost use Rattle.verilog_grammar.specs.Verilog.{grammar, begins};
-ghost use Rattle.verilog_grammar.specs.Expressions.{operators, unary_of_kind, binary_of_kind};
-ghost use Rattle.verilog_parser.specs.Gives.{Gives};
+ghost use Rattle.verilog_grammar.specs.Expressions.{unary_of_kind, binary_of_kind};
 
 use crate::cursor::Cursor;
 use crate::fault::ReadFault;
@@ -67,9 +61,7 @@ pub(crate) fn binary_of(kind: Kind) -> Binary
 }
 
 /// Whether an operator of a level is next.
-pub(crate) fn sees_operator(cursor: &Cursor<'_, '_>, level: Level) -> bool
-    ensures { result ≡ member (next verilog cursor.now) (first verilog begins (operators level)) }
-{
+pub(crate) fn sees_operator(cursor: &Cursor<'_, '_>, level: Level) -> bool {
     match level {
         Level::Unary => sees_unary(cursor),
         Level::Product => {
@@ -89,9 +81,7 @@ pub(crate) fn sees_operator(cursor: &Cursor<'_, '_>, level: Level) -> bool
     }
 }
 
-fn sees_unary(cursor: &Cursor<'_, '_>) -> bool
-    ensures { result ≡ member (next verilog cursor.now) (first verilog begins (operators Level.Unary)) }
-{
+fn sees_unary(cursor: &Cursor<'_, '_>) -> bool {
     cursor.sees(Kind::Plus)
         || cursor.sees(Kind::Minus)
         || cursor.sees(Kind::Not)
@@ -105,27 +95,21 @@ fn sees_unary(cursor: &Cursor<'_, '_>) -> bool
         || cursor.sees(Kind::XorTilde)
 }
 
-fn sees_shift(cursor: &Cursor<'_, '_>) -> bool
-    ensures { result ≡ member (next verilog cursor.now) (first verilog begins (operators Level.Shift)) }
-{
+fn sees_shift(cursor: &Cursor<'_, '_>) -> bool {
     cursor.sees(Kind::ShiftLeft)
         || cursor.sees(Kind::ShiftRight)
         || cursor.sees(Kind::ArithmeticShiftLeft)
         || cursor.sees(Kind::ArithmeticShiftRight)
 }
 
-fn sees_relation(cursor: &Cursor<'_, '_>) -> bool
-    ensures { result ≡ member (next verilog cursor.now) (first verilog begins (operators Level.Relation)) }
-{
+fn sees_relation(cursor: &Cursor<'_, '_>) -> bool {
     cursor.sees(Kind::Less)
         || cursor.sees(Kind::LessOrEqual)
         || cursor.sees(Kind::Greater)
         || cursor.sees(Kind::GreaterOrEqual)
 }
 
-fn sees_equality(cursor: &Cursor<'_, '_>) -> bool
-    ensures { result ≡ member (next verilog cursor.now) (first verilog begins (operators Level.Equality)) }
-{
+fn sees_equality(cursor: &Cursor<'_, '_>) -> bool {
     cursor.sees(Kind::EqualEqual)
         || cursor.sees(Kind::NotEqual)
         || cursor.sees(Kind::CaseEqual)

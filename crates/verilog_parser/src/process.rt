@@ -34,7 +34,10 @@ pub(crate) fn continuous_items(
     let word = cursor.take(Kind::Assign)?;
     let first = continuous(alloc, cursor, depth, word.place)?;
     items.push(first)?;
-    'more: while cursor.sees(Kind::Comma) {
+    for _ in 0..cursor.left() {
+        if !cursor.sees(Kind::Comma) {
+            break;
+        }
         cursor.take(Kind::Comma)?;
         let next = continuous(alloc, cursor, depth, word.place)?;
         items.push(next)?;
@@ -49,14 +52,14 @@ fn sees_separator(cursor: &Cursor<'_, '_>) -> bool {
 }
 
 /// Names with `or` or commas between.
-fn separated_names(
-    alloc: Global,
-    cursor: &mut Cursor<'_, '_>,
-) -> Result<Vec<Named>, ReadFault> {
+fn separated_names(alloc: Global, cursor: &mut Cursor<'_, '_>) -> Result<Vec<Named>, ReadFault> {
     let mut all = Vec::new(alloc);
     let first = name(alloc, cursor)?;
     all.push(first)?;
-    'more: while sees_separator(cursor) {
+    for _ in 0..cursor.left() {
+        if !sees_separator(cursor) {
+            break;
+        }
         cursor.take_next()?;
         let next = name(alloc, cursor)?;
         all.push(next)?;
@@ -85,7 +88,10 @@ fn separated_edges(
     let mut all = Vec::new(alloc);
     let first = edge(alloc, cursor)?;
     all.push(first)?;
-    'more: while sees_separator(cursor) {
+    for _ in 0..cursor.left() {
+        if !sees_separator(cursor) {
+            break;
+        }
         cursor.take_next()?;
         let next = edge(alloc, cursor)?;
         all.push(next)?;

@@ -13,8 +13,17 @@ use verilog_tree::Depth;
 #[derive(Drop)]
 pub(crate) enum Select {
     Bit(Measured),
-    Part { high: Measured, low: Measured, bracket: Place },
-    Slide { base: Measured, width: Measured, up: bool, bracket: Place },
+    Part {
+        high: Measured,
+        low: Measured,
+        bracket: Place,
+    },
+    Slide {
+        base: Measured,
+        width: Measured,
+        up: bool,
+        bracket: Place,
+    },
 }
 
 /// A name.
@@ -57,7 +66,7 @@ fn selected(
     if deepest.height > depth as u64 {
         return Err(cursor.too_deep(deepest.place));
     }
-    let select = select(alloc, cursor, depth)?;
+    let select = brackets(alloc, cursor, depth)?;
     with_select(alloc, of, select)
 }
 
@@ -77,11 +86,7 @@ fn with_select(alloc: Global, of: Measured, select: Select) -> Result<Measured, 
 
 /// What stands in brackets, with the brackets.
 #[cycle(expr)]
-fn select(
-    alloc: Global,
-    cursor: &mut Cursor<'_, '_>,
-    depth: u32,
-) -> Result<Select, ReadFault> {
+fn brackets(alloc: Global, cursor: &mut Cursor<'_, '_>, depth: u32) -> Result<Select, ReadFault> {
     let bracket = cursor.take(Kind::OpenBracket)?.place;
     let head = expression(alloc, cursor, depth)?;
     if cursor.sees(Kind::CloseBracket) {
@@ -112,7 +117,7 @@ fn select(
 }
 
 /// The left side of an assignment that is nested no deeper than `depth`.
-#[cycle(expr)]
+#[cycle(left_side)]
 pub(crate) fn target(
     alloc: Global,
     cursor: &mut Cursor<'_, '_>,
@@ -138,7 +143,6 @@ pub(crate) fn begins_target(cursor: &Cursor<'_, '_>) -> bool {
 }
 
 /// A name with at most one select, or with an index and one select.
-#[cycle(expr)]
 fn target_name(
     alloc: Global,
     cursor: &mut Cursor<'_, '_>,
@@ -152,7 +156,7 @@ fn target_name(
     if deepest.height > depth as u64 {
         return Err(cursor.too_deep(deepest.place));
     }
-    let select = select(alloc, cursor, depth)?;
+    let select = brackets(alloc, cursor, depth)?;
     let may_go_on = matches!(&select, Select::Bit(_));
     let part = with_select(alloc, name, select)?;
     if !may_go_on || !cursor.sees(Kind::OpenBracket) {
@@ -162,17 +166,16 @@ fn target_name(
 }
 
 /// Left sides in braces.
-#[cycle(expr)]
-fn targets(
-    alloc: Global,
-    cursor: &mut Cursor<'_, '_>,
-    depth: u32,
-) -> Result<Measured, ReadFault> {
+#[cycle(left_side)]
+fn targets(alloc: Global, cursor: &mut Cursor<'_, '_>, depth: u32) -> Result<Measured, ReadFault> {
     let open = cursor.take(Kind::OpenBrace)?;
     let mut all = MeasuredList::new(alloc, Depth::none(open.place));
     let first = target(alloc, cursor, depth)?;
     all.push(first)?;
-    'more: while cursor.sees(Kind::Comma) {
+    for _ in 0..cursor.left() {
+        if !cursor.sees(Kind::Comma) {
+            break;
+        }
         cursor.take(Kind::Comma)?;
         let next = target(alloc, cursor, depth)?;
         all.push(next)?;

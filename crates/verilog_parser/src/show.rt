@@ -164,7 +164,16 @@ impl Shown {
                 Ok(())
             }
             StatementForm::For(turns) => {
-                self.tagged("for", &[&turns.name, &turns.first, &turns.test, &turns.target, &turns.step])?;
+                self.tagged(
+                    "for",
+                    &[
+                        &turns.name,
+                        &turns.first,
+                        &turns.test,
+                        &turns.target,
+                        &turns.step,
+                    ],
+                )?;
                 self.put(" ")?;
                 self.statement(&turns.body)
             }

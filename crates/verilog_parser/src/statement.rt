@@ -105,7 +105,10 @@ fn statements(
     body: Body,
 ) -> Result<Vec<Statement>, ReadFault> {
     let mut all = Vec::new(alloc);
-    'more: while begins_statement(cursor, body) {
+    for _ in 0..cursor.left() {
+        if !begins_statement(cursor, body) {
+            break;
+        }
         let next = statement(alloc, cursor, depth, body)?;
         all.push(next)?;
     }
@@ -198,7 +201,10 @@ fn label_arms(
     body: Body,
     all: &mut Vec<Arm>,
 ) -> Result<(), ReadFault> {
-    'more: while begins_expression(cursor) {
+    for _ in 0..cursor.left() {
+        if !begins_expression(cursor) {
+            break;
+        }
         let next = label_arm(alloc, cursor, depth, body)?;
         all.push(next)?;
     }
@@ -295,11 +301,7 @@ fn assignment(
 }
 
 /// A system task. Its arguments are read and dropped.
-fn task(
-    alloc: Global,
-    cursor: &mut Cursor<'_, '_>,
-    depth: u32,
-) -> Result<Statement, ReadFault> {
+fn task(alloc: Global, cursor: &mut Cursor<'_, '_>, depth: u32) -> Result<Statement, ReadFault> {
     let word = cursor.take_next()?;
     if cursor.sees(Kind::OpenParen) {
         cursor.take(Kind::OpenParen)?;
@@ -314,7 +316,10 @@ fn task(
 
 fn arguments(alloc: Global, cursor: &mut Cursor<'_, '_>, depth: u32) -> Result<(), ReadFault> {
     argument(alloc, cursor, depth)?;
-    'more: while cursor.sees(Kind::Comma) {
+    for _ in 0..cursor.left() {
+        if !cursor.sees(Kind::Comma) {
+            break;
+        }
         cursor.take(Kind::Comma)?;
         argument(alloc, cursor, depth)?;
     }

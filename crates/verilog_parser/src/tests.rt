@@ -104,7 +104,7 @@ const CASES: [Case; 27] = [
     Case { source: "module m; initial case (a) 1, 2: ; default ; 3: b = 1; endcase endmodule", tree: "m ( )\n@11 initial (case a) [ 32s1 32s2 : ;] [ : ;] [ 32s3 : (= b 32s1)@49]\n" },
     Case { source: "module m; initial casez (a) default: casex (b) c: ; endcase endcase endmodule", tree: "m ( )\n@11 initial (casez a) [ : (casex b) [ c : ;]]\n" },
     Case { source: "module m; initial for (i = 0; i < 4; i = i + 1) w[i] = 0; endmodule", tree: "m ( )\n@11 initial (for i 32s0 (< i 32s4) i (+ i 32s1)) (= (bit w i) 32s0)@49\n" },
-    Case { source: "module m; initial begin $display; $write(); $strobe(\"x\", a + b); $monitor(a); end always @(posedge c) $finish; endmodule", tree: "m ( )\n@11 initial begin task task task task end\n@84 always  pos c : task\n" },
+    Case { source: "module m; initial begin $display; $write(); $strobe(\"x\", a + b); $monitor(a); end always @(posedge c) $finish; endmodule", tree: "m ( )\n@11 initial begin task task task task end\n@83 always  pos c : task\n" },
     // clause 12.1.2: instances
     Case { source: "module m; n u(), v(a, , b + c); endmodule", tree: "m ( )\n@11 instance n # ; u ; v =a - =(+ b c)\n" },
     Case { source: "module m; n #(1, 2) u(.a(b), .c()); endmodule", tree: "m ( )\n@11 instance n # =32s1 =32s2 ; u .a=b .c\n" },
@@ -202,10 +202,20 @@ fn wrapped(alloc: Global, front: &str, text: &str, back: &str) -> Result<Vec<u8>
 #[test]
 fn expressions_of_sources(rt: HostRuntime) -> Result<(), Fail> {
     for case in &EXPRESSIONS {
-        let source = wrapped(rt.alloc(), "module m; assign y = ", case.source, "; endmodule")?;
+        let source = wrapped(
+            rt.alloc(),
+            "module m; assign y = ",
+            case.source,
+            "; endmodule",
+        )?;
         let tree = wrapped(rt.alloc(), "m ( )\n@11 (assign y ", case.tree, ")\n")?;
         let found = shown(rt.alloc(), source.as_slice())?;
-        assert_eq!(rt; text(found.as_slice()), text(tree.as_slice()), "{}", case.source);
+        assert_eq!(rt;
+            text(found.as_slice()),
+            text(tree.as_slice()),
+            "{}",
+            case.source
+        );
     }
     Ok(())
 }
@@ -244,9 +254,18 @@ fn detail(alloc: Global, text: &[u8]) -> Result<Vec<u8>, Fail> {
 fn assert_refusal(rt: &impl Abort, alloc: Global, refusal: &Refusal) -> Result<(), Fail> {
     let (kind, line, column) = fault(alloc, refusal.source.as_bytes())?;
     assert_eq!(rt; kind, Some(refusal.kind), "{}", refusal.source);
-    assert_eq!(rt; (line, column), (refusal.line, refusal.column), "{}", refusal.source);
+    assert_eq!(rt;
+        (line, column),
+        (refusal.line, refusal.column),
+        "{}",
+        refusal.source
+    );
     let detail = detail(alloc, refusal.source.as_bytes())?;
-    assert!(rt; detail.as_slice() == refusal.detail.as_bytes(), "{}", refusal.source);
+    assert!(rt;
+        detail.as_slice() == refusal.detail.as_bytes(),
+        "{}",
+        refusal.source
+    );
     Ok(())
 }
 
@@ -277,36 +296,78 @@ fn nested(alloc: Global, parts: [&str; 4], count: usize) -> Result<Vec<u8>, Fail
 fn depth_of_expressions(rt: HostRuntime) -> Result<(), Fail> {
     let front = "module m; assign y = ";
     let parens = [front, "(", "a", ")"];
-    assert_eq!(rt; fault(rt.alloc(), nested(rt.alloc(), parens, 255)?.as_slice())?, (None, 0, 0));
-    assert_eq!(rt; fault(rt.alloc(), nested(rt.alloc(), parens, 256)?.as_slice())?, (Some(ParseKind::TooDeep), 1, 278));
+    assert_eq!(rt;
+        fault(rt.alloc(), nested(rt.alloc(), parens, 255)?.as_slice())?,
+        (None, 0, 0)
+    );
+    assert_eq!(rt;
+        fault(rt.alloc(), nested(rt.alloc(), parens, 256)?.as_slice())?,
+        (Some(ParseKind::TooDeep), 1, 278)
+    );
     let closed = [front, "(", ")", ")"];
-    assert_eq!(rt; fault(rt.alloc(), nested(rt.alloc(), closed, 256)?.as_slice())?, (Some(ParseKind::Unexpected), 1, 278));
+    assert_eq!(rt;
+        fault(rt.alloc(), nested(rt.alloc(), closed, 256)?.as_slice())?,
+        (Some(ParseKind::Unexpected), 1, 278)
+    );
     // the 256th operator makes the first a too deep
     let chain = [front, "", "a", "+a"];
-    assert_eq!(rt; fault(rt.alloc(), nested(rt.alloc(), chain, 255)?.as_slice())?, (None, 0, 0));
-    assert_eq!(rt; fault(rt.alloc(), nested(rt.alloc(), chain, 256)?.as_slice())?, (Some(ParseKind::TooDeep), 1, 22));
+    assert_eq!(rt;
+        fault(rt.alloc(), nested(rt.alloc(), chain, 255)?.as_slice())?,
+        (None, 0, 0)
+    );
+    assert_eq!(rt;
+        fault(rt.alloc(), nested(rt.alloc(), chain, 256)?.as_slice())?,
+        (Some(ParseKind::TooDeep), 1, 22)
+    );
     // a chain that is cut off behind its 256th operator is too deep all the same
     let cut = [front, "a+", "", ""];
-    assert_eq!(rt; fault(rt.alloc(), nested(rt.alloc(), cut, 255)?.as_slice())?, (Some(ParseKind::Unexpected), 1, 532));
-    assert_eq!(rt; fault(rt.alloc(), nested(rt.alloc(), cut, 256)?.as_slice())?, (Some(ParseKind::TooDeep), 1, 22));
+    assert_eq!(rt;
+        fault(rt.alloc(), nested(rt.alloc(), cut, 255)?.as_slice())?,
+        (Some(ParseKind::Unexpected), 1, 532)
+    );
+    assert_eq!(rt;
+        fault(rt.alloc(), nested(rt.alloc(), cut, 256)?.as_slice())?,
+        (Some(ParseKind::TooDeep), 1, 22)
+    );
     // a select makes its name one deeper
     let select = [front, "(", "a[0]", ")"];
-    assert_eq!(rt; fault(rt.alloc(), nested(rt.alloc(), select, 254)?.as_slice())?, (None, 0, 0));
-    assert_eq!(rt; fault(rt.alloc(), nested(rt.alloc(), select, 255)?.as_slice())?, (Some(ParseKind::TooDeep), 1, 277));
+    assert_eq!(rt;
+        fault(rt.alloc(), nested(rt.alloc(), select, 254)?.as_slice())?,
+        (None, 0, 0)
+    );
+    assert_eq!(rt;
+        fault(rt.alloc(), nested(rt.alloc(), select, 255)?.as_slice())?,
+        (Some(ParseKind::TooDeep), 1, 277)
+    );
     // the operators before an operand nest
     let unary = [front, "!", "a", ""];
-    assert_eq!(rt; fault(rt.alloc(), nested(rt.alloc(), unary, 255)?.as_slice())?, (None, 0, 0));
-    assert_eq!(rt; fault(rt.alloc(), nested(rt.alloc(), unary, 256)?.as_slice())?, (Some(ParseKind::TooDeep), 1, 278));
+    assert_eq!(rt;
+        fault(rt.alloc(), nested(rt.alloc(), unary, 255)?.as_slice())?,
+        (None, 0, 0)
+    );
+    assert_eq!(rt;
+        fault(rt.alloc(), nested(rt.alloc(), unary, 256)?.as_slice())?,
+        (Some(ParseKind::TooDeep), 1, 278)
+    );
     Ok(())
 }
 
 #[test]
 fn depth_of_statements(rt: HostRuntime) -> Result<(), Fail> {
     let blocks = ["module m; initial ", "begin ", ";", " end"];
-    assert_eq!(rt; fault(rt.alloc(), nested(rt.alloc(), blocks, 256)?.as_slice())?, (Some(ParseKind::TooDeep), 1, 1555));
+    assert_eq!(rt;
+        fault(rt.alloc(), nested(rt.alloc(), blocks, 256)?.as_slice())?,
+        (Some(ParseKind::TooDeep), 1, 1555)
+    );
     // statements and the expressions in them share one count
     let expression = ["module m; initial y = ", "(", "a", ")"];
-    assert_eq!(rt; fault(rt.alloc(), nested(rt.alloc(), expression, 254)?.as_slice())?, (None, 0, 0));
-    assert_eq!(rt; fault(rt.alloc(), nested(rt.alloc(), expression, 255)?.as_slice())?, (Some(ParseKind::TooDeep), 1, 278));
+    assert_eq!(rt;
+        fault(rt.alloc(), nested(rt.alloc(), expression, 254)?.as_slice())?,
+        (None, 0, 0)
+    );
+    assert_eq!(rt;
+        fault(rt.alloc(), nested(rt.alloc(), expression, 255)?.as_slice())?,
+        (Some(ParseKind::TooDeep), 1, 278)
+    );
     Ok(())
 }

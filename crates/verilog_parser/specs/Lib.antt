@@ -1,5 +1,0 @@
-pub mod Cursor
-pub mod Measured
-pub mod LeftOut
-pub mod Gives
-pub mod Answer
