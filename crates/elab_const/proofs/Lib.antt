@@ -1,5 +1,7 @@
 pub mod ScopeLemmas
 pub mod ContextLemmas
 pub mod PartLemmas
+pub mod AnswerLemmas
+pub mod ViewLemmas
 pub mod Texts
 pub mod Examples

@@ -5,10 +5,12 @@ mod answer;
 mod constancy;
 mod entry;
 mod fault;
+mod measure;
 mod names;
 mod scope;
 mod selected;
 mod shape;
+mod value;
 
 pub use entry::Entry;
 pub use fault::{ConstFault, ConstKind};
