@@ -13,7 +13,7 @@ use Rattle.verilog_tree.specs.declared.expr.ExprForm as form
 use Rattle.verilog_tree.specs.declared.expr.ExprForm.TheFolds.{fold_out-Expr, fold-roll-ExprForm}
 use Rattle.verilog_tree.specs.declared.expr.ExprForm.TheVariants.{rolls-Bit, rolls-Part, rolls-Slide, rolls-Unary, rolls-Binary, rolls-Choice, rolls-Repeat, rolls-Sign}
 
-abbrev BoxedExpr : Type 0
+abbrev pub BoxedExpr : Type 0
 BoxedExpr = Box Expr Global
 
 module _ (e : Expr) where

@@ -52,7 +52,7 @@ pub(crate) fn alone(names: &Names, expr: &Expr) -> Four
 
 /// The value of an expression without a fault, in a context of this width and sign.
 #[cycle(value)]
-#[tactic(auto)]
+#[tactic(auto, using(crate::proofs::SoundLemmas::left_sound, crate::proofs::SoundLemmas::right_sound, crate::proofs::SoundLemmas::test_sound, crate::proofs::SoundLemmas::yes_sound, crate::proofs::SoundLemmas::no_sound))]
 pub(crate) fn value(names: &Names, expr: &Expr, context: Shape) -> Four
     requires within { IsShape context }
     requires sound { fault_of (look_up names.now) (expr_view expr.now) ≡ None }
