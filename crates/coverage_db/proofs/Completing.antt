@@ -1,5 +1,5 @@
 -- What the lines of a table make of a draft.
-use Rattle.std.proofs.Common.{◌≡◌, ◌≢◌, ◌==◌, ℕ, zero, suc, ◌+◌, ◌-◌, ◌^◌, ◌<◌, ◌≤◌, Bool, true, false, cond, eqb, List, [], ◌∷◌, ◌++◌, map, length, All, Option, Some, None, Result, Ok, Err, refl, sym, ap, subst, ◌∙◌, append_assoc, ◌⊎◌, inl, inr, arith}
+use Rattle.std.proofs.Common.{◌≡◌, ◌≢◌, ℕ, ◌+◌, ◌^◌, ◌<◌, true, false, eqb, List, [], ◌∷◌, ◌++◌, map, length, All, Some, None, Result, Ok, Err, refl, sym, ap, subst, ◌∙◌, append_assoc, ◌⊎◌, inl, inr, arith}
 use Rattle.std.specs.Prelude.{bytes_eq, decimal, codes, IsTrue}
 use Rattle.std.specs.Global.{Global}
 use Rattle.std.proofs.lemmas.Bool.{cases_Bool}
@@ -17,14 +17,14 @@ use Rattle.coverage_db.specs.declared.draft.Draft.{Draft}
 use Rattle.coverage_db.specs.declared.draft.Stage.{Stage}
 use Rattle.coverage_db.specs.declared.draft.Stage.TheVariants as stage
 use Rattle.coverage_db.specs.declared.fault.DbFault.{DbFault}
-use Rattle.coverage_db.specs.declared.fault.DbFault.TheVariants.{At, NoMemory}
-use Rattle.coverage_db.specs.declared.fault.DbKind.TheVariants.{BadLine, WrongVersion, WrongCount}
-use Rattle.coverage_db.specs.Drafting.{source_of, count_of, follows, with_source, with_instance, with_point, next_version, next_top, next_source, next_instance, next_count, next_point, next_end, next_at, next, start}
+use Rattle.coverage_db.specs.declared.fault.DbFault.TheVariants.{At}
+use Rattle.coverage_db.specs.declared.fault.DbKind.TheVariants.{WrongCount}
+use Rattle.coverage_db.specs.Drafting.{source_of, count_of, with_source, with_instance, with_point, next_version, next_top, next_source, next_instance, next_count, next_point, next_end, next, start}
 use Rattle.coverage_db.specs.Fields.{is_plain}
 use Rattle.coverage_db.specs.Table.{Rises, IsInstance, IsPoint, IsTable, is_file_name}
 use Rattle.coverage_db.specs.Text.{begins_point, top_line, source_line, source_lines, instance_line, count_line, point_line, head_lines, lines_with_count}
 use Rattle.coverage_db.proofs.DraftLaws.{by_address, top_again, source_again, instance_line_again, count_again, follows_in}
-use Rattle.coverage_db.proofs.PathSearch.{by_path, same_path, other_path}
+use Rattle.coverage_db.proofs.PathSearch.{by_path, same_path}
 use Rattle.coverage_db.proofs.PointLaws.{point_again}
 
 -- what the lines from this number on make of a draft

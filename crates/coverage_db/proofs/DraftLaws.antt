@@ -1,14 +1,13 @@
 -- Reading line by line: what one more line makes of a draft.
-use Rattle.std.proofs.Common.{◌≡◌, ◌≢◌, ◌==◌, ℕ, zero, suc, ◌+◌, ◌-◌, ◌^◌, ◌<◌, ◌≤◌, Bool, true, false, cond, eqb, List, [], ◌∷◌, ◌++◌, map, length, All, Option, Some, None, Result, Ok, Err, refl, sym, ap, subst, ◌∙◌, append_assoc, ◌⊎◌, inl, inr, arith}
+use Rattle.std.proofs.Common.{◌≡◌, ◌≢◌, ℕ, suc, ◌+◌, ◌-◌, ◌^◌, ◌<◌, true, false, cond, eqb, List, [], ◌∷◌, ◌++◌, map, length, All, Option, Some, None, Result, Ok, Err, refl, sym, ap, subst, ◌∙◌, append_assoc, ◌⊎◌, inl, inr, arith}
 use Rattle.std.specs.Prelude.{bytes_eq, decimal, codes, IsTrue, slice_get, ◌&&◌}
 use Rattle.std.specs.declared.cmp.Ordering.{Ordering}
 use Rattle.std.specs.declared.cmp.Ordering.TheVariants.{Less, Equal, Greater}
 use Rattle.std.specs.Ordering.{is_lt}
 use Rattle.std.proofs.lemmas.Bool.{cases_Bool, and_parts}
-use Rattle.std.proofs.lemmas.Bool.Decides.{nat_tests}
-use Rattle.std.proofs.lemmas.List.{append-nil, length-append}
+use Rattle.std.proofs.lemmas.List.{append-nil}
 use Rattle.std.proofs.lemmas.List.Elements.{All-nil, All-push}
-use Rattle.std.proofs.lemmas.Option.{same_Some, cond_some}
+use Rattle.std.proofs.lemmas.Option.{cond_some}
 use Rattle.std.proofs.lemmas.Slice.Eq.{bytes_eq-Decides}
 use Rattle.cov_host.specs.Identifier.{is_identifier}
 use Rattle.coverage_db.specs.declared.db.Db.{Db}
@@ -20,14 +19,14 @@ use Rattle.coverage_db.specs.declared.draft.Stage.TheVariants as stage
 use Rattle.coverage_db.specs.declared.fault.DbFault.{DbFault}
 use Rattle.coverage_db.specs.Drafting.{top_of, source_of, instance_at, count_of, after_last, follows, bad, or_else, with_source, with_instance, with_point, next_version, next_top, next_source, next_instance, next_count, next_point, next_end, next_at, next, is_version}
 use Rattle.coverage_db.specs.Fields.{◌>>=◌, split_first, behind, is_plain}
-use Rattle.coverage_db.specs.Order.{bytes_cmp, address_cmp}
+use Rattle.coverage_db.specs.Order.{address_cmp}
 use Rattle.coverage_db.specs.Reading.{point_of}
 use Rattle.coverage_db.specs.Table.{Rises, IsIdentifier, IsInstance, IsPoint, is_path, is_file_name}
 use Rattle.coverage_db.specs.Text.{begins_point, top_line, source_line, source_lines, instance_line, count_line, point_line, head_lines, lines_with_count}
 use Rattle.coverage_db.proofs.Lacking.{path_lacks}
 use Rattle.coverage_db.proofs.PathSearch.{by_path}
-use Rattle.coverage_db.proofs.PointLaws.{point_takes, point_again}
-use Rattle.coverage_db.proofs.Splitting.{lacks, behind_takes, behind_again, split_takes, split_again}
+use Rattle.coverage_db.proofs.PointLaws.{point_takes}
+use Rattle.coverage_db.proofs.Splitting.{behind_takes, behind_again, split_takes, split_again}
 use Rattle.coverage_db.proofs.WordLaws.{bind_some}
 
 -- ---- lines

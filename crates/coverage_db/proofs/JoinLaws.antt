@@ -1,5 +1,5 @@
 -- The laws of the merge.
-use Rattle.std.proofs.Common.{◌≡◌, ◌≢◌, ℕ, zero, suc, ◌+◌, ◌<◌, Bool, true, false, cond, List, [], ◌∷◌, map, length, All, Option, Some, None, refl, sym, ap, subst, ◌∙◌, ◌⊎◌, inl, inr, arith}
+use Rattle.std.proofs.Common.{◌≡◌, ℕ, zero, suc, Bool, true, false, cond, List, [], ◌∷◌, map, length, All, Option, Some, refl, sym, ap, subst, ◌∙◌, ◌⊎◌, inl, inr, arith}
 use Rattle.std.specs.Prelude.{slice_get, option_map}
 use Rattle.std.specs.declared.cmp.Ordering.{Ordering}
 use Rattle.std.specs.declared.cmp.Ordering.TheVariants.{Less, Equal, Greater}
@@ -19,7 +19,7 @@ use Rattle.coverage_db.specs.declared.verdict.DbVerdict.TheVariants.{Hit, Missed
 use Rattle.coverage_db.specs.Merge.{bare_lines, doubt_cmp, lesser, joined, merged_points, merged, merged_all, verdict_at, HitInOne}
 use Rattle.coverage_db.specs.Order.{bytes_cmp}
 use Rattle.coverage_db.specs.Table.{IsTable}
-use Rattle.coverage_db.proofs.MergeLaws.{Alike, same_alike}
+use Rattle.coverage_db.proofs.MergeLaws.{same_alike}
 
 -- ---- doubts
 

@@ -1,11 +1,9 @@
 -- The first difference of two tables, and their merge.
-use Rattle.std.proofs.Common.{◌≡◌, ◌≢◌, ℕ, zero, suc, ◌+◌, ◌-◌, ◌^◌, ◌<◌, ◌≤◌, Bool, true, false, cond, eqb, List, [], ◌∷◌, ◌++◌, map, length, All, Option, Some, None, refl, sym, ap, subst, ◌∙◌, append_assoc, inl, inr, arith}
-use Rattle.std.specs.Prelude.{bytes_eq, codes, decimal, IsTrue, slice_get}
-use Rattle.std.specs.declared.cmp.Ordering.TheVariants.{Less}
+use Rattle.std.proofs.Common.{◌≡◌, ◌≢◌, ℕ, zero, suc, ◌+◌, ◌^◌, ◌<◌, ◌≤◌, Bool, true, false, cond, eqb, List, [], ◌∷◌, ◌++◌, map, length, All, Option, Some, None, refl, sym, ap, subst, ◌∙◌, inl, inr, arith}
+use Rattle.std.specs.Prelude.{bytes_eq, codes, decimal, IsTrue}
 use Rattle.std.specs.Ordering.{is_gt}
 use Rattle.std.proofs.lemmas.Bool.{cases_Bool, eqb-true, eq-eqb}
 use Rattle.std.proofs.lemmas.Fmt.{decimal_injective}
-use Rattle.std.proofs.lemmas.List.{length-append}
 use Rattle.std.proofs.lemmas.List.Elements.{All-nil, All-cons, All-head, All-tail}
 use Rattle.std.proofs.lemmas.Option.{same_Some}
 use Rattle.std.proofs.lemmas.Slice.Eq.{bytes_eq-Decides}
@@ -18,7 +16,7 @@ use Rattle.coverage_db.specs.declared.db.DbPoint.{DbPoint}
 use Rattle.coverage_db.specs.declared.verdict.DbVerdict.{DbVerdict}
 use Rattle.coverage_db.specs.declared.verdict.DbVerdict.TheVariants.{Hit, Missed, Undetermined}
 use Rattle.coverage_db.specs.Drafting.{source_of, instance_at}
-use Rattle.coverage_db.specs.Merge.{first_other, if_other, difference_of, bare_lines, line_at, lines_from_count, lines_from_instances, lines_from_sources, DiffersAt, doubt_cmp, lesser, joined, merged_points, merged}
+use Rattle.coverage_db.specs.Merge.{first_other, if_other, difference_of, bare_lines, line_at, lines_from_count, lines_from_instances, lines_from_sources, DiffersAt, doubt_cmp, joined, merged_points, merged}
 use Rattle.coverage_db.specs.Reading.{point_of}
 use Rattle.coverage_db.specs.Same.{same_address, same_instance, same_point}
 use Rattle.coverage_db.specs.Table.{Rises, IsInstance, IsPoint, IsVerdict, IsTable, is_file_name}

@@ -1,6 +1,6 @@
 -- The line of a point: what is read is spelled so, and what is spelled so is read.
-use Rattle.std.proofs.Common.{◌≡◌, ◌≢◌, ℕ, zero, suc, ◌+◌, ◌^◌, ◌<◌, ◌≤◌, Bool, true, false, cond, eqb, List, [], ◌∷◌, ◌++◌, length, get_or, All, Option, Some, None, refl, sym, ap, subst, ◌∙◌, append_assoc, inl, inr, arith}
-use Rattle.std.specs.Prelude.{bytes_eq, decimal, codes, IfSome, IsTrue, Contains, option_map, slice_get, unwrap_or}
+use Rattle.std.proofs.Common.{◌≡◌, ℕ, zero, suc, ◌+◌, ◌^◌, ◌<◌, Bool, true, false, cond, eqb, List, [], ◌∷◌, ◌++◌, length, get_or, All, Option, Some, None, refl, sym, ap, subst, ◌∙◌, append_assoc, inl, inr, arith}
+use Rattle.std.specs.Prelude.{bytes_eq, decimal, codes, IfSome, option_map}
 use Rattle.std.specs.List.{join_with_byte, list_all, AllByRecursion}
 use Rattle.std.specs.Option.{is_some}
 use Rattle.std.proofs.lemmas.Bool.{cases_Bool}
@@ -8,7 +8,6 @@ use Rattle.std.proofs.lemmas.Option.{same_Some, cond_some}
 use Rattle.std.proofs.lemmas.List.{append-nil}
 use Rattle.std.proofs.lemmas.Slice.Eq.{bytes_eq-Decides}
 use Rattle.cov_host.specs.Identifier.{is_identifier}
-use Rattle.coverage_db.specs.declared.address.Address.{Address}
 use Rattle.coverage_db.specs.declared.address.Subject.{Subject}
 use Rattle.coverage_db.specs.declared.address.Subject.TheVariants.{Line, Logic, Toggle, State, Arc, Word}
 use Rattle.coverage_db.specs.declared.db.DbInstance.{DbInstance}
@@ -17,11 +16,11 @@ use Rattle.coverage_db.specs.declared.verdict.DbVerdict.{DbVerdict}
 use Rattle.coverage_db.specs.declared.verdict.DbVerdict.TheVariants.{Hit, Missed, Undetermined}
 use Rattle.coverage_db.specs.Fields.{◌>>=◌, split_last, fields_of, field_at, end_at, number_at}
 use Rattle.coverage_db.specs.Reading.{instance_of, is_thing, doubt_at, verdict_by, verdict_at, subject_at, point_of}
-use Rattle.coverage_db.specs.Table.{Rises, IsInstance, IsSubject, IsThingIn, IsVerdict, IsPoint, is_path, is_state}
-use Rattle.coverage_db.specs.Text.{place_text, index_text, rise_text, write_text, letter, subject_fields, path_at, address_text, verdict_text, point_line}
+use Rattle.coverage_db.specs.Table.{Rises, IsInstance, IsSubject, IsThingIn, IsVerdict, IsPoint, is_path}
+use Rattle.coverage_db.specs.Text.{index_text, rise_text, write_text, letter, subject_fields, path_at, verdict_text, point_line}
 use Rattle.coverage_db.specs.Words.{line_word_text, node_case_text, operator_text}
 use Rattle.coverage_db.proofs.Lacking.{is_visible, IsApart, space_apart, feed_apart, word_lacks, lacks_append, lacks_more, decimal_lacks, name_lacks, state_lacks, path_lacks}
-use Rattle.coverage_db.proofs.PathSearch.{by_path, instance_found, same_path}
+use Rattle.coverage_db.proofs.PathSearch.{by_path, instance_found}
 use Rattle.coverage_db.proofs.Splitting.{lacks, last_takes, last_again, fields_one, fields_more, fields_joined}
 use Rattle.coverage_db.proofs.SubjectLaws.{field_takes, end_takes, number_at_takes, number_at_again, subject_words, subject_takes, subject_again}
 use Rattle.coverage_db.proofs.WordLaws.{bind_some, line_word_visible, node_case_visible, operator_visible}

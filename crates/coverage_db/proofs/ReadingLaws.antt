@@ -1,10 +1,9 @@
 -- Reading a whole text: a table has one text, and a text that is no table's has its first fault.
-use Rattle.std.proofs.Common.{◌≡◌, ◌≢◌, ◌==◌, ℕ, zero, suc, ◌+◌, ◌-◌, ◌^◌, ◌<◌, ◌≤◌, Bool, true, false, cond, eqb, List, [], ◌∷◌, ◌++◌, map, length, All, Option, Some, None, Result, Ok, Err, refl, sym, ap, subst, ◌∙◌, append_assoc, ◌⊎◌, inl, inr, arith}
+use Rattle.std.proofs.Common.{◌≡◌, ◌≢◌, ◌==◌, ℕ, suc, ◌+◌, ◌^◌, ◌<◌, ◌≤◌, Bool, true, false, cond, eqb, List, [], ◌∷◌, ◌++◌, map, length, All, Option, Some, None, Result, Ok, Err, refl, sym, ap, subst, ◌∙◌, append_assoc, ◌⊎◌, inl, inr, arith}
 use Rattle.std.specs.Prelude.{bytes_eq, decimal, codes, IsTrue, IfOk, IfErr, nat_le, ◌&&◌}
 use Rattle.std.specs.Global.{Global}
-use Rattle.std.specs.List.{flat_map, join_with_byte, slice_split, onto_first, list_all, AllByRecursion, count_by}
+use Rattle.std.specs.List.{join_with_byte, onto_first, list_all, AllByRecursion}
 use Rattle.std.proofs.lemmas.Bool.{cases_Bool, and_parts}
-use Rattle.std.proofs.lemmas.Bool.Decides.{nat_tests}
 use Rattle.std.proofs.lemmas.List.{append-nil, length-append}
 use Rattle.std.proofs.lemmas.List.Elements.{All-nil, All-push, All-head, All-tail, All-cons}
 use Rattle.std.proofs.lemmas.List.Splits.{join_with_byte-slice_split, length-slice_split}
@@ -19,17 +18,17 @@ use Rattle.coverage_db.specs.declared.draft.Stage.{Stage}
 use Rattle.coverage_db.specs.declared.draft.Stage.TheVariants as stage
 use Rattle.coverage_db.specs.declared.fault.DbFault.{DbFault}
 use Rattle.coverage_db.specs.declared.fault.DbFault.TheVariants.{At, NoMemory}
-use Rattle.coverage_db.specs.declared.fault.DbKind.TheVariants.{BadLine, WrongVersion, WrongCount, DbTooLong}
+use Rattle.coverage_db.specs.declared.fault.DbKind.TheVariants.{BadLine, WrongVersion, WrongCount}
 use Rattle.coverage_db.specs.Drafting.{Returns, StepsTo, IsDraft, bad, or_else, follows, is_version, top_of, source_of, instance_at, count_of, with_source, with_instance, with_point, next, next_at, next_version, next_top, next_source, next_instance, next_count, next_point, next_end, start, finish_at, and_then, read_lines, reading}
 use Rattle.coverage_db.specs.Faults.{Begins, IsBadLine, IsWrongCount, IsWrongVersion, IsFault, IsTheTable}
 use Rattle.coverage_db.specs.Fields.{◌>>=◌, behind, split_first, is_plain}
 use Rattle.coverage_db.specs.Reading.{point_of}
 use Rattle.std.specs.Option.{is_some}
-use Rattle.coverage_db.specs.Table.{Rises, IsIdentifier, IsInstance, IsPoint, IsTable, is_file_name, is_path}
-use Rattle.coverage_db.specs.Text.{begins_point, lines_of, ended, text_of_lines, text_of, top_line, source_line, source_lines, instance_line, count_line, point_line, head_lines, lines_with_count}
-use Rattle.coverage_db.proofs.Completing.{bind, steps, Leads, counted, lines_to_points, table_leads, wrong_count_is, end_line, all_lines}
-use Rattle.coverage_db.proofs.DraftLaws.{by_address, IsPart, IsHead, ArePoints, AreSources, HasRead, lines_read, next_part, sources_push, nothing}
-use Rattle.coverage_db.proofs.Lacking.{feed_apart, lacks_append, lacks_more, lacks_by, decimal_lacks, name_lacks, path_lacks}
+use Rattle.coverage_db.specs.Table.{Rises, IsIdentifier, IsInstance, IsPoint, IsTable, is_file_name}
+use Rattle.coverage_db.specs.Text.{begins_point, lines_of, text_of_lines, text_of, top_line, source_line, source_lines, instance_line, count_line, point_line, head_lines, lines_with_count}
+use Rattle.coverage_db.proofs.Completing.{bind, steps, counted, lines_to_points, table_leads, wrong_count_is, end_line, all_lines}
+use Rattle.coverage_db.proofs.DraftLaws.{by_address, IsPart, IsHead, ArePoints, HasRead, lines_read, next_part, sources_push}
+use Rattle.coverage_db.proofs.Lacking.{lacks_append, lacks_more, lacks_by, decimal_lacks, name_lacks, path_lacks}
 use Rattle.coverage_db.proofs.Numbers.{decimal_plain, plain_all}
 use Rattle.coverage_db.proofs.PathSearch.{by_path, same_path}
 use Rattle.coverage_db.proofs.PointLaws.{point_line_whole}

@@ -1,8 +1,7 @@
 -- Addresses that are the same, part by part, are one.
-use Rattle.std.proofs.Common.{◌≡◌, ◌≢◌, ℕ, Bool, true, false, eqb, List, Option, Some, None, refl, sym, ap, ◌∙◌, arith}
+use Rattle.std.proofs.Common.{◌≡◌, ℕ, Bool, true, false, eqb, List, Option, Some, None, refl, sym, ap, ◌∙◌}
 use Rattle.std.specs.Prelude.{bytes_eq, slice_get, ◌&&◌}
 use Rattle.std.proofs.lemmas.Bool.{and_parts, eqb-true, eq-eqb}
-use Rattle.std.proofs.lemmas.Bool.Decides.{nat_tests}
 use Rattle.std.proofs.lemmas.Option.{same_Some}
 use Rattle.std.proofs.lemmas.Slice.Eq.{bytes_eq-Decides}
 use Rattle.coverage_db.specs.declared.address.Address.{Address}
@@ -16,7 +15,7 @@ use Rattle.coverage_db.specs.declared.node_case.NodeCase.{NodeCase}
 use Rattle.coverage_db.specs.declared.node_case.NodeCase.TheVariants as case
 use Rattle.coverage_db.specs.declared.operator.Operator.{Operator}
 use Rattle.coverage_db.specs.declared.operator.Operator.TheVariants as operator
-use Rattle.coverage_db.specs.Same.{same_bit, same_index, same_place, same_machine, same_subject, same_address, same_instance}
+use Rattle.coverage_db.specs.Same.{same_bit, same_index, same_place, same_subject, same_address, same_instance}
 use Rattle.coverage_db.specs.Words.{line_words, line_word_rank, node_cases, node_case_rank, operators, operator_rank}
 
 line_word_ranked : (x : LineWord) → slice_get line_words (line_word_rank x) ≡ Some x

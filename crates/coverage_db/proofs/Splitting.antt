@@ -1,5 +1,5 @@
 -- Bytes that are split, and the fields of a line.
-use Rattle.std.proofs.Common.{◌≡◌, ◌≢◌, ◌==◌, ℕ, zero, suc, ◌+◌, ◌<◌, ◌≤◌, Bool, true, false, not, cond, eqb, List, [], ◌∷◌, ◌++◌, length, take, drop, drop-drop, get_or, All, Option, Some, None, refl, sym, ap, subst, ◌∙◌, append_assoc, inl, inr, arith}
+use Rattle.std.proofs.Common.{◌≡◌, ◌≢◌, ◌==◌, ℕ, suc, ◌+◌, ◌<◌, Bool, true, false, not, cond, eqb, List, [], ◌∷◌, ◌++◌, length, take, drop, drop-drop, get_or, Option, Some, None, refl, sym, ap, ◌∙◌, append_assoc, inl, inr, arith}
 use Rattle.std.specs.Prelude.{option_map, MatchOption, ◌&&◌}
 use Rattle.std.specs.Borrow.{Bor}
 use Rattle.std.specs.List.{prefix_len, slice_split, onto_first, list_all, join_with_byte, AllByRecursion}

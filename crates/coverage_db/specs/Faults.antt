@@ -1,5 +1,5 @@
 -- What is wrong with a text that is no table's: the first line that is not as a table has it.
-use Rattle.std.specs.Prelude.{◌≡◌, ◌≢◌, ℕ, ◌+◌, ◌<◌, ◌≤◌, Bool, true, false, IsTrue, List, [], ◌∷◌, ◌++◌, map, length, codes, decimal, Some, None, Result, Ok, Err}
+use Rattle.std.specs.Prelude.{◌≡◌, ◌≢◌, ℕ, ◌+◌, ◌<◌, false, IsTrue, List, [], ◌∷◌, ◌++◌, map, length, codes, decimal, Some, None, Result, Ok, Err}
 use Rattle.coverage_db.specs.declared.db.Db.{Db}
 use Rattle.coverage_db.specs.declared.fault.DbFault.{DbFault}
 use Rattle.coverage_db.specs.declared.fault.DbFault.TheVariants.{At, NoMemory}

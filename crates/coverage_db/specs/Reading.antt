@@ -1,5 +1,5 @@
 -- Reading a point from the fields of its line, from left to right.
-use Rattle.std.specs.Prelude.{◌==◌, ◌≡◌, ℕ, ◌+◌, Bool, true, false, not, ◌&&◌, ◌||◌, bytes_eq, if◌then◌else◌, List, [], ◌∷◌, ◌++◌, length, codes, decimal, Option, Some, None, option_map, option_and_then}
+use Rattle.std.specs.Prelude.{ℕ, ◌+◌, Bool, true, false, not, ◌&&◌, bytes_eq, if◌then◌else◌, List, [], ◌∷◌, codes, Option, Some, None, option_map}
 use Rattle.std.specs.Option.{is_some}
 use Rattle.cov_host.specs.Identifier.{is_identifier}
 use Rattle.coverage_db.specs.declared.address.SourceLine.{SourceLine}
@@ -7,13 +7,10 @@ use Rattle.coverage_db.specs.declared.address.Subject.{Subject}
 use Rattle.coverage_db.specs.declared.address.Subject.TheVariants.{Line, Logic, Toggle, State, Arc, Word}
 use Rattle.coverage_db.specs.declared.db.DbInstance.{DbInstance}
 use Rattle.coverage_db.specs.declared.db.DbPoint.{DbPoint}
-use Rattle.coverage_db.specs.declared.line_word.LineWord.{LineWord}
-use Rattle.coverage_db.specs.declared.node_case.NodeCase.{NodeCase}
-use Rattle.coverage_db.specs.declared.operator.Operator.{Operator}
 use Rattle.coverage_db.specs.declared.verdict.DbVerdict.{DbVerdict}
 use Rattle.coverage_db.specs.declared.verdict.DbVerdict.TheVariants.{Hit, Missed, Undetermined}
-use Rattle.coverage_db.specs.Fields.{◌>>=◌, split_first, split_last, behind, fields_of, number_of, field_at, end_at, equals_at, number_at}
-use Rattle.coverage_db.specs.Table.{is_path, is_state, is_file_name}
+use Rattle.coverage_db.specs.Fields.{◌>>=◌, split_first, split_last, fields_of, number_of, field_at, end_at, equals_at, number_at}
+use Rattle.coverage_db.specs.Table.{is_state}
 use Rattle.coverage_db.specs.Words.{line_word_of, operator_of, node_case_of, can_have}
 
 -- a source and its line, where there are so many sources

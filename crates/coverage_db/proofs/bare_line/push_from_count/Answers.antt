@@ -1,4 +1,4 @@
-use Rattle.std.proofs.Common.{◌-◌, ◌++◌, ◌∷◌, [], map, length, sym, ap, ◌∙◌, arith}
+use Rattle.std.proofs.Common.{◌-◌, ◌++◌, ◌∷◌, [], map, length, sym, ap, ◌∙◌}
 use Rattle.std.specs.Prelude.{codes, decimal}
 use Rattle.std.proofs.lemmas.Result.{IfOk-equal}
 use Rattle.coverage_db.specs.Text.{count_line, address_text}

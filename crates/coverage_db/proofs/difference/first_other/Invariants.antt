@@ -1,5 +1,4 @@
-use Rattle.std.proofs.Common.{◌≡◌, ◌+◌, drop}
-use Rattle.std.specs.Prelude.{option_map}
+use Rattle.std.proofs.Common.{◌≡◌, drop}
 use Rattle.coverage_db.specs.Merge.{first_other}
 use Rattle.coverage_db.proofs.Differing.{moved}
 use Rattle.coverage_db.proofs.difference.first_other.Given as goal

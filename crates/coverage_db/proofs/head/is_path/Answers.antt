@@ -1,7 +1,6 @@
-use Rattle.std.proofs.Common.{◌≡◌, ◌∙◌, true, false, sym, ap, arith}
-use Rattle.std.specs.List.{list_all}
+use Rattle.std.proofs.Common.{◌≡◌, ◌∙◌, true, false, sym, arith}
 use Rattle.cov_host.specs.Identifier.{is_identifier}
-use Rattle.coverage_db.proofs.Splitting.{pieces_split, pieces_whole, split_shorter, all_first, all_only, all_fails}
+use Rattle.coverage_db.proofs.Splitting.{split_shorter, all_first, all_only, all_fails}
 use Rattle.coverage_db.proofs.head.is_path.Goals as goal
 
 pub returns-then-not-is_identifier : goal.returns-then-not-is_identifier

@@ -1,5 +1,3 @@
-use Rattle.std.proofs.Common.{refl}
-use Rattle.coverage_db.specs.Text.{text_of}
 use Rattle.coverage_db.proofs.ReadingLaws.{one_table}
 use Rattle.coverage_db.proofs.laws.one_text.Goals as goal
 

@@ -1,7 +1,4 @@
-use Rattle.std.proofs.Common.{ap, sym, subst, ◌∙◌, arith}
-use Rattle.coverage_db.specs.Merge.{merged}
-use Rattle.coverage_db.specs.Table.{IsTable}
-use Rattle.coverage_db.specs.declared.db.Db.{Db}
+use Rattle.std.proofs.Common.{sym}
 use Rattle.coverage_db.proofs.MergeLaws.{none_alike, alike_lines, some_differs, differs_at, merged_table}
 use Rattle.coverage_db.proofs.merging.merge.Goals as goal
 

@@ -1,5 +1,4 @@
-use Rattle.std.proofs.Common.{◌≡◌, sym, ◌∙◌, false, true, arith}
-use Rattle.std.proofs.lemmas.Bool.Decides.{nat_tests}
+use Rattle.std.proofs.Common.{◌≡◌, false, true, arith}
 use Rattle.coverage_db.specs.Fields.{is_plain}
 use Rattle.coverage_db.proofs.Numbers.{number_plain, number_some, number_small, number_large}
 use Rattle.coverage_db.proofs.number.read_number.Goals as goal

@@ -1,4 +1,4 @@
-use Rattle.std.proofs.Common.{◌≡◌, ℕ, ◌+◌, ◌≤◌, List, length}
+use Rattle.std.proofs.Common.{◌≡◌, ◌+◌, ◌≤◌, length}
 use Rattle.coverage_db.specs.Drafting.{read_lines, reading}
 use Rattle.coverage_db.specs.Text.{lines_of}
 use Rattle.coverage_db.proofs.ReadingLaws.{IsRead}

@@ -1,4 +1,4 @@
-use Rattle.std.proofs.Common.{◌≡◌, ◌<◌, ◌∙◌, sym, ap, length, Some, arith, List, ℕ}
+use Rattle.std.proofs.Common.{◌<◌, ◌∙◌, sym, ap, length, Some, arith, List, ℕ}
 use Rattle.std.proofs.lemmas.Bool.Decides.{nat_tests}
 use Rattle.coverage_db.proofs.Splitting.{split_found, split_lost}
 use Rattle.coverage_db.proofs.split.split_first.Goals as goal

@@ -1,4 +1,4 @@
-use Rattle.std.proofs.Common.{◌≡◌, ◌∙◌, sym, ap, arith}
+use Rattle.std.proofs.Common.{◌∙◌, arith}
 use Rattle.coverage_db.specs.Fields.{split_last}
 use Rattle.coverage_db.proofs.Splitting.{before_none, before_more, after_here, after_other}
 use Rattle.coverage_db.proofs.split.split_last.Goals as goal

@@ -1,6 +1,3 @@
-use Rattle.std.proofs.Common.{◌≡◌, false, true}
-use Rattle.coverage_db.specs.Fields.{Takes}
-use Rattle.coverage_db.specs.Views.{fields_left, unit}
 use Rattle.coverage_db.proofs.Splitting.{end_of_none, end_of_some}
 use Rattle.coverage_db.proofs.fields.Fields.end.Goals as goal
 use Rattle.coverage_db.proofs.fields.Fields.end.Goals.{then-is_none, else-is_none}

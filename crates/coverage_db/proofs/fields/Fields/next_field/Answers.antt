@@ -1,6 +1,5 @@
 use Rattle.std.proofs.Common.{sym, ◌∙◌, ap}
 use Rattle.coverage_db.specs.Fields.{field_at}
-use Rattle.coverage_db.specs.Views.{fields_left}
 use Rattle.coverage_db.proofs.Splitting.{first_field, last_field}
 use Rattle.coverage_db.proofs.fields.Fields.next_field.Goals as goal
 
