@@ -18,11 +18,11 @@ use Rattle.design_model.specs.Open.{IsNotClean, IsNotClocked, IsOpenFor, IsWakeB
 abbrev pub IsUnclear : Design → Habit → BoundDump → ℕ → Thing → Type 0
 IsUnclear d h dump t x = (HasValue (clear_before d h dump t) x → ⊥) ⊎ (HasValue (clear d h dump t) x → ⊥)
 
--- where t is not listed, x may move
+-- t is listed, or s may move then
 abbrev pub MayMoveUnlisted : Design → BoundDump → ℕ → ℕ → Type 0
 MayMoveUnlisted d dump t s = IsListed dump t ⊎ MayMoveAt d dump t s
 
--- where t is not listed, the block mentions or lists a thing that may move
+-- t is listed, or a thing to which the block is sensitive may move then
 abbrev pub MayWakeUnlisted : Design → BoundDump → ℕ → ℕ → Type 0
 MayWakeUnlisted d dump t p = IsListed dump t ⊎ ((s : ℕ) × (is_level (process_at d p) s ≡ true) × MayMoveAt d dump t s)
 
