@@ -4,3 +4,4 @@ pub mod Metrics
 pub mod Points
 pub mod Report
 pub mod Views
+pub mod OrderLaws
