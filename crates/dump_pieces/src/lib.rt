@@ -33,7 +33,7 @@ pub use body::Body;
 pub use fault::{DumpFault, DumpKind};
 pub use header::Header;
 pub use item::{Fed, Item, Step};
-pub use laws::{example_dump, one_reading, rising_times};
+pub use laws::{dump_goes_on, example_dump, one_reading, rising_times};
 pub use vars::{Var, Vars};
 
 #[cfg(test)]

@@ -3,7 +3,7 @@ use Rattle.std.specs.Prelude.{ℕ, false, true, List, [], ◌∷◌, codes}
 use Rattle.design_model.specs.declared.design.Design.{Design}
 use Rattle.design_model.specs.declared.design.Signal.{Signal}
 use Rattle.input_module.specs.SourceForm.{IsSource}
-use Rattle.vcd_reader.specs.Dump.{IsDump}
+use Rattle.dump_pieces.specs.Dump.{IsDump}
 use Rattle.vcd_reader.specs.Example.{example_dump, example_text}
 use Rattle.input_runs.specs.Shown.{SomeRunShows}
 

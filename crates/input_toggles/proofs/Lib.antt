@@ -3,12 +3,13 @@ pub mod NameOrder
 pub mod PointOrder
 pub mod TableLemmas
 pub mod ToggleLemmas
-pub mod ChangeLemmas
-pub mod StandsLemmas
-pub mod InPlace
+pub mod BitLemmas
+pub mod OpenSteps
+pub mod TrackLemmas
+pub mod FollowLemmas
 pub mod MemberLemmas
 pub mod TimeLemmas
+pub mod BoundLemmas
 pub mod ScoredLemmas
 pub mod FollowedLemmas
-pub mod BoundLemmas
 pub mod DumpTimes
