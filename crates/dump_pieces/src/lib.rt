@@ -30,6 +30,7 @@ mod vars;
 mod word;
 
 pub use body::Body;
+pub use entry::Entry;
 pub use fault::{DumpFault, DumpKind};
 pub use header::Header;
 pub use item::{Fed, Item, Step};

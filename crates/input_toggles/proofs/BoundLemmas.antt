@@ -17,7 +17,7 @@ use Rattle.dump_pieces.specs.declared.vars.Var.{Var}
 use Rattle.input_toggles.specs.Binding.{AreCodes, code_of}
 use Rattle.input_toggles.specs.Scored.{HasNoBaseline, IsBound, first_value}
 use Rattle.input_toggles.specs.Scores.{LacksValue, Scores}
-use Rattle.input_toggles.specs.Tracked.{count_of, has_value, value_so_far}
+use Rattle.input_toggles.specs.Tracked.{Follows, IsTracked, count_of, has_value, value_so_far}
 use Rattle.input_toggles.specs.declared.scorer.Scorer.{Scorer}
 use Rattle.input_toggles.proofs.FollowLemmas.{has_value_is}
 use Rattle.input_toggles.proofs.OpenSteps.{before_value, count_first, count_later, count_some, count_value, value_later}
@@ -47,7 +47,7 @@ module _ (of : Signal → Option ℕ) where
   code_at (x ∷ xs) (c ∷ cs) (suc k) d s e l = code_at xs cs k d s (let tail : map Some cs ≡ map of xs = cc in tail) (omega (arith, l))
 
 pub as_many : (vars : List Var) (instance : List ℕ) (signals : List Signal) (codes : List ℕ) → AreCodes vars instance signals codes → length codes ≡ length signals
-as_many vars instance signals codes e = omega (arith, length-map codes {f = Some}, ap length e, length-map signals (code_of vars instance))
+as_many vars instance signals codes e = omega (arith, length-map codes (λ (c : ℕ). Some c), ap length e, length-map signals (code_of vars instance))
 
 -- each signal has its variable, and its first value
 pub bound_design : (scorer : Scorer) (design : Design) (vars : List Var) (instance : List ℕ) (entries : List Entry) → Scores scorer design vars instance entries → IsBound design (record { vars = vars; steps = steps_of entries }) instance
@@ -97,3 +97,58 @@ based_value codes entries code value based two =
 pub based_later : (codes : List ℕ) (entries : List Entry) (before time : ℕ) → last_time None entries ≡ Some before → All (λ other. IsSome (value_so_far entries other 1)) codes → All (λ other. IsSome (value_so_far (entries ++ Time time ∷ []) other 1)) codes
 based_later codes entries before time there based =
     All-weaker (λ other. IsSome (value_so_far entries other 1)) (λ other. IsSome (value_so_far (entries ++ Time time ∷ []) other 1)) (λ other some. subst (λ (o : Option Vector). IsSome o) (sym (value_later entries before time other 1 there (count_some entries))) some) codes based
+
+last_of : (o : Option ℕ) → is_some o ≡ true → (before : ℕ) × (o ≡ Some before)
+last_of None e = absurd (cc)
+last_of (Some before) e = (before, refl)
+
+no_last : (o : Option ℕ) → is_some o ≡ false → o ≡ None
+no_last None e = refl
+no_last (Some before) e = absurd (cc)
+
+pub no_baseline_of : (scorer : Scorer) (design : Design) (vars : List Var) (instance : List ℕ) (entries : List Entry) (time signal : ℕ) → scorer.tracks.is_first ≡ true → is_some scorer.tracks.last ≡ true → LacksValue scorer signal → Scores scorer design vars instance entries → HasNoBaseline vars instance design.signals (entries ++ Time time ∷ []) signal
+no_baseline_of scorer design vars instance entries time signal first last lacks s =
+    let before = last_of scorer.tracks.last last in
+    no_baseline scorer design vars instance entries before.0 time signal first before.1 lacks s
+
+-- the scorer behind a time, where each code has a first value if there is a second time
+opened_with : (old new : Scorer) (design : Design) (vars : List Var) (instance : List ℕ) (entries : List Entry) (time : ℕ) → new.codes ≡ old.codes → Follows new.tracks (entries ++ Time time ∷ []) → ((other : ℕ) → IsTracked old.tracks other → IsTracked new.tracks other)
+    → (2 ≤ count_of (entries ++ Time time ∷ []) → All (λ code. IsSome (value_so_far (entries ++ Time time ∷ []) code 1)) old.codes.items) → Scores old design vars instance entries → Scores new design vars instance (entries ++ Time time ∷ [])
+opened_with old new design vars instance entries time same follows kept based s = record {
+  instance_is = s.instance_is;
+  codes_are = subst (λ cs. AreCodes vars instance design.signals cs.items) (sym same) s.codes_are;
+  follows = follows;
+  tracked = subst (λ cs. All (IsTracked new.tracks) cs.items) (sym same) (All-weaker (IsTracked old.tracks) (IsTracked new.tracks) kept old.codes.items s.tracked);
+  based = λ two. subst (λ cs. All (λ code. IsSome (value_so_far (entries ++ Time time ∷ []) code 1)) cs.items) (sym same) (based two);
+}
+
+pub opened_second : (old new : Scorer) (design : Design) (vars : List Var) (instance : List ℕ) (entries : List Entry) (time : ℕ) → new.codes ≡ old.codes → is_some old.tracks.last ≡ true → Follows new.tracks (entries ++ Time time ∷ []) → ((other : ℕ) → IsTracked old.tracks other → IsTracked new.tracks other)
+    → old.tracks.is_first ≡ true → All (λ code. IsTrue (has_value old.tracks code)) old.codes.items → Scores old design vars instance entries → Scores new design vars instance (entries ++ Time time ∷ [])
+opened_second old new design vars instance entries time same last follows kept first valued s =
+    let before = last_of old.tracks.last last in
+    let there : last_time None entries ≡ Some before.0 = sym s.follows.last ∙ before.1 in
+    let one : count_of entries ≡ 1 = first_count entries (sym s.follows.first ∙ first) in
+    let based : All (λ code. IsSome (value_so_far entries code 1)) old.codes.items = λ k d l. ap (λ n. is_some (value_so_far entries (get_or old.codes.items k d) n)) (sym one) ∙ sym (has_value_is old.tracks entries (get_or old.codes.items k d) s.follows (s.tracked k d l)) ∙ valued k d l in
+    opened_with old new design vars instance entries time same follows kept (λ two. based_later old.codes.items entries before.0 time there based) s
+
+pub opened_first : (old new : Scorer) (design : Design) (vars : List Var) (instance : List ℕ) (entries : List Entry) (time : ℕ) → new.codes ≡ old.codes → is_some old.tracks.last ≡ false → Follows new.tracks (entries ++ Time time ∷ []) → ((other : ℕ) → IsTracked old.tracks other → IsTracked new.tracks other)
+    → Scores old design vars instance entries → Scores new design vars instance (entries ++ Time time ∷ [])
+opened_first old new design vars instance entries time same last follows kept s =
+    let empty : last_time None entries ≡ None = sym s.follows.last ∙ no_last old.tracks.last last in
+    opened_with old new design vars instance entries time same follows kept (λ two. absurd (omega (arith, two, count_first entries time empty))) s
+
+pub opened_later : (old new : Scorer) (design : Design) (vars : List Var) (instance : List ℕ) (entries : List Entry) (time : ℕ) → new.codes ≡ old.codes → old.tracks.is_first ≡ false → Follows new.tracks (entries ++ Time time ∷ []) → ((other : ℕ) → IsTracked old.tracks other → IsTracked new.tracks other)
+    → Scores old design vars instance entries → Scores new design vars instance (entries ++ Time time ∷ [])
+opened_later old new design vars instance entries time same first follows kept s = go old.tracks.last refl
+  where
+    no : nat_lt (count_of entries) 2 ≡ false
+    no = sym s.follows.first ∙ first
+
+    more : 2 ≤ count_of entries
+    more = grind (arith, nat_tests, no)
+
+    go : (o : Option ℕ) → old.tracks.last ≡ o → Scores new design vars instance (entries ++ Time time ∷ [])
+    go None e =
+        let empty : last_time None entries ≡ None = sym s.follows.last ∙ e in
+        opened_with old new design vars instance entries time same follows kept (λ two. absurd (omega (arith, two, count_first entries time empty))) s
+    go (Some before) e = opened_with old new design vars instance entries time same follows kept (λ two. based_later old.codes.items entries before time (sym s.follows.last ∙ e) (s.based more)) s

@@ -1,7 +1,8 @@
 -- What is followed of all codes stands for what was said, with one entry more.
-use Rattle.std.proofs.Common.{◌≡◌, ◌⊎◌, ℕ, suc, ◌+◌, ◌<◌, ◌≤◌, ◌==◌, Bool, true, false, List, [], ◌∷◌, ◌++◌, length, Option, Some, None, IfSome, IsSome, is_some, refl, sym, ap, subst, ◌∙◌, inl, inr, arith}
-use Rattle.std.specs.Prelude.{nat_lt}
-use Rattle.std.proofs.lemmas.Bool.{cases_Bool, eqb-true}
+use Rattle.std.proofs.Common.{◌≡◌, ◌⊎◌, ℕ, suc, ◌+◌, ◌<◌, ◌≤◌, ◌==◌, Bool, true, false, List, [], ◌∷◌, ◌++◌, length, get_or, Option, Some, None, IfSome, IsSome, is_some, refl, sym, ap, subst, ◌∙◌, inl, inr, arith}
+use Rattle.std.specs.Prelude.{nat_lt, slice_set}
+use Rattle.std.proofs.lemmas.Bool.{cases_Bool, cases_lt, eqb-true}
+use Rattle.std.proofs.lemmas.List.{get_or-set_other, get_or-set_same, get_or_past}
 use Rattle.std.proofs.lemmas.Bool.Decides.{nat_tests}
 use Rattle.four_state.specs.Vector.{Vector}
 use Rattle.dump_pieces.proofs.RisingTimes.{last_time_append}
@@ -12,7 +13,7 @@ use Rattle.input_toggles.specs.Tracked.{Follows, IsMark, IsTrack, IsTracked, cou
 use Rattle.input_toggles.specs.declared.track.Track.{Track}
 use Rattle.input_toggles.specs.declared.tracks.Tracks.{Tracks}
 use Rattle.input_toggles.proofs.OpenSteps.{before_value, count_first, count_later, count_none, count_some, count_value, value_at_time, value_first, value_later, value_of_code, value_of_other}
-use Rattle.input_toggles.proofs.TrackLemmas.{track-map, track_opened}
+use Rattle.input_toggles.proofs.TrackLemmas.{apart, track-map, track_opened}
 
 pub IfSome-map : {A : Type 0} (o : Option A) (P Q : A → Type 0) → ((x : A) → P x → Q x) → IfSome o P → IfSome o Q
 IfSome-map None P Q step p = tt
@@ -95,3 +96,37 @@ has_value_is tracks entries code f there = go (track_of tracks.tracks.items code
     go : (o : Option Track) → IfSome o (IsTrack (value_so_far entries code) (count_of entries) tracks.mark) → IsSome o → is_valued o ≡ is_some (value_so_far entries code (count_of entries))
     go None each some = absurd (let no : false ≡ true = some in cc)
     go (Some track) each some = ap is_some (sym (each.still (count_of entries) each.inside (omega arith)))
+
+-- what is followed of one code was written
+pub set_other : (tracks : List (Option Track)) (code other : ℕ) (track : Option Track) → (code == other) ≡ false → track_of (slice_set tracks code track) other ≡ track_of tracks other
+set_other tracks code other track e = get_or-set_other tracks code other track None (λ same. apart code other e (sym same))
+
+there : (tracks : List (Option Track)) (code : ℕ) (track : Track) → track_of tracks code ≡ Some track → code < length tracks
+there tracks code track found = go (cases_lt code (length tracks))
+  where
+    go : (code < length tracks) ⊎ (length tracks ≤ code) → code < length tracks
+    go (inl within) = within
+    go (inr past) = absurd (let no : None ≡ Some track = sym (get_or_past tracks code None past) ∙ found in cc)
+
+pub set_here : (tracks : List (Option Track)) (code : ℕ) (old new : Track) (P : Track → Type 0) → track_of tracks code ≡ Some old → P new → IfSome (track_of (slice_set tracks code (Some new)) code) P
+set_here tracks code old new P found p = subst (λ o. IfSome o P) (sym (get_or-set_same tracks code (Some new) None (there tracks code old found))) p
+
+pub not_followed : (o : Option Track) (P : Track → Type 0) → o ≡ None → IfSome o P
+not_followed o P none = subst (λ o. IfSome o P) (sym none) tt
+
+-- the track of the code that has changed
+pub changed_here : (old : Tracks) (entries : List Entry) (code : ℕ) (value : Vector) (track new : Track) → track_of old.tracks.items code ≡ Some track
+    → ((values after : ℕ → Option Vector) (count : ℕ) → IsTrack values count old.mark track → ((k : ℕ) → k + 1 ≤ count → after k ≡ values k) → after count ≡ Some value → IsTrack after count old.mark new)
+    → Follows old entries → IsTrack (value_so_far (entries ++ Value code value ∷ []) code) (count_of entries) old.mark new
+changed_here old entries code value track new found changes f =
+    let is = subst (λ o. IfSome o (IsTrack (value_so_far entries code) (count_of entries) old.mark)) found (f.each code) in
+    changes (value_so_far entries code) (value_so_far (entries ++ Value code value ∷ []) code) (count_of entries) is (λ k l. before_value entries code value code k (omega (arith, l))) (value_of_code entries code value)
+
+-- room at the end follows no code
+pub resized : (old new : List (Option Track)) (n : ℕ) → length new ≡ n → length old ≤ n → ((k : ℕ) (d : Option Track) → k < n → k < length old → get_or new k d ≡ get_or old k d) → ((k : ℕ) (d : Option Track) → length old ≤ k → k < n → get_or new k d ≡ None) → (other : ℕ) → track_of new other ≡ track_of old other
+resized old new n long more kept filled other = go (cases_lt other (length old)) (cases_lt other n)
+  where
+    go : (other < length old) ⊎ (length old ≤ other) → (other < n) ⊎ (n ≤ other) → track_of new other ≡ track_of old other
+    go (inl there) here = kept other None (omega (arith, there, more)) there
+    go (inr past) (inl within) = filled other None past within ∙ sym (get_or_past old other None past)
+    go (inr past) (inr out) = get_or_past new other None (omega (arith, out, long)) ∙ sym (get_or_past old other None past)

@@ -1,7 +1,8 @@
 -- The table of the signals of a design after the dump was told.
-use Rattle.std.proofs.Common.{◌≡◌, ℕ, ◌≤◌, ◌^◌, Option, Some, IsTrue, List, [], ◌∷◌, length, map, get_or, refl, sym, ap, subst, ◌∙◌, arith}
+use Rattle.std.proofs.Common.{◌≡◌, ℕ, ◌+◌, ◌<◌, ◌≤◌, ◌^◌, Option, Some, IsTrue, List, [], ◌∷◌, ◌++◌, length, map, take, get_or, refl, sym, ap, subst, ◌∙◌, arith}
 use Rattle.std.specs.List.{All, Contains}
-use Rattle.std.proofs.lemmas.List.Elements.{All-nil, All-cons, All-contains, All-weaker, Contains-get_or}
+use Rattle.std.proofs.lemmas.List.Elements.{All-nil, All-cons, All-contains, All-push, All-weaker, Contains-get_or}
+use Rattle.std.proofs.lemmas.List.{map_push, take_all, take_more}
 use Rattle.std.proofs.lemmas.List.Sorted.{All-permutation, Contains-permutation, IsPermutation-map, length_permutation}
 use Rattle.coverage_db.specs.Table.{IsTable, is_file_name}
 use Rattle.coverage_db.specs.declared.db.Db.{Db}
@@ -15,7 +16,7 @@ use Rattle.input_toggles.specs.Binding.{code_of}
 use Rattle.input_toggles.specs.InputDesign.{IsInput, IsInputDesign}
 use Rattle.input_toggles.specs.PointList.{IsTableOf}
 use Rattle.input_toggles.specs.Scored.{HasHead, IsScored, IsToggleTable, ListsTogglePoints}
-use Rattle.input_toggles.specs.Scores.{AreWatched, IsScoreBy, Scores}
+use Rattle.input_toggles.specs.Scores.{AreWatched, HasToggles, IsScoreBy, Scores}
 use Rattle.input_toggles.specs.Tracked.{IsTracked}
 use Rattle.input_toggles.specs.Watched.{signals_of}
 use Rattle.input_toggles.specs.declared.scorer.Scorer.{Scorer}
@@ -80,3 +81,25 @@ module _ (design : Design) (d : IsInputDesign design) (scorer : Scorer) (watched
       listed = subst (ListsTogglePoints design) (sym t.is) (points_listed design the_dump instance t.sorted all_followed all_there);
       verdicts = subst (λ (x : Db). All (IsScored design the_dump instance) x.points) (sym t.is) (points_scored design the_dump instance t.sorted all_followed);
     }
+
+-- the first so many signals were listed
+pub record IsPart (scorer : Scorer) (signals : List Signal) (watched : List Watched) (place : ℕ) : Type 0 where
+  pub signals_are : signals_of watched ≡ take place signals
+  pub codes_are : map (λ w. w.code) watched ≡ take place scorer.codes.items
+  pub toggles_are : All (HasToggles scorer.tracks) watched
+
+pub part_more : (scorer : Scorer) (signals : List Signal) (watched next : List Watched) (place : ℕ) (w : Watched) → next ≡ watched ++ w ∷ [] → place < length signals → place < length scorer.codes.items → w.signal.now ≡ get_or signals place w.signal.now → w.code ≡ get_or scorer.codes.items place w.code
+    → HasToggles scorer.tracks w → IsPart scorer signals watched place → IsPart scorer signals next (place + 1)
+part_more scorer signals watched next place w is within coded signal code toggles part = record {
+  signals_are = ap signals_of is ∙ map_push (λ (x : Watched). x.signal.now) watched w ∙ ap (λ ss. ss ++ w.signal.now ∷ []) part.signals_are ∙ ap (λ s. take place signals ++ s ∷ []) signal ∙ sym (take_more signals place w.signal.now within);
+  codes_are = ap (map (λ x. x.code)) is ∙ map_push (λ (x : Watched). x.code) watched w ∙ ap (λ cs. cs ++ w.code ∷ []) part.codes_are ∙ ap (λ c. take place scorer.codes.items ++ c ∷ []) code ∙ sym (take_more scorer.codes.items place w.code coded);
+  toggles_are = subst (All (HasToggles scorer.tracks)) (sym is) (All-push (HasToggles scorer.tracks) watched w part.toggles_are toggles);
+}
+
+-- all signals were listed
+pub part_whole : (scorer : Scorer) (signals : List Signal) (watched : List Watched) (place : ℕ) → length signals ≤ place → length scorer.codes.items ≤ place → IsPart scorer signals watched place → AreWatched scorer signals watched
+part_whole scorer signals watched place all coded part = record {
+  signals_are = part.signals_are ∙ take_all place signals all;
+  codes_are = part.codes_are ∙ take_all place scorer.codes.items coded;
+  toggles_are = part.toggles_are;
+}

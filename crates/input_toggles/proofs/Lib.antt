@@ -13,3 +13,4 @@ pub mod BoundLemmas
 pub mod ScoredLemmas
 pub mod FollowedLemmas
 pub mod DumpTimes
+pub mod FirstSteps

@@ -3,6 +3,7 @@ use Rattle.std.proofs.Common.{◌≡◌, ◌⊎◌, ℕ, zero, suc, ◌+◌, ◌
 use Rattle.std.specs.List.{flat_map}
 use Rattle.std.specs.Option.{option_or}
 use Rattle.std.proofs.lemmas.Bool.{cases_lt}
+use Rattle.std.proofs.lemmas.Bool.Decides.{nat_tests}
 use Rattle.std.proofs.lemmas.List.{append-nil, take-append-le, take_all}
 use Rattle.std.proofs.lemmas.List.Concat.{flat_map-append}
 use Rattle.four_state.specs.Vector.{Vector}
@@ -111,15 +112,13 @@ count_some entries = opened_some (leading entries) (timed entries)
 -- ---- a change more
 
 module _ (entries : List Entry) (code : ℕ) (value : Vector) where
-  more : List Entry
+  abbrev more : List Entry
   more = entries ++ Value code value ∷ []
 
   pub count_value : count_of more ≡ count_of entries
-  unfolding more
   count_value = ap length (open_value entries code value) ∙ length_pushed (open_steps entries) (changed code value)
 
   pub before_value : (other k : ℕ) → suc k ≤ count_of entries → value_so_far more other k ≡ value_so_far entries other k
-  unfolding more
   before_value other k l =
       ap (λ steps. value_after (take k steps) other) (open_value entries code value) ∙ ap (λ steps. value_after steps other) (take_pushed k (open_steps entries) (changed code value) l)
 
@@ -127,18 +126,14 @@ module _ (entries : List Entry) (code : ℕ) (value : Vector) where
   all_steps of other = ap (λ steps. value_after steps other) (take_all (count_of of) (open_steps of) (omega arith))
 
   at_value : (other : ℕ) → value_so_far more other (count_of entries) ≡ option_or (value_for (changed code value) other) (value_so_far entries other (count_of entries))
-  unfolding more
   at_value other =
       ap (λ k. value_so_far more other k) (sym count_value) ∙ all_steps more other ∙ ap (λ steps. value_after steps other) (open_value entries code value)
       ∙ value_pushed (open_steps entries) (changed code value) other (count_some entries) ∙ ap (option_or (value_for (changed code value) other)) (sym (all_steps entries other))
 
   pub value_of_code : value_so_far more code (count_of entries) ≡ Some value
-  unfolding more
-  value_of_code = at_value code ∙ ap (λ test. option_or (cond test (Some value) None) (value_so_far entries code (count_of entries))) (same_code code)
-    where
-      same_code : (n : ℕ) → (n == n) ≡ true
-      same_code zero = refl
-      same_code (suc n) = same_code n
+  value_of_code =
+      let same : (code == code) ≡ true = grind (arith, nat_tests) in
+      at_value code ∙ ap (λ test. option_or (cond test (Some value) None) (value_so_far entries code (count_of entries))) same
 
   pub value_of_other : (other : ℕ) → (code == other) ≡ false → (k : ℕ) → k ≤ count_of entries → value_so_far more other k ≡ value_so_far entries other k
   value_of_other other apart k l = go (cases_lt k (count_of entries))

@@ -1,6 +1,7 @@
 -- What is followed of a code stands for what was said, with one entry more.
-use Rattle.std.proofs.Common.{◌≡◌, ◌⊎◌, ◌↔◌, ℕ, zero, suc, ◌+◌, ◌-◌, ◌<◌, ◌≤◌, Bool, true, false, ◌||◌, Option, Some, None, IsTrue, refl, sym, ap, subst, ◌∙◌, inl, inr, arith}
+use Rattle.std.proofs.Common.{◌≡◌, ◌⊎◌, ◌↔◌, ℕ, zero, suc, ◌+◌, ◌-◌, ◌<◌, ◌≤◌, ◌==◌, Bool, true, false, ◌||◌, Option, Some, None, IsTrue, refl, sym, ap, subst, ◌∙◌, inl, inr, arith}
 use Rattle.std.proofs.lemmas.Bool.{cases_Bool, cases_lt, false≢true}
+use Rattle.std.proofs.lemmas.Bool.Decides.{nat_tests}
 use Rattle.four_state.specs.Vector.{Vector}
 
 
@@ -182,3 +183,9 @@ changed_track values after count mark closed changed c same value before kept ma
       earlier = λ less. absurd (omega (arith, less, c.some));
       latest = λ now. marked;
     }
+
+-- numbers that are tested to differ do
+pub apart : (a b : ℕ) → (a == b) ≡ false → a ≡ b → ⊥
+apart a b e f =
+    let same : (a == b) ≡ true = grind (arith, nat_tests, f) in
+    false≢true (sym e ∙ same)

@@ -1,5 +1,5 @@
 -- What a scorer stands for: a design under what a dump has said so far.
-use Rattle.std.specs.Prelude.{◌≡◌, ◌-◌, ◌<◌, ◌≤◌, ◌↔◌, ℕ, Bool, true, false, IsTrue, IsSome, List, map, length, slice_index_or, All}
+use Rattle.std.specs.Prelude.{◌≡◌, ◌-◌, ◌<◌, ◌≤◌, ◌↔◌, ℕ, Bool, true, false, IsTrue, IsSome, List, [], map, length, slice_index_or, All}
 use Rattle.std.specs.List.{list_any}
 use Rattle.coverage_db.specs.declared.db.Db.{Db}
 use Rattle.design_model.specs.Shows.{AreRising}

@@ -1,4 +1,4 @@
-ghost use Rattle.std.specs.Prelude.{◌≡◌, ◌↔◌, ◌++◌, ◌∷◌, ◌-◌, ◌<◌, [], ℕ, Bool, List, IsTrue, None, OnOk, vec_len};
+ghost use Rattle.std.specs.Prelude.{◌≡◌, ◌↔◌, ◌++◌, ◌∷◌, ◌-◌, ◌<◌, ◌^◌, [], ℕ, Bool, List, IsTrue, None, Some, IsSome, OnOk, vec_len};
 ghost use Rattle.dump_pieces.specs.Times.{Rises};
 ghost use Rattle.dump_pieces.specs.declared.entry.Entry.{Entry};
 ghost use Rattle.dump_pieces.specs.declared.entry.Entry.TheVariants as entry;
@@ -54,11 +54,9 @@ impl Tracks {
         ensures follows { (entries : List Entry) → Follows self.old entries → Follows self.new (entries ++ entry.Value code value ∷ []) }
         ensures kept { (other : ℕ) → IsTracked self.old other → IsTracked self.new other }
     {
-        let place = code as usize;
-        if place < self.tracks.len() {
-            if let Some(track) = self.tracks[place] {
-                self.tracks[place] = Some(track.changed(self.mark, value));
-            }
+        match self.track(code) {
+            Some(track) => self.tracks[code as usize] = Some(track.changed(self.mark, value)),
+            None => {}
         }
     }
 
@@ -67,11 +65,28 @@ impl Tracks {
         ensures follows { (entries : List Entry) → Rises None (entries ++ entry.Time time ∷ []) → Follows self.old entries → Follows self.new (entries ++ entry.Time time ∷ []) }
         ensures kept { (other : ℕ) → IsTracked self.old other → IsTracked self.new other }
     {
-        if self.last.is_some() {
-            self.is_first = false;
-            self.mark = time;
+        match self.last {
+            Some(_) => self.open_later(time),
+            None => self.open_first(time),
         }
+    }
+
+    /// Gives the first step its time.
+    fn open_first(&mut self, time: u64)
+        ensures follows { (entries : List Entry) → self.old.last ≡ None → Follows self.old entries → Follows self.new (entries ++ entry.Time time ∷ []) }
+        ensures kept { (other : ℕ) → IsTracked self.old other → IsTracked self.new other }
+    {
         self.last = Some(time);
+    }
+
+    /// Opens the next step.
+    fn open_later(&mut self, time: u64)
+        ensures follows { (entries : List Entry) (before : ℕ) → self.old.last ≡ Some before → Rises None (entries ++ entry.Time time ∷ []) → Follows self.old entries → Follows self.new (entries ++ entry.Time time ∷ []) }
+        ensures kept { (other : ℕ) → IsTracked self.old other → IsTracked self.new other }
+    {
+        self.last = Some(time);
+        self.is_first = false;
+        self.mark = time;
     }
 
     /// Whether the code has a value so far.
@@ -97,7 +112,8 @@ impl Tracks {
 
     /// What is followed of the code.
     fn track(&self, code: u32) -> Option<Track>
-        ensures { result ≡ track_of self.now.tracks.items code }
+        ensures value { result ≡ track_of self.now.tracks.items code }
+        ensures there { IsSome result → code < vec_len self.now.tracks }
     {
         let place = code as usize;
         if place < self.tracks.len() {
@@ -110,11 +126,12 @@ impl Tracks {
 
 /// Makes room for a code that is not followed yet.
 fn make_room(tracks: &mut Vec<Option<Track>>, place: usize) -> Result<(), NoMemory>
+    requires { place < 2 ^ 32 }
     ensures room { OnOk result (place < vec_len tracks.new) }
     ensures same { OnOk result ((other : ℕ) → track_of tracks.new.items other ≡ track_of tracks.old.items other) }
 {
-    while tracks.len() <= place {
-        tracks.push(None)?;
+    if tracks.len() <= place {
+        tracks.resize(place + 1, None)?;
     }
     Ok(())
 }

@@ -3,5 +3,5 @@ use Rattle.std.specs.List.{All}
 use Rattle.input_toggles.specs.Tracked.{has_value}
 use Rattle.input_toggles.proofs.scorer.Scorer.check_values.Given as goal
 
-abbrev pub invariant-loop-code : goal.invariant-loop-code
-invariant-loop-code l = All (λ code. IsTrue (has_value l.self.tracks code)) (take l.place l.self.codes.items)
+abbrev pub invariant-loop-place : goal.invariant-loop-place
+invariant-loop-place l = All (λ code. IsTrue (has_value l.self.tracks code)) (take l.place l.self.codes.items)
