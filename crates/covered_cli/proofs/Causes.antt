@@ -10,7 +10,7 @@ use Rattle.cov_host.specs.Outside.{Outside, Files, Told}
 use Rattle.covered_cli.specs.Covered.{IsNoCommand, IsSomeCommand, KeepsOthers, KeepsUnnamed}
 use Rattle.covered_cli.specs.Fault.{Stands, StandsIn, StandsInWork, output_of, status_of}
 use Rattle.covered_cli.specs.declared.fault.Fault.{Fault}
-use Rattle.covered_cli.specs.declared.fault.Fault.TheVariants.{Usage, SourceNotYet, DumpNotYet, Files as FilesFault, Memory}
+use Rattle.covered_cli.specs.declared.fault.Fault.TheVariants.{Usage, SourceNotYet, Dump, Files as FilesFault, Memory}
 use Rattle.covered_cli.specs.declared.status.Status.TheVariants as status
 use Rattle.whole_files.proofs.EffectLemmas.{Told-map}
 
@@ -26,7 +26,7 @@ IfErr-map (Err fault) step holds = step fault holds
 stands_as_score : (words : List (List ℕ)) (score : ScoreValues) (before after : Outside) → IsScore words score → (fault : Fault) → StandsIn score before after fault → Stands words before after fault
 stands_as_score words score before after is (Usage usage) stands = absurd stands
 stands_as_score words score before after is SourceNotYet stands = (score, is, stands)
-stands_as_score words score before after is DumpNotYet stands = (score, is, stands)
+stands_as_score words score before after is (Dump refusal) stands = (score, is, stands)
 stands_as_score words score before after is (FilesFault call file) stands = (score, is, stands)
 stands_as_score words score before after is Memory stands = (score, is, stands)
 
@@ -51,6 +51,6 @@ command_or_fault words command fault =
 pub usage_exactly : (words : List (List ℕ)) (before after : Outside) → (fault : Fault) → Stands words before after fault → (status_of fault ≡ status.Usage) ↔ IsNoCommand words
 usage_exactly words before after (Usage usage) stands = (λ same. (usage, stands), λ none. refl)
 usage_exactly words before after SourceNotYet stands = (λ same. cc, λ none. absurd (command_or_fault words (stands.0, stands.1) none))
-usage_exactly words before after DumpNotYet stands = (λ same. cc, λ none. absurd (command_or_fault words (stands.0, stands.1) none))
+usage_exactly words before after (Dump refusal) stands = (λ same. cc, λ none. absurd (command_or_fault words (stands.0, stands.1) none))
 usage_exactly words before after (FilesFault call file) stands = (λ same. cc, λ none. absurd (command_or_fault words (stands.0, stands.1) none))
 usage_exactly words before after Memory stands = (λ same. cc, λ none. absurd (command_or_fault words (stands.0, stands.1) none))

@@ -2,17 +2,18 @@ ghost use Rattle.std.specs.Prelude.{◌≡◌};
 ghost use Rattle.covered_cli.specs.Fault.{status_of};
 
 use crate::Status;
+use crate::dump_refusal::DumpRefusal;
 use command_line::UsageFault;
 use whole_files::Call;
 
 /// Why a command ends with a status above 0.
-#[derive(Clone, Copy, Debug, PartialEq, Eq)]
+#[derive(Debug, Drop)]
 pub(crate) enum Fault<'a> {
     Usage(UsageFault<'a>),
     /// The source is not in the form that is read so far.
     SourceNotYet,
-    /// The dump is not in the form that is read so far, or does not fit the design.
-    DumpNotYet,
+    /// The dump is refused.
+    Dump(DumpRefusal<'a>),
     /// A call on the host gave nothing.
     Files { call: Call, file: &'a str },
     Memory,
@@ -26,7 +27,7 @@ impl Fault<'_> {
         match self {
             Fault::Usage(_) => Status::Usage,
             Fault::SourceNotYet => Status::Source,
-            Fault::DumpNotYet => Status::Dump,
+            Fault::Dump(_) => Status::Dump,
             Fault::Files { .. } => Status::Files,
             Fault::Memory => Status::Memory,
         }
