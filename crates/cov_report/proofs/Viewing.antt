@@ -6,7 +6,6 @@ use Rattle.std.specs.List.{filter, fold, AllByRecursion}
 use Rattle.std.proofs.lemmas.List.{map-append, drop_more}
 use Rattle.std.proofs.lemmas.List.Elements.{All-from_recursion, recursion_from_All}
 use Rattle.std.specs.Borrow.{Bor}
-use Rattle.coverage_db.specs.declared.db.DbInstance.{DbInstance}
 use Rattle.coverage_db.specs.declared.verdict.DbVerdict.{DbVerdict}
 use Rattle.coverage_db.specs.declared.verdict.DbVerdict.TheVariants.{Hit, Missed, Undetermined}
 use Rattle.coverage_db.specs.Merge.{joined, yields_to}
@@ -14,7 +13,7 @@ use Rattle.cov_report.specs.declared.block.Block.{Block}
 use Rattle.cov_report.specs.declared.counted.Counted.{Counted}
 use Rattle.cov_report.specs.declared.options.Options.{Options}
 use Rattle.cov_report.specs.Gathered.{by_order, placed, gathered}
-use Rattle.cov_report.specs.Points.{ReportPoint, point_cmp, joined_point, block_cmp, block_name}
+use Rattle.cov_report.specs.Points.{point_cmp, joined_point, block_cmp, block_name}
 use Rattle.cov_report.specs.Views.{counted_cmp, joined_counted, report_point, name_cmp, block_instance}
 
 -- a view that keeps the order and the join of items with P, which the join keeps

@@ -1,5 +1,5 @@
 -- What contracts see of the types of the code.
-use Rattle.std.specs.Prelude.{ℕ, if◌then◌else◌, List, map}
+use Rattle.std.specs.Prelude.{if◌then◌else◌}
 use Rattle.std.specs.declared.cmp.Ordering.{Ordering}
 use Rattle.std.specs.Ordering.{ordering_then}
 use Rattle.coverage_db.specs.declared.db.DbInstance.{DbInstance}

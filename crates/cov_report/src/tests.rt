@@ -53,20 +53,21 @@ fn other_lines_are_other_points(rt: HostRuntime) {
 
 #[test]
 fn a_long_count_pushes_the_next(rt: HostRuntime) {
-    let counts = Counts {
-        hit: 123_456_789,
-        missed: 1,
-        undetermined: 0,
-    };
     assert!(rt;
         is_text(
-            counts_line(rt.alloc(), counts),
+            long_line(rt.alloc()),
             b"all     123456789       1       0   99%"
         )
     );
 }
 
-fn counts_line(alloc: Global, counts: Counts) -> Option<Text> {
+/// A line with a count of nine places.
+fn long_line(alloc: Global) -> Option<Text> {
+    let counts = Counts {
+        hit: 123_456_789,
+        missed: 1,
+        undetermined: 0,
+    };
     let mut text = Text::new(alloc);
     push_counts(&mut text, "all", counts).ok()?;
     Some(text)

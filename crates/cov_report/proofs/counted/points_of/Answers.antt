@@ -1,4 +1,4 @@
-use Rattle.std.proofs.Common.{rules, ◌≤◌, map, sym, ap, ◌∙◌, List, ℕ}
+use Rattle.std.proofs.Common.{rules, ◌≤◌, map, ap, ◌∙◌, List, ℕ}
 use Rattle.std.specs.Prelude.{bytes_eq}
 use Rattle.std.specs.List.{filter}
 use Rattle.std.specs.Ordering.{is_lt, is_le}

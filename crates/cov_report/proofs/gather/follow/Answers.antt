@@ -1,4 +1,4 @@
-use Rattle.std.proofs.Common.{◌++◌, ◌∷◌, [], List, sym, ap, ◌∙◌}
+use Rattle.std.proofs.Common.{◌++◌, ◌∷◌, [], sym, ap, ◌∙◌}
 use Rattle.std.specs.Ordering.{is_eq}
 use Rattle.cov_report.proofs.Gathering.{follows_equal, follows_other}
 use Rattle.cov_report.proofs.gather.follow.Goals as goal

@@ -1,4 +1,4 @@
-use Rattle.std.proofs.Common.{◌≡◌, ◌++◌, ◌⊎◌, inl, inr}
+use Rattle.std.proofs.Common.{◌≡◌, ◌++◌, inl, inr}
 use Rattle.std.proofs.lemmas.Result.{IfOk-equal}
 use Rattle.coverage_db.specs.Text.{source_lines}
 use Rattle.cov_report.proofs.Lines.{head_alone, head_with}

@@ -1,4 +1,4 @@
-use Rattle.std.proofs.Common.{◌≡◌, ◌<◌, ◌++◌, length, map, sym, ap, ◌∙◌, arith, List, ℕ}
+use Rattle.std.proofs.Common.{◌<◌, ◌++◌, length, map, sym, ap, ◌∙◌, arith, List, ℕ}
 use Rattle.std.proofs.lemmas.List.{get_or_default}
 use Rattle.cov_report.specs.declared.metric.Metric.{Metric}
 use Rattle.cov_report.specs.Metrics.{metrics, metric_name, is_chosen}
