@@ -1,0 +1,5 @@
+pub mod Reading
+pub mod MergedDesign
+pub mod Merging
+pub mod Complete
+pub mod AnyOrder

@@ -1,0 +1,13 @@
+//! The commands over databases, over any host: joining databases of one design.
+#![tactic(auto)]
+
+mod fault;
+mod files;
+mod laws;
+mod merge;
+#[cfg(test)]
+mod tests;
+
+pub use fault::CommandFault;
+pub use laws::any_order;
+pub use merge::run_merge;
