@@ -1,6 +1,6 @@
 //! The commands over files in memory.
 use crate::{CommandFault, run_merge};
-use command_line::{Command, MergeWords, read_command};
+use command_line::{AnyCommand, MergeWords, read_any_command};
 use cov_host::{Calls, MemoryHost, NoMemory, Words};
 use coverage_db::DbKind;
 use std::alloc::Global;
@@ -32,8 +32,8 @@ fn words_of(alloc: Global, texts: &[&str]) -> Result<Words, NoMemory> {
 
 /// The values of a `merge` command.
 fn merge_of(words: &Words) -> Option<MergeWords<'_>> {
-    match read_command(words) {
-        Ok(Command::Merge(merge)) => Some(merge),
+    match read_any_command(words) {
+        Ok(AnyCommand::Merge(merge)) => Some(merge),
         _ => None,
     }
 }
