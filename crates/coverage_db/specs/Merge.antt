@@ -1,5 +1,5 @@
 -- The merge of two tables of one design.
-use Rattle.std.specs.Prelude.{◌≡◌, ◌≢◌, ℕ, ◌+◌, if◌then◌else◌, List, [], ◌∷◌, ◌++◌, map, length, codes, decimal, Option, Some, None, option_map, unwrap_or, slice_get, Bool, bytes_eq, ◌==◌, ◌⊎◌}
+use Rattle.std.specs.Prelude.{◌≡◌, ◌≢◌, ℕ, ◌+◌, if◌then◌else◌, List, [], ◌∷◌, ◌++◌, map, length, codes, decimal, Option, Some, None, option_map, unwrap_or, slice_get, Bool, true, false, bytes_eq, ◌==◌, ◌⊎◌}
 use Rattle.std.specs.declared.cmp.Ordering.{Ordering}
 use Rattle.std.specs.Ordering.{nat_cmp, ordering_then, is_gt}
 use Rattle.coverage_db.specs.declared.db.Db.{Db}
@@ -16,6 +16,14 @@ use Rattle.coverage_db.specs.Text.{top_line, source_lines, instance_line, count_
 -- by time, and then by the bytes of the path
 abbrev pub doubt_cmp : ℕ → List ℕ → ℕ → List ℕ → Ordering
 doubt_cmp time path other_time other_path = ordering_then (nat_cmp time other_time) (bytes_cmp path other_path)
+
+-- the other verdict of a point stands where both are joined
+abbrev pub yields_to : DbVerdict → DbVerdict → Bool
+yields_to Hit v = false
+yields_to Missed v = true
+yields_to (Undetermined time path) Hit = true
+yields_to (Undetermined time path) Missed = false
+yields_to (Undetermined time path) (Undetermined other_time other_path) = is_gt (doubt_cmp time path other_time other_path)
 
 -- the lesser of two doubts
 abbrev pub lesser : ℕ → List ℕ → ℕ → List ℕ → DbVerdict

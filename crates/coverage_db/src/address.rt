@@ -95,7 +95,7 @@ impl Subject {
     }
 
     /// The place of the letter in the order `l`, `c`, `t`, `f`, `m`, from 0.
-    fn letter_rank(&self) -> u8
+    pub fn letter_rank(&self) -> u8
         ensures { result ≡ letter_rank self.now }
     {
         match self {
@@ -109,7 +109,7 @@ impl Subject {
 
     /// The order of two points of one letter and one instance: by number and case, or by name and what
     /// follows it.
-    fn compare(&self, other: &Subject) -> Ordering
+    pub fn compare(&self, other: &Subject) -> Ordering
         ensures { result ≡ rule_cmp self.now other.now }
     {
         match (self, other) {

@@ -40,4 +40,4 @@ pub use node_case::NodeCase;
 pub use operator::Operator;
 pub use read::read_db;
 pub use verdict::DbVerdict;
-pub use write::write_db;
+pub use write::{push_instance, push_sources, push_subject, write_db};

@@ -1,5 +1,5 @@
-ghost use Rattle.std.specs.Prelude.{◌≡◌, if◌then◌else◌, IfOk, OnOk};
-ghost use Rattle.coverage_db.specs.Merge.{joined};
+ghost use Rattle.std.specs.Prelude.{◌≡◌, IfOk, OnOk};
+ghost use Rattle.coverage_db.specs.Merge.{joined, yields_to};
 
 use crate::DbVerdict;
 use crate::read_subject::to_name;
@@ -19,9 +19,9 @@ impl DbVerdict {
         Ok(())
     }
 
-    /// Whether the other verdict stands where both are joined.
-    fn yields_to(&self, other: &DbVerdict) -> bool
-        ensures { joined self.now other.now ≡ (if result then other.now else self.now) }
+    /// Whether the other verdict of the same point stands where both are joined.
+    pub fn yields_to(&self, other: &DbVerdict) -> bool
+        ensures { result ≡ yields_to self.now other.now }
     {
         match (self, other) {
             (DbVerdict::Hit, _) => false,

@@ -33,7 +33,7 @@ fn push_head(text: &mut Text, db: &Db) -> Result<(), NoMemory>
 }
 
 /// Appends the lines of the sources.
-fn push_sources(text: &mut Text, sources: &Sequence<Name>) -> Result<(), NoMemory>
+pub fn push_sources(text: &mut Text, sources: &Sequence<Name>) -> Result<(), NoMemory>
     ensures { OnOk result (text.new ≡ text.old ++ text_of_lines (source_lines 1 sources.now)) }
 {
     for (place, name) in sources.as_slice().iter().enumerate() {
@@ -64,7 +64,7 @@ fn push_instances(text: &mut Text, instances: &Sequence<DbInstance>) -> Result<(
 }
 
 /// Appends the line of an instance, without its line feed.
-pub(crate) fn push_instance(text: &mut Text, instance: &DbInstance) -> Result<(), NoMemory>
+pub fn push_instance(text: &mut Text, instance: &DbInstance) -> Result<(), NoMemory>
     ensures { OnOk result (text.new ≡ text.old ++ instance_line instance.now) }
 {
     text.extend_from_slice(b"instance ")?;
@@ -126,7 +126,7 @@ pub(crate) fn push_address(
 }
 
 /// Appends the fields of an address after its instance.
-fn push_subject(text: &mut Text, subject: &Subject) -> Result<(), NoMemory>
+pub fn push_subject(text: &mut Text, subject: &Subject) -> Result<(), NoMemory>
     ensures { OnOk result (text.new ≡ text.old ++ subject_fields subject.now) }
 {
     match subject {
