@@ -2,7 +2,7 @@
 use Rattle.std.proofs.Common.{◌≡◌, ◌∙◌, ℕ, ◌≤◌, List, [], ◌∷◌, ◌++◌, length, Option, None, Some, refl, sym, ap, subst, inl, inr}
 use Rattle.std.specs.Global.{Global}
 use Rattle.std.specs.Prelude.{IfSome, IsSomeAnd, MatchOption}
-use Rattle.command_line.specs.DatabaseWords.{MergeValues}
+use Rattle.command_line.specs.DatabaseWords.{MergeValues, ReportValues}
 use Rattle.cov_host.specs.Outside.{Files as HostFiles, IsCounted, Outside}
 use Rattle.coverage_db.proofs.ReadingLaws.{one_table}
 use Rattle.coverage_db.specs.Merge.{SameDesign, bare_lines}
@@ -11,9 +11,10 @@ use Rattle.coverage_db.specs.declared.db.Db.{Db}
 use Rattle.coverage_db.specs.declared.fault.DbKind.{DbKind}
 use Rattle.whole_files.specs.declared.call.Call.{Call}
 use Rattle.whole_files.specs.declared.call.Call.TheVariants.{OpenRead, Read, OpenWrite, Write, CloseWrite}
-use Rattle.database_commands.specs.Complete.{HasTable, HaveTablesOf, IsGoodMerge, NoFaults}
+use Rattle.database_commands.specs.Complete.{HasTable, HaveTablesOf, IsGoodMerge, IsGoodReport, NoFaults}
 use Rattle.database_commands.specs.Faults.{ComesTo, IsMergeFault, IsNoTable, IsOtherDesign, IsRefused, IsWriting, inputs_of}
 use Rattle.database_commands.specs.Files.{HoldsTable}
+use Rattle.database_commands.specs.Reporting.{IsReportFault}
 use Rattle.database_commands.specs.declared.fault.CommandFault.{CommandFault}
 use Rattle.database_commands.specs.declared.fault.CommandFault.TheVariants.{Files, Print, Memory, NoDatabase, DesignsDiffer}
 
@@ -84,3 +85,13 @@ module _ (alloc : Global) (merge : MergeValues) (before after : Outside) (good :
       let first_is = same_table alloc before merge.first good.0 is.1.first_table good.1 is.1.first_holds in
       let other_is = same_table alloc before file.now at.0 is.1.other_table at.1 is.1.other_holds in
       absurd (one_design merge.first file.now before line first other is.1 (sym (ap bare_lines first_is) ∙ at.2 ∙ ap bare_lines other_is))
+
+pub good_report : (report : ReportValues) (before after : Outside) → IsGoodReport report before → NoFaults before after → (fault : CommandFault) → IsReportFault report before after fault → fault ≡ Memory
+good_report report before after good none (Files call file) (inl is) =
+    absurd (none (refused_there before after call file.now good.0 (subst (λ name. HasTable before name good.0) (sym is.1) good.1) is.2))
+good_report report before after good none (Files call file) (inr is) = absurd (none (refused_write before after call file.now is.0 is.2))
+good_report report before after good none Print is = absurd (none is.1)
+good_report report before after good none Memory is = refl
+good_report report before after good none (NoDatabase file kind line) is =
+    absurd (table_there before file.now good.0 kind line (subst (λ name. HasTable before name good.0) (sym is.0) good.1) is.1)
+good_report report before after good none (DesignsDiffer file line first other) is = absurd is

@@ -3,3 +3,4 @@ pub mod MergedDesign
 pub mod Merging
 pub mod Complete
 pub mod AnyOrder
+pub mod Reporting

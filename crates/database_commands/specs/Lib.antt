@@ -2,3 +2,4 @@ pub mod Files
 pub mod Faults
 pub mod Merging
 pub mod Complete
+pub mod Reporting

@@ -1,6 +1,6 @@
 //! The commands over files in memory.
-use crate::{CommandFault, run_merge};
-use command_line::{AnyCommand, MergeWords, read_any_command};
+use crate::{CommandFault, run_merge, run_report};
+use command_line::{AnyCommand, MergeWords, ReportWords, read_any_command};
 use cov_host::{Calls, MemoryHost, NoMemory, Words};
 use coverage_db::DbKind;
 use std::alloc::Global;
@@ -21,6 +21,10 @@ const MERGED: &[u8] =
 /// A table of another design.
 const OTHER: &[u8] = b"covered-db 1\ntop ffr\nsource 1 ffr.v\ninstance ffr ffr\npoints 0\nend\n";
 
+/// The report of the first table, with the points that are not hit.
+const REPORT: &[u8] =
+    b"covered report 1\ntop ff\nmodule ff\nmetric       hit  missed   undet   pct\nline           2       1       0   66%\ntoggle         0       1       0    0%\nmissed: l 3 1:3 assign\nmissed: t a - 10\nall            2       2       0   50%\n";
+
 /// The words of a command.
 fn words_of(alloc: Global, texts: &[&str]) -> Result<Words, NoMemory> {
     let mut words = Words::new(alloc);
@@ -34,6 +38,14 @@ fn words_of(alloc: Global, texts: &[&str]) -> Result<Words, NoMemory> {
 fn merge_of(words: &Words) -> Option<MergeWords<'_>> {
     match read_any_command(words) {
         Ok(AnyCommand::Merge(merge)) => Some(merge),
+        _ => None,
+    }
+}
+
+/// The values of a `report` command.
+fn report_of(words: &Words) -> Option<ReportWords<'_>> {
+    match read_any_command(words) {
+        Ok(AnyCommand::Report(report)) => Some(report),
         _ => None,
     }
 }
@@ -109,5 +121,25 @@ fn names_the_line_that_is_no_database(rt: HostRuntime) -> Result<(), Fail> {
         }
         _ => return Err(Fail::new("a database")),
     }
+    Ok(())
+}
+
+#[test]
+fn prints_a_report_or_writes_it(rt: HostRuntime) -> Result<(), Fail> {
+    let alloc = rt.alloc();
+    let printed = words_of(alloc, &["report", "-m", "tl", "-d", "d", "first.db"])?;
+    let report = report_of(&printed).ok_or("no report")?;
+    let mut host = host_with_tables(alloc)?;
+    assert!(rt; run_report(alloc, &report, &mut host).is_ok());
+    assert_eq!(rt; host.printed(), REPORT);
+    let written = words_of(
+        alloc,
+        &["report", "-o", "R", "-m", "tl", "-d", "d", "first.db"],
+    )?;
+    let report = report_of(&written).ok_or("no report")?;
+    let mut host = host_with_tables(alloc)?;
+    assert!(rt; run_report(alloc, &report, &mut host).is_ok());
+    assert_eq!(rt; host.file("R"), Some(REPORT));
+    assert!(rt; host.printed().is_empty());
     Ok(())
 }
