@@ -2,4 +2,10 @@ pub mod OptionLemmas
 pub mod GivenLemmas
 pub mod ScoreReading
 pub mod ScoreOutcome
+pub mod DatabaseOptions
+pub mod FilesAmong
+pub mod DatabaseItems
+pub mod DatabaseReading
+pub mod DatabaseOutcome
+pub mod Outcome
 pub mod OneCommand

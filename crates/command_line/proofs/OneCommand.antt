@@ -1,8 +1,12 @@
 -- Words are one command at most.
-use Rattle.std.proofs.Common.{◌≡◌, ◌∙◌, ℕ, List, Option, sym}
+use Rattle.std.proofs.Common.{◌≡◌, ◌∙◌, ℕ, Bool, List, ◌∷◌, Option, sym, ap}
+use Rattle.command_line.specs.declared.report_level.ReportLevel.{ReportLevel}
+use Rattle.command_line.specs.declared.report_metrics.ReportMetrics.{ReportMetrics}
 use Rattle.command_line.specs.declared.score_option.ScoreOption.{ScoreOption}
+use Rattle.command_line.specs.AnyCommand.{AreWordsOf, CommandValues, score, merge, report}
 use Rattle.command_line.specs.CommandWords.{AreValues, IsScore, ScoreValues, value_in}
-use Rattle.command_line.proofs.ScoreOutcome.{outcome_of-score}
+use Rattle.command_line.specs.DatabaseWords.{AreMergeValues, AreReportValues, IsMerge, IsReport, Item, MergeValues, ReportValues}
+use Rattle.command_line.proofs.Outcome.{outcome_of-score, outcome_of-merge, outcome_of-report}
 
 -- five values as one
 all_five : (top instance source dump output : List ℕ) → ScoreValues
@@ -19,3 +23,43 @@ one_command words a b score_a score_b =
     let e = sym (outcome_of-score words a score_a) ∙ outcome_of-score words b score_b in
     let same : value_in score_b.0 ≡ value_in score_a.0 = cc in
     one_values (value_in score_a.0) a b score_a.2 (rw (same) at score_b.2)
+
+merge_of : (output first : List ℕ) (others : List (List ℕ)) → MergeValues
+merge_of output first others = record { output = output; first = first; others = others }
+
+one_merge_values : (items : List Item) (a b : MergeValues) → AreMergeValues items a → AreMergeValues items b → a ≡ b
+unfolding merge_of
+one_merge_values items a b are_a are_b =
+    let e : merge_of a.output a.first a.others ≡ merge_of b.output b.first b.others = cc in e
+
+pub one_merge : (words : List (List ℕ)) (a b : MergeValues) → IsMerge words a → IsMerge words b → a ≡ b
+one_merge words a b is_a is_b =
+    let e = sym (outcome_of-merge words a is_a) ∙ outcome_of-merge words b is_b in
+    let same : is_b.0 ≡ is_a.0 = cc in
+    one_merge_values is_a.0 a b is_a.2 (rw (same) at is_b.2)
+
+report_of : (file : List ℕ) (level : ReportLevel) (metrics : ReportMetrics) (by_instance covered : Bool) (output : Option (List ℕ)) → ReportValues
+report_of file level metrics by_instance covered output = record { file = file; level = level; metrics = metrics; by_instance = by_instance; covered = covered; output = output }
+
+one_report_values : (items : List Item) (a b : ReportValues) → AreReportValues items a → AreReportValues items b → a ≡ b
+unfolding report_of
+one_report_values items a b are_a are_b =
+    let e : report_of a.file a.level a.metrics a.by_instance a.covered a.output ≡ report_of b.file b.level b.metrics b.by_instance b.covered b.output = cc in e
+
+pub one_report : (words : List (List ℕ)) (a b : ReportValues) → IsReport words a → IsReport words b → a ≡ b
+one_report words a b is_a is_b =
+    let e = sym (outcome_of-report words a is_a) ∙ outcome_of-report words b is_b in
+    let same : is_b.0 ≡ is_a.0 = cc in
+    one_report_values is_a.0 a b is_a.2 (rw (same) at is_b.2)
+
+-- words of one kind of command are none of another kind
+pub one_of_all : (words : List (List ℕ)) (a b : CommandValues) → AreWordsOf a words → AreWordsOf b words → a ≡ b
+one_of_all words (score a) (score b) is_a is_b = ap score (one_command words a b is_a is_b)
+one_of_all words (merge a) (merge b) is_a is_b = ap merge (one_merge words a b is_a is_b)
+one_of_all words (report a) (report b) is_a is_b = ap report (one_report words a b is_a is_b)
+one_of_all words (score a) (merge b) is_a is_b = let e = sym (outcome_of-score words a is_a) ∙ outcome_of-merge words b is_b in cc
+one_of_all words (score a) (report b) is_a is_b = let e = sym (outcome_of-score words a is_a) ∙ outcome_of-report words b is_b in cc
+one_of_all words (merge a) (score b) is_a is_b = let e = sym (outcome_of-merge words a is_a) ∙ outcome_of-score words b is_b in cc
+one_of_all words (merge a) (report b) is_a is_b = let e = sym (outcome_of-merge words a is_a) ∙ outcome_of-report words b is_b in cc
+one_of_all words (report a) (score b) is_a is_b = let e = sym (outcome_of-report words a is_a) ∙ outcome_of-score words b is_b in cc
+one_of_all words (report a) (merge b) is_a is_b = let e = sym (outcome_of-report words a is_a) ∙ outcome_of-merge words b is_b in cc

@@ -68,6 +68,9 @@ outcome-spelled front (x ∷ more) left h =
     let next = outcome-spelled (front ++ x ∷ []) more left (rw append_assoc h) in
     rw (named_text x.option, at.0, at.1, next, append_assoc)
 
+pub outcome-up_to : (given : List GivenOption) (left : List (List ℕ)) → AreGiven given → outcome [] (spelled given ++ left) ≡ outcome given left
+outcome-up_to given left are = outcome-spelled [] given left are
+
 outcome_of-up_to : (words : List (List ℕ)) (given : List GivenOption) (left : List (List ℕ)) → IsScoreUpTo words given left → outcome_of words ≡ outcome given left
 outcome_of-up_to words given left up_to = ap outcome_of up_to.spells ∙ outcome-spelled [] given left up_to.are_given
 
@@ -81,7 +84,7 @@ outcome-twice : (given : List GivenOption) (word : List ℕ) (rest : List (List 
 outcome-twice given word [] option h has = rw (h, has)
 outcome-twice given word (value ∷ rest) option h has = rw (h, has)
 
-outcome-fault : (given : List GivenOption) (left : List (List ℕ)) (fault : UsageFault) → FaultAfter given left fault → outcome given left ≡ Err (usage_text fault)
+pub outcome-fault : (given : List GivenOption) (left : List (List ℕ)) (fault : UsageFault) → FaultAfter given left fault → outcome given left ≡ Err (usage_text fault)
 outcome-fault given left NoCommand h = absurd h
 outcome-fault given left (UnknownCommand word) h = absurd h
 outcome-fault given left (UnknownWord word) h = ap (outcome given) h.0.1 ∙ outcome-unknown given word.now h.0.0 (named_none word.now h.1)

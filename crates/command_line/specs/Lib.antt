@@ -1,6 +1,15 @@
 pub mod ValueForm
 pub mod ScoreOption
 pub mod CommandWords
+pub mod WordsLeft
+pub mod ReportLevel
+pub mod ReportMetrics
+pub mod DatabaseOption
+pub mod DatabaseFiles
+pub mod DatabaseWords
+pub mod DatabaseFault
 pub mod UsageFault
 pub mod Command
+pub mod AnyCommand
 pub mod GivenValues
+pub mod GivenWords

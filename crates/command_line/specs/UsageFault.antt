@@ -1,9 +1,11 @@
 -- The first fault of words that are no command.
-use Rattle.std.specs.Prelude.{◌≡◌, ◌≢◌, ℕ, false, is_none, IsSome, List, [], ◌∷◌, ◌++◌, Option, Some, None, codes}
+use Rattle.std.specs.Prelude.{◌≡◌, ◌≢◌, ◌⊎◌, ℕ, false, is_none, IsSome, List, [], ◌∷◌, ◌++◌, Option, Some, None, codes}
 use Rattle.std.specs.List.{find}
 use Rattle.command_line.specs.declared.score_option.ScoreOption.{ScoreOption}
 use Rattle.command_line.specs.declared.usage_fault.UsageFault.{UsageFault}
 use Rattle.command_line.specs.declared.usage_fault.UsageFault.TheVariants.{NoCommand, UnknownCommand, UnknownWord, GivenTwice, NeedsValue, BadValue, Missing}
+use Rattle.command_line.specs.declared.database_command.DatabaseCommand.TheVariants.{Merge, Report}
+use Rattle.command_line.specs.DatabaseFault.{HasDatabaseFault}
 use Rattle.command_line.specs.ScoreOption.{options, option_text, accepts}
 use Rattle.command_line.specs.CommandWords.{GivenOption, value_in, IsScoreUpTo}
 
@@ -55,8 +57,22 @@ FaultAfter given left (NeedsValue word) = (left ≡ word.now ∷ []) × HasNoVal
 FaultAfter given left (BadValue word) = BeginsWithBadValue given word.now left
 FaultAfter given left (Missing word) = (left ≡ []) × IsMissing given word.now
 
+-- the words begin as `score`, and this is their first fault from the left
+abbrev pub HasScoreFault : List (List ℕ) → UsageFault → Type 0
+HasScoreFault words fault = (given : List GivenOption) × (left : List (List ℕ)) × IsScoreUpTo words given left × FaultAfter given left fault
+
 -- the words are no command, and this is their first fault from the left
 abbrev pub HasUsageFault : List (List ℕ) → UsageFault → Type 0
 HasUsageFault words NoCommand = words ≡ []
 HasUsageFault words (UnknownCommand word) = BeginsWith word.now words × (word.now ≢ codes "score")
-HasUsageFault words fault = (given : List GivenOption) × (left : List (List ℕ)) × IsScoreUpTo words given left × FaultAfter given left fault
+HasUsageFault words fault = HasScoreFault words fault
+
+-- the word names none of the commands
+abbrev pub NamesNoCommand : List ℕ → Type 0
+NamesNoCommand word = (word ≢ codes "score") × (word ≢ codes "merge") × (word ≢ codes "report")
+
+-- the words are none of the commands, and this is their first fault from the left
+abbrev pub HasAnyUsageFault : List (List ℕ) → UsageFault → Type 0
+HasAnyUsageFault words NoCommand = words ≡ []
+HasAnyUsageFault words (UnknownCommand word) = BeginsWith word.now words × NamesNoCommand word.now
+HasAnyUsageFault words fault = HasScoreFault words fault ⊎ HasDatabaseFault Merge words fault ⊎ HasDatabaseFault Report words fault

@@ -1,7 +1,8 @@
 ghost use Rattle.std.specs.Prelude.{◌∷◌, codes, IfOk, IfErr};
 ghost use Rattle.command_line.specs.Command.{IsCommand};
 ghost use Rattle.command_line.specs.CommandWords.{IsScore, score_values};
-ghost use Rattle.command_line.specs.UsageFault.{HasUsageFault};
+ghost use Rattle.command_line.specs.UsageFault.{HasScoreFault, HasUsageFault};
+ghost use Rattle.command_line.specs.WordsLeft.{left_words};
 
 use crate::given_values::GivenValues;
 use crate::words_left::WordsLeft;
@@ -30,9 +31,9 @@ pub fn read_command<'a>(words: &'a Words) -> Result<Command<'a>, UsageFault<'a>>
 }
 
 /// Reads the words that are left after `score`.
-fn read_score<'a>(left: &mut WordsLeft<'a>) -> Result<ScoreWords<'a>, UsageFault<'a>>
-    ensures score { IfOk result (λ score. IsScore (codes "score" ∷ left.old) (score_values score)) }
-    ensures fault { IfErr result (λ fault. HasUsageFault (codes "score" ∷ left.old) fault) }
+pub(crate) fn read_score<'a>(left: &mut WordsLeft<'a>) -> Result<ScoreWords<'a>, UsageFault<'a>>
+    ensures score { IfOk result (λ score. IsScore (codes "score" ∷ left_words left.old) (score_values score)) }
+    ensures fault { IfErr result (λ fault. HasScoreFault (codes "score" ∷ left_words left.old) fault) }
 {
     let mut values = GivenValues::none();
     while let Some(word) = left.next_word() {

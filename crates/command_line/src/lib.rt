@@ -1,12 +1,23 @@
 //! The words of the command line, read into a command with its values or into the first fault of usage.
 //!
-//! A command is its name and its options, each with its value, in any order. Words are one command at most, or
-//! they have one first fault from the left. Nothing here takes memory: values and faults borrow from the words.
+//! A command is its name, its options with their values and the databases that it reads, in any order. Words are
+//! one command at most, or they have one first fault from the left. Nothing here takes memory: values and faults
+//! borrow from the words.
 #![tactic(auto)]
 
+mod any_command;
 mod command;
+mod database_command;
+mod database_files;
+mod database_option;
+mod database_words;
 mod given_values;
+mod given_words;
 mod laws;
+mod merge_words;
+mod report_level;
+mod report_metrics;
+mod report_words;
 mod score_option;
 mod score_words;
 #[cfg(test)]
@@ -15,8 +26,19 @@ mod usage_fault;
 mod value_form;
 mod words_left;
 
+pub use any_command::{AnyCommand, read_any_command};
 pub use command::{Command, read_command};
-pub use laws::{commands_have_no_fault, words_are_one_command, words_have_one_fault};
+pub use database_command::DatabaseCommand;
+pub use database_files::DatabaseFiles;
+pub use database_option::DatabaseOption;
+pub use laws::{
+    any_commands_have_no_fault, commands_have_no_fault, words_are_one_command,
+    words_are_one_of_all_commands, words_have_one_fault, words_have_one_fault_of_all,
+};
+pub use merge_words::MergeWords;
+pub use report_level::ReportLevel;
+pub use report_metrics::ReportMetrics;
+pub use report_words::ReportWords;
 pub use score_option::ScoreOption;
 pub use score_words::ScoreWords;
 pub use usage_fault::UsageFault;

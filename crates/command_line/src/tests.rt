@@ -1,19 +1,20 @@
-//! Each fault as it is told, and a whole command.
-use crate::{Command, ScoreWords, read_command};
+//! Each fault as it is told, and a whole command of each kind.
+use crate::{
+    AnyCommand, Command, MergeWords, ReportLevel, ReportMetrics, ReportWords, ScoreWords,
+    read_any_command, read_command,
+};
 use cov_host::{NoMemory, Words};
 use std::alloc::Global;
 use std::test::Fail;
 
 /// Words that are no command, and what is told of them.
 #[rattlefmt::skip]
-const FAULTS: [(&[&str], &str); 48] = [
+const FAULTS: [(&[&str], &str); 70] = [
     (&[], "no command"),
     (&[""], "unknown command "),
     (&["exclude", "-o", "e.db", "-point", "t ff clk - 10", "t1.db"], "unknown command exclude"),
-    (&["merge", "-o", "m.db", "a.db", "b.db"], "unknown command merge"),
     (&["-t", "ff", "score"], "unknown command -t"),
     (&["rank", "t1.db"], "unknown command rank"),
-    (&["report", "t1.db"], "unknown command report"),
     (&["restore", "-o", "e.db", "-point", "t ff clk - 10", "t1.db"], "unknown command restore"),
     (&["selfrun", "1", "2"], "unknown command selfrun"),
     (&["frob"], "unknown command frob"),
@@ -55,6 +56,30 @@ const FAULTS: [(&[&str], &str); 48] = [
     (&["score", "-o", "B", "-vcd", "D"], "missing -t"),
     (&["score"], "missing -t"),
     (&["score", "-v", "-t", "-t", "ff"], "missing -i"),
+    (&["merge"], "missing -o"),
+    (&["merge", "a.db", "b.db"], "missing -o"),
+    (&["merge", "-o", "x"], "missing file"),
+    (&["merge", "-o", "x", "t1.db"], "missing file"),
+    (&["merge", "a.db", "b.db", "-o"], "-o needs a value"),
+    (&["merge", "-o", "x", "-o", "y", "a.db", "b.db"], "-o given twice"),
+    (&["merge", "a.db", "-d", "b.db"], "unknown word -d"),
+    (&["merge", "a.db", "", "b.db"], "unknown word "),
+    (&["report"], "missing file"),
+    (&["report", "-m", "a", "t1.db"], "bad value a"),
+    (&["report", "-m", "lr", "t1.db"], "bad value lr"),
+    (&["report", "-m", "ll", "t1.db"], "bad value ll"),
+    (&["report", "-m", "", "t1.db"], "bad value "),
+    (&["report", "-m", "l", "-m", "t", "t1.db"], "-m given twice"),
+    (&["report", "-i", "-i", "t1.db"], "-i given twice"),
+    (&["report", "-c", "t1.db", "-c"], "-c given twice"),
+    (&["report", "t1.db", "-d"], "-d needs a value"),
+    (&["report", "-d", "s", "-d", "v", "t1.db"], "-d given twice"),
+    (&["report", "-d", "sd", "t1.db"], "bad value sd"),
+    (&["report", "-d", "x", "t1.db"], "bad value x"),
+    (&["report", "a.db", "b.db"], "unknown word b.db"),
+    (&["report", "-x", "t1.db"], "unknown word -x"),
+    (&["report", "a\tb"], "unknown word a\tb"),
+    (&["report", "-o", "", "t1.db"], "bad value "),
 ];
 
 /// The words of a list.
@@ -70,7 +95,7 @@ fn words_of(alloc: Global, texts: &[&str]) -> Result<Words, NoMemory> {
 fn tells_the_first_fault(rt: HostRuntime) -> Result<(), Fail> {
     for (texts, told) in &FAULTS {
         let words = words_of(rt.alloc(), texts)?;
-        let fault = read_command(&words).err().ok_or("a command")?;
+        let fault = read_any_command(&words).err().ok_or("a command")?;
         let displayed = format!(in rt.alloc(); "{fault}")?;
         assert_eq!(rt; displayed.as_str(), *told);
         let [before, word, after] = fault.pieces();
@@ -103,6 +128,93 @@ fn reads_options_in_any_order(rt: HostRuntime) -> Result<(), Fail> {
     for order in &orders {
         let words = words_of(rt.alloc(), order)?;
         assert_eq!(rt; read_command(&words), Ok(Command::Score(score)));
+        assert_eq!(rt; score_of(&words), Some(score));
     }
+    Ok(())
+}
+
+/// The values of a `score` command.
+fn score_of(words: &Words) -> Option<ScoreWords<'_>> {
+    match read_any_command(words) {
+        Ok(AnyCommand::Score(score)) => Some(score),
+        _ => None,
+    }
+}
+
+/// The values of a `merge` command.
+fn merge_of(words: &Words) -> Option<MergeWords<'_>> {
+    match read_any_command(words) {
+        Ok(AnyCommand::Merge(merge)) => Some(merge),
+        _ => None,
+    }
+}
+
+/// The values of a `report` command.
+fn report_of(words: &Words) -> Option<ReportWords<'_>> {
+    match read_any_command(words) {
+        Ok(AnyCommand::Report(report)) => Some(report),
+        _ => None,
+    }
+}
+
+#[test]
+fn reads_databases_in_the_order_of_the_words(rt: HostRuntime) -> Result<(), Fail> {
+    let orders: [[&str; 6]; 3] = [
+        ["merge", "-o", "-m", "a.db", "b.db", "c.db"],
+        ["merge", "a.db", "-o", "-m", "b.db", "c.db"],
+        ["merge", "a.db", "b.db", "c.db", "-o", "-m"],
+    ];
+    for order in &orders {
+        let words = words_of(rt.alloc(), order)?;
+        let merge = merge_of(&words).ok_or("no merge")?;
+        let mut others = merge.others;
+        assert_eq!(rt; merge.output, "-m");
+        assert_eq!(rt; merge.first, "a.db");
+        assert_eq!(rt; others.next_file(), Some("b.db"));
+        assert_eq!(rt; others.next_file(), Some("c.db"));
+        assert_eq!(rt; others.next_file(), None);
+    }
+    Ok(())
+}
+
+#[test]
+fn reads_the_options_of_a_report(rt: HostRuntime) -> Result<(), Fail> {
+    let plain = words_of(rt.alloc(), &["report", "t1.db"])?;
+    let summary = ReportWords {
+        file: "t1.db",
+        level: ReportLevel::Summary,
+        metrics: ReportMetrics {
+            line: true,
+            logic: true,
+            toggle: true,
+            fsm: true,
+            memory: false,
+        },
+        by_instance: false,
+        covered: false,
+        output: None,
+    };
+    assert_eq!(rt; report_of(&plain), Some(summary));
+    let options = words_of(
+        rt.alloc(),
+        &[
+            "report", "-c", "-m", "mt", "t1.db", "-i", "-d", "v", "-o", "R",
+        ],
+    )?;
+    let verbose = ReportWords {
+        file: "t1.db",
+        level: ReportLevel::Verbose,
+        metrics: ReportMetrics {
+            line: false,
+            logic: false,
+            toggle: true,
+            fsm: false,
+            memory: true,
+        },
+        by_instance: true,
+        covered: true,
+        output: Some("R"),
+    };
+    assert_eq!(rt; report_of(&options), Some(verbose));
     Ok(())
 }

@@ -2,6 +2,7 @@ ghost use Rattle.std.specs.Prelude.{◌≡◌};
 ghost use Rattle.std.specs.List.{list_any};
 ghost use Rattle.cov_host.specs.Identifier.{is_identifier};
 ghost use Rattle.command_line.specs.ValueForm.{is_white_space, is_path_part, is_instance_path, is_control, is_file_name};
+ghost use Rattle.command_line.specs.DatabaseOption.{is_database_name};
 
 /// Whether the value names a module: an identifier (IEEE 1364-2001 clause 2.7) of at most 255 bytes, no keyword.
 pub fn is_module_name(value: &str) -> bool
@@ -54,4 +55,11 @@ fn has_control_byte(bytes: &[u8]) -> bool
     ensures { result ≡ list_any is_control bytes.now }
 {
     bytes.iter().any(|byte| *byte < 32)
+}
+
+/// Whether the word can name a database: it names a file and does not begin as an option does.
+pub(crate) fn is_database_name(word: &str) -> bool
+    ensures { result ≡ is_database_name word.now }
+{
+    !word.starts_with('-') && is_file_name(word)
 }

@@ -15,4 +15,4 @@ first_left words place None is_there = tt
 first_left words place (Some word) is_there = drop_at words place word.now (cc)
 
 pub returns-clause-word : goal.returns-clause-word
-returns-clause-word c = rw (← c.self.view_is) (first_left c.self.inside.words.now c.self.inside.place c.get-word.result c.get-word.ensures.value)
+returns-clause-word c = first_left c.args.self.now.words.now c.args.self.now.place c.get-word.result c.get-word.ensures.value

@@ -1,0 +1,78 @@
+-- Items, and one more of them.
+use Rattle.std.proofs.Common.{◌≡◌, ◌∙◌, ◌⊎◌, ℕ, ◌+◌, ◌≤◌, ◌==◌, Bool, true, false, cond, sym, ap, refl, subst, arith, inl, inr, List, [], ◌∷◌, ◌++◌, length, append_assoc, append-nil, length-append, Option, Some, None, IsTrue}
+use Rattle.std.proofs.lemmas.Bool.{false≢true, eqb-true}
+use Rattle.std.proofs.lemmas.Option.{none-some}
+use Rattle.command_line.specs.declared.database_command.DatabaseCommand.{DatabaseCommand}
+use Rattle.command_line.specs.declared.database_command.DatabaseCommand.TheVariants.{Merge, Report}
+use Rattle.command_line.specs.declared.database_option.DatabaseOption.{DatabaseOption}
+use Rattle.command_line.specs.DatabaseOption.{has_room, is_same}
+use Rattle.command_line.specs.DatabaseWords.{Item, file, given, item_words, spelled, files_in, value_in, MayFollow, AreItems}
+use Rattle.command_line.proofs.DatabaseOptions.{is_same-both}
+
+spelled-append : (items more : List Item) → spelled (items ++ more) ≡ spelled items ++ spelled more
+spelled-append [] more = refl
+spelled-append (x ∷ items) more = ap (λ words. item_words x ++ words) (spelled-append items more) ∙ sym (append_assoc (item_words x) (spelled items) (spelled more))
+
+-- the words of one more item
+pub spelled-push : (items : List Item) (x : Item) (all left : List (List ℕ)) → all ≡ item_words x ++ left → spelled items ++ all ≡ spelled (items ++ x ∷ []) ++ left
+spelled-push items x all left is =
+    ap (λ rest. spelled items ++ rest) is
+    ∙ sym (append_assoc (spelled items) (item_words x) left)
+    ∙ ap (λ words. (spelled items ++ words) ++ left) (sym (append-nil (item_words x)))
+    ∙ ap (λ words. words ++ left) (sym (spelled-append items (x ∷ [])))
+
+pub files_in-append : (items more : List Item) → files_in (items ++ more) ≡ files_in items ++ files_in more
+files_in-append [] more = refl
+files_in-append (file name ∷ items) more = ap (λ files. name ∷ files) (files_in-append items more)
+files_in-append (given option value ∷ items) more = files_in-append items more
+
+-- two choices of which not both are made may be made in either order
+swap_choices : {A : Type 0} (first second : Bool) (x y z : A) → (first ≡ true → second ≡ true → ⊥) → cond first x (cond second y z) ≡ cond second y (cond first x z)
+swap_choices true true x y z h = absurd (h refl refl)
+swap_choices true false x y z h = refl
+swap_choices false true x y z h = refl
+swap_choices false false x y z h = refl
+
+-- nothing is chosen of a value and an option
+no_choice : {A : Type 0} (b : Bool) (x : A) (o : Option A) → cond b (Some x) o ≡ None → (b ≡ false) × (o ≡ None)
+no_choice true x o h = absurd (none-some x (sym h))
+no_choice false x o h = (refl, h)
+
+-- a database gives no option a value
+pub value_in-file : (items : List Item) (name : List ℕ) (option : DatabaseOption) → value_in (items ++ file name ∷ []) option ≡ value_in items option
+value_in-file [] name option = refl
+value_in-file (file other ∷ items) name option = value_in-file items name option
+value_in-file (given other value ∷ items) name option = ap (cond (is_same other option) (Some value)) (value_in-file items name option)
+
+-- one more option, which had no value
+pub value_in-given : (items : List Item) (option : DatabaseOption) (value : List ℕ) (other : DatabaseOption) → value_in items option ≡ None → value_in (items ++ given option value ∷ []) other ≡ cond (is_same option other) (Some value) (value_in items other)
+value_in-given [] option value other h = refl
+value_in-given (file name ∷ items) option value other h = value_in-given items option value other h
+value_in-given (given first v ∷ items) option value other h =
+    let absent = no_choice (is_same first option) v (value_in items option) h in
+    let more = value_in-given items option value other absent.1 in
+    let apart = λ (p : is_same first other ≡ true) (q : is_same option other ≡ true). false≢true (sym absent.0 ∙ is_same-both first option other p q) in
+    ap (cond (is_same first other) (Some v)) more ∙ swap_choices (is_same first other) (is_same option other) (Some v) (Some value) (value_in items other) apart
+
+-- items stay so with one more that may stand behind them
+pub AreItems-push : (command : DatabaseCommand) (before items : List Item) (x : Item) → AreItems command before items → MayFollow command (before ++ items) x → AreItems command before (items ++ x ∷ [])
+AreItems-push command before [] x are may = (subst (λ all. MayFollow command all x) (append-nil before) may, tt)
+AreItems-push command before (y ∷ items) x are may =
+    (are.0, AreItems-push command (before ++ y ∷ []) items x are.1 (subst (λ all. MayFollow command all x) (sym (append_assoc before (y ∷ []) items)) may))
+
+-- a report has at most one database among its items
+pub one_file : (before items : List Item) → AreItems Report before items → length (files_in before) ≤ 1 → length (files_in (before ++ items)) ≤ 1
+one_file before [] are few = subst (λ all. length (files_in all) ≤ 1) (sym (append-nil before)) few
+one_file before (file name ∷ items) are few =
+    let none : length (files_in before) ≡ 0 = eqb-true (length (files_in before)) 0 are.0.1 in
+    let one : length (files_in (before ++ file name ∷ [])) ≤ 1 = omega (arith, ap length (files_in-append before (file name ∷ [])), length-append (files_in before) (name ∷ [])) in
+    subst (λ all. length (files_in all) ≤ 1) (append_assoc before (file name ∷ []) items) (one_file (before ++ file name ∷ []) items are.1 one)
+one_file before (given option value ∷ items) are few =
+    let same : length (files_in (before ++ given option value ∷ [])) ≤ 1 = omega (arith, ap length (files_in-append before (given option value ∷ [])), length-append (files_in before) []) in
+    subst (λ all. length (files_in all) ≤ 1) (append_assoc before (given option value ∷ []) items) (one_file (before ++ given option value ∷ []) items are.1 same)
+
+-- so a list of its databases that begins with one ends with it
+pub the_one_file : (items : List Item) (name : List ℕ) (others : List (List ℕ)) → AreItems Report [] items → files_in items ≡ name ∷ others → files_in items ≡ name ∷ []
+the_one_file items name [] are is = is
+the_one_file items name (other ∷ others) are is =
+    let few = one_file [] items are (omega arith) in absurd (omega (arith, few, ap length is))

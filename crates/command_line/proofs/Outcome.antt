@@ -1,0 +1,94 @@
+-- What words come to, as a function of them: one of all commands, or the text of a fault.
+use Rattle.std.proofs.Common.{◌≡◌, ◌∙◌, ◌⊎◌, ℕ, cond, true, false, sym, ap, refl, inl, inr, List, [], ◌∷◌, ◌++◌, Option, Some, None, Result, Ok, Err, codes}
+use Rattle.std.specs.Str.{bytes_eq}
+use Rattle.std.proofs.lemmas.Bool.{false_from_ne_true}
+use Rattle.std.proofs.lemmas.Slice.Eq.{bytes_eq-Decides}
+use Rattle.command_line.specs.declared.database_command.DatabaseCommand.{DatabaseCommand}
+use Rattle.command_line.specs.declared.database_command.DatabaseCommand.TheVariants.{Merge, Report}
+use Rattle.command_line.specs.declared.database_option.DatabaseOption.TheVariants.{Output}
+use Rattle.command_line.specs.declared.usage_fault.UsageFault.{UsageFault}
+use Rattle.command_line.specs.declared.usage_fault.UsageFault.TheVariants.{NoCommand, UnknownCommand, UnknownWord, GivenTwice, NeedsValue, BadValue, Missing}
+use Rattle.command_line.specs.AnyCommand.{AreWordsOf, CommandValues, score, merge, report}
+use Rattle.command_line.specs.CommandWords.{AreValues, GivenOption, IsScore, ScoreValues, value_in}
+use Rattle.command_line.specs.DatabaseFault.{missing_of, HasDatabaseFault}
+use Rattle.command_line.specs.DatabaseWords.{AreMergeValues, AreReportValues, Item, IsMerge, IsReport, IsUpTo, MergeValues, ReportValues, command_text, files_in, value_in as item_value}
+use Rattle.command_line.specs.UsageFault.{usage_text, HasAnyUsageFault, HasScoreFault}
+use Rattle.command_line.proofs.DatabaseOutcome as database
+use Rattle.command_line.proofs.ScoreOutcome as scoring
+
+-- the options of a `score` command, or the items of one that reads databases
+pub data Parsed : Type 0 where
+  options : List GivenOption → Parsed
+  items : DatabaseCommand → List Item → Parsed
+
+abbrev pub mapped : {A B E : Type 0} → (A → B) → Result A E → Result B E
+mapped f (Ok x) = Ok (f x)
+mapped f (Err fault) = Err fault
+
+abbrev pub outcome_of : List (List ℕ) → Result Parsed (List ℕ)
+outcome_of [] = Err (codes "no command")
+outcome_of (word ∷ left) =
+    cond (bytes_eq word (codes "score")) (mapped options (scoring.outcome [] left))
+    (cond (bytes_eq word (codes "merge")) (mapped (items Merge) (database.outcome Merge [] left))
+    (cond (bytes_eq word (codes "report")) (mapped (items Report) (database.outcome Report [] left)) (Err (codes "unknown command " ++ word))))
+
+outcome_of-database : (command : DatabaseCommand) (left : List (List ℕ)) → outcome_of (command_text command ∷ left) ≡ mapped (items command) (database.outcome command [] left)
+outcome_of-database Merge left = refl
+outcome_of-database Report left = refl
+
+-- items are read after the command
+outcome_of-items : (command : DatabaseCommand) (words : List (List ℕ)) (read : List Item) (left : List (List ℕ)) → IsUpTo command words read left → outcome_of words ≡ mapped (items command) (database.outcome command read left)
+outcome_of-items command words read left up_to =
+    ap outcome_of up_to.spells ∙ outcome_of-database command _ ∙ ap (mapped (items command)) (database.outcome-up_to command read left up_to.are_items)
+
+-- the text that a fault of one command has
+outcome_of-score_fault : (words : List (List ℕ)) (fault : UsageFault) → HasScoreFault words fault → outcome_of words ≡ Err (usage_text fault)
+outcome_of-score_fault words fault h = ap outcome_of h.2.spells ∙ ap (mapped options) (scoring.outcome-up_to h.0 h.1 h.2.are_given ∙ scoring.outcome-fault h.0 h.1 fault h.3)
+
+outcome_of-database_fault : (command : DatabaseCommand) (words : List (List ℕ)) (fault : UsageFault) → HasDatabaseFault command words fault → outcome_of words ≡ Err (usage_text fault)
+outcome_of-database_fault command words fault h = outcome_of-items command words h.0 h.1 h.2 ∙ ap (mapped (items command)) (database.outcome-fault command h.0 h.1 fault h.3)
+
+outcome_of-any_fault : (words : List (List ℕ)) (fault : UsageFault) → HasScoreFault words fault ⊎ HasDatabaseFault Merge words fault ⊎ HasDatabaseFault Report words fault → outcome_of words ≡ Err (usage_text fault)
+outcome_of-any_fault words fault (inl of_score) = outcome_of-score_fault words fault of_score
+outcome_of-any_fault words fault (inr (inl of_merge)) = outcome_of-database_fault Merge words fault of_merge
+outcome_of-any_fault words fault (inr (inr of_report)) = outcome_of-database_fault Report words fault of_report
+
+no_name : (word name : List ℕ) → (word ≡ name → ⊥) → bytes_eq word name ≡ false
+no_name word name other = false_from_ne_true (bytes_eq word name) (λ e. other ((bytes_eq-Decides word name).0 e))
+
+-- a fault is what the words come to
+pub outcome_of-fault : (words : List (List ℕ)) (fault : UsageFault) → HasAnyUsageFault words fault → outcome_of words ≡ Err (usage_text fault)
+outcome_of-fault words NoCommand h = ap outcome_of h
+outcome_of-fault words (UnknownCommand word) h =
+    ap outcome_of h.0.1 ∙ rw (no_name word.now (codes "score") h.1.0, no_name word.now (codes "merge") h.1.1, no_name word.now (codes "report") h.1.2)
+outcome_of-fault words fault h = outcome_of-any_fault words fault h
+
+-- all that a command needs was given
+score_end : (given : List GivenOption) (values : ScoreValues) → AreValues (value_in given) values → scoring.outcome given [] ≡ Ok given
+score_end given values are = rw (are.top, are.instance, are.source, are.dump, are.output)
+
+several_files : (output first : List ℕ) (others : List (List ℕ)) → (others ≡ [] → ⊥) → missing_of Merge (Some output) (first ∷ others) ≡ None
+several_files output first [] some = absurd (some refl)
+several_files output first (second ∷ others) some = refl
+
+merge_end : (read : List Item) (values : MergeValues) → AreMergeValues read values → missing_of Merge (item_value read Output) (files_in read) ≡ None
+merge_end read values are = rw (are.output, are.files) (several_files values.output values.first values.others are.several)
+
+report_end : (read : List Item) (values : ReportValues) → AreReportValues read values → missing_of Report (item_value read Output) (files_in read) ≡ None
+report_end read values are = rw are.file
+
+-- a command's words come to its options or items
+pub outcome_of-score : (words : List (List ℕ)) (values : ScoreValues) (is : IsScore words values) → outcome_of words ≡ Ok (options is.0)
+outcome_of-score words values is = ap outcome_of is.1.spells ∙ ap (mapped options) (scoring.outcome-up_to is.0 [] is.1.are_given ∙ score_end is.0 values is.2)
+
+pub outcome_of-merge : (words : List (List ℕ)) (values : MergeValues) (is : IsMerge words values) → outcome_of words ≡ Ok (items Merge is.0)
+outcome_of-merge words values is = outcome_of-items Merge words is.0 [] is.1 ∙ ap (mapped (items Merge)) (ap (database.at_end is.0) (merge_end is.0 values is.2))
+
+pub outcome_of-report : (words : List (List ℕ)) (values : ReportValues) (is : IsReport words values) → outcome_of words ≡ Ok (items Report is.0)
+outcome_of-report words values is = outcome_of-items Report words is.0 [] is.1 ∙ ap (mapped (items Report)) (ap (database.at_end is.0) (report_end is.0 values is.2))
+
+-- so words that come to a command have no fault
+pub command_without_fault : (words : List (List ℕ)) (values : CommandValues) (fault : UsageFault) → AreWordsOf values words → HasAnyUsageFault words fault → ⊥
+command_without_fault words (score values) fault is has = let e = sym (outcome_of-score words values is) ∙ outcome_of-fault words fault has in cc
+command_without_fault words (merge values) fault is has = let e = sym (outcome_of-merge words values is) ∙ outcome_of-fault words fault has in cc
+command_without_fault words (report values) fault is has = let e = sym (outcome_of-report words values is) ∙ outcome_of-fault words fault has in cc

@@ -1,0 +1,48 @@
+ghost use Rattle.std.specs.Prelude.{◌≡◌, IfNone, IfSome};
+ghost use Rattle.command_line.specs.DatabaseOption.{IsOptionOf, IsNoOptionOf, has_option, has_room};
+
+use crate::DatabaseOption;
+
+/// A command that reads databases.
+#[derive(Clone, Copy, Debug, PartialEq, Eq)]
+pub enum DatabaseCommand {
+    /// Joins databases of one design.
+    Merge,
+    /// Shows a database.
+    Report,
+}
+
+impl DatabaseCommand {
+    /// The option of the command that a word is.
+    pub(crate) fn option_named(self, word: &str) -> Option<DatabaseOption>
+        ensures named { IfSome result (λ option. IsOptionOf self option word.now) }
+        ensures unknown { IfNone result (IsNoOptionOf self word.now) }
+    {
+        let option = DatabaseOption::named(word)?;
+        if self.has_option(option) {
+            Some(option)
+        } else {
+            None
+        }
+    }
+
+    /// Whether the command has the option.
+    fn has_option(self, option: DatabaseOption) -> bool
+        ensures { result ≡ has_option self option }
+    {
+        match self {
+            DatabaseCommand::Merge => option == DatabaseOption::Output,
+            DatabaseCommand::Report => true,
+        }
+    }
+
+    /// Whether a database may be named, where it is the first or not.
+    pub(crate) fn has_room(self, is_first: bool) -> bool
+        ensures { result ≡ has_room self is_first }
+    {
+        match self {
+            DatabaseCommand::Merge => true,
+            DatabaseCommand::Report => is_first,
+        }
+    }
+}

@@ -1,0 +1,80 @@
+ghost use Rattle.std.specs.Prelude.{◌≡◌, false, [], ◌∷◌, ◌++◌, IfOk, IfErr, IfSome, IfNone, IsTrue, codes};
+ghost use Rattle.command_line.specs.DatabaseFault.{HasDatabaseFault};
+ghost use Rattle.command_line.specs.DatabaseOption.{takes_value};
+ghost use Rattle.command_line.specs.DatabaseWords.{IsMerge, IsReport, command_text, merge_values, report_values, value_words};
+ghost use Rattle.command_line.specs.GivenWords.{HasRead};
+ghost use Rattle.command_line.specs.WordsLeft.{left_words};
+ghost use Rattle.command_line.specs.declared.database_command.DatabaseCommand.TheVariants.{Merge, Report};
+
+use crate::given_words::GivenWords;
+use crate::value_form::is_database_name;
+use crate::words_left::WordsLeft;
+use crate::{DatabaseCommand, DatabaseOption, MergeWords, ReportWords, UsageFault};
+
+/// Reads the words that are left after `merge`.
+pub(crate) fn read_merge<'a>(left: &mut WordsLeft<'a>) -> Result<MergeWords<'a>, UsageFault<'a>>
+    ensures merge { IfOk result (λ merge. IsMerge (codes "merge" ∷ left_words left.old) (merge_values merge)) }
+    ensures fault { IfErr result (λ fault. HasDatabaseFault Merge (codes "merge" ∷ left_words left.old) fault) }
+{
+    let given = read_words(DatabaseCommand::Merge, left)?;
+    match given.merge_words() {
+        Ok(merge) => Ok(merge),
+        Err(word) => Err(UsageFault::Missing(word)),
+    }
+}
+
+/// Reads the words that are left after `report`.
+pub(crate) fn read_report<'a>(left: &mut WordsLeft<'a>) -> Result<ReportWords<'a>, UsageFault<'a>>
+    ensures report { IfOk result (λ report. IsReport (codes "report" ∷ left_words left.old) (report_values report)) }
+    ensures fault { IfErr result (λ fault. HasDatabaseFault Report (codes "report" ∷ left_words left.old) fault) }
+{
+    let given = read_words(DatabaseCommand::Report, left)?;
+    match given.report_words() {
+        Ok(report) => Ok(report),
+        Err(word) => Err(UsageFault::Missing(word)),
+    }
+}
+
+/// Reads the words that are left after the name of the command.
+fn read_words<'a>(
+    command: DatabaseCommand,
+    left: &mut WordsLeft<'a>,
+) -> Result<GivenWords<'a>, UsageFault<'a>>
+    ensures read { IfOk result (λ given. HasRead command (command_text command ∷ left_words left.old) [] given) }
+    ensures fault { IfErr result (λ fault. HasDatabaseFault command (command_text command ∷ left_words left.old) fault) }
+{
+    let mut given = GivenWords::none(*left);
+    while let Some(word) = left.next_word() {
+        let Some(option) = command.option_named(word) else {
+            if !is_database_name(word) || !command.has_room(given.has_no_file()) {
+                return Err(UsageFault::UnknownWord(word));
+            }
+            given.add_file(word, *left);
+            continue;
+        };
+        if given.get(option).is_some() {
+            return Err(UsageFault::GivenTwice(word));
+        }
+        let Some(value) = value_behind(option, left) else {
+            return Err(UsageFault::NeedsValue(word));
+        };
+        if !option.accepts(value) {
+            return Err(UsageFault::BadValue(value));
+        }
+        given.set(option, value);
+    }
+    Ok(given)
+}
+
+/// The value of an option that was read. One that takes no value has the empty one.
+fn value_behind<'a>(option: DatabaseOption, left: &mut WordsLeft<'a>) -> Option<&'a str>
+    ensures value { IfSome result (λ value. left_words left.old ≡ value_words option value.now ++ left_words left.new) }
+    ensures empty { IfSome result (λ value. takes_value option ≡ false → value.now ≡ []) }
+    ensures none { IfNone result (IsTrue (takes_value option) × (left_words left.old ≡ [])) }
+{
+    if option.takes_value() {
+        left.next_word()
+    } else {
+        Some("")
+    }
+}

@@ -1,0 +1,6 @@
+pub mod Reading
+pub mod MergedDesign
+pub mod Merging
+pub mod Complete
+pub mod AnyOrder
+pub mod Reporting

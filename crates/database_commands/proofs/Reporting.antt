@@ -1,0 +1,27 @@
+-- A report that was given, and why one was not.
+use Rattle.std.proofs.Common.{◌∙◌, ℕ, List, Option, None, Some, sym, subst, inl}
+use Rattle.command_line.specs.DatabaseWords.{ReportValues}
+use Rattle.cov_host.specs.Outside.{Appends, Files as HostFiles, HasFile, Outside, SameFiles, Told}
+use Rattle.whole_files.specs.Effects.{OnlyReads}
+use Rattle.whole_files.proofs.EffectLemmas.{Told-trans}
+use Rattle.database_commands.specs.Faults.{IsNoTable, IsRefused, IsTableFault}
+use Rattle.database_commands.specs.Reporting.{GivesText, IsReportFault}
+use Rattle.database_commands.specs.declared.fault.CommandFault.{CommandFault}
+use Rattle.database_commands.specs.declared.fault.CommandFault.TheVariants.{Files, Print, Memory, NoDatabase, DesignsDiffer}
+
+-- the file of a report was not read
+pub report_table_fault : (report : ReportValues) (before after : Outside) (fault : CommandFault) → IsTableFault report.file before after fault → IsReportFault report before after fault
+report_table_fault report before after (Files call file) is = inl (is.1, is.0, subst (λ name. IsRefused call name before after) (sym is.0) is.2)
+report_table_fault report before after Print is = absurd is
+report_table_fault report before after Memory is = tt
+report_table_fault report before after (NoDatabase file kind line) is = (is.0, subst (λ name. IsNoTable name before kind line) (sym is.0) is.1)
+report_table_fault report before after (DesignsDiffer file line first other) is = absurd is
+
+written_since : (name text : List ℕ) (before now after : Option HostFiles) → Told SameFiles before now → Told (HasFile name text) now after → Told (HasFile name text) before after
+written_since name text before now after same written =
+    Told-trans {R = SameFiles} {S = HasFile name text} {T = HasFile name text} before now after (λ x y z kept has. record { named = has.named; others = λ other apart. has.others other apart ∙ kept other }) same written
+
+-- what was given after reading was given since before
+pub gives_since : (output : Option (List ℕ)) (text : List ℕ) (before now after : Outside) → OnlyReads before now → GivesText output text now after → GivesText output text before after
+gives_since None text before now after effects gives = subst (λ printed. Told (Appends text) printed after.printed) effects.streams.printed gives
+gives_since (Some name) text before now after effects gives = written_since name text before.files now.files after.files effects.files gives

@@ -1,0 +1,38 @@
+use Rattle.std.proofs.Common.{◌∙◌, ap, subst}
+use Rattle.std.proofs.lemmas.Result.{err_from_is_err_and, on_ok_weaker}
+use Rattle.cov_report.specs.Report.{report_text}
+use Rattle.database_commands.specs.Reporting.{GivesText, options_of}
+use Rattle.command_line.specs.DatabaseWords.{report_values}
+use Rattle.database_commands.proofs.Complete.{good_report}
+use Rattle.database_commands.proofs.Reporting.{gives_since, report_table_fault}
+use Rattle.database_commands.proofs.report.run_report.Goals as goal
+
+pub returns-in_err-table-clause-fault : goal.returns-in_err-table-clause-fault
+returns-in_err-table-clause-fault g c =
+    let report = report_values c.args.words.now in
+    let before = g.H.Host.outside c.args.host.now in
+    let after = g.H.Host.outside c.read_table.new.host in
+    let fault = err_from_is_err_and c.from_residual.result c.from_residual.ensures.1 in
+    rw (fault.1, fault.2) (report_table_fault report before after _ c.in_err-table.ensures.fault)
+
+pub returns-in_err-table-clause-complete : goal.returns-in_err-table-clause-complete
+returns-in_err-table-clause-complete g c =
+    let report = report_values c.args.words.now in
+    let before = g.H.Host.outside c.args.host.now in
+    let after = g.H.Host.outside c.read_table.new.host in
+    let fault = err_from_is_err_and c.from_residual.result c.from_residual.ensures.1 in
+    rw (fault.1, fault.2) (λ good none. good_report report before after good none _ (report_table_fault report before after _ c.in_err-table.ensures.fault))
+
+pub returns-in-Ok-clause-done : goal.returns-in-Ok-clause-done
+returns-in-Ok-clause-done g c =
+    let report = report_values c.args.words.now in
+    let before = g.H.Host.outside c.args.host.now in
+    let now = g.H.Host.outside c.read_table.new.host in
+    let after = g.H.Host.outside c.give.new.host in
+    let table = c.in_ok-table.table in
+    let text_is = c.in-Ok.ensures ∙ ap (report_text table) c.options_of.ensures in
+    on_ok_weaker c.give.result (λ gives. record {
+      table = table;
+      holds = c.in_ok-table.ensures.table;
+      gives = gives_since report.output (report_text table (options_of report)) before now after c.read_table.ensures.effects (subst (λ text. GivesText report.output text now after) text_is gives);
+    }) c.give.ensures.gives

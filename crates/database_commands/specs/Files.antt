@@ -1,0 +1,32 @@
+-- Files that hold tables.
+use Rattle.std.specs.Prelude.{◌≡◌, ◌≢◌, ◌≤◌, ℕ, List, [], ◌∷◌, length, Some, All, IfSome}
+use Rattle.cov_host.specs.Outside.{Files, Outside}
+use Rattle.coverage_db.specs.Merge.{SameDesign}
+use Rattle.coverage_db.specs.Table.{IsTable}
+use Rattle.coverage_db.specs.Text.{text_of}
+use Rattle.coverage_db.specs.declared.db.Db.{Db}
+
+-- the file has this text, where the host tells the files
+abbrev pub IsFile : Outside → List ℕ → List ℕ → Type 0
+IsFile outside name text = IfSome outside.files (λ files. files name ≡ Some text)
+
+-- the file has the text of this table, which is no longer than 2,147,483,648 bytes
+pub record HoldsTable (before : Outside) (name : List ℕ) (db : Db) : Type 0 where
+  pub table : IsTable db
+  pub is : IsFile before name (text_of db)
+  pub short : length (text_of db) ≤ 2147483648
+
+-- each file has the text of its table
+abbrev pub HoldTables : Outside → List (List ℕ) → List Db → Type 0
+HoldTables before [] [] = Unit {0}
+HoldTables before (name ∷ names) (db ∷ tables) = HoldsTable before name db × HoldTables before names tables
+HoldTables before _ _ = ⊥
+
+-- all tables are of the design of the first
+abbrev pub AreOfOneDesign : List Db → Type 0
+AreOfOneDesign [] = Unit {0}
+AreOfOneDesign (first ∷ others) = All (SameDesign first) others
+
+-- every file but this one is as before
+abbrev pub KeepsOthers : List ℕ → Files → Files → Type 0
+KeepsOthers name old new = (other : List ℕ) → other ≢ name → new other ≡ old other

@@ -1,0 +1,5 @@
+pub mod Files
+pub mod Faults
+pub mod Merging
+pub mod Complete
+pub mod Reporting

@@ -1,0 +1,15 @@
+//! The commands over databases, over any host: joining databases of one design, and showing one.
+#![tactic(auto)]
+
+mod fault;
+mod files;
+mod laws;
+mod merge;
+mod report;
+#[cfg(test)]
+mod tests;
+
+pub use fault::CommandFault;
+pub use laws::any_order;
+pub use merge::run_merge;
+pub use report::run_report;
