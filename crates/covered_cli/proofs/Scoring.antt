@@ -2,15 +2,14 @@
 use Rattle.std.proofs.Common.{◌≡◌, ℕ, ◌≤◌, List, length, Option, None, Some, Ok, Err, refl, sym, subst, ◌∙◌, inl, inr, arith}
 use Rattle.std.proofs.lemmas.Bool.{cases_lt}
 use Rattle.std.specs.Prelude.{IfSome, IsSomeAnd, Result, OnOk}
-use Rattle.command_line.specs.Command.{IsCommand}
+use Rattle.command_line.specs.AnyCommand.{IsAnyCommand, command_values}
 use Rattle.command_line.specs.CommandWords.{ScoreValues, score_values}
-use Rattle.command_line.specs.declared.command.Command.{Command}
-use Rattle.command_line.specs.declared.command.Command.TheVariants.{Score}
+use Rattle.command_line.specs.declared.any_command.AnyCommand.{AnyCommand}
 use Rattle.cov_host.specs.Outside.{Outside, Files, KeepsFiles, SameFiles, Told, HasFile}
 use Rattle.covered_cli.specs.Fault.{IsScoreFault, IsSourceFault, StandsIn}
 use Rattle.covered_cli.specs.Scoring.{HasNoDesign, HasNoScore, IsDone, IsDoneIn, IsDoneWork, IsReadOf, IsScoreText}
 use Rattle.covered_cli.specs.declared.fault.Fault.{Fault}
-use Rattle.covered_cli.specs.declared.fault.Fault.TheVariants.{Usage, SourceNotYet, DumpNotYet, Files as FilesFault, Memory}
+use Rattle.covered_cli.specs.declared.fault.Fault.TheVariants.{Usage, SourceNotYet, DumpNotYet, Files as FilesFault, Memory, Databases}
 use Rattle.design_model.specs.declared.design.Design.{Design}
 use Rattle.input_module.specs.SourceForm.{IsSource}
 use Rattle.vcd_reader.specs.Dump.{IsDump}
@@ -85,6 +84,7 @@ source_stands score bytes before after read SourceNotYet is = record { text = re
 source_stands score bytes before after read DumpNotYet is = absurd is
 source_stands score bytes before after read (FilesFault call file) is = absurd is
 source_stands score bytes before after read Memory is = tt
+source_stands score bytes before after read (Databases f) is = absurd is
 
 -- a dump fault stands
 pub dump_stands : (score : ScoreValues) (source bytes : List ℕ) (design : Design) (before after : Outside) → IsReadOf 67108864 score.source before source → IsSource source score.top design → IsReadOf 1099511627776 score.dump before bytes → (fault : Fault) → IsScoreFault design score.instance bytes fault → StandsIn score before after fault
@@ -101,6 +101,7 @@ dump_stands score source bytes design before after from is_source read DumpNotYe
 }
 dump_stands score source bytes design before after from is_source read (FilesFault call file) is = absurd is
 dump_stands score source bytes design before after from is_source read Memory is = tt
+dump_stands score source bytes design before after from is_source read (Databases f) is = absurd is
 
 written_since : (name text : List ℕ) (before middle after : Option Files) → Told SameFiles before middle → Told (HasFile name text) middle after → Told (HasFile name text) before after
 written_since name text None None None same written = tt
@@ -125,8 +126,8 @@ score_is_done score source bytes text design before middle after from is_source 
 }
 
 -- what the command asks for is what the words ask for
-pub command_is_done : (words : List (List ℕ)) (command : Command) (before after : Outside) → IsCommand words command → IsDoneWork command before after → IsDone words before after
-command_is_done words (Score score) before after is done = (score_values score, is, done)
+pub command_is_done : (words : List (List ℕ)) (command : AnyCommand) (before after : Outside) → IsAnyCommand words command → IsDoneWork command before after → IsDone words before after
+command_is_done words command before after is done = (command_values command, is, done)
 
 pub OnOk-map : {T E P Q : Type 0} (result : Result T E) → (P → Q) → OnOk result P → OnOk result Q
 OnOk-map (Ok value) step holds = step holds

@@ -1,6 +1,7 @@
 pub mod Complete
 pub mod Covered
 pub mod Effects
+pub mod Databases
 pub mod Scoring
 pub mod Fault
 pub mod Status

@@ -2,11 +2,13 @@ ghost use Rattle.std.specs.Prelude.{◌≡◌};
 ghost use Rattle.covered_cli.specs.Fault.{status_of};
 
 use crate::Status;
+use crate::database_message::database_status;
 use command_line::UsageFault;
+use database_commands::CommandFault;
 use whole_files::Call;
 
 /// Why a command ends with a status above 0.
-#[derive(Clone, Copy, Debug, PartialEq, Eq)]
+#[derive(Debug, Drop)]
 pub(crate) enum Fault<'a> {
     Usage(UsageFault<'a>),
     /// The source is not in the form that is read so far.
@@ -16,6 +18,8 @@ pub(crate) enum Fault<'a> {
     /// A call on the host gave nothing.
     Files { call: Call, file: &'a str },
     Memory,
+    /// A command over databases ended without its output.
+    Databases(CommandFault<'a>),
 }
 
 impl Fault<'_> {
@@ -29,6 +33,7 @@ impl Fault<'_> {
             Fault::DumpNotYet => Status::Dump,
             Fault::Files { .. } => Status::Files,
             Fault::Memory => Status::Memory,
+            Fault::Databases(fault) => database_status(fault),
         }
     }
 }

@@ -1,8 +1,10 @@
 //! The program over a host: it reads the words of a command, does the work, and answers with a status.
 #![tactic(auto)]
 
+mod database_message;
 mod fault;
 mod message;
+mod pieces;
 mod score;
 mod status;
 mod top_call;

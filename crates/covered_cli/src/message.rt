@@ -5,9 +5,11 @@ ghost use Rattle.cov_host.specs.Outside.{KeepsFiles};
 ghost use Rattle.whole_files.specs.Call.{call_name};
 ghost use Rattle.whole_files.specs.Effects.{CountsUp};
 ghost use Rattle.covered_cli.specs.Effects.{WarnsLine};
-ghost use Rattle.covered_cli.specs.Fault.{line_of};
+ghost use Rattle.covered_cli.specs.Fault.{IsNoDatabaseFault, line_of};
 
+use crate::database_message::warn_database;
 use crate::fault::Fault;
+use crate::pieces::warn_pieces;
 use command_line::UsageFault;
 use cov_host::Host;
 use whole_files::Call;
@@ -20,17 +22,29 @@ pub(crate) fn warn_of<H: Host>(host: &mut H, fault: &Fault<'_>)
     ensures files { KeepsFiles (H.outside host.old) (H.outside host.new) }
     ensures counts { CountsUp (H.outside host.old) (H.outside host.new) }
 {
-    for piece in pieces_of(fault) {
-        match host.warn(piece.as_bytes()) {
-            Ok(()) => {}
-            Err(_) => return,
-        }
+    match fault {
+        Fault::Databases(fault) => warn_database(host, fault),
+        other => warn_pieces(host, &bytes_of(pieces_of(other))),
     }
 }
 
-/// The pieces of a fault's line in order.
+/// The pieces as bytes.
+fn bytes_of<'a>(texts: [&'a str; 5]) -> [&'a [u8]; 5]
+    ensures { flat_map (λ piece. piece.now) result ≡ flat_map (λ text. text.now) texts }
+{
+    let [first, second, third, fourth, fifth] = texts;
+    [
+        first.as_bytes(),
+        second.as_bytes(),
+        third.as_bytes(),
+        fourth.as_bytes(),
+        fifth.as_bytes(),
+    ]
+}
+
+/// The pieces of a fault's line in order, but for one of a command over databases.
 fn pieces_of<'a>(fault: &Fault<'a>) -> [&'a str; 5]
-    ensures { flat_map (λ piece. piece.now) result ≡ line_of fault.now }
+    ensures { IsNoDatabaseFault fault.now → flat_map (λ piece. piece.now) result ≡ line_of fault.now }
 {
     match fault {
         Fault::Usage(usage) => usage_pieces(usage),
@@ -38,6 +52,7 @@ fn pieces_of<'a>(fault: &Fault<'a>) -> [&'a str; 5]
         Fault::DumpNotYet => ["covered: dump: early 1 NotYet\n", "", "", "", ""],
         Fault::Files { call, file } => file_pieces(*call, file),
         Fault::Memory => ["covered: memory\n", "", "", "", ""],
+        Fault::Databases(_) => ["", "", "", "", ""],
     }
 }
 
