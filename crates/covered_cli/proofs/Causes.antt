@@ -17,7 +17,7 @@ use Rattle.covered_cli.specs.Covered.{IsNoCommand, IsSomeCommand, KeepsUnnamed, 
 use Rattle.covered_cli.specs.Databases.{database_status}
 use Rattle.covered_cli.specs.Fault.{IsDatabaseFault, Stands, StandsIn, StandsInDatabases, StandsInWork, output_of, status_of}
 use Rattle.covered_cli.specs.declared.fault.Fault.{Fault}
-use Rattle.covered_cli.specs.declared.fault.Fault.TheVariants.{Usage, SourceNotYet, DumpNotYet, Files as FilesFault, Memory, Databases}
+use Rattle.covered_cli.specs.declared.fault.Fault.TheVariants.{Usage, SourceNotYet, Dump, Files as FilesFault, Memory, Databases}
 use Rattle.covered_cli.specs.declared.status.Status.TheVariants as status
 use Rattle.whole_files.proofs.EffectLemmas.{Told-map}
 
@@ -33,7 +33,7 @@ IfErr-map (Err fault) step holds = step fault holds
 stands_as_score : (words : List (List ℕ)) (values : ScoreValues) (before after : Outside) → IsScore words values → (fault : Fault) → StandsIn values before after fault → Stands words before after fault
 stands_as_score words values before after is (Usage usage) stands = absurd stands
 stands_as_score words values before after is SourceNotYet stands = (values, is, stands)
-stands_as_score words values before after is DumpNotYet stands = (values, is, stands)
+stands_as_score words values before after is (Dump refusal) stands = (values, is, stands)
 stands_as_score words values before after is (FilesFault call file) stands = (values, is, stands)
 stands_as_score words values before after is Memory stands = (values, is, stands)
 stands_as_score words values before after is (Databases f) stands = absurd stands
@@ -41,7 +41,7 @@ stands_as_score words values before after is (Databases f) stands = absurd stand
 stands_as_merge : (words : List (List ℕ)) (values : MergeValues) (before after : Outside) → IsMerge words values → (fault : Fault) → IsDatabaseFault (IsMergeFault values before after) fault → Stands words before after fault
 stands_as_merge words values before after is (Usage usage) stands = absurd stands
 stands_as_merge words values before after is SourceNotYet stands = absurd stands
-stands_as_merge words values before after is DumpNotYet stands = absurd stands
+stands_as_merge words values before after is (Dump refusal) stands = absurd stands
 stands_as_merge words values before after is (FilesFault call file) stands = absurd stands
 stands_as_merge words values before after is Memory stands = absurd stands
 stands_as_merge words values before after is (Databases f) stands = inl (values, is, stands)
@@ -49,7 +49,7 @@ stands_as_merge words values before after is (Databases f) stands = inl (values,
 stands_as_report : (words : List (List ℕ)) (values : ReportValues) (before after : Outside) → IsReport words values → (fault : Fault) → IsDatabaseFault (IsReportFault values before after) fault → Stands words before after fault
 stands_as_report words values before after is (Usage usage) stands = absurd stands
 stands_as_report words values before after is SourceNotYet stands = absurd stands
-stands_as_report words values before after is DumpNotYet stands = absurd stands
+stands_as_report words values before after is (Dump refusal) stands = absurd stands
 stands_as_report words values before after is (FilesFault call file) stands = absurd stands
 stands_as_report words values before after is Memory stands = absurd stands
 stands_as_report words values before after is (Databases f) stands = inr (values, is, stands)
@@ -114,7 +114,7 @@ no_usage (database_fault.DesignsDiffer file line first other) same = cc
 pub usage_exactly : (words : List (List ℕ)) (before after : Outside) → (fault : Fault) → Stands words before after fault → (status_of fault ≡ status.Usage) ↔ IsNoCommand words
 usage_exactly words before after (Usage usage) stands = (λ same. (usage, stands), λ none. refl)
 usage_exactly words before after SourceNotYet stands = (λ same. cc, λ none. absurd (command_or_fault words (score stands.0, stands.1) none))
-usage_exactly words before after DumpNotYet stands = (λ same. cc, λ none. absurd (command_or_fault words (score stands.0, stands.1) none))
+usage_exactly words before after (Dump refusal) stands = (λ same. cc, λ none. absurd (command_or_fault words (score stands.0, stands.1) none))
 usage_exactly words before after (FilesFault call file) stands = (λ same. cc, λ none. absurd (command_or_fault words (score stands.0, stands.1) none))
 usage_exactly words before after Memory stands = (λ same. cc, λ none. absurd (command_or_fault words (score stands.0, stands.1) none))
 usage_exactly words before after (Databases f) stands = (λ same. absurd (no_usage f same), λ none. absurd (command_or_fault words (databases_are_command words before after f stands) none))

@@ -1,19 +1,24 @@
 -- Where both files are told and no call of the host failed, the texts decide how a command ends.
-use Rattle.std.proofs.Common.{◌≡◌, ◌⊎◌, inl, inr, ℕ, ◌≤◌, is_some, List, Option, None, Some, refl, sym, ap, subst, ◌∙◌}
+use Rattle.std.proofs.Common.{◌≡◌, ◌⊎◌, inl, inr, ℕ, ◌<◌, ◌≤◌, is_some, List, ◌++◌, length, Option, None, Some, refl, sym, ap, subst, ◌∙◌}
 use Rattle.std.proofs.lemmas.Bool.{false≢true}
-use Rattle.std.specs.Prelude.{All, Any, IfSome, IsSome, IsSomeAnd, MatchOption}
+use Rattle.std.specs.Prelude.{IfSome, IsSome, IsSomeAnd, MatchOption, slice_index_or}
+use Rattle.std.specs.List.{list_any}
 use Rattle.command_line.proofs.OneCommand.{one_command, one_of_all}
 use Rattle.command_line.specs.AnyCommand.{AreWordsOf, CommandValues, score as of_score, merge as of_merge, report as of_report}
 use Rattle.command_line.specs.CommandWords.{IsScore, ScoreValues}
 use Rattle.cov_host.specs.Outside.{Files, Outside, IsCounted}
+use Rattle.design_model.specs.Design.{no_signal}
 use Rattle.design_model.specs.declared.design.Design.{Design}
 use Rattle.input_module.proofs.SourceLemmas.{IsSource-once}
 use Rattle.input_module.specs.SourceForm.{IsSource}
-use Rattle.input_toggles.specs.Binding.{code_of}
-use Rattle.input_toggles.specs.Scored.{IsBound, LacksFirstValue, LacksVar, first_value}
-use Rattle.vcd_reader.proofs.DumpLaws.{one_dump_lem}
-use Rattle.vcd_reader.specs.Dump.{IsDump}
-use Rattle.vcd_reader.specs.declared.dump.Dump.{Dump}
+use Rattle.input_toggles.specs.Binding.{code_of, stands_in}
+use Rattle.input_toggles.specs.Scored.{IsBound, first_value}
+use Rattle.dump_pieces.proofs.FaultLaws.{dump_excludes, fault_excludes}
+use Rattle.dump_pieces.proofs.Growing.{dump_goes_on}
+use Rattle.dump_pieces.specs.Dump.{Dump, GoesOn, IsDump, SaysBody, steps_of}
+use Rattle.dump_pieces.specs.Reading.{Body}
+use Rattle.dump_pieces.specs.declared.fault.DumpFault.TheVariants.{At}
+use Rattle.input_toggles.proofs.FirstSteps.{first_stays}
 use Rattle.whole_files.specs.Effects.{CountsUp, IsMissing}
 use Rattle.whole_files.proofs.EffectLemmas.{IsCounted-later}
 use Rattle.whole_files.specs.declared.call.Call.{Call}
@@ -21,34 +26,52 @@ use Rattle.whole_files.specs.declared.call.Call.TheVariants.{OpenRead, Read, Ope
 use Rattle.covered_cli.proofs.Causes.{command_or_fault, score_or_databases}
 use Rattle.covered_cli.specs.Complete.{EndsWith, HasBadDump, HasBadSource, HaveTexts, IsCommandWith, IsGoodScore, NoFaults}
 use Rattle.covered_cli.specs.Fault.{IsRefused, NamesFile, Stands, status_of}
-use Rattle.covered_cli.specs.Scoring.{HasNoScore, IsDone, IsDoneBy, IsDoneIn, IsRefusedDump, IsRefusedSource}
+use Rattle.covered_cli.specs.Scoring.{HasNoScore, IsDone, IsDoneBy, IsDoneIn, IsDumpRefusal, IsRefusedDump, IsRefusedSource}
+use Rattle.covered_cli.specs.declared.dump_refusal.DumpRefusal.{DumpRefusal}
+use Rattle.covered_cli.specs.declared.dump_refusal.DumpRefusal.TheVariants as refusal
 use Rattle.covered_cli.specs.declared.fault.Fault.{Fault}
 use Rattle.covered_cli.specs.declared.fault.Fault.TheVariants as fault
 use Rattle.covered_cli.specs.declared.status.Status.{Status}
 use Rattle.covered_cli.specs.declared.status.Status.TheVariants.{Done, Dump as dump_status, Source as source_status}
 
--- what each has, none lacks
-none_lacks : {A : Type 0} (Has Lacks : A → Type 0) (xs : List A) → ((x : A) → Has x → Lacks x → ⊥) → All Has xs → Any Lacks xs → ⊥
-none_lacks Has Lacks xs clash all (k, x, within, is, lacks) = clash x (subst Has is (all k x within)) lacks
-
 some_or_none : {A : Type 0} (o : Option A) → IsSome o → o ≡ None → ⊥
 some_or_none o some none = false≢true (sym (ap is_some none) ∙ some)
 
-both_of_one : {A : Type 0} (o : Option A) (P Q : A → Type 0) → ((x : A) → P x → Q x → ⊥) → IfSome o P → IsSomeAnd o Q → ⊥
-both_of_one None P Q clash p q = q
-both_of_one (Some x) P Q clash p q = clash x p q
+first_of : (o : Option ℕ) (code : ℕ) (P : ℕ → Type 0) → IfSome o P → o ≡ Some code → P code
+first_of None code P h e = absurd (cc)
+first_of (Some x) code P h e = let same : x ≡ code = cc in subst P same h
 
--- a bound design lacks neither a variable nor a first value
-bound_lacks_nothing : (design : Design) (dump : Dump) (instance : List ℕ) → IsBound design dump instance → LacksVar design dump instance ⊎ LacksFirstValue design dump instance → ⊥
-bound_lacks_nothing design dump instance bound (inl lacks) = none_lacks _ _ design.signals (λ signal some none. some_or_none _ some none) bound.variables lacks
-bound_lacks_nothing design dump instance bound (inr lacks) =
-    none_lacks _ _ design.signals (λ signal first none. both_of_one (code_of dump.vars instance signal) (λ code. IsSome (first_value dump code)) (λ code. first_value dump code ≡ None) (λ code some nothing. some_or_none (first_value dump code) some nothing) first none) (bound.first_values lacks.0) lacks.1
+-- a dump of which the design is bound is not refused
+module _ (design : Design) (dump : Dump) (top instance text : List ℕ) (is : IsDump text dump) (bound : IsBound design dump instance) where
+  goes_on : (b : Body) → SaysBody text b → GoesOn b is.b
+  goes_on b says = dump_goes_on text b is.b says is.ends
 
--- a bound design has a score by the dump
-has_score : (design : Design) (dump : Dump) (instance text : List ℕ) → IsDump text dump → IsBound design dump instance → HasNoScore design instance text → ⊥
-has_score design dump instance text is bound (inl none) = none dump is
-has_score design dump instance text is bound (inr lacks) =
-    bound_lacks_nothing design lacks.0 instance (subst (λ dump. IsBound design dump instance) (one_dump_lem text dump lacks.0 is lacks.1) bound) lacks.2
+  same_vars : (b : Body) → SaysBody text b → dump.vars ≡ b.vars
+  same_vars b says = is.vars ∙ (goes_on b says).vars
+
+  has_variable : (b : Body) → SaysBody text b → (signal : ℕ) → signal < length design.signals → IsSome (code_of b.vars instance (slice_index_or design.signals signal no_signal))
+  has_variable b says signal listed = subst (λ vars. IsSome (code_of vars instance (slice_index_or design.signals signal no_signal))) (same_vars b says) (bound.variables signal no_signal listed)
+
+  not_refused : (r : DumpRefusal) → IsDumpRefusal design top instance text r → ⊥
+  not_refused (refusal.At kind byte) (inl found) = fault_excludes text (At kind byte) found is.ends.means is.ends.word is.ends.stands
+  not_refused (refusal.At kind byte) (inr ends) = dump_excludes text is.b (At kind byte) is.ends ends
+  not_refused (refusal.NoInstance path) refused =
+      let b = refused.1.0 in
+      false≢true (sym (ap (list_any (stands_in instance)) (same_vars b refused.1.1) ∙ refused.1.2) ∙ bound.instance_is)
+  not_refused (refusal.InputNotDumped outer name) refused =
+      let signal = refused.1.0 in
+      let some = refused.1.2 in
+      some_or_none _ (has_variable some.0 some.1 signal some.2.listed) some.2.none
+  not_refused (refusal.NoBaseline outer name) refused =
+      let signal = refused.1.0 in
+      let some = refused.1.2 in
+      let lacks = some.2 in
+      let further = goes_on some.0 some.1 in
+      let stays = first_stays some.0.items further.more lacks.second in
+      let steps : dump.steps ≡ steps_of (some.0.items ++ further.more) = is.steps ∙ ap steps_of further.items in
+      let code = subst (λ vars. code_of vars instance (slice_index_or design.signals signal no_signal) ≡ Some lacks.code) (sym (same_vars some.0 some.1)) lacks.bound in
+      let value = first_of _ lacks.code (λ code. IsSome (first_value dump.steps code)) (bound.first_values (subst (λ ss. 2 ≤ length ss) (sym steps) stays.0) signal no_signal lacks.listed) code in
+      some_or_none _ value (ap (λ ss. first_value ss lacks.code) steps ∙ stays.1 lacks.code ∙ lacks.none)
 
 -- a told file has one text
 one_text_at : (files : Option Files) (name a b : List ℕ) → IsSomeAnd files (λ files. files name ≡ Some a) → IfSome files (λ files. files name ≡ Some b) → a ≡ b
@@ -89,11 +112,11 @@ module _ (score : ScoreValues) (before : Outside) (source text : List ℕ) (text
   same_design design other found is told found_is = IsSource-once source score.top design other is (subst (λ text. IsSource text score.top other) (sym (same_source found told)) found_is)
 
   -- what has a score is not refused
-  dump_stands : (design : Design) (dump : Dump) → IsSource source score.top design → IsDump text dump → IsBound design dump score.instance → IsRefusedDump score before → ⊥
-  dump_stands design dump is is_dump bound refused =
-      has_score refused.design dump score.instance refused.text (subst (λ text. IsDump text dump) (same_text refused.text refused.is) is_dump)
+  dump_stands : (design : Design) (dump : Dump) → IsSource source score.top design → IsDump text dump → IsBound design dump score.instance → (r : DumpRefusal) → IsRefusedDump score before r → ⊥
+  dump_stands design dump is is_dump bound r refused =
+      not_refused refused.design dump score.top score.instance refused.text (subst (λ text. IsDump text dump) (same_text refused.text refused.is) is_dump)
       (subst (λ design. IsBound design dump score.instance) (same_design design refused.design refused.source is refused.source_is refused.is_source) bound)
-      refused.refused
+      r refused.refused
 
   -- what is done has a design
   source_done : (after : Outside) → ((design : Design) → IsSource source score.top design → ⊥) → IsDoneIn score before after → ⊥
@@ -102,18 +125,17 @@ module _ (score : ScoreValues) (before : Outside) (source text : List ℕ) (text
   -- and a score
   dump_done : (after : Outside) (design : Design) → IsSource source score.top design → HasNoScore design score.instance text → IsDoneIn score before after → ⊥
   dump_done after design is none done =
-      has_score design done.scores.dump score.instance text (subst (λ text. IsDump text done.scores.dump) (sym (same_text done.dump done.dump_is)) done.scores.is_dump)
+      none done.scores.dump (subst (λ text. IsDump text done.scores.dump) (sym (same_text done.dump done.dump_is)) done.scores.is_dump)
       (subst (λ design. IsBound design done.scores.dump score.instance) (sym (same_design design done.design done.source is done.source_is done.is_source)) done.scores.scores.bound)
-      none
 
 -- how a fault ends that is no fault of the host, where the texts rule out those of the other texts
 module _ (words : List (List ℕ)) (score : ScoreValues) (is_score : IsScore words score) (before middle after : Outside) (first : before.faults ≤ middle.faults) (second : middle.faults ≤ after.faults) (none : NoFaults before after) (source text : List ℕ) (texts : HaveTexts score before source text) where
-  ends_with : (expected : Status) → ((status_of fault.SourceNotYet ≡ expected) ⊎ (IsRefusedSource score before → ⊥)) → ((status_of fault.DumpNotYet ≡ expected) ⊎ (IsRefusedDump score before → ⊥)) → (f : Fault) → Stands words before middle f → EndsWith expected (status_of f)
+  ends_with : (expected : Status) → ((status_of fault.SourceNotYet ≡ expected) ⊎ (IsRefusedSource score before → ⊥)) → (((r : DumpRefusal) → status_of (fault.Dump r) ≡ expected) ⊎ ((r : DumpRefusal) → IsRefusedDump score before r → ⊥)) → (f : Fault) → Stands words before middle f → EndsWith expected (status_of f)
   ends_with expected of_source of_dump (fault.Usage usage) stands = absurd (command_or_fault words (of_score score, is_score) (usage, stands))
   ends_with expected (inl is) of_dump fault.SourceNotYet stands = inl is
   ends_with expected (inr ruled_out) of_dump fault.SourceNotYet stands = absurd (ruled_out (subst (λ score. IsRefusedSource score before) (one_command words stands.0 score stands.1 is_score) stands.2))
-  ends_with expected of_source (inl is) fault.DumpNotYet stands = inl is
-  ends_with expected of_source (inr ruled_out) fault.DumpNotYet stands = absurd (ruled_out (subst (λ score. IsRefusedDump score before) (one_command words stands.0 score stands.1 is_score) stands.2))
+  ends_with expected of_source (inl is) (fault.Dump r) stands = inl (is r)
+  ends_with expected of_source (inr ruled_out) (fault.Dump r) stands = absurd (ruled_out r (subst (λ score. IsRefusedDump score before r) (one_command words stands.0 score stands.1 is_score) stands.2))
   ends_with expected of_source of_dump (fault.Files call file) stands =
       let named = subst (λ score. NamesFile score call file.now) (one_command words stands.0 score stands.1 is_score) stands.2.0 in
       absurd (none (IsCounted-later before.faults middle.faults after.faults first second (refused_call score before source text texts call file.now middle named stands.2.1)))
@@ -139,7 +161,7 @@ module _ (words : List (List ℕ)) (before middle after : Outside) (first : Coun
   bad_dump_ends (score, is, bad) =
       ends_with words score is before middle after first.faults second.faults none bad.source bad.text bad.texts dump_status
       (inr (source_stands score before bad.source bad.text bad.texts bad.design bad.is_source))
-      (inl refl)
+      (inl (λ r. refl))
       f stands
 
 module _ (words : List (List ℕ)) (before after : Outside) (done : IsDone words before after) where

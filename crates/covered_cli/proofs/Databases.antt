@@ -23,7 +23,7 @@ use Rattle.covered_cli.specs.Covered.{HasDatabaseCause, HasEarlyStatus, HasFiles
 use Rattle.covered_cli.specs.Databases.{database_status}
 use Rattle.covered_cli.specs.Fault.{IsEarly, IsRefused, NamesFile, Stands, StandsInDatabases, status_of}
 use Rattle.covered_cli.specs.declared.fault.Fault.{Fault}
-use Rattle.covered_cli.specs.declared.fault.Fault.TheVariants.{Usage, SourceNotYet, DumpNotYet, Files as FilesFault, Memory, Databases}
+use Rattle.covered_cli.specs.declared.fault.Fault.TheVariants.{Usage, SourceNotYet, Dump, Files as FilesFault, Memory, Databases}
 use Rattle.covered_cli.specs.declared.status.Status.TheVariants as status
 use Rattle.covered_cli.proofs.Causes.{command_or_fault}
 
@@ -31,7 +31,7 @@ use Rattle.covered_cli.proofs.Causes.{command_or_fault}
 pub early_status : (fault : Fault) → HasEarlyStatus (status_of fault) → IsEarly fault
 early_status (Usage usage) early = tt
 early_status SourceNotYet early = tt
-early_status DumpNotYet early = tt
+early_status (Dump refusal) early = tt
 early_status (FilesFault call file) early = absurd early
 early_status Memory early = absurd early
 early_status (Databases (database.Files call file)) early = absurd early
@@ -65,7 +65,7 @@ good_fault alloc words before after none (inr good) f (inr stands) =
 pub good_databases_end : (alloc : Global) (words : List (List ℕ)) (before middle after : Outside) → CountsUp before middle → CountsUp middle after → NoFaults before after → (fault : Fault) → Stands words before middle fault → HasGoodDatabases words before → EndsWith status.Done (status_of fault)
 good_databases_end alloc words before middle after first second none (Usage usage) stands good = absurd (command_or_fault words (good_are_words words before good) (usage, stands))
 good_databases_end alloc words before middle after first second none SourceNotYet stands good = absurd (good_or_score words before stands.0 good stands.1)
-good_databases_end alloc words before middle after first second none DumpNotYet stands good = absurd (good_or_score words before stands.0 good stands.1)
+good_databases_end alloc words before middle after first second none (Dump refusal) stands good = absurd (good_or_score words before stands.0 good stands.1)
 good_databases_end alloc words before middle after first second none (FilesFault call file) stands good = absurd (good_or_score words before stands.0 good stands.1)
 good_databases_end alloc words before middle after first second none Memory stands good = inr refl
 good_databases_end alloc words before middle after first second none (Databases f) stands good =
@@ -92,7 +92,7 @@ database_fault_cause words before after (database.DesignsDiffer file line first 
 pub database_cause : (words : List (List ℕ)) (before after : Outside) (fault : Fault) → Stands words before after fault → status_of fault ≡ status.Database → HasDatabaseCause words before
 database_cause words before after (Usage usage) stands is = absurd (cc)
 database_cause words before after SourceNotYet stands is = absurd (cc)
-database_cause words before after DumpNotYet stands is = absurd (cc)
+database_cause words before after (Dump refusal) stands is = absurd (cc)
 database_cause words before after (FilesFault call file) stands is = absurd (cc)
 database_cause words before after Memory stands is = absurd (cc)
 database_cause words before after (Databases f) stands is = database_fault_cause words before after f stands is
@@ -141,7 +141,7 @@ databases_files_cause words before after (database.DesignsDiffer file line first
 files_fault_cause : (words : List (List ℕ)) (before after : Outside) (fault : Fault) → Stands words before after fault → status_of fault ≡ status.Files → HasFilesCause words before after
 files_fault_cause words before after (Usage usage) stands is = absurd (cc)
 files_fault_cause words before after SourceNotYet stands is = absurd (cc)
-files_fault_cause words before after DumpNotYet stands is = absurd (cc)
+files_fault_cause words before after (Dump refusal) stands is = absurd (cc)
 files_fault_cause words before after (FilesFault call file) stands is = score_call words before after stands.0 call file.now stands.1 stands.2.0 stands.2.1
 files_fault_cause words before after Memory stands is = absurd (cc)
 files_fault_cause words before after (Databases f) stands is = databases_files_cause words before after f stands is
@@ -208,7 +208,7 @@ module _ (before middle after : Outside) (first : CountsUp before middle) (secon
   pub stands_later : (words : List (List ℕ)) (fault : Fault) → Stands words before middle fault → Stands words before after fault
   stands_later words (Usage usage) stands = stands
   stands_later words SourceNotYet stands = stands
-  stands_later words DumpNotYet stands = stands
+  stands_later words (Dump refusal) stands = stands
   stands_later words (FilesFault call file) stands = (stands.0, stands.1, (stands.2.0, refused_later call file.now stands.2.1))
   stands_later words Memory stands = stands
   stands_later words (Databases f) stands = databases_stand_later words f stands

@@ -1,20 +1,40 @@
 -- From what was read to what a score says.
-use Rattle.std.proofs.Common.{◌≡◌, ℕ, ◌≤◌, List, length, Option, None, Some, Ok, Err, refl, sym, subst, ◌∙◌, inl, inr, arith}
+use Rattle.std.proofs.Common.{◌≡◌, ◌⊎◌, ℕ, ◌≤◌, List, length, Option, None, Some, Ok, Err, refl, sym, subst, ◌∙◌, inl, inr, arith}
 use Rattle.std.proofs.lemmas.Bool.{cases_lt}
-use Rattle.std.specs.Prelude.{IfSome, IsSomeAnd, Result, OnOk}
+use Rattle.std.specs.Prelude.{IfSome, IsSomeAnd, MatchOption, Result, OnOk}
 use Rattle.command_line.specs.AnyCommand.{IsAnyCommand, command_values}
 use Rattle.command_line.specs.CommandWords.{ScoreValues, score_values}
 use Rattle.command_line.specs.declared.any_command.AnyCommand.{AnyCommand}
-use Rattle.cov_host.specs.Outside.{Outside, Files, KeepsFiles, SameFiles, Told, HasFile}
-use Rattle.covered_cli.specs.Fault.{IsScoreFault, IsSourceFault, StandsIn}
-use Rattle.covered_cli.specs.Scoring.{HasNoDesign, HasNoScore, IsDone, IsDoneIn, IsDoneWork, IsReadOf, IsScoreText}
+use Rattle.cov_host.specs.Outside.{Outside, Files, IsCounted, KeepsFiles, SameFiles, Told, HasFile}
+use Rattle.covered_cli.specs.Fault.{IsReadingFault, IsScoringFault, IsSourceFault, StandsIn}
+use Rattle.covered_cli.specs.Scoring.{HasNoDesign, IsDone, IsDoneIn, IsDoneWork, IsReadOf}
 use Rattle.covered_cli.specs.declared.fault.Fault.{Fault}
-use Rattle.covered_cli.specs.declared.fault.Fault.TheVariants.{Usage, SourceNotYet, DumpNotYet, Files as FilesFault, Memory, Databases}
+use Rattle.covered_cli.specs.declared.fault.Fault.TheVariants.{Usage, SourceNotYet, Dump, Files as FilesFault, Memory, Databases}
 use Rattle.design_model.specs.declared.design.Design.{Design}
 use Rattle.input_module.specs.SourceForm.{IsSource}
-use Rattle.vcd_reader.specs.Dump.{IsDump}
-use Rattle.vcd_reader.specs.declared.dump.Dump.{Dump}
+use Rattle.coverage_db.specs.Text.{text_of}
+use Rattle.coverage_db.specs.declared.db.Db.{Db}
+use Rattle.dump_score.specs.Reading.{IsFile}
+use Rattle.dump_score.specs.Scoring.{IsScoreOfFile}
+use Rattle.input_runs.proofs.Reasoned.{reasoned_table}
+use Rattle.input_runs.proofs.Sound.{sound_table}
+use Rattle.input_toggles.proofs.DumpTimes.{times_rise}
+use Rattle.input_toggles.specs.InputDesign.{IsInputDesign}
+use Rattle.whole_files.proofs.EffectLemmas.{IsCounted-earlier}
+use Rattle.whole_files.specs.Effects.{CountsUp, IsMissing}
+use Rattle.whole_files.specs.declared.call.Call.TheVariants.{OpenRead, Read, OpenWrite, Write, CloseWrite}
 use Rattle.whole_files.specs.Files.{IsContent}
+
+missing_earlier : (name : List ℕ) (before middle after : Option Files) (first last : ℕ) (m : ℕ) → first ≤ m → m ≤ last → Told SameFiles before middle → MatchOption middle (IsCounted m last) (λ files. files name ≡ None) → MatchOption before (IsCounted first last) (λ files. files name ≡ None)
+missing_earlier name None None after first last m up more same missing = IsCounted-earlier first m last up more missing
+missing_earlier name None (Some middle) after first last m up more same missing = absurd same
+missing_earlier name (Some before) None after first last m up more same missing = absurd same
+missing_earlier name (Some before) (Some middle) after first last m up more same missing = sym (same name) ∙ missing
+
+-- a file that could not be opened later could not be opened
+refused_earlier : (name : List ℕ) (before middle after : Outside) → KeepsFiles before middle → CountsUp before middle → CountsUp middle after → IsCounted middle.faults after.faults ⊎ IsMissing name middle after → IsCounted before.faults after.faults ⊎ IsMissing name before after
+refused_earlier name before middle after kept first second (inl counted) = inl (IsCounted-earlier before.faults middle.faults after.faults first.faults second.faults counted)
+refused_earlier name before middle after kept first second (inr missing) = inr (missing_earlier name before.files middle.files after.files before.absences after.absences middle.absences first.absences second.absences kept missing)
 
 -- what was read is some text's content, and that text is the file's where files are told
 read_at : (most : ℕ) (name bytes : List ℕ) (outside : Outside) (found : Option Files) → outside.files ≡ found → IfSome found (λ files. IsSomeAnd (files name) (IsContent most bytes)) → IsReadOf most name outside bytes
@@ -61,47 +81,44 @@ source_text name bytes top before design read is = subst (λ text. IsSource text
 no_source_text : (name bytes top : List ℕ) (before : Outside) (read : IsReadOf 67108864 name before bytes) → HasNoDesign top bytes → HasNoDesign top read.text
 no_source_text name bytes top before read none design is = none design (subst (λ text. IsSource text top design) (sym (read.content.whole is.short)) is)
 
-dump_text : (name bytes : List ℕ) (before : Outside) (dump : Dump) (read : IsReadOf 1099511627776 name before bytes) → IsDump bytes dump → IsDump read.text dump
-dump_text name bytes before dump read is = subst (λ text. IsDump text dump) (whole_text 1099511627776 bytes read.text read.content is.within) is
-
-no_score_text : (name bytes instance : List ℕ) (before : Outside) (design : Design) (read : IsReadOf 1099511627776 name before bytes) → HasNoScore design instance bytes → HasNoScore design instance read.text
-no_score_text name bytes instance before design read (inl none) = inl (λ dump is. none dump (subst (λ text. IsDump text dump) (sym (read.content.whole is.within)) is))
-no_score_text name bytes instance before design read (inr found) = inr (found.0, dump_text name bytes before found.0 read found.1, found.2)
-
-pub score_text : (name bytes source instance text : List ℕ) (before : Outside) (design : Design) (read : IsReadOf 1099511627776 name before bytes) → IsScoreText design bytes source instance text → IsScoreText design read.text source instance text
-score_text name bytes source instance text before design read is = record {
-  dump = is.dump;
-  db = is.db;
-  is_dump = dump_text name bytes before is.dump read is.is_dump;
-  scores = is.scores;
-  is_text = is.is_text;
-}
-
 -- a source fault stands
 pub source_stands : (score : ScoreValues) (bytes : List ℕ) (before after : Outside) → IsReadOf 67108864 score.source before bytes → (fault : Fault) → IsSourceFault score.top bytes fault → StandsIn score before after fault
 source_stands score bytes before after read (Usage usage) is = absurd is
 source_stands score bytes before after read SourceNotYet is = record { text = read.text; is = read.is; refused = no_source_text score.source bytes score.top before read is }
-source_stands score bytes before after read DumpNotYet is = absurd is
+source_stands score bytes before after read (Dump refusal) is = absurd is
 source_stands score bytes before after read (FilesFault call file) is = absurd is
 source_stands score bytes before after read Memory is = tt
 source_stands score bytes before after read (Databases f) is = absurd is
 
--- a dump fault stands
-pub dump_stands : (score : ScoreValues) (source bytes : List ℕ) (design : Design) (before after : Outside) → IsReadOf 67108864 score.source before source → IsSource source score.top design → IsReadOf 1099511627776 score.dump before bytes → (fault : Fault) → IsScoreFault design score.instance bytes fault → StandsIn score before after fault
-dump_stands score source bytes design before after from is_source read (Usage usage) is = absurd is
-dump_stands score source bytes design before after from is_source read SourceNotYet is = absurd is
-dump_stands score source bytes design before after from is_source read DumpNotYet is = record {
+-- a fault of a file stands
+reading_stands : (score : ScoreValues) (before middle after : Outside) → KeepsFiles before middle → CountsUp before middle → CountsUp middle after → (fault : Fault) → IsReadingFault score.dump middle after fault → StandsIn score before after fault
+reading_stands score before middle after kept first second (Usage usage) is = absurd is
+reading_stands score before middle after kept first second SourceNotYet is = absurd is
+reading_stands score before middle after kept first second (Dump refusal) is = absurd is
+reading_stands score before middle after kept first second (FilesFault OpenRead file) is = (inr is.0, refused_earlier file.now before middle after kept first second is.1)
+reading_stands score before middle after kept first second (FilesFault Read file) is = (inr is.0, IsCounted-earlier before.faults middle.faults after.faults first.faults second.faults is.1)
+reading_stands score before middle after kept first second (FilesFault OpenWrite file) is = absurd is
+reading_stands score before middle after kept first second (FilesFault Write file) is = absurd is
+reading_stands score before middle after kept first second (FilesFault CloseWrite file) is = absurd is
+reading_stands score before middle after kept first second Memory is = tt
+reading_stands score before middle after kept first second (Databases f) is = absurd is
+
+-- a fault of the scoring stands
+pub scoring_stands : (score : ScoreValues) (source : List ℕ) (design : Design) (before middle after : Outside) → IsReadOf 67108864 score.source before source → IsSource source score.top design → KeepsFiles before middle → CountsUp before middle → CountsUp middle after → (fault : Fault) → IsScoringFault score design middle after fault → StandsIn score before after fault
+scoring_stands score source design before middle after from is_source kept first second (Dump refusal) is = record {
   source = from.text;
-  text = read.text;
+  text = is.0;
   design = design;
   source_is = from.is;
-  is = read.is;
+  is = file_as_before score.dump is.0 before.files middle.files kept is.1;
   is_source = source_text score.source source score.top before design from is_source;
-  refused = no_score_text score.dump bytes score.instance before design read is;
+  refused = is.2;
 }
-dump_stands score source bytes design before after from is_source read (FilesFault call file) is = absurd is
-dump_stands score source bytes design before after from is_source read Memory is = tt
-dump_stands score source bytes design before after from is_source read (Databases f) is = absurd is
+scoring_stands score source design before middle after from is_source kept first second (Usage usage) is = reading_stands score before middle after kept first second (Usage usage) is
+scoring_stands score source design before middle after from is_source kept first second SourceNotYet is = reading_stands score before middle after kept first second SourceNotYet is
+scoring_stands score source design before middle after from is_source kept first second (FilesFault call file) is = reading_stands score before middle after kept first second (FilesFault call file) is
+scoring_stands score source design before middle after from is_source kept first second Memory is = tt
+scoring_stands score source design before middle after from is_source kept first second (Databases f) is = absurd is
 
 written_since : (name text : List ℕ) (before middle after : Option Files) → Told SameFiles before middle → Told (HasFile name text) middle after → Told (HasFile name text) before after
 written_since name text None None None same written = tt
@@ -112,18 +129,35 @@ written_since name text (Some before) (Some middle) None same written = absurd w
 written_since name text (Some before) (Some middle) (Some after) same written = record { named = written.named; others = λ other apart. written.others other apart ∙ same other }
 
 -- what was read, scored and written is what the command asks for
-pub score_is_done : (score : ScoreValues) (source bytes text : List ℕ) (design : Design) (before middle after : Outside) → IsReadOf 67108864 score.source before source → IsSource source score.top design → IsReadOf 1099511627776 score.dump before bytes → IsScoreText design bytes score.source score.instance text → KeepsFiles before middle → Told (HasFile score.output text) middle.files after.files → IsDoneIn score before after
-score_is_done score source bytes text design before middle after from is_source read scores same written = record {
-  source = from.text;
-  dump = read.text;
-  design = design;
-  text = text;
-  source_is = from.is;
-  dump_is = read.is;
-  is_source = source_text score.source source score.top before design from is_source;
-  scores = score_text score.dump bytes score.source score.instance text before design read scores;
-  written = written_since score.output text before.files middle.files after.files same written;
-}
+pub score_is_done : (score : ScoreValues) (source text : List ℕ) (design : Design) (db : Db) (before middle later after : Outside) → IsReadOf 67108864 score.source before source → IsSource source score.top design → IsInputDesign design → KeepsFiles before middle → KeepsFiles before later
+    → IsScoreOfFile score.dump middle design score.source score.instance db → text ≡ text_of db → Told (HasFile score.output text) later.files after.files → IsDoneIn score before after
+score_is_done score source text design db before middle later after from is_source inputs kept same scored is_text written =
+    let rise = times_rise scored.text scored.dump scored.is_dump in
+    record {
+      source = from.text;
+      dump = scored.text;
+      design = design;
+      text = text;
+      source_is = from.is;
+      dump_is = file_as_before score.dump scored.text before.files middle.files kept scored.is;
+      is_source = source_text score.source source score.top before design from is_source;
+      scores = record {
+        dump = scored.dump;
+        db = db;
+        is_dump = scored.is_dump;
+        scores = record {
+          bound = scored.table.bound;
+          table = scored.table.table;
+          head = scored.table.head;
+          listed = scored.table.listed;
+          verdicts = scored.table.verdicts;
+          sound = sound_table design scored.dump score.instance db inputs rise scored.table.verdicts;
+          reasoned = reasoned_table design scored.dump score.instance db scored.table.verdicts;
+        };
+        is_text = is_text;
+      };
+      written = written_since score.output text before.files later.files after.files same written;
+    }
 
 -- what the command asks for is what the words ask for
 pub command_is_done : (words : List (List ℕ)) (command : AnyCommand) (before after : Outside) → IsAnyCommand words command → IsDoneWork command before after → IsDone words before after

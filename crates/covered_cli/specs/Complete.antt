@@ -5,8 +5,7 @@ use Rattle.cov_host.specs.Outside.{Outside, IsCounted}
 use Rattle.design_model.specs.declared.design.Design.{Design}
 use Rattle.input_module.specs.SourceForm.{IsSource}
 use Rattle.input_toggles.specs.Scored.{IsBound}
-use Rattle.vcd_reader.specs.Dump.{IsDump}
-use Rattle.vcd_reader.specs.declared.dump.Dump.{Dump}
+use Rattle.dump_pieces.specs.Dump.{Dump, IsDump}
 use Rattle.covered_cli.specs.Scoring.{HasNoDesign, HasNoScore}
 use Rattle.covered_cli.specs.declared.status.Status.{Status}
 use Rattle.covered_cli.specs.declared.status.Status.TheVariants.{Memory}
@@ -20,7 +19,7 @@ pub record HaveTexts (score : ScoreValues) (before : Outside) (source dump : Lis
   pub source_is : HasText before score.source source
   pub dump_is : HasText before score.dump dump
 
--- the source is of the form, and the dump has each of its inputs with a first value
+-- the source is of the form, and the dump has the instance, and each of its inputs with a first value
 pub record IsGoodScore (score : ScoreValues) (before : Outside) : Type 0 where
   pub source : List ℕ
   pub text : List ℕ
@@ -38,7 +37,7 @@ pub record HasBadSource (score : ScoreValues) (before : Outside) : Type 0 where
   pub texts : HaveTexts score before source text
   pub refused : HasNoDesign score.top source
 
--- the source is of the form, and the dump is not, or lacks a variable or a first value of an input
+-- the source is of the form, and the text of the dump is none that has the instance, and each input with a first value
 pub record HasBadDump (score : ScoreValues) (before : Outside) : Type 0 where
   pub source : List ℕ
   pub text : List ℕ

@@ -12,12 +12,14 @@ use Rattle.database_commands.specs.Faults.{IsEarly as IsEarlyDatabase, IsMergeFa
 use Rattle.database_commands.specs.Reporting.{IsReportFault}
 use Rattle.database_commands.specs.declared.fault.CommandFault.{CommandFault}
 use Rattle.design_model.specs.declared.design.Design.{Design}
+use Rattle.dump_score.specs.Reading.{IsFile}
 use Rattle.whole_files.specs.Call.{call_name}
 use Rattle.whole_files.specs.Effects.{IsMissing}
 use Rattle.whole_files.specs.declared.call.Call.{Call}
 use Rattle.whole_files.specs.declared.call.Call.TheVariants.{OpenRead, Read, OpenWrite, Write, CloseWrite}
 use Rattle.covered_cli.specs.Databases.{database_line, database_status}
-use Rattle.covered_cli.specs.Scoring.{HasNoDesign, HasNoDump, HasNoScore, IsRefusedDump, IsRefusedSource}
+use Rattle.covered_cli.specs.Scoring.{HasNoDesign, IsDumpRefusal, IsRefusedDump, IsRefusedSource}
+use Rattle.covered_cli.specs.DumpRefusal.{refusal_line}
 use Rattle.covered_cli.specs.declared.fault.Fault.{Fault}
 use Rattle.covered_cli.specs.declared.fault.Fault.TheVariants as fault
 use Rattle.covered_cli.specs.declared.status.Status.{Status}
@@ -27,7 +29,7 @@ use Rattle.covered_cli.specs.declared.status.Status.TheVariants as status
 abbrev pub status_of : Fault → Status
 status_of (fault.Usage usage) = status.Usage
 status_of fault.SourceNotYet = status.Source
-status_of fault.DumpNotYet = status.Dump
+status_of (fault.Dump refusal) = status.Dump
 status_of (fault.Files call file) = status.Files
 status_of fault.Memory = status.Memory
 status_of (fault.Databases f) = database_status f
@@ -36,15 +38,10 @@ status_of (fault.Databases f) = database_status f
 abbrev pub line_of : Fault → List ℕ
 line_of (fault.Usage usage) = codes "covered: usage: " ++ usage_text usage ++ codes "\n"
 line_of fault.SourceNotYet = codes "covered: source: early 1 NotYet\n"
-line_of fault.DumpNotYet = codes "covered: dump: early 1 NotYet\n"
+line_of (fault.Dump refusal) = refusal_line refusal
 line_of (fault.Files call file) = codes "covered: files: " ++ call_name call ++ codes " " ++ file.now ++ codes "\n"
 line_of fault.Memory = codes "covered: memory\n"
 line_of (fault.Databases f) = database_line f
-
--- the fault is none of a command over databases
-abbrev pub IsNoDatabaseFault : Fault → Type 0
-IsNoDatabaseFault (fault.Databases f) = ⊥
-IsNoDatabaseFault other = Unit {0}
 
 -- the command names the file for this call
 abbrev pub NamesFile : ScoreValues → Call → List ℕ → Type 0
@@ -61,7 +58,7 @@ IsRefused call file before after = IsCounted before.faults after.faults
 abbrev pub StandsIn : ScoreValues → Outside → Outside → Fault → Type 0
 StandsIn score before after (fault.Usage usage) = ⊥
 StandsIn score before after fault.SourceNotYet = IsRefusedSource score before
-StandsIn score before after fault.DumpNotYet = IsRefusedDump score before
+StandsIn score before after (fault.Dump refusal) = IsRefusedDump score before refusal
 StandsIn score before after (fault.Files call file) = NamesFile score call file.now × IsRefused call file.now before after
 StandsIn score before after fault.Memory = Unit {0}
 StandsIn score before after (fault.Databases f) = ⊥
@@ -133,14 +130,13 @@ IsSourceFault top text fault.SourceNotYet = HasNoDesign top text
 IsSourceFault top text fault.Memory = Unit {0}
 IsSourceFault top text other = ⊥
 
--- no dump was read from the text
-abbrev pub IsDumpFault : List ℕ → Fault → Type 0
-IsDumpFault text fault.DumpNotYet = HasNoDump text
-IsDumpFault text fault.Memory = Unit {0}
-IsDumpFault text other = ⊥
+-- the design was not scored by the command's dump
+abbrev pub IsScoringFault : ScoreValues → Design → Outside → Outside → Fault → Type 0
+IsScoringFault score design before after (fault.Dump refusal) = (text : List ℕ) × IsFile before score.dump text × IsDumpRefusal design score.top score.instance text refusal
+IsScoringFault score design before after other = IsReadingFault score.dump before after other
 
--- the design was not scored by the dump of the text
-abbrev pub IsScoreFault : Design → List ℕ → List ℕ → Fault → Type 0
-IsScoreFault design instance text fault.DumpNotYet = HasNoScore design instance text
-IsScoreFault design instance text fault.Memory = Unit {0}
-IsScoreFault design instance text other = ⊥
+-- the fault is none of a dump and none of a command over databases
+abbrev pub IsPlain : Fault → Type 0
+IsPlain (fault.Dump refusal) = ⊥
+IsPlain (fault.Databases f) = ⊥
+IsPlain other = Unit {0}

@@ -1,3 +1,4 @@
+pub mod DumpRefusal
 pub mod Complete
 pub mod Covered
 pub mod Effects

@@ -1,5 +1,6 @@
 -- What a `score` command reads and writes, and why it cannot.
-use Rattle.std.specs.Prelude.{◌≡◌, ◌⊎◌, ℕ, List, Some, IfSome, All}
+use Rattle.std.specs.Prelude.{◌≡◌, ◌⊎◌, ℕ, false, List, slice_index_or, All}
+use Rattle.std.specs.List.{list_any}
 use Rattle.command_line.specs.CommandWords.{IsScore, ScoreValues, score_values}
 use Rattle.command_line.specs.AnyCommand.{AreWordsOf, CommandValues, score as of_score, merge as of_merge, report as of_report, command_values}
 use Rattle.command_line.specs.declared.any_command.AnyCommand.{AnyCommand}
@@ -7,20 +8,23 @@ use Rattle.cov_host.specs.Outside.{Outside, HasFile, Told}
 use Rattle.coverage_db.specs.Table.{IsTable}
 use Rattle.coverage_db.specs.Text.{text_of}
 use Rattle.coverage_db.specs.declared.db.Db.{Db}
+use Rattle.design_model.specs.Design.{no_signal}
 use Rattle.database_commands.specs.Merging.{IsMergedIn}
 use Rattle.database_commands.specs.Reporting.{IsReportedIn}
 use Rattle.design_model.specs.declared.design.Design.{Design}
+use Rattle.dump_pieces.specs.Dump.{Dump, IsDump}
+use Rattle.dump_pieces.specs.Text.{EndsWithFault, HasFault}
+use Rattle.dump_pieces.specs.declared.fault.DumpFault.TheVariants.{At}
+use Rattle.dump_score.specs.Faults.{SaysSome}
+use Rattle.dump_score.specs.Reading.{IsFile}
 use Rattle.input_module.specs.SourceForm.{IsSource}
 use Rattle.input_runs.specs.Reasoned.{IsReasoned}
 use Rattle.input_runs.specs.Sound.{IsSound}
-use Rattle.input_toggles.specs.Scored.{HasHead, IsBound, IsScored, LacksFirstValue, LacksVar, ListsTogglePoints}
-use Rattle.vcd_reader.specs.Dump.{IsDump}
-use Rattle.vcd_reader.specs.declared.dump.Dump.{Dump}
+use Rattle.input_toggles.specs.Binding.{IsNotDumped, stands_in}
+use Rattle.input_toggles.specs.Scored.{HasHead, HasNoBaseline, IsBound, IsScored, ListsTogglePoints}
+use Rattle.covered_cli.specs.declared.dump_refusal.DumpRefusal.{DumpRefusal}
+use Rattle.covered_cli.specs.declared.dump_refusal.DumpRefusal.TheVariants as refusal
 use Rattle.whole_files.specs.Files.{IsContent}
-
--- the file has this text, where the host tells the files
-abbrev pub IsFile : Outside → List ℕ → List ℕ → Type 0
-IsFile outside name text = IfSome outside.files (λ files. files name ≡ Some text)
 
 -- the bytes are the text of the file, or both are longer than this
 pub record IsReadOf (most : ℕ) (name : List ℕ) (before : Outside) (bytes : List ℕ) : Type 0 where
@@ -32,13 +36,9 @@ pub record IsReadOf (most : ℕ) (name : List ℕ) (before : Outside) (bytes : L
 abbrev pub HasNoDesign : List ℕ → List ℕ → Type 0
 HasNoDesign top text = (design : Design) → IsSource text top design → ⊥
 
--- the text is not a dump of the form
-abbrev pub HasNoDump : List ℕ → Type 0
-HasNoDump text = (dump : Dump) → IsDump text dump → ⊥
-
--- the text is no dump, or the dump lacks a variable or a first value of a signal
+-- the text is no dump that has the instance, and a variable and a first value of each signal
 abbrev pub HasNoScore : Design → List ℕ → List ℕ → Type 0
-HasNoScore design instance text = HasNoDump text ⊎ ((dump : Dump) × IsDump text dump × (LacksVar design dump instance ⊎ LacksFirstValue design dump instance))
+HasNoScore design instance text = (dump : Dump) → IsDump text dump → IsBound design dump instance → ⊥
 
 -- the table lists each toggle point of the design once, with the verdict of the dump, which holds in every run that shows it,
 -- and leaves none undetermined without a reason
@@ -51,11 +51,11 @@ pub record IsScoreOf (design : Design) (dump : Dump) (source instance : List ℕ
   pub sound : IsSound design dump instance db
   pub reasoned : IsReasoned design dump instance db
 
--- the text is that of a table of the design under the dump of these bytes
-pub record IsScoreText (design : Design) (bytes source instance text : List ℕ) : Type 0 where
+-- the text is that of a table of the design under the dump of this text
+pub record IsScoreText (design : Design) (dump_text source instance text : List ℕ) : Type 0 where
   pub dump : Dump
   pub db : Db
-  pub is_dump : IsDump bytes dump
+  pub is_dump : IsDump dump_text dump
   pub scores : IsScoreOf design dump source instance db
   pub is_text : text ≡ text_of db
 
@@ -65,15 +65,28 @@ pub record IsRefusedSource (score : ScoreValues) (before : Outside) : Type 0 whe
   pub is : IsFile before score.source text
   pub refused : HasNoDesign score.top text
 
--- the source is of the form, and its design has no score by the dump
-pub record IsRefusedDump (score : ScoreValues) (before : Outside) : Type 0 where
+-- the signal with this number has this name
+abbrev pub IsNamed : Design → ℕ → List ℕ → Type 0
+IsNamed design signal name = name ≡ (slice_index_or design.signals signal no_signal).name
+
+-- why the text is refused as the dump of a design: its first fault, an instance that is not there, or a signal of the top module
+abbrev pub IsDumpRefusal : Design → List ℕ → List ℕ → List ℕ → DumpRefusal → Type 0
+IsDumpRefusal design top instance text (refusal.At kind byte) = HasFault text (At kind byte) ⊎ EndsWithFault text (At kind byte)
+IsDumpRefusal design top instance text (refusal.NoInstance path) = (path.now ≡ instance) × SaysSome text (λ b. list_any (stands_in instance) b.vars ≡ false)
+IsDumpRefusal design top instance text (refusal.InputNotDumped outer name) =
+    (outer.now ≡ top) × ((signal : ℕ) × IsNamed design signal name × SaysSome text (λ b. IsNotDumped b.vars instance design.signals signal))
+IsDumpRefusal design top instance text (refusal.NoBaseline outer name) =
+    (outer.now ≡ top) × ((signal : ℕ) × IsNamed design signal name × SaysSome text (λ b. HasNoBaseline b.vars instance design.signals b.items signal))
+
+-- the source is of the form, and the dump is refused for its design
+pub record IsRefusedDump (score : ScoreValues) (before : Outside) (refusal : DumpRefusal) : Type 0 where
   pub source : List ℕ
   pub text : List ℕ
   pub design : Design
   pub source_is : IsFile before score.source source
   pub is : IsFile before score.dump text
   pub is_source : IsSource source score.top design
-  pub refused : HasNoScore design score.instance text
+  pub refused : IsDumpRefusal design score.top score.instance text refusal
 
 -- the output holds the table of the design of the source under the dump, and every other file is as before
 pub record IsDoneIn (score : ScoreValues) (before after : Outside) : Type 0 where

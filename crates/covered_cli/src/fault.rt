@@ -3,6 +3,7 @@ ghost use Rattle.covered_cli.specs.Fault.{status_of};
 
 use crate::Status;
 use crate::database_message::database_status;
+use crate::dump_refusal::DumpRefusal;
 use command_line::UsageFault;
 use database_commands::CommandFault;
 use whole_files::Call;
@@ -13,8 +14,8 @@ pub(crate) enum Fault<'a> {
     Usage(UsageFault<'a>),
     /// The source is not in the form that is read so far.
     SourceNotYet,
-    /// The dump is not in the form that is read so far, or does not fit the design.
-    DumpNotYet,
+    /// The dump is refused.
+    Dump(DumpRefusal<'a>),
     /// A call on the host gave nothing.
     Files { call: Call, file: &'a str },
     Memory,
@@ -30,7 +31,7 @@ impl Fault<'_> {
         match self {
             Fault::Usage(_) => Status::Usage,
             Fault::SourceNotYet => Status::Source,
-            Fault::DumpNotYet => Status::Dump,
+            Fault::Dump(_) => Status::Dump,
             Fault::Files { .. } => Status::Files,
             Fault::Memory => Status::Memory,
             Fault::Databases(fault) => database_status(fault),

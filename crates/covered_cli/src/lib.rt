@@ -2,6 +2,7 @@
 #![tactic(auto)]
 
 mod database_message;
+mod dump_refusal;
 mod fault;
 mod message;
 mod pieces;

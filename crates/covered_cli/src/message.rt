@@ -5,9 +5,10 @@ ghost use Rattle.cov_host.specs.Outside.{KeepsFiles};
 ghost use Rattle.whole_files.specs.Call.{call_name};
 ghost use Rattle.whole_files.specs.Effects.{CountsUp};
 ghost use Rattle.covered_cli.specs.Effects.{WarnsLine};
-ghost use Rattle.covered_cli.specs.Fault.{IsNoDatabaseFault, line_of};
+ghost use Rattle.covered_cli.specs.Fault.{IsPlain, line_of};
 
 use crate::database_message::warn_database;
+use crate::dump_refusal::warn_refusal;
 use crate::fault::Fault;
 use crate::pieces::warn_pieces;
 use command_line::UsageFault;
@@ -23,6 +24,7 @@ pub(crate) fn warn_of<H: Host>(host: &mut H, fault: &Fault<'_>)
     ensures counts { CountsUp (H.outside host.old) (H.outside host.new) }
 {
     match fault {
+        Fault::Dump(refusal) => warn_refusal(host, refusal),
         Fault::Databases(fault) => warn_database(host, fault),
         other => warn_pieces(host, &bytes_of(pieces_of(other))),
     }
@@ -42,17 +44,16 @@ fn bytes_of<'a>(texts: [&'a str; 5]) -> [&'a [u8]; 5]
     ]
 }
 
-/// The pieces of a fault's line in order, but for one of a command over databases.
+/// The pieces of a fault's line in order, but for one of a dump or of a command over databases.
 fn pieces_of<'a>(fault: &Fault<'a>) -> [&'a str; 5]
-    ensures { IsNoDatabaseFault fault.now → flat_map (λ piece. piece.now) result ≡ line_of fault.now }
+    ensures { IsPlain fault.now → flat_map (λ piece. piece.now) result ≡ line_of fault.now }
 {
     match fault {
         Fault::Usage(usage) => usage_pieces(usage),
         Fault::SourceNotYet => ["covered: source: early 1 NotYet\n", "", "", "", ""],
-        Fault::DumpNotYet => ["covered: dump: early 1 NotYet\n", "", "", "", ""],
+        Fault::Dump(_) | Fault::Databases(_) => ["", "", "", "", ""],
         Fault::Files { call, file } => file_pieces(*call, file),
         Fault::Memory => ["covered: memory\n", "", "", "", ""],
-        Fault::Databases(_) => ["", "", "", "", ""],
     }
 }
 

@@ -1,31 +1,34 @@
-ghost use Rattle.std.specs.Prelude.{◌<◌, ◌^◌, IfErr, IfOk, IsTrue, OnOk};
+ghost use Rattle.std.specs.Prelude.{◌≡◌, ◌<◌, ◌^◌, IfErr, IfOk, IsTrue, OnOk, length, slice_index_or};
 ghost use Rattle.command_line.specs.CommandWords.{score_values};
-ghost use Rattle.cov_host.specs.Outside.{HasFile, KeepsFiles, KeepsStreams, Told};
+ghost use Rattle.cov_host.specs.Outside.{HasFile, KeepsFiles, KeepsStreams, Outside, Told};
 ghost use Rattle.whole_files.specs.Effects.{CountsUp, OnlyReads};
-ghost use Rattle.coverage_db.specs.Table.{is_file_name};
+ghost use Rattle.coverage_db.specs.Table.{IsTable, is_file_name};
+ghost use Rattle.coverage_db.specs.Text.{text_of};
+ghost use Rattle.design_model.specs.Design.{no_signal};
+ghost use Rattle.dump_score.specs.Faults.{IsScoreFault};
+ghost use Rattle.dump_score.specs.Scoring.{IsScoreOfFile};
 ghost use Rattle.input_toggles.specs.InputDesign.{IsInputDesign};
 ghost use Rattle.covered_cli.specs.Covered.{KeepsOthers};
-ghost use Rattle.covered_cli.specs.Fault.{StandsIn, IsEarly, IsReadingFault, IsWritingFault, IsSourceFault, IsDumpFault, IsScoreFault};
-ghost use Rattle.covered_cli.specs.Scoring.{IsDoneIn, IsReadOf, IsScoreText};
+ghost use Rattle.covered_cli.specs.Fault.{StandsIn, IsEarly, IsReadingFault, IsWritingFault, IsSourceFault, IsScoringFault};
+ghost use Rattle.covered_cli.specs.Scoring.{IsDoneIn, IsReadOf};
+ghost use Rattle.covered_cli.specs.declared.fault.Fault.TheVariants as fault;
 ghost use Rattle.input_module.specs.SourceForm.{IsSource};
-ghost use Rattle.vcd_reader.specs.Dump.{IsDump};
 
+use crate::dump_refusal::DumpRefusal;
 use crate::fault::Fault;
 use command_line::ScoreWords;
-use cov_host::{Bytes, Host, NoMemory, Text};
-use coverage_db::write_db;
+use cov_host::{Bytes, Host, Name, NoMemory, Text};
+use coverage_db::{Db, write_db};
 use design_model::Design;
+use dump_pieces::DumpFault;
+use dump_score::{ScoreFault, score_dump};
 use input_module::read_source;
-use input_toggles::score_inputs;
+use input_toggles::{BindFault, NoBaseline};
 use std::alloc::Global;
-use vcd_reader::{Dump, DumpFault, whole};
 use whole_files::{FileFault, read_file, write_file};
 
 /// The longest source, in bytes.
 const LONGEST_SOURCE: usize = 67_108_864;
-
-/// The longest dump, in bytes.
-const LONGEST_DUMP: usize = 1_099_511_627_776;
 
 /// Scores a dump and writes the database: source, design, dump, binding, verdicts, database, in this order. The
 /// first refusal ends it.
@@ -44,8 +47,8 @@ pub(crate) fn run_score<'a, H: Host>(
 {
     let source = read(alloc, host, words.source, LONGEST_SOURCE)?;
     let design = design_of(alloc, &source, words.top)?;
-    let dump = read(alloc, host, words.dump, LONGEST_DUMP)?;
-    let text = text_of(alloc, &design, &dump, words)?;
+    let db = db_of(alloc, host, &design, words)?;
+    let text = text_of(alloc, &db)?;
     write(host, words.output, &text)
 }
 
@@ -96,38 +99,84 @@ fn design_of<'a>(alloc: Global, source: &Bytes, top: &str) -> Result<Design, Fau
     }
 }
 
-/// The text of the database of a design under the dump of these bytes.
-fn text_of<'a>(
+/// The database of a design under the command's dump.
+fn db_of<'a, H: Host>(
     alloc: Global,
+    host: &mut H,
     design: &Design,
-    bytes: &Bytes,
     words: &ScoreWords<'a>,
-) -> Result<Text, Fault<'a>>
+) -> Result<Db, Fault<'a>>
     requires design { IsInputDesign design.now }
     requires source { IsTrue (is_file_name words.now.source.now) }
-    ensures text { IfOk result (IsScoreText design.now bytes.now words.now.source.now words.now.instance.now) }
-    ensures fault { IfErr result (IsScoreFault design.now words.now.instance.now bytes.now) }
+    ensures scored { IfOk result (IsScoreOfFile words.now.dump.now (H.outside host.old) design.now words.now.source.now words.now.instance.now) }
+    ensures fault { IfErr result (IsScoringFault (score_values words.now) design.now (H.outside host.old) (H.outside host.new)) }
+    ensures effects { OnlyReads (H.outside host.old) (H.outside host.new) }
 {
-    let dump = dump_of(alloc, bytes)?;
-    let db = match score_inputs(alloc, design, words.source, &dump, words.instance) {
-        Ok(Some(db)) => db,
-        Ok(None) => return Err(Fault::DumpNotYet),
-        Err(NoMemory) => return Err(Fault::Memory),
-    };
-    match write_db(alloc, &db) {
-        Ok(text) => Ok(text),
-        Err(NoMemory) => Err(Fault::Memory),
+    match score_dump(
+        alloc,
+        host,
+        words.dump,
+        design,
+        words.source,
+        words.instance,
+    ) {
+        Ok(db) => Ok(db),
+        Err(fault) => Err(fault_of(alloc, design, words, fault)),
     }
 }
 
-/// The dump that the bytes stand for.
-fn dump_of<'a>(alloc: Global, bytes: &Bytes) -> Result<Dump, Fault<'a>>
-    ensures dump { IfOk result (IsDump bytes.now) }
-    ensures fault { IfErr result (IsDumpFault bytes.now) }
+/// The fault of the program that a fault of the scoring is.
+fn fault_of<'a>(
+    alloc: Global,
+    design: &Design,
+    words: &ScoreWords<'a>,
+    fault: ScoreFault,
+) -> Fault<'a>
+    ensures { (before after : Outside) → IsScoreFault words.now.dump.now before after design.now words.now.instance.now fault → IsScoringFault (score_values words.now) design.now before after result }
 {
-    match whole(alloc, bytes.as_slice()) {
-        Ok(dump) => Ok(dump),
-        Err(DumpFault::NotYet) => Err(Fault::DumpNotYet),
-        Err(DumpFault::NoMemory) => Err(Fault::Memory),
+    match fault {
+        ScoreFault::NoMemory => Fault::Memory,
+        ScoreFault::Refused(call) => Fault::Files {
+            call,
+            file: words.dump,
+        },
+        ScoreFault::Dump(DumpFault::NoMemory) => Fault::Memory,
+        ScoreFault::Dump(DumpFault::At { kind, byte }) => {
+            Fault::Dump(DumpRefusal::At { kind, byte })
+        }
+        ScoreFault::Bind(BindFault::NoMemory) => Fault::Memory,
+        ScoreFault::Bind(BindFault::NoInstance) => Fault::Dump(DumpRefusal::NoInstance {
+            path: words.instance,
+        }),
+        ScoreFault::Bind(BindFault::InputNotDumped { signal }) => match name_of(alloc, design, signal) {
+            Ok(name) => Fault::Dump(DumpRefusal::InputNotDumped { top: words.top, name }),
+            Err(NoMemory) => Fault::Memory,
+        },
+        ScoreFault::Baseline(NoBaseline { signal }) => match name_of(alloc, design, signal) {
+            Ok(name) => Fault::Dump(DumpRefusal::NoBaseline { top: words.top, name }),
+            Err(NoMemory) => Fault::Memory,
+        },
+    }
+}
+
+/// The name of the signal with this number.
+fn name_of(alloc: Global, design: &Design, signal: usize) -> Result<Name, NoMemory>
+    ensures { IfOk result (λ name. signal < length design.now.signals → name ≡ (slice_index_or design.now.signals signal no_signal).name) }
+{
+    match design.signals.get(signal) {
+        Some(signal) => Ok(Name::from_vec(Vec::from_slice(alloc, signal.name.as_slice())?)),
+        None => Ok(Name::new(alloc)),
+    }
+}
+
+/// The text of a database.
+fn text_of<'a>(alloc: Global, db: &Db) -> Result<Text, Fault<'a>>
+    requires { IsTable db.now }
+    ensures text { IfOk result (λ text. text ≡ text_of db.now) }
+    ensures fault { IfErr result (λ fault. fault ≡ fault.Memory) }
+{
+    match write_db(alloc, db) {
+        Ok(text) => Ok(text),
+        Err(NoMemory) => Err(Fault::Memory),
     }
 }

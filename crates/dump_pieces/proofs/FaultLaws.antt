@@ -97,7 +97,7 @@ goes_on before (byte ∷ whole) rest (first ∷ front) word ends black same =
     record { more = further.more; is = ap (λ (b : ℕ). b ∷ front) (sym heads) ∙ ap (λ (t : List ℕ). byte ∷ t) further.is; rest_is = further.rest_is }
 
 -- what whole words mean with more behind them
-meaning-further : (front more : List ℕ) → IsWhole front → meaning_of (words_of (front ++ more)) ≡ meaning_after (meaning_of (words_of front)) (words_from (length front) more)
+pub meaning-further : (front more : List ℕ) → IsWhole front → meaning_of (words_of (front ++ more)) ≡ meaning_after (meaning_of (words_of front)) (words_from (length front) more)
 meaning-further front more whole =
     let same : 0 + length front ≡ length front = omega arith in
     ap (λ (words : List Word). meaning_of words) (words_from-append true 0 front more whole) ∙ meaning-append start (words_of front) (words_from (0 + length front) more) ∙ ap (λ (k : ℕ). meaning_after (meaning_of (words_of front)) (words_from k more)) same

@@ -6,7 +6,7 @@ use Rattle.dump_pieces.specs.Answer.{Answer, IsFault}
 use Rattle.dump_pieces.specs.Reading.{HeaderReading, header, body_after, last_word}
 use Rattle.dump_pieces.specs.Text.{Stands, HasFault, EndsAs}
 use Rattle.dump_pieces.specs.Views.{reading_of}
-use Rattle.dump_pieces.specs.Progress.{is_going}
+use Rattle.dump_pieces.specs.Progress.{is_at_end, is_going}
 use Rattle.dump_pieces.specs.Standing.{HeaderMeans, HeaderStands, IsFoundFault, IsFaultAtEnd}
 use Rattle.dump_pieces.specs.declared.header_reader.HeaderReader.{HeaderReader}
 use Rattle.dump_pieces.specs.declared.progress.Progress.{Progress}
@@ -91,3 +91,13 @@ fault_in_piece text piece place byte (At kind at) within found =
     let whole : ((text ++ take place piece) ++ get_or piece place byte ∷ []) ++ drop (place + 1) piece ≡ text ++ piece =
     ap (λ (t : List ℕ). t ++ drop (place + 1) piece) (one_more text piece place byte within) ∙ append_assoc text (take (place + 1) piece) (drop (place + 1) piece) ∙ ap (λ (t : List ℕ). text ++ t) (take-append-drop (place + 1) piece) in
     subst (λ (t : List ℕ). HasFault t (At kind at)) whole (fault_stays ((text ++ take place piece) ++ get_or piece place byte ∷ []) (drop (place + 1) piece) (At kind at) found)
+
+-- a header that goes on, or that is done before the end, is not at the end
+pub going_open : (progress : Progress) → is_going progress ≡ true → is_at_end progress ≡ false
+going_open Going going = refl
+going_open Done going = refl
+going_open AtEnd going = cc
+
+pub done_open : (last : Bool) (progress : Progress) → progress ≡ cond last Done Going → is_at_end progress ≡ false
+done_open true progress e = ap is_at_end e
+done_open false progress e = ap is_at_end e

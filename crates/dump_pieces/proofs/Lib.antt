@@ -12,3 +12,4 @@ pub mod Splitting
 pub mod FaultLaws
 pub mod FaultNames
 pub mod RisingTimes
+pub mod Growing

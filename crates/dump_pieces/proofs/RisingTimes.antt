@@ -15,28 +15,22 @@ use Rattle.dump_pieces.specs.Header.{END, is_decimal}
 use Rattle.dump_pieces.specs.Body.{BodyReading, Begun, nothing, digits, passed, comment, Said, said, begins, is_back, new_time, time_fault, value_of, change_of, change, saying, scalar, time_word, digits_word, are_digits, is_group_word, is_passed_letter, dollar_word, first_word, behind_letter, word_after, next_word}
 use Rattle.dump_pieces.specs.Reading.{HeaderReading, header_word, Body, Meaning, header, body, fault, after_header_word, after_body_word, room_of, stop_of, reading_on, with_word, meaning_after, meaning_of, start}
 use Rattle.dump_pieces.specs.Text.{Stands, word_at, after, EndsAs}
-use Rattle.dump_pieces.specs.Times.{IsLater, Rises}
+use Rattle.dump_pieces.specs.Times.{IsLater, Rises, last_time}
 use Rattle.dump_pieces.specs.declared.entry.Entry.{Entry}
 use Rattle.dump_pieces.specs.declared.entry.Entry.TheVariants.{Time, Value}
 use Rattle.dump_pieces.specs.declared.fault.DumpFault.{DumpFault}
 use Rattle.dump_pieces.specs.declared.fault.DumpFault.TheVariants.{At}
 use Rattle.dump_pieces.specs.declared.fault.DumpKind.TheVariants.{BadChange, TimeTooLarge, TimeBack, Gap}
 
--- the last time behind entries
-abbrev pub latest : Option ℕ → List Entry → Option ℕ
-latest last [] = last
-latest last (Time time ∷ entries) = latest (Some time) entries
-latest last (Value code value ∷ entries) = latest last entries
-
-rises_append : (last : Option ℕ) (entries others : List Entry) → Rises last entries → Rises (latest last entries) others → Rises last (entries ++ others)
+pub rises_append : (last : Option ℕ) (entries others : List Entry) → Rises last entries → Rises (last_time last entries) others → Rises last (entries ++ others)
 rises_append last [] others r s = s
 rises_append last (Time time ∷ entries) others r s = (r.0, rises_append (Some time) entries others r.1 s)
 rises_append last (Value code value ∷ entries) others r s = rises_append last entries others r s
 
-latest_append : (last : Option ℕ) (entries others : List Entry) → latest last (entries ++ others) ≡ latest (latest last entries) others
-latest_append last [] others = refl
-latest_append last (Time time ∷ entries) others = latest_append (Some time) entries others
-latest_append last (Value code value ∷ entries) others = latest_append last entries others
+pub last_time_append : (last : Option ℕ) (entries others : List Entry) → last_time last (entries ++ others) ≡ last_time (last_time last entries) others
+last_time_append last [] others = refl
+last_time_append last (Time time ∷ entries) others = last_time_append (Some time) entries others
+last_time_append last (Value code value ∷ entries) others = last_time_append last entries others
 
 -- what may be said behind this time, and the last time then
 pub data IsTimely (last : Option ℕ) : Option Entry → Option ℕ → Type 0 where
@@ -150,13 +144,13 @@ word_timely table comment word last = comment_timely (bytes_eq word.bytes END) l
 
 abbrev pub MeansTimely : Meaning → Type 0
 MeansTimely (header reading) = Unit {0}
-MeansTimely (body b) = Rises None b.items × (latest None b.items ≡ b.reading.last)
+MeansTimely (body b) = Rises None b.items × (last_time None b.items ≡ b.reading.last)
 MeansTimely (fault f) = Unit {0}
 
-add_says : (entries : List Entry) (last next : Option ℕ) (says : Option Entry) → Rises None entries → latest None entries ≡ last → IsTimely last says next → Rises None (entries ++ option_to_list says) × (latest None (entries ++ option_to_list says) ≡ next)
-add_says entries last next says r e (at_time t later) = (rises_append None entries (Time t ∷ []) r (subst (λ (o : Option ℕ). IsLater o t) (sym e) later, tt), latest_append None entries (Time t ∷ []))
-add_says entries last next says r e (of_value code v) = (rises_append None entries (Value code v ∷ []) r tt, latest_append None entries (Value code v ∷ []) ∙ e)
-add_says entries last next says r e silent = (rises_append None entries [] r tt, latest_append None entries [] ∙ e)
+add_says : (entries : List Entry) (last next : Option ℕ) (says : Option Entry) → Rises None entries → last_time None entries ≡ last → IsTimely last says next → Rises None (entries ++ option_to_list says) × (last_time None (entries ++ option_to_list says) ≡ next)
+add_says entries last next says r e (at_time t later) = (rises_append None entries (Time t ∷ []) r (subst (λ (o : Option ℕ). IsLater o t) (sym e) later, tt), last_time_append None entries (Time t ∷ []))
+add_says entries last next says r e (of_value code v) = (rises_append None entries (Value code v ∷ []) r tt, last_time_append None entries (Value code v ∷ []) ∙ e)
+add_says entries last next says r e silent = (rises_append None entries [] r tt, last_time_append None entries [] ∙ e)
 
 body_timely : (b : Body) (answer : Answer Said) → MeansTimely (body b) → AnswersTimely b.reading.last answer → MeansTimely (after_body_word b answer)
 body_timely b answer m (answers s h) = add_says b.items b.reading.last s.1.last s.0 m.0 m.1 h
@@ -188,3 +182,7 @@ times_rise text b e =
     let front : MeansTimely e.means = subst (λ (m : Meaning). MeansTimely m) e.stands.meaning (after_timely start (words_of e.stands.front) tt) in
     let whole : MeansTimely (body b) = subst (λ (m : Meaning). MeansTimely m) e.meaning (after_timely e.means (word_at (length text - length e.word) e.word) front) in
     whole.0
+
+-- so do those of a text that goes on
+pub times_rise_so_far : (text word : List ℕ) (b : Body) → Stands text (body b) word → Rises None b.items
+times_rise_so_far text word b s = (subst (λ (m : Meaning). MeansTimely m) s.meaning (after_timely start (words_of s.front) tt)).0

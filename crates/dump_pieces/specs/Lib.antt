@@ -18,3 +18,4 @@ pub mod Pieces
 pub mod Example
 pub mod Named
 pub mod Times
+pub mod Dump

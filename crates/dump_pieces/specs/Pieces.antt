@@ -1,7 +1,7 @@
 -- What the calls of the reader leave, in whatever pieces a dump comes.
 use Rattle.std.specs.Prelude.{◌≡◌, ◌<◌, ◌≤◌, ℕ, Bool, true, false, List, [], ◌++◌, length, take, None, Some}
 use Rattle.dump_pieces.specs.Reading.{Body}
-use Rattle.dump_pieces.specs.Progress.{is_going}
+use Rattle.dump_pieces.specs.Progress.{is_at_end, is_going}
 use Rattle.dump_pieces.specs.Standing.{HeaderStands}
 use Rattle.dump_pieces.specs.BodyStanding.{BodyStands, BodyEnded, StepsOn}
 pub use Rattle.dump_pieces.specs.BodyStanding.{IsFaultAt}
@@ -29,10 +29,14 @@ pub record IsRead (h : Header) (text : List ℕ) : Type 0 where
 abbrev pub HasFailed : Header → DumpFault → Type 0
 HasFailed h fault = h.fault ≡ Some fault
 
+-- the header is done, and the input has ended
+abbrev pub header_at_end : Header → Bool
+header_at_end h = is_at_end h.reader.progress
+
 -- what the next piece came to: it is not empty, and is used up, or the header is done behind so many of its bytes
 abbrev pub Feeds : Fed → Header → List ℕ → List ℕ → Type 0
 Feeds fed_row.More h text piece = (0 < length piece) × HasRead h (text ++ piece)
-Feeds (fed_row.Done used) h text piece = (used ≤ length piece) × IsRead h (text ++ take used piece)
+Feeds (fed_row.Done used) h text piece = (used ≤ length piece) × (header_at_end h ≡ true → piece ≡ []) × IsRead h (text ++ take used piece)
 
 -- this text was read, its words mean this body, and the body goes on
 pub record BodyHasRead (body : BodyRow) (text : List ℕ) (b : Body) : Type 0 where
@@ -52,12 +56,16 @@ abbrev pub BodyIs : Bool → BodyRow → List ℕ → Body → Type 0
 BodyIs false body text b = BodyHasRead body text b
 BodyIs true body text b = BodyHasEnded body text b
 
+-- the input has ended
+abbrev pub body_at_end : BodyRow → Bool
+body_at_end body = body.reader.is_at_end
+
 -- the variables of the text, and a body that has said nothing
 pub record Splits (vars : List Var) (body : BodyRow) (text : List ℕ) : Type 0 where
   pub b : Body
   pub vars_are : vars ≡ b.vars
   pub none : b.items ≡ []
-  pub stands : BodyIs body.reader.is_at_end body text b
+  pub stands : BodyIs (body_at_end body) body text b
 
 -- what the next piece came to
 pub record StepsTo (says : Item) (used : ℕ) (body : BodyRow) (text piece : List ℕ) (b : Body) : Type 0 where

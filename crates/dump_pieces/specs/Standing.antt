@@ -3,7 +3,7 @@ use Rattle.std.specs.Prelude.{◌≡◌, ◌<◌, ◌≤◌, ℕ, true, false, L
 use Rattle.dump_pieces.specs.Reading.{header, body, body_after}
 use Rattle.dump_pieces.specs.Text.{Stands, HasFault, EndsWithFault, EndsAs}
 use Rattle.dump_pieces.specs.Views.{reading_of, declared_of}
-use Rattle.dump_pieces.specs.Progress.{is_going}
+use Rattle.dump_pieces.specs.Progress.{is_at_end, is_going}
 use Rattle.dump_pieces.specs.declared.fault.DumpFault.{DumpFault}
 use Rattle.dump_pieces.specs.declared.fault.DumpFault.TheVariants as dump_fault
 use Rattle.dump_pieces.specs.declared.item.Fed.{Fed}
@@ -44,10 +44,11 @@ pub record HasMore (reader : HeaderReader) (text piece : List ℕ) : Type 0 wher
   pub goes_on : is_going reader.progress ≡ true
   pub stands : HeaderStands reader (text ++ piece)
 
--- so many bytes of the next piece were used, and the header is done
+-- so many bytes of the next piece were used, and the header is done, at the end of the input only where the piece is empty
 pub record IsDone (used : ℕ) (reader : HeaderReader) (text piece : List ℕ) : Type 0 where
   pub within : used ≤ length piece
   pub done : is_going reader.progress ≡ false
+  pub ends : is_at_end reader.progress ≡ true → piece ≡ []
   pub stands : HeaderStands reader (text ++ take used piece)
 
 -- what the next piece came to

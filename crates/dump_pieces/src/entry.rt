@@ -4,9 +4,9 @@ ghost use Rattle.dump_pieces.specs.Entries.{item_of};
 use crate::Item;
 use four_state::Four;
 
-/// What a body says: a new time, or a change.
+/// What a body says: a time that is greater than the one before, or a change of a code to a value.
 #[derive(Clone, Copy)]
-pub(crate) enum Entry {
+pub enum Entry {
     Time(u64),
     Value { code: u32, value: Four },
 }

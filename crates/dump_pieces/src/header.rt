@@ -17,7 +17,7 @@ pub struct Header {
 }
 
 impl Header {
-    ghost use Rattle.dump_pieces.specs.Pieces.{HasRead, IsRead, HasFailed, Feeds, Splits};
+    ghost use Rattle.dump_pieces.specs.Pieces.{HasRead, IsRead, HasFailed, Feeds, Splits, body_at_end, header_at_end};
     ghost use Rattle.dump_pieces.specs.Standing.{IsFaultOf};
 
     /// A header of which nothing was read. It takes no memory.
@@ -57,7 +57,8 @@ impl Header {
 
     /// The variables and the body of a header that is done. It takes no memory.
     pub fn split(self) -> (Vars, Body)
-        ensures { (text : List ℕ) → IsRead self text → Splits result.0 result.1 text }
+        ensures splits { (text : List ℕ) → IsRead self text → Splits result.0 result.1 text }
+        ensures at_end { body_at_end result.1 ≡ header_at_end self }
     {
         let Header { reader, fault } = self;
         let HeaderReader {

@@ -4,7 +4,7 @@ ghost use Rattle.dump_pieces.specs.declared.fault.DumpFault.TheVariants as dump_
 ghost use Rattle.dump_pieces.specs.Words.{is_white_space as is_space};
 ghost use Rattle.dump_pieces.specs.Reading.{last_word};
 ghost use Rattle.dump_pieces.specs.Views.{reading_of};
-ghost use Rattle.dump_pieces.specs.Progress.{is_going, longest_of};
+ghost use Rattle.dump_pieces.specs.Progress.{is_at_end, is_going, longest_of};
 
 use crate::letters::is_white_space;
 use crate::progress::Progress;
@@ -76,6 +76,7 @@ impl HeaderReader {
     fn read_byte(&mut self, byte: u8) -> Result<bool, DumpFault>
         requires { is_going self.old.progress ≡ true }
         ensures progress { IfOk result (λ last. is_going self.new.progress ≡ not last) }
+        ensures open { OnOk result (is_at_end self.new.progress ≡ false) }
         ensures ok { OnOk result ((text : List ℕ) → HeaderStands self.old text → HeaderStands self.new (text ++ byte ∷ [])) }
         ensures fault { IfErr result (λ fault. (text : List ℕ) → HeaderStands self.old text → IsFoundFault (text ++ byte ∷ []) fault) }
     {
@@ -91,6 +92,7 @@ impl HeaderReader {
     fn read_space(&mut self) -> Result<bool, DumpFault>
         requires { is_going self.old.progress ≡ true }
         ensures progress { IfOk result (λ last. is_going self.new.progress ≡ not last) }
+        ensures open { OnOk result (is_at_end self.new.progress ≡ false) }
         ensures ok { OnOk result ((text : List ℕ) (space : ℕ) → is_space space ≡ true → HeaderStands self.old text → HeaderStands self.new (text ++ space ∷ [])) }
         ensures fault { IfErr result (λ fault. (text : List ℕ) (space : ℕ) → is_space space ≡ true → HeaderStands self.old text → IsFoundFault (text ++ space ∷ []) fault) }
     {
@@ -106,6 +108,7 @@ impl HeaderReader {
     fn push(&mut self, byte: u8) -> Result<(), DumpFault>
         requires { is_going self.old.progress ≡ true }
         ensures progress { OnOk result (is_going self.new.progress ≡ true) }
+        ensures open { OnOk result (is_at_end self.new.progress ≡ false) }
         ensures ok { OnOk result ((text : List ℕ) → is_space byte ≡ false → HeaderStands self.old text → HeaderStands self.new (text ++ byte ∷ [])) }
         ensures fault { IfErr result (λ fault. (text : List ℕ) → is_space byte ≡ false → HeaderStands self.old text → IsFoundFault (text ++ byte ∷ []) fault) }
     {

@@ -6,6 +6,7 @@ ghost use Rattle.dump_pieces.specs.Text.{Stands, HasFault, EndsAs, EndsWithFault
 ghost use Rattle.dump_pieces.specs.declared.fault.DumpFault.{DumpFault};
 ghost use Rattle.dump_pieces.specs.Times.{Rises};
 ghost use Rattle.dump_pieces.specs.Named.{IsNamed};
+ghost use Rattle.dump_pieces.specs.Dump.{GoesOn, SaysBody};
 ghost use Rattle.dump_pieces.specs.Example.{example_text, example_body};
 
 /// A text means one thing, is one dump, and has one first fault, which is not want of memory; and where it has a
@@ -28,4 +29,9 @@ pub fn rising_times()
 /// The dump of an example is the one that is expected.
 pub fn example_dump()
     ensures { EndsAs example_text example_body }
+{}
+
+/// A dump has the variables that the text says at a place behind its header, and says first what the text says there.
+pub fn dump_goes_on()
+    ensures { (text : List ℕ) (b whole : Body) → SaysBody text b → EndsAs text whole → GoesOn b whole }
 {}

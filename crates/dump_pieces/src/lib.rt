@@ -30,10 +30,11 @@ mod vars;
 mod word;
 
 pub use body::Body;
+pub use entry::Entry;
 pub use fault::{DumpFault, DumpKind};
 pub use header::Header;
 pub use item::{Fed, Item, Step};
-pub use laws::{example_dump, one_reading, rising_times};
+pub use laws::{dump_goes_on, example_dump, one_reading, rising_times};
 pub use vars::{Var, Vars};
 
 #[cfg(test)]

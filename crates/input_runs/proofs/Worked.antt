@@ -1,11 +1,16 @@
 -- The worked case, computed.
-use Rattle.std.proofs.Common.{zero, suc, [], ◌∷◌, Some, None, refl, arith}
+use Rattle.std.proofs.Common.{ℕ, zero, suc, true, false, List, [], ◌∷◌, Some, None, refl, lit≤, arith}
 use Rattle.std.specs.Prelude.{codes}
+use Rattle.dump_pieces.specs.declared.entry.Entry.{Entry}
 use Rattle.cov_host.specs.Identifier.{is_reserved}
 use Rattle.input_module.specs.SourceForm.{AreDistinct, IsSource}
-use Rattle.vcd_reader.proofs.ExampleDump.{is_example}
-use Rattle.vcd_reader.specs.Example.{example_dump}
-use Rattle.input_runs.specs.Worked.{IsWorkedRun, pads, pads_text}
+use Rattle.dump_pieces.specs.Body.{nothing}
+use Rattle.dump_pieces.specs.Dump.{IsDump}
+use Rattle.dump_pieces.specs.Reading.{Body, body}
+use Rattle.dump_pieces.specs.declared.entry.Entry.TheVariants.{Time, Value}
+use Rattle.four_state.specs.declared.Bit.{Bit}
+use Rattle.four_state.specs.declared.Bit.TheVariants.{Zero, One, X}
+use Rattle.input_runs.specs.Worked.{IsWorkedRun, dump_text, pads, pads_dump, pads_text}
 use Rattle.input_runs.proofs.Inputs.{source_design}
 use Rattle.input_runs.proofs.SomeRun.{some_run_shows}
 
@@ -44,9 +49,36 @@ pads_source = record {
   design_is = refl;
 }
 
+abbrev said : ℕ → List Bit → Entry
+said code bits = Value code (record { bits = bits; signed = false })
+
+-- what the words of the dump mean
+abbrev pads_body : Body
+pads_body = record {
+  vars = pads_dump.vars;
+  codes = record { text = codes "!"; number = 0; size = 1; is_read = true } ∷ record { text = codes "\""; number = 1; size = 2; is_read = true } ∷ [];
+  items = Time 0 ∷ said 0 (Zero ∷ []) ∷ said 1 (Zero ∷ Zero ∷ []) ∷ Time 5 ∷ said 0 (One ∷ []) ∷ said 1 (One ∷ Zero ∷ []) ∷ Time 10 ∷ said 0 (Zero ∷ []) ∷ said 1 (X ∷ One ∷ []) ∷ Time 15 ∷ said 0 (One ∷ []) ∷ [];
+  reading = record { last = Some 15; begun = nothing };
+}
+
+pads_dump_is : IsDump dump_text pads_dump
+pads_dump_is = record {
+  b = pads_body;
+  ends = record {
+    word = [];
+    means = body pads_body;
+    stands = record { front = dump_text; split = refl; whole = refl; black = refl; meaning = refl; within = lit≤ tt };
+    whole = refl;
+    meaning = refl;
+    closed = refl;
+  };
+  vars = refl;
+  steps = refl;
+}
+
 pub worked_run : IsWorkedRun
 worked_run = record {
   source = pads_source;
-  dump = is_example;
-  run = some_run_shows pads example_dump (codes "tb.dut") (source_design pads_text (codes "pads") pads pads_source);
+  dump = pads_dump_is;
+  run = some_run_shows pads pads_dump (codes "tb.dut") (source_design pads_text (codes "pads") pads pads_source);
 }

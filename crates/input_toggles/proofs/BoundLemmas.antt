@@ -1,47 +1,154 @@
 -- The signals of a design that are bound, and those that lack a first value.
-use Rattle.std.proofs.Common.{◌≡◌, ℕ, Option, Some, None, IsSome, IfSome, IsSomeAnd, List, map, get_or, refl, sym, ap, subst, ◌∙◌, arith}
-use Rattle.std.specs.List.{All, Any}
-use Rattle.std.proofs.lemmas.List.{get_or-map, length-map}
-use Rattle.std.proofs.lemmas.List.Elements.{All-map}
-use Rattle.four_state.specs.Vector.{Vector}
-use Rattle.design_model.specs.Shows.{AreRising}
+use Rattle.std.proofs.Common.{◌≡◌, ℕ, zero, suc, ◌+◌, ◌<◌, ◌≤◌, Bool, true, false, Option, Some, None, IsSome, IsTrue, IfSome, is_some, List, [], ◌∷◌, ◌++◌, length, map, get_or, refl, sym, ap, subst, ◌∙◌, arith}
+use Rattle.std.specs.Prelude.{nat_lt}
+use Rattle.std.specs.List.{All}
+use Rattle.std.proofs.lemmas.Bool.Decides.{nat_tests}
+use Rattle.std.proofs.lemmas.List.{length-map}
+use Rattle.std.proofs.lemmas.List.Elements.{All-nil, All-cons, All-head, All-tail, All-weaker}
+use Rattle.design_model.specs.Design.{no_signal}
 use Rattle.design_model.specs.declared.design.Design.{Design}
 use Rattle.design_model.specs.declared.design.Signal.{Signal}
-use Rattle.vcd_reader.specs.Dump.{times_of}
-use Rattle.vcd_reader.specs.declared.dump.Dump.{Dump}
-use Rattle.input_toggles.specs.Binding.{code_of}
-use Rattle.input_toggles.specs.Scored.{IsBound, LacksFirstValue, first_value}
-use Rattle.input_toggles.specs.Watched.{HaveFirstValues, LackFirstValue, signals_of}
-use Rattle.input_toggles.specs.declared.watched.Watched.{Watched}
-use Rattle.input_toggles.proofs.TimeLemmas.{first_value_is}
+use Rattle.four_state.specs.Vector.{Vector}
+use Rattle.dump_pieces.specs.Dump.{Dump, steps_of}
+use Rattle.dump_pieces.specs.Times.{last_time}
+use Rattle.dump_pieces.specs.declared.entry.Entry.{Entry}
+use Rattle.dump_pieces.specs.declared.entry.Entry.TheVariants.{Time, Value}
+use Rattle.dump_pieces.specs.declared.vars.Var.{Var}
+use Rattle.input_toggles.specs.Binding.{AreCodes, code_of}
+use Rattle.input_toggles.specs.Scored.{HasNoBaseline, IsBound, first_value}
+use Rattle.input_toggles.specs.Scores.{LacksValue, Scores}
+use Rattle.input_toggles.specs.Tracked.{Follows, IsTracked, count_of, has_value, value_so_far}
+use Rattle.input_toggles.specs.declared.scorer.Scorer.{Scorer}
+use Rattle.input_toggles.proofs.FollowLemmas.{has_value_is}
+use Rattle.input_toggles.proofs.OpenSteps.{before_value, count_first, count_later, count_some, count_value, value_later}
+use Rattle.input_toggles.proofs.TimeLemmas.{count_is, count_of_two, first_value_is}
 
--- some item of a mapped list
-Any-map : {X Y : Type 0} (P : Y → Type 0) (f : X → Y) (xs : List X) → Any (λ x. P (f x)) xs → Any P (map f xs)
-Any-map P f xs (k, x, l, e, p) = (k, f x, rw length-map l, get_or-map f xs k x (f x) l ∙ ap f e, p)
+module _ (of : Signal → Option ℕ) where
+  some_codes : (signals : List Signal) (codes : List ℕ) → map Some codes ≡ map of signals → All (λ s. IsSome (of s)) signals
+  some_codes [] codes e = All-nil (λ s. IsSome (of s))
+  some_codes (s ∷ ss) [] e = absurd (cc)
+  some_codes (s ∷ ss) (c ∷ cs) e =
+      let head : Some c ≡ of s = cc in
+      let tail : map Some cs ≡ map of ss = cc in
+      All-cons (λ s. IsSome (of s)) s ss (ap is_some (sym head)) (some_codes ss cs tail)
 
-module _ (design : Design) (dump : Dump) (instance : List ℕ) (start : List Watched) (signals : signals_of start ≡ design.signals) (codes : All (λ w. code_of dump.vars instance w.signal.now ≡ Some w.code) start) (up : AreRising (times_of dump.steps)) where
-  now : Watched → Signal
-  now w = w.signal.now
+  all_codes : (P : ℕ → Type 0) (signals : List Signal) (codes : List ℕ) → map Some codes ≡ map of signals → All P codes → All (λ s. IfSome (of s) P) signals
+  all_codes P [] codes e h = All-nil (λ s. IfSome (of s) P)
+  all_codes P (s ∷ ss) [] e h = absurd (cc)
+  all_codes P (s ∷ ss) (c ∷ cs) e h =
+      let head : Some c ≡ of s = cc in
+      let tail : map Some cs ≡ map of ss = cc in
+      All-cons (λ s. IfSome (of s) P) s ss (subst (λ o. IfSome o P) head (All-head P c cs h)) (all_codes P ss cs tail (All-tail P c cs h))
 
-  pub bound_from_values : HaveFirstValues dump.steps start → IsBound design dump instance
-  unfolding now
-  bound_from_values have =
-      let has_code : Signal → Type 0 = λ s. IsSome (code_of dump.vars instance s) in
-      let has_value : Signal → Type 0 = λ s. IfSome (code_of dump.vars instance s) (λ code. IsSome (first_value dump code)) in
-      let coded : All (λ w. has_code (now w)) start = λ k e l. subst (λ (o : Option ℕ). IsSome o) (sym (codes k e l)) refl in
-      record {
-        variables = subst (All has_code) signals (All-map has_code now start coded);
-        first_values = λ two.
-            let valued : All (λ w. has_value (now w)) start = λ k e l.
-            let value : IsSome (first_value dump (get_or start k e).code) = subst (λ (o : Option Vector). IsSome o) (sym (first_value_is dump.steps _ up (omega arith))) (have two k e l) in
-            subst (λ (o : Option ℕ). IfSome o (λ code. IsSome (first_value dump code))) (sym (codes k e l)) value in
-            subst (All has_value) signals (All-map has_value now start valued);
-      }
+  code_at : (signals : List Signal) (codes : List ℕ) (k d : ℕ) (s : Signal) → map Some codes ≡ map of signals → k < length codes → of (get_or signals k s) ≡ Some (get_or codes k d)
+  code_at signals [] k d s e l = absurd (omega (arith, l))
+  code_at [] (c ∷ cs) k d s e l = absurd (cc)
+  code_at (x ∷ xs) (c ∷ cs) zero d s e l = cc
+  code_at (x ∷ xs) (c ∷ cs) (suc k) d s e l = code_at xs cs k d s (let tail : map Some cs ≡ map of xs = cc in tail) (omega (arith, l))
 
-  pub lacks_first_value : LackFirstValue dump.steps start → LacksFirstValue design dump instance
-  unfolding now
-  lacks_first_value (two, (k, w, l, e, none)) =
-      let lacks : Signal → Type 0 = λ s. IsSomeAnd (code_of dump.vars instance s) (λ code. first_value dump code ≡ None) in
-      let coded : code_of dump.vars instance w.signal.now ≡ Some w.code = subst (λ (v : Watched). code_of dump.vars instance v.signal.now ≡ Some v.code) e (codes k w l) in
-      let lacking : lacks (now w) = subst (λ (o : Option ℕ). IsSomeAnd o (λ code. first_value dump code ≡ None)) (sym coded) (first_value_is dump.steps w.code up (omega arith) ∙ none) in
-      (two, subst (Any lacks) signals (Any-map lacks now start (k, w, l, e, lacking)))
+pub as_many : (vars : List Var) (instance : List ℕ) (signals : List Signal) (codes : List ℕ) → AreCodes vars instance signals codes → length codes ≡ length signals
+as_many vars instance signals codes e = omega (arith, length-map codes (λ (c : ℕ). Some c), ap length e, length-map signals (code_of vars instance))
+
+-- each signal has its variable, and its first value
+pub bound_design : (scorer : Scorer) (design : Design) (vars : List Var) (instance : List ℕ) (entries : List Entry) → Scores scorer design vars instance entries → IsBound design (record { vars = vars; steps = steps_of entries }) instance
+bound_design scorer design vars instance entries s = record {
+  instance_is = s.instance_is;
+  variables = some_codes (code_of vars instance) design.signals scorer.codes.items s.codes_are;
+  first_values = λ two.
+      let count = count_is entries (omega (arith, two)) in
+      all_codes (code_of vars instance) (λ code. IsSome (first_value (steps_of entries) code)) design.signals scorer.codes.items s.codes_are
+      (All-weaker (λ code. IsSome (value_so_far entries code 1)) (λ code. IsSome (first_value (steps_of entries) code)) (λ code some. subst (λ (o : Option Vector). IsSome o) (first_value_is entries code (omega (arith, two))) some) scorer.codes.items
+      (s.based (omega (arith, two, count))));
+}
+
+none_of : (o : Option Vector) → is_some o ≡ false → o ≡ None
+none_of None e = refl
+none_of (Some v) e = absurd (cc)
+
+first_count : (entries : List Entry) → nat_lt (count_of entries) 2 ≡ true → count_of entries ≡ 1
+first_count entries is = let some = count_some entries in grind (arith, nat_tests, some, is)
+
+-- a code without a value at the second time lacks the first one
+pub no_baseline : (scorer : Scorer) (design : Design) (vars : List Var) (instance : List ℕ) (entries : List Entry) (before time signal : ℕ) → scorer.tracks.is_first ≡ true → scorer.tracks.last ≡ Some before → LacksValue scorer signal → Scores scorer design vars instance entries → HasNoBaseline vars instance design.signals (entries ++ Time time ∷ []) signal
+no_baseline scorer design vars instance entries before time signal first last lacks s =
+    let code = get_or scorer.codes.items signal 0 in
+    let more = entries ++ Time time ∷ [] in
+    let there : last_time None entries ≡ Some before = sym s.follows.last ∙ last in
+    let one : count_of entries ≡ 1 = first_count entries (sym s.follows.first ∙ first) in
+    let count : count_of more ≡ 2 = count_later entries before time there ∙ ap suc one in
+    let two : length (steps_of more) ≡ 2 = count_of_two more (omega (arith, count)) ∙ count in
+    let many = as_many vars instance design.signals scorer.codes.items s.codes_are in
+    let valueless : value_so_far entries code 1 ≡ None = none_of _ (ap (λ n. is_some (value_so_far entries code n)) (sym one) ∙ sym (has_value_is scorer.tracks entries code s.follows (s.tracked signal 0 lacks.listed)) ∙ lacks.none) in
+    record {
+      second = omega (arith, two);
+      listed = omega (arith, lacks.listed, many);
+      code = code;
+      bound = code_at (code_of vars instance) design.signals scorer.codes.items signal 0 no_signal s.codes_are lacks.listed;
+      none = sym (first_value_is more code (omega (arith, two))) ∙ value_later entries before time code 1 there (omega (arith, one)) ∙ valueless;
+    }
+
+-- the first values stay behind a change
+pub based_value : (codes : List ℕ) (entries : List Entry) (code : ℕ) (value : Vector) → (2 ≤ count_of entries → All (λ other. IsSome (value_so_far entries other 1)) codes) → 2 ≤ count_of (entries ++ Value code value ∷ []) → All (λ other. IsSome (value_so_far (entries ++ Value code value ∷ []) other 1)) codes
+based_value codes entries code value based two =
+    let count = count_value entries code value in
+    All-weaker (λ other. IsSome (value_so_far entries other 1)) (λ other. IsSome (value_so_far (entries ++ Value code value ∷ []) other 1)) (λ other some. subst (λ (o : Option Vector). IsSome o) (sym (before_value entries code value other 1 (omega (arith, two, count)))) some) codes (based (omega (arith, two, count)))
+
+-- and behind a later time
+pub based_later : (codes : List ℕ) (entries : List Entry) (before time : ℕ) → last_time None entries ≡ Some before → All (λ other. IsSome (value_so_far entries other 1)) codes → All (λ other. IsSome (value_so_far (entries ++ Time time ∷ []) other 1)) codes
+based_later codes entries before time there based =
+    All-weaker (λ other. IsSome (value_so_far entries other 1)) (λ other. IsSome (value_so_far (entries ++ Time time ∷ []) other 1)) (λ other some. subst (λ (o : Option Vector). IsSome o) (sym (value_later entries before time other 1 there (count_some entries))) some) codes based
+
+last_of : (o : Option ℕ) → is_some o ≡ true → (before : ℕ) × (o ≡ Some before)
+last_of None e = absurd (cc)
+last_of (Some before) e = (before, refl)
+
+no_last : (o : Option ℕ) → is_some o ≡ false → o ≡ None
+no_last None e = refl
+no_last (Some before) e = absurd (cc)
+
+pub no_baseline_of : (scorer : Scorer) (design : Design) (vars : List Var) (instance : List ℕ) (entries : List Entry) (time signal : ℕ) → scorer.tracks.is_first ≡ true → is_some scorer.tracks.last ≡ true → LacksValue scorer signal → Scores scorer design vars instance entries → HasNoBaseline vars instance design.signals (entries ++ Time time ∷ []) signal
+no_baseline_of scorer design vars instance entries time signal first last lacks s =
+    let before = last_of scorer.tracks.last last in
+    no_baseline scorer design vars instance entries before.0 time signal first before.1 lacks s
+
+-- the scorer behind a time, where each code has a first value if there is a second time
+opened_with : (old new : Scorer) (design : Design) (vars : List Var) (instance : List ℕ) (entries : List Entry) (time : ℕ) → new.codes ≡ old.codes → Follows new.tracks (entries ++ Time time ∷ []) → ((other : ℕ) → IsTracked old.tracks other → IsTracked new.tracks other)
+    → (2 ≤ count_of (entries ++ Time time ∷ []) → All (λ code. IsSome (value_so_far (entries ++ Time time ∷ []) code 1)) old.codes.items) → Scores old design vars instance entries → Scores new design vars instance (entries ++ Time time ∷ [])
+opened_with old new design vars instance entries time same follows kept based s = record {
+  instance_is = s.instance_is;
+  codes_are = subst (λ cs. AreCodes vars instance design.signals cs.items) (sym same) s.codes_are;
+  follows = follows;
+  tracked = subst (λ cs. All (IsTracked new.tracks) cs.items) (sym same) (All-weaker (IsTracked old.tracks) (IsTracked new.tracks) kept old.codes.items s.tracked);
+  based = λ two. subst (λ cs. All (λ code. IsSome (value_so_far (entries ++ Time time ∷ []) code 1)) cs.items) (sym same) (based two);
+}
+
+pub opened_second : (old new : Scorer) (design : Design) (vars : List Var) (instance : List ℕ) (entries : List Entry) (time : ℕ) → new.codes ≡ old.codes → is_some old.tracks.last ≡ true → Follows new.tracks (entries ++ Time time ∷ []) → ((other : ℕ) → IsTracked old.tracks other → IsTracked new.tracks other)
+    → old.tracks.is_first ≡ true → All (λ code. IsTrue (has_value old.tracks code)) old.codes.items → Scores old design vars instance entries → Scores new design vars instance (entries ++ Time time ∷ [])
+opened_second old new design vars instance entries time same last follows kept first valued s =
+    let before = last_of old.tracks.last last in
+    let there : last_time None entries ≡ Some before.0 = sym s.follows.last ∙ before.1 in
+    let one : count_of entries ≡ 1 = first_count entries (sym s.follows.first ∙ first) in
+    let based : All (λ code. IsSome (value_so_far entries code 1)) old.codes.items = λ k d l. ap (λ n. is_some (value_so_far entries (get_or old.codes.items k d) n)) (sym one) ∙ sym (has_value_is old.tracks entries (get_or old.codes.items k d) s.follows (s.tracked k d l)) ∙ valued k d l in
+    opened_with old new design vars instance entries time same follows kept (λ two. based_later old.codes.items entries before.0 time there based) s
+
+pub opened_first : (old new : Scorer) (design : Design) (vars : List Var) (instance : List ℕ) (entries : List Entry) (time : ℕ) → new.codes ≡ old.codes → is_some old.tracks.last ≡ false → Follows new.tracks (entries ++ Time time ∷ []) → ((other : ℕ) → IsTracked old.tracks other → IsTracked new.tracks other)
+    → Scores old design vars instance entries → Scores new design vars instance (entries ++ Time time ∷ [])
+opened_first old new design vars instance entries time same last follows kept s =
+    let empty : last_time None entries ≡ None = sym s.follows.last ∙ no_last old.tracks.last last in
+    opened_with old new design vars instance entries time same follows kept (λ two. absurd (omega (arith, two, count_first entries time empty))) s
+
+pub opened_later : (old new : Scorer) (design : Design) (vars : List Var) (instance : List ℕ) (entries : List Entry) (time : ℕ) → new.codes ≡ old.codes → old.tracks.is_first ≡ false → Follows new.tracks (entries ++ Time time ∷ []) → ((other : ℕ) → IsTracked old.tracks other → IsTracked new.tracks other)
+    → Scores old design vars instance entries → Scores new design vars instance (entries ++ Time time ∷ [])
+opened_later old new design vars instance entries time same first follows kept s = go old.tracks.last refl
+  where
+    no : nat_lt (count_of entries) 2 ≡ false
+    no = sym s.follows.first ∙ first
+
+    more : 2 ≤ count_of entries
+    more = grind (arith, nat_tests, no)
+
+    go : (o : Option ℕ) → old.tracks.last ≡ o → Scores new design vars instance (entries ++ Time time ∷ [])
+    go None e =
+        let empty : last_time None entries ≡ None = sym s.follows.last ∙ e in
+        opened_with old new design vars instance entries time same follows kept (λ two. absurd (omega (arith, two, count_first entries time empty))) s
+    go (Some before) e = opened_with old new design vars instance entries time same follows kept (λ two. based_later old.codes.items entries before time (sym s.follows.last ∙ e) (s.based more)) s

@@ -1,89 +1,105 @@
--- The signals of a design after they were bound, followed and sorted.
-use Rattle.std.proofs.Common.{◌≡◌, ℕ, ◌<◌, ◌≤◌, ◌^◌, Some, IsTrue, List, [], ◌∷◌, ◌++◌, length, take, drop, get_or, refl, sym, ap, subst, ◌∙◌, arith}
+-- The table of the signals of a design after the dump was told.
+use Rattle.std.proofs.Common.{◌≡◌, ℕ, ◌+◌, ◌<◌, ◌≤◌, ◌^◌, Option, Some, IsTrue, List, [], ◌∷◌, ◌++◌, length, map, take, get_or, refl, sym, ap, subst, ◌∙◌, arith}
 use Rattle.std.specs.List.{All, Contains}
-use Rattle.std.proofs.lemmas.List.{get_or-map, length-map, nil_from_length, same_lists, take_at}
-use Rattle.std.proofs.lemmas.List.Elements.{All-weaker, Contains-get_or}
+use Rattle.std.proofs.lemmas.List.Elements.{All-nil, All-cons, All-contains, All-push, All-weaker, Contains-get_or}
+use Rattle.std.proofs.lemmas.List.{map_push, take_all, take_more}
 use Rattle.std.proofs.lemmas.List.Sorted.{All-permutation, Contains-permutation, IsPermutation-map, length_permutation}
 use Rattle.coverage_db.specs.Table.{IsTable, is_file_name}
 use Rattle.coverage_db.specs.declared.db.Db.{Db}
 use Rattle.design_model.specs.Shows.{AreRising}
 use Rattle.design_model.specs.declared.design.Design.{Design}
 use Rattle.design_model.specs.declared.design.Signal.{Signal}
-use Rattle.vcd_reader.specs.Dump.{times_of}
-use Rattle.vcd_reader.specs.declared.dump.Dump.{Dump}
-use Rattle.vcd_reader.specs.declared.dump.DumpStep.{DumpStep}
+use Rattle.dump_pieces.specs.Dump.{Dump, steps_of, times_of}
+use Rattle.dump_pieces.specs.declared.entry.Entry.{Entry}
+use Rattle.dump_pieces.specs.declared.vars.Var.{Var}
 use Rattle.input_toggles.specs.Binding.{code_of}
 use Rattle.input_toggles.specs.InputDesign.{IsInput, IsInputDesign}
-use Rattle.input_toggles.specs.PointList.{IsTableAfter, IsTableOf}
-use Rattle.input_toggles.specs.Scored.{HasHead, IsScored, ListsTogglePoints}
-use Rattle.input_toggles.specs.Watched.{EachChanges, Follows, signals_of, without_last}
+use Rattle.input_toggles.specs.PointList.{IsTableOf}
+use Rattle.input_toggles.specs.Scored.{HasHead, IsScored, IsToggleTable, ListsTogglePoints}
+use Rattle.input_toggles.specs.Scores.{AreWatched, HasToggles, IsScoreBy, Scores}
+use Rattle.input_toggles.specs.Tracked.{IsTracked}
+use Rattle.input_toggles.specs.Watched.{signals_of}
+use Rattle.input_toggles.specs.declared.scorer.Scorer.{Scorer}
 use Rattle.input_toggles.specs.declared.watched.Watched.{Watched}
+use Rattle.input_toggles.proofs.BoundLemmas.{bound_design}
 use Rattle.input_toggles.proofs.MemberLemmas.{Contains-map}
 use Rattle.input_toggles.proofs.ScoredLemmas.{IsFollowed, points_listed, points_scored}
 use Rattle.input_toggles.proofs.TableLemmas.{inputs_of, number_of, table_is}
+use Rattle.input_toggles.proofs.TimeLemmas.{toggled_is}
 
--- the signals stay the same
-pub signals_followed : (closed : List DumpStep) (before after : List Watched) → EachChanges (Follows closed) before after → signals_of after ≡ signals_of before
-signals_followed closed [] after h = ap signals_of (nil_from_length after h.same_length)
-signals_followed closed (w ∷ ws) after h =
-    let now : Watched → Signal = λ w. w.signal.now in
-    same_lists (signals_of after) (signals_of (w ∷ ws)) (omega (arith, length-map after now, length-map (w ∷ ws) now, h.same_length)) (λ k d l.
-    let m : k < length after = rw length-map at l in
-    let n : k < length (w ∷ ws) = omega (arith, h.same_length) in
-    get_or-map now after k w d m ∙ (h.each k w n).same.signal ∙ sym (get_or-map now (w ∷ ws) k w d n))
+coded : (of : Signal → Option ℕ) (ws : List Watched) → map Some (map (λ w. w.code) ws) ≡ map of (signals_of ws) → All (λ w. of w.signal.now ≡ Some w.code) ws
+coded of [] e = All-nil (λ w. of w.signal.now ≡ Some w.code)
+coded of (w ∷ ws) e =
+    let head : of w.signal.now ≡ Some w.code = cc in
+    let tail : map Some (map (λ w. w.code) ws) ≡ map of (signals_of ws) = cc in
+    All-cons (λ w. of w.signal.now ≡ Some w.code) w ws head (coded of ws tail)
 
--- a list that was lent and given back with as many items
-pub written_back : {X : Type 0} (xs lent new : List X) (n : ℕ) → n ≡ length xs → lent ≡ xs → length new ≡ length lent → take n (new ++ drop (length new) xs) ≡ new
-written_back xs lent new n e f g = take_at new (drop (length new) xs) n (g ∙ ap length f ∙ sym e)
+module _ (design : Design) (d : IsInputDesign design) (scorer : Scorer) (watched : List Watched) (are : AreWatched scorer design.signals watched) (vars : List Var) (instance : List ℕ) (entries : List Entry) (s : Scores scorer design vars instance entries) (up : AreRising (times_of (steps_of entries))) where
+  the_dump : Dump
+  the_dump = record { vars = vars; steps = steps_of entries }
 
--- the table of signals that were followed in their place
-pub table_after : (closed : List DumpStep) (top source : List ℕ) (start followed : List Watched) (top' : List ℕ) (start' listed : List Watched) (db : Db) → top' ≡ top → start' ≡ start → listed ≡ followed → EachChanges (Follows closed) start' followed → IsTableOf top' source listed db → IsTableAfter closed top source start db
-table_after closed top source start followed top' start' listed db e f g h t =
-    record {
-      followed = followed;
-      follows = subst (λ ws. EachChanges (Follows closed) ws followed) f h;
-      table = subst (λ name. IsTableOf name source followed db) e (subst (λ ws. IsTableOf top' source ws db) g t);
-    }
+  code_is : All (λ w. code_of vars instance w.signal.now ≡ Some w.code) watched
+  code_is = coded (code_of vars instance) watched (ap (map Some) are.codes_are ∙ s.codes_are ∙ ap (map (code_of vars instance)) (sym are.signals_are))
 
-module _ (design : Design) (dump : Dump) (instance : List ℕ) (d : IsInputDesign design) (start : List Watched) (signals : signals_of start ≡ design.signals) (codes : All (λ w. code_of dump.vars instance w.signal.now ≡ Some w.code) start) where
-  are_followed : (followed : List Watched) → EachChanges (Follows (without_last dump.steps)) start followed → All (IsFollowed design dump instance) followed
-  are_followed followed h =
+  are_followed : All (IsFollowed design the_dump instance) watched
+  unfolding the_dump
+  are_followed =
       λ k e l.
-      let m : k < length start = omega (arith, h.same_length) in
-      let f = h.each k e m in
-      let before = get_or start k e in
-      let there : Contains design.signals before.signal.now = subst (λ ss. Contains ss before.signal.now) signals (Contains-map (λ (w : Watched). w.signal.now) start before (Contains-get_or start k e m)) in
+      let w = get_or watched k e in
+      let there : Contains watched w = Contains-get_or watched k e l in
+      let tracked : IsTracked scorer.tracks w.code = All-contains (IsTracked scorer.tracks) scorer.codes.items w.code s.tracked (subst (λ cs. Contains cs w.code) are.codes_are (Contains-map (λ (x : Watched). x.code) watched w there)) in
       record {
-        listed = subst (Contains design.signals) (sym f.same.signal) there;
-        input = subst IsInput (sym f.same.signal) (inputs_of design start d signals k e m);
-        bound = ap (code_of dump.vars instance) f.same.signal ∙ codes k e m ∙ ap Some (sym f.same.code);
-        stands = f.stands;
+        listed = subst (λ ss. Contains ss w.signal.now) are.signals_are (Contains-map (λ (x : Watched). x.signal.now) watched w there);
+        input = inputs_of design watched d are.signals_are k e l;
+        bound = code_is k e l;
+        toggles_are = λ place rise.
+            let kept = are.toggles_are k e l entries s.follows tracked place rise in
+            let shown = toggled_is entries w.code place rise up in
+            (λ t. shown.0 (kept.0 t), λ t. kept.1 (shown.1 t));
       }
 
-  module _ (source : List ℕ) (db : Db) (t : IsTableAfter (without_last dump.steps) design.top source start db) where
-    all_followed : All (IsFollowed design dump instance) t.table.sorted
-    all_followed = All-permutation (IsFollowed design dump instance) t.followed t.table.sorted t.table.permutation (are_followed t.followed t.follows)
+  module _ (source : List ℕ) (db : Db) (t : IsTableOf design.top source watched db) where
+    all_followed : All (IsFollowed design the_dump instance) t.sorted
+    all_followed = All-permutation (IsFollowed design the_dump instance) watched t.sorted t.permutation are_followed
 
-    all_there : (s : Signal) → Contains design.signals s → Contains (signals_of t.table.sorted) s
-    all_there s there =
-        let same : signals_of t.followed ≡ design.signals = signals_followed _ start t.followed t.follows ∙ signals in
-        Contains-permutation (signals_of t.followed) (signals_of t.table.sorted) s (IsPermutation-map (λ (w : Watched). w.signal.now) t.followed t.table.sorted t.table.permutation) (subst (λ ss. Contains ss s) (sym same) there)
+    all_there : (x : Signal) → Contains design.signals x → Contains (signals_of t.sorted) x
+    all_there x there =
+        Contains-permutation (signals_of watched) (signals_of t.sorted) x (IsPermutation-map (λ (w : Watched). w.signal.now) watched t.sorted t.permutation) (subst (λ ss. Contains ss x) (sym are.signals_are) there)
 
-    few : length t.table.sorted ≤ 2 ^ 23
-    few = omega (arith, length_permutation t.followed t.table.sorted t.table.permutation, t.follows.same_length, number_of design start d signals)
+    few : length t.sorted ≤ 2 ^ 23
+    few = omega (arith, length_permutation watched t.sorted t.permutation, number_of design watched d are.signals_are)
 
-    inputs : All (λ w. IsInput w.signal.now) t.table.sorted
-    inputs = All-weaker (IsFollowed design dump instance) (λ w. IsInput w.signal.now) (λ w f. f.input) t.table.sorted all_followed
+    inputs : All (λ w. IsInput w.signal.now) t.sorted
+    inputs = All-weaker (IsFollowed design the_dump instance) (λ w. IsInput w.signal.now) (λ w f. f.input) t.sorted all_followed
 
-    pub has_text : IsTrue (is_file_name source) → IsTable db
-    has_text file = subst IsTable (sym t.table.is) (table_is design source t.table.sorted d file inputs t.table.rising few)
+    pub toggle_table : IsTrue (is_file_name source) → IsToggleTable design (record { vars = vars; steps = steps_of entries }) source instance db
+    unfolding the_dump
+    toggle_table file = record {
+      bound = bound_design scorer design vars instance entries s;
+      table = subst IsTable (sym t.is) (table_is design source t.sorted d file inputs t.rising few);
+      head = subst (HasHead design source) (sym t.is) (record { top = refl; sources = refl; instances = refl });
+      listed = subst (ListsTogglePoints design) (sym t.is) (points_listed design the_dump instance t.sorted all_followed all_there);
+      verdicts = subst (λ (x : Db). All (IsScored design the_dump instance) x.points) (sym t.is) (points_scored design the_dump instance t.sorted all_followed);
+    }
 
-    pub has_head : HasHead design source db
-    has_head = subst (HasHead design source) (sym t.table.is) (record { top = refl; sources = refl; instances = refl })
+-- the first so many signals were listed
+pub record IsPart (scorer : Scorer) (signals : List Signal) (watched : List Watched) (place : ℕ) : Type 0 where
+  pub signals_are : signals_of watched ≡ take place signals
+  pub codes_are : map (λ w. w.code) watched ≡ take place scorer.codes.items
+  pub toggles_are : All (HasToggles scorer.tracks) watched
 
-    pub lists_points : AreRising (times_of dump.steps) → ListsTogglePoints design db
-    lists_points up = subst (ListsTogglePoints design) (sym t.table.is) (points_listed design dump instance up t.table.sorted all_followed all_there)
+pub part_more : (scorer : Scorer) (signals : List Signal) (watched next : List Watched) (place : ℕ) (w : Watched) → next ≡ watched ++ w ∷ [] → place < length signals → place < length scorer.codes.items → w.signal.now ≡ get_or signals place w.signal.now → w.code ≡ get_or scorer.codes.items place w.code
+    → HasToggles scorer.tracks w → IsPart scorer signals watched place → IsPart scorer signals next (place + 1)
+part_more scorer signals watched next place w is within coded signal code toggles part = record {
+  signals_are = ap signals_of is ∙ map_push (λ (x : Watched). x.signal.now) watched w ∙ ap (λ ss. ss ++ w.signal.now ∷ []) part.signals_are ∙ ap (λ s. take place signals ++ s ∷ []) signal ∙ sym (take_more signals place w.signal.now within);
+  codes_are = ap (map (λ x. x.code)) is ∙ map_push (λ (x : Watched). x.code) watched w ∙ ap (λ cs. cs ++ w.code ∷ []) part.codes_are ∙ ap (λ c. take place scorer.codes.items ++ c ∷ []) code ∙ sym (take_more scorer.codes.items place w.code coded);
+  toggles_are = subst (All (HasToggles scorer.tracks)) (sym is) (All-push (HasToggles scorer.tracks) watched w part.toggles_are toggles);
+}
 
-    pub verdicts_are : AreRising (times_of dump.steps) → All (IsScored design dump instance) db.points
-    verdicts_are up =
-        subst (λ (x : Db). All (IsScored design dump instance) x.points) (sym t.table.is) (points_scored design dump instance up t.table.sorted all_followed)
+-- all signals were listed
+pub part_whole : (scorer : Scorer) (signals : List Signal) (watched : List Watched) (place : ℕ) → length signals ≤ place → length scorer.codes.items ≤ place → IsPart scorer signals watched place → AreWatched scorer signals watched
+part_whole scorer signals watched place all coded part = record {
+  signals_are = part.signals_are ∙ take_all place signals all;
+  codes_are = part.codes_are ∙ take_all place scorer.codes.items coded;
+  toggles_are = part.toggles_are;
+}

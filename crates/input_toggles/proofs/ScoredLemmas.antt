@@ -1,5 +1,5 @@
 -- The table of signals that were followed lists the toggle points of the design, and its verdicts are those of the dump.
-use Rattle.std.proofs.Common.{◌≡◌, ◌↔◌, ℕ, ◌+◌, ◌<◌, ◌≤◌, min, Bool, true, false, cond, Option, Some, None, List, [], ◌∷◌, map, refl, sym, ap, subst, ◌∙◌, arith}
+use Rattle.std.proofs.Common.{◌≡◌, ◌↔◌, ℕ, ◌+◌, ◌<◌, ◌≤◌, min, Bool, true, false, cond, Option, Some, None, IsTrue, List, [], ◌∷◌, map, refl, sym, ap, subst, ◌∙◌, arith}
 use Rattle.std.specs.Bool.{OnFalse}
 use Rattle.std.specs.Int.{abs_diff}
 use Rattle.std.specs.List.{All, Contains}
@@ -7,22 +7,19 @@ use Rattle.std.proofs.lemmas.Bool.{false≢true}
 use Rattle.std.proofs.lemmas.List.Elements.{All-nil, All-cons, All-contains, All-map, All-weaker}
 use Rattle.coverage_db.specs.declared.address.Address.{Address}
 use Rattle.coverage_db.specs.declared.db.DbPoint.{DbPoint}
-use Rattle.design_model.specs.Shows.{AreRising}
 use Rattle.design_model.specs.declared.design.Design.{Design}
 use Rattle.design_model.specs.declared.design.Signal.{Signal}
-use Rattle.vcd_reader.specs.Dump.{times_of}
-use Rattle.vcd_reader.specs.declared.dump.Dump.{Dump}
+use Rattle.dump_pieces.specs.Dump.{Dump}
 use Rattle.input_toggles.specs.Binding.{code_of}
 use Rattle.input_toggles.specs.InputDesign.{IsInput}
 use Rattle.input_toggles.specs.Points.{HasIndex, IsTogglePoint, place_of, toggle_address}
 use Rattle.input_toggles.specs.PointList.{bit_points, declared_index, point_of, points_of, signal_points, verdict_of}
 use Rattle.input_toggles.specs.Scored.{IsScored, Tells}
-use Rattle.input_toggles.specs.Toggling.{TogglesIn}
-use Rattle.input_toggles.specs.Watched.{Stands, has_toggle, signals_of, without_last}
+use Rattle.input_toggles.specs.Toggling.{TogglesIn, has_toggle}
+use Rattle.input_toggles.specs.Watched.{signals_of}
 use Rattle.input_toggles.specs.declared.watched.Watched.{Watched}
 use Rattle.input_toggles.proofs.ListLemmas.{All-flat_map, All-range}
 use Rattle.input_toggles.proofs.MemberLemmas.{Contains-flat_map, Contains-head, Contains-map, Contains-range, Contains-tail, comes_from}
-use Rattle.input_toggles.proofs.TimeLemmas.{among_or_in}
 
 -- without a range both bounds are 0
 no_range : (s : Signal) → IsInput s → s.ranged ≡ false → (s.high ≡ 0) × (s.low ≡ 0)
@@ -63,7 +60,7 @@ pub record IsFollowed (design : Design) (dump : Dump) (instance : List ℕ) (w :
   pub listed : Contains design.signals w.signal.now
   pub input : IsInput w.signal.now
   pub bound : code_of dump.vars instance w.signal.now ≡ Some w.code
-  pub stands : Stands (without_last dump.steps) w
+  pub toggles_are : (place : ℕ) (rise : Bool) → IsTrue (has_toggle w.toggles place rise) ↔ TogglesIn dump.steps w.code place rise
 
 -- what holds of each point of a signal
 All-signal_points : (P : DbPoint → Type 0) (w : Watched) → ((i : ℕ) (rise : Bool) → IsWithin w.signal.now i → P (point_of w i rise)) → All P (signal_points w)
@@ -79,15 +76,13 @@ Contains-signal_points w i rise h =
       one true = Contains-head (point_of w i true) (point_of w i false ∷ [])
       one false = Contains-tail (point_of w i true) (point_of w i false) (point_of w i false ∷ []) (Contains-head (point_of w i false) [])
 
-module _ (design : Design) (dump : Dump) (instance : List ℕ) (up : AreRising (times_of dump.steps)) where
+module _ (design : Design) (dump : Dump) (instance : List ℕ) where
   scored : (w : Watched) → IsFollowed design dump instance w → All (IsScored design dump instance) (signal_points w)
   scored w f =
       All-signal_points (IsScored design dump instance) w (λ i rise h.
       let s = w.signal.now in
       let place = place_of s (Some i) in
-      let both = among_or_in dump.steps w.code place rise up in
-      let seen = f.stands.toggles place rise in
-      let says : Tells (verdict_of (has_toggle w.toggles place rise)) (TogglesIn dump.steps w.code place rise) = tells _ _ (λ t. both.0 (seen.0 t), λ t. seen.1 (both.1 t)) in
+      let says : Tells (verdict_of (has_toggle w.toggles place rise)) (TogglesIn dump.steps w.code place rise) = tells _ _ (f.toggles_are place rise) in
       record {
         signal = s;
         index = declared_index s i;

@@ -1,14 +1,15 @@
 -- The values of a dump at its times are those after its steps, as the times rise.
-use Rattle.std.proofs.Common.{◌≡◌, ◌↔◌, ℕ, zero, suc, ◌+◌, ◌-◌, ◌<◌, Bool, true, false, cond, nat_le, List, [], ◌∷◌, length, take, refl, sym, ap, ◌∙◌, arith, add-one}
+use Rattle.std.proofs.Common.{◌≡◌, ◌↔◌, ℕ, zero, suc, ◌+◌, ◌-◌, ◌<◌, ◌≤◌, ◌++◌, Bool, true, false, cond, nat_le, List, [], ◌∷◌, length, take, refl, sym, ap, ◌∙◌, arith, add-one}
 use Rattle.std.specs.List.{All, filter, flat_map}
 use Rattle.std.proofs.lemmas.Bool.Decides.{nat_tests}
-use Rattle.std.proofs.lemmas.List.{append-nil, length-take, take-take}
+use Rattle.std.proofs.lemmas.List.{append-nil}
 use Rattle.std.proofs.lemmas.List.Elements.{All-nil, All-cons, All-head, All-tail, All-weaker}
 use Rattle.design_model.specs.Shows.{AreRising}
-use Rattle.vcd_reader.specs.Dump.{last_value, times_of, value_at}
-use Rattle.vcd_reader.specs.declared.dump.DumpStep.{DumpStep}
-use Rattle.input_toggles.specs.Toggling.{TogglesIn, bit_at, dumped_bit, time_at}
-use Rattle.input_toggles.specs.Watched.{TogglesAmong, value_after, value_in_first, without_last}
+use Rattle.dump_pieces.specs.Dump.{Change, DumpStep, last_value, leading, steps_of, timed, times_of, value_at, with_leading}
+use Rattle.dump_pieces.specs.declared.entry.Entry.{Entry}
+use Rattle.input_toggles.specs.Scored.{first_value}
+use Rattle.input_toggles.specs.Toggling.{TogglesIn, bit_at, time_at}
+use Rattle.input_toggles.specs.Tracked.{ToggledBy, count_of, opened, value_after, value_so_far}
 
 -- each later time is greater
 pub later : (first : DumpStep) (steps : List DumpStep) → AreRising (times_of (first ∷ steps)) → All (λ step. first.time < step.time) steps
@@ -52,40 +53,53 @@ pub value_at_is : (steps : List DumpStep) (k code : ℕ) → AreRising (times_of
 value_at_is steps k code up l =
     ap (λ ss. last_value code (flat_map (λ (step : DumpStep). step.changes) ss)) (steps_up_to steps k up l ∙ ap (λ n. take n steps) (sym (add-one k)))
 
--- the value at the first time
-pub first_value_is : (steps : List DumpStep) (code : ℕ) → AreRising (times_of steps) → 0 < length steps → value_at steps code (time_at steps 0) ≡ value_in_first steps code
-first_value_is [] code up l = absurd (omega arith)
-first_value_is (first ∷ steps) code up l = value_at_is (first ∷ steps) 0 code up l ∙ ap (last_value code) (append-nil first.changes)
-
 -- a toggle over a step of the window is one from a step to the next, among all but the last
-module _ (steps : List DumpStep) (code place : ℕ) (rise : Bool) (up : AreRising (times_of steps)) where
-  at_step : (k : ℕ) → k + 1 < length steps → bit_at (value_after (take (k + 1) (without_last steps)) code) place ≡ dumped_bit steps code place k
-  at_step k l =
-      ap (λ ss. bit_at (value_after ss code) place) (take-take (k + 1) (length steps - 1) steps (omega arith)) ∙ ap (λ v. bit_at v place) (sym (value_at_is steps k code up (omega arith)))
+toggled_in : (code place : ℕ) (rise : Bool) (changes : List Change) (steps : List DumpStep) → AreRising (times_of (with_leading changes steps))
+    → ToggledBy (λ k. value_after (take k (opened changes steps)) code) (length (opened changes steps) - 1) place rise ↔ TogglesIn (with_leading changes steps) code place rise
+toggled_in code place rise changes [] up = (λ t. absurd (omega (arith, t.inside)), λ t. absurd (omega (arith, t.inside)))
+toggled_in code place rise changes (step ∷ steps) up =
+    let all = with_leading changes (step ∷ steps) in
+    let next : (k : ℕ) → k + 2 < length all → value_at all code (time_at all (k + 1)) ≡ value_after (take (k + 2) all) code = λ k l. let more : k + 1 + 1 ≡ k + 2 = omega arith in value_at_is all (k + 1) code up (omega (arith, l)) ∙ ap (λ n. value_after (take n all) code) more in (
+      λ t.
+          record {
+            number = t.number;
+            inside = omega (arith, t.inside);
+            before = ap (λ v. bit_at v place) (value_at_is all t.number code up (omega (arith, t.inside))) ∙ t.before;
+            after = ap (λ v. bit_at v place) (next t.number (omega (arith, t.inside))) ∙ t.after;
+          },
+      λ t.
+          record {
+            number = t.number;
+            inside = omega (arith, t.inside);
+            before = ap (λ v. bit_at v place) (sym (value_at_is all t.number code up (omega (arith, t.inside)))) ∙ t.before;
+            after = ap (λ v. bit_at v place) (sym (next t.number (omega (arith, t.inside)))) ∙ t.after;
+          },
+    )
 
-  at_next_step : (k : ℕ) → k + 2 < length steps → bit_at (value_after (take (k + 2) (without_last steps)) code) place ≡ dumped_bit steps code place (k + 1)
-  at_next_step k l =
-      let e : k + 2 ≡ k + 1 + 1 = omega arith in
-      ap (λ n. bit_at (value_after (take n (without_last steps)) code) place) e ∙ at_step (k + 1) (omega arith)
+pub toggled_is : (entries : List Entry) (code place : ℕ) (rise : Bool) → AreRising (times_of (steps_of entries)) → ToggledBy (value_so_far entries code) (count_of entries - 1) place rise ↔ TogglesIn (steps_of entries) code place rise
+toggled_is entries code place rise up = toggled_in code place rise (leading entries) (timed entries) up
 
-  among_from_in : TogglesIn steps code place rise → TogglesAmong (without_last steps) code place rise
-  among_from_in t =
-      record {
-        number = t.number;
-        inside = omega (arith, t.inside, length-take (length steps - 1) steps);
-        before = at_step t.number (omega (arith, t.inside)) ∙ t.before;
-        after = at_next_step t.number t.inside ∙ t.after;
-      }
+value_first_step : (step : DumpStep) (steps : List DumpStep) (code : ℕ) → value_after (take 1 (step ∷ steps)) code ≡ last_value code step.changes
+value_first_step step steps code = ap (last_value code) (append-nil step.changes)
 
-  in_from_among : TogglesAmong (without_last steps) code place rise → TogglesIn steps code place rise
-  in_from_among t =
-      let inside : t.number + 2 < length steps = omega (arith, t.inside, length-take (length steps - 1) steps) in
-      record {
-        number = t.number;
-        inside = inside;
-        before = sym (at_step t.number (omega arith)) ∙ t.before;
-        after = sym (at_next_step t.number inside) ∙ t.after;
-      }
+-- the value after the first of two steps or more is the one before the second time
+first_value_in : (code : ℕ) (changes : List Change) (steps : List DumpStep) → 1 ≤ length (with_leading changes steps) → value_after (take 1 (opened changes steps)) code ≡ first_value (with_leading changes steps) code
+first_value_in code changes [] l = absurd (omega (arith, l))
+first_value_in code changes (step ∷ steps) l = value_first_step (record step { changes = changes ++ step.changes }) steps code
 
-  pub among_or_in : TogglesAmong (without_last steps) code place rise ↔ TogglesIn steps code place rise
-  among_or_in = (in_from_among, among_from_in)
+pub first_value_is : (entries : List Entry) (code : ℕ) → 1 ≤ length (steps_of entries) → value_so_far entries code 1 ≡ first_value (steps_of entries) code
+first_value_is entries code l = first_value_in code (leading entries) (timed entries) l
+
+length_in : (changes : List Change) (steps : List DumpStep) → 1 ≤ length (with_leading changes steps) → length (with_leading changes steps) ≡ length (opened changes steps)
+length_in changes [] l = absurd (omega (arith, l))
+length_in changes (step ∷ steps) l = refl
+
+pub count_is : (entries : List Entry) → 1 ≤ length (steps_of entries) → length (steps_of entries) ≡ count_of entries
+count_is entries l = length_in (leading entries) (timed entries) l
+
+opened_length : (changes : List Change) (steps : List DumpStep) → 2 ≤ length (opened changes steps) → length (with_leading changes steps) ≡ length (opened changes steps)
+opened_length changes [] l = absurd (omega (arith, l))
+opened_length changes (step ∷ steps) l = refl
+
+pub count_of_two : (entries : List Entry) → 2 ≤ count_of entries → length (steps_of entries) ≡ count_of entries
+count_of_two entries l = opened_length (leading entries) (timed entries) l

@@ -8,8 +8,7 @@ use Rattle.four_state.specs.declared.bit.Bit.{Bit}
 use Rattle.four_state.specs.declared.bit.Bit.TheVariants.{X}
 use Rattle.four_state.proofs.Lifted.{is_set-mask_of, mask_below}
 use Rattle.four_state.proofs.Places.{is_set-above, is_set-and, is_set-or, is_set-zero}
-use Rattle.input_toggles.specs.Toggling.{bit_at, toggles}
-use Rattle.input_toggles.specs.Watched.{has_toggle}
+use Rattle.input_toggles.specs.Toggling.{bit_at, has_toggle, toggles}
 
 -- no toggle
 pub none_has : (place : ℕ) (rise : Bool) → has_toggle (record { rises = 0; falls = 0 }) place rise ≡ false

@@ -2,6 +2,8 @@ pub mod InputDesign
 pub mod Points
 pub mod Binding
 pub mod Toggling
-pub mod Scored
+pub mod Tracked
 pub mod Watched
+pub mod Scored
 pub mod PointList
+pub mod Scores

@@ -8,9 +8,9 @@ use Rattle.coverage_db.specs.declared.db.DbPoint.{DbPoint}
 use Rattle.coverage_db.specs.declared.verdict.DbVerdict.{DbVerdict}
 use Rattle.coverage_db.specs.declared.verdict.DbVerdict.TheVariants.{Hit, Missed}
 use Rattle.design_model.specs.declared.design.Signal.{Signal}
-use Rattle.vcd_reader.specs.declared.dump.DumpStep.{DumpStep}
 use Rattle.input_toggles.specs.Points.{place_of, toggle_address}
-use Rattle.input_toggles.specs.Watched.{EachChanges, Follows, NamesRise, has_toggle}
+use Rattle.input_toggles.specs.Toggling.{has_toggle}
+use Rattle.input_toggles.specs.Watched.{NamesRise}
 use Rattle.input_toggles.specs.declared.watched.Watched.{Watched}
 
 -- the index as it is declared
@@ -57,9 +57,3 @@ pub record IsTableOf (top source : List ℕ) (watched : List Watched) (db : Db) 
   pub permutation : IsPermutation watched sorted
   pub rising : NamesRise sorted
   pub is : db ≡ table top source sorted
-
--- the table of these signals after they were followed over the closed steps
-pub record IsTableAfter (closed : List DumpStep) (top source : List ℕ) (watched : List Watched) (db : Db) : Type 0 where
-  pub followed : List Watched
-  pub follows : EachChanges (Follows closed) watched followed
-  pub table : IsTableOf top source followed db

@@ -1,36 +1,41 @@
 -- What a table says of a design of inputs under a dump.
-use Rattle.std.specs.Prelude.{◌≡◌, ◌≤◌, ◌↔◌, ℕ, Bool, Option, Some, None, IsSome, IfSome, IsSomeAnd, List, [], ◌∷◌, length, map, All, Any, Contains}
+use Rattle.std.specs.Prelude.{◌≡◌, ◌<◌, ◌≤◌, ◌↔◌, ℕ, Bool, true, Option, Some, None, IsSome, IfSome, List, [], ◌∷◌, length, map, slice_index_or, All, Contains}
+use Rattle.std.specs.List.{list_any}
+use Rattle.coverage_db.specs.Table.{IsTable}
 use Rattle.coverage_db.specs.declared.address.Address.{Address}
 use Rattle.coverage_db.specs.declared.db.Db.{Db}
 use Rattle.coverage_db.specs.declared.db.DbPoint.{DbPoint}
 use Rattle.coverage_db.specs.declared.verdict.DbVerdict.{DbVerdict}
 use Rattle.coverage_db.specs.declared.verdict.DbVerdict.TheVariants.{Hit, Missed, Undetermined}
+use Rattle.design_model.specs.Design.{no_signal}
 use Rattle.design_model.specs.declared.design.Design.{Design}
 use Rattle.design_model.specs.declared.design.Signal.{Signal}
 use Rattle.four_state.specs.Vector.{Vector}
-use Rattle.vcd_reader.specs.Dump.{value_at}
-use Rattle.vcd_reader.specs.declared.dump.Dump.{Dump}
-use Rattle.input_toggles.specs.Binding.{code_of}
+use Rattle.dump_pieces.specs.Dump.{Dump, DumpStep, last_value, steps_of}
+use Rattle.dump_pieces.specs.declared.entry.Entry.{Entry}
+use Rattle.dump_pieces.specs.declared.vars.Var.{Var}
+use Rattle.input_toggles.specs.Binding.{code_of, stands_in}
 use Rattle.input_toggles.specs.Points.{HasIndex, IsTogglePoint, place_of, toggle_address}
-use Rattle.input_toggles.specs.Toggling.{TogglesIn, time_at}
+use Rattle.input_toggles.specs.Toggling.{TogglesIn}
 
--- some signal has no variable
-abbrev pub LacksVar : Design → Dump → List ℕ → Type 0
-LacksVar design dump instance = Any (λ signal. code_of dump.vars instance signal ≡ None) design.signals
+-- the value of a code before the second time, if it has one
+abbrev pub first_value : List DumpStep → ℕ → Option Vector
+first_value [] code = None
+first_value (first ∷ steps) code = last_value code first.changes
 
--- the value of a code before the second time
-abbrev pub first_value : Dump → ℕ → Option Vector
-first_value dump code = value_at dump.steps code (time_at dump.steps 0)
-
--- there is a second time, and some signal has a variable without a value before it
-abbrev pub LacksFirstValue : Design → Dump → List ℕ → Type 0
-LacksFirstValue design dump instance =
-    (2 ≤ length dump.steps) × Any (λ signal. IsSomeAnd (code_of dump.vars instance signal) (λ code. first_value dump code ≡ None)) design.signals
-
--- each signal has a variable, and a value before the second time if there is one
+-- the instance is there, and each signal has a variable, and a value before the second time if there is one
 pub record IsBound (design : Design) (dump : Dump) (instance : List ℕ) : Type 0 where
+  pub instance_is : list_any (stands_in instance) dump.vars ≡ true
   pub variables : All (λ signal. IsSome (code_of dump.vars instance signal)) design.signals
-  pub first_values : 2 ≤ length dump.steps → All (λ signal. IfSome (code_of dump.vars instance signal) (λ code. IsSome (first_value dump code))) design.signals
+  pub first_values : 2 ≤ length dump.steps → All (λ signal. IfSome (code_of dump.vars instance signal) (λ code. IsSome (first_value dump.steps code))) design.signals
+
+-- there is a second time, and the signal with this number has a variable without a value before it
+pub record HasNoBaseline (vars : List Var) (instance : List ℕ) (signals : List Signal) (entries : List Entry) (signal : ℕ) : Type 0 where
+  pub second : 2 ≤ length (steps_of entries)
+  pub listed : signal < length signals
+  pub code : ℕ
+  pub bound : code_of vars instance (slice_index_or signals signal no_signal) ≡ Some code
+  pub none : first_value (steps_of entries) code ≡ None
 
 -- the table is of the design's top module and of one source
 pub record HasHead (design : Design) (source : List ℕ) (db : Db) : Type 0 where
@@ -59,3 +64,11 @@ pub record IsScored (design : Design) (dump : Dump) (instance : List ℕ) (point
   pub is : point.address ≡ toggle_address signal index rise
   pub bound : code_of dump.vars instance signal ≡ Some code
   pub verdict : Tells point.verdict (TogglesIn dump.steps code (place_of signal index) rise)
+
+-- the table lists each toggle point of the design once, with the verdict of the dump
+pub record IsToggleTable (design : Design) (dump : Dump) (source instance : List ℕ) (db : Db) : Type 0 where
+  pub bound : IsBound design dump instance
+  pub table : IsTable db
+  pub head : HasHead design source db
+  pub listed : ListsTogglePoints design db
+  pub verdicts : All (IsScored design dump instance) db.points

@@ -1,10 +1,11 @@
 -- The toggles of a dump's bits.
-use Rattle.std.specs.Prelude.{◌≡◌, ◌+◌, ◌<◌, ℕ, Bool, true, false, ◌&&◌, Option, Some, None, List, length, slice_index, slice_index_or}
+use Rattle.std.specs.Prelude.{◌≡◌, ◌+◌, ◌<◌, ℕ, Bool, true, false, ◌&&◌, if◌then◌else◌, Option, Some, None, List, length, slice_index, slice_index_or}
+use Rattle.four_state.specs.Masks.{is_set}
 use Rattle.four_state.specs.Vector.{Vector, same_bit}
 use Rattle.four_state.specs.declared.bit.Bit.{Bit}
 use Rattle.four_state.specs.declared.bit.Bit.TheVariants.{Zero, One, X}
-use Rattle.vcd_reader.specs.Dump.{times_of, value_at}
-use Rattle.vcd_reader.specs.declared.dump.DumpStep.{DumpStep}
+use Rattle.dump_pieces.specs.Dump.{DumpStep, times_of, value_at}
+use Rattle.input_toggles.specs.declared.toggles.Toggles.{Toggles}
 
 -- the bit of a value at a place above the lowest one; x where there is none
 abbrev pub bit_at : Option Vector → ℕ → Bit
@@ -24,6 +25,10 @@ new_bit false = Zero
 -- whether a bit toggles in a direction
 abbrev pub toggles : Bool → Bit → Bit → Bool
 toggles rise old new = same_bit old (old_bit rise) && same_bit new (new_bit rise)
+
+-- whether the bit at a place toggled in a direction
+abbrev pub has_toggle : Toggles → ℕ → Bool → Bool
+has_toggle kept place rise = is_set (if rise then kept.rises else kept.falls) place
 
 -- the time with this number in the dump, from 0
 abbrev pub time_at : List DumpStep → ℕ → ℕ

@@ -1,38 +1,74 @@
-ghost use Rattle.std.specs.Prelude.{◌≡◌, None, IfNone, IfOk, IfSome, Any};
+ghost use Rattle.std.specs.Prelude.{◌≡◌, ◌<◌, true, IfErr, IfOk};
 ghost use Rattle.std.specs.List.{list_any};
 ghost use Rattle.std.specs.Str.{bytes_eq};
-ghost use Rattle.input_toggles.specs.Binding.{code_of, holds, unread_kinds};
-ghost use Rattle.input_toggles.specs.Watched.{Binds};
+ghost use Rattle.input_toggles.specs.Binding.{AreCodes, IsBindFault, IsNotDumped, code_of, holds, is_below, stands_in, unread_kinds};
 
-use crate::watched::Watched;
-use cov_host::NoMemory;
+use crate::BindFault;
 use design_model::Signal;
+use dump_pieces::Var;
 use std::alloc::Global;
-use vcd_reader::Var;
 
 /// The kinds of variables that hold no value of a signal (IEEE 1364-2001 clause 18.2.3.8).
 const UNREAD_KINDS: [&str; 5] = ["real", "realtime", "event", "string", "parameter"];
 
-/// The signals with the codes of their variables, before the first step. None where a signal has no variable.
-pub(crate) fn bind<'a>(
+/// The codes of the variables of the signals, in order.
+pub(crate) fn bind(
     alloc: Global,
-    signals: &'a [Signal],
+    signals: &[Signal],
     vars: &[Var],
     instance: &str,
-) -> Result<Option<Vec<Watched<'a>>>, NoMemory>
-    ensures some { IfOk result (λ found. IfSome found (λ watched. Binds vars.now instance.now signals.now watched.items)) }
-    ensures none { IfOk result (λ found. IfNone found (Any (λ signal. code_of vars.now instance.now signal ≡ None) signals.now)) }
+) -> Result<Vec<u32>, BindFault>
+    ensures codes { IfOk result (λ codes. AreCodes vars.now instance.now signals.now codes.items) }
+    ensures instance { IfOk result (λ codes. list_any (stands_in instance.now) vars.now ≡ true) }
+    ensures fault { IfErr result (IsBindFault vars.now instance.now signals.now) }
 {
-    let mut watched = Vec::new(alloc);
-    for signal in signals {
-        let Some(code) = code_of(vars, instance, signal) else {
-            return Ok(None);
-        };
-        if watched.push(Watched::new(signal, code)).is_err() {
-            return Err(NoMemory);
-        }
+    if !has_instance(vars, instance) {
+        return Err(BindFault::NoInstance);
     }
-    Ok(Some(watched))
+    codes_of(alloc, signals, vars, instance)
+}
+
+/// Whether some variable stands in the scope of the instance or below it.
+fn has_instance(vars: &[Var], instance: &str) -> bool
+    ensures { result ≡ list_any (stands_in instance.now) vars.now }
+{
+    vars.iter().any(|var| stands_in(var, instance))
+}
+
+/// Whether the variable stands in the scope of the instance or below it.
+fn stands_in(var: &Var, instance: &str) -> bool
+    ensures { result ≡ stands_in instance.now var.now }
+{
+    let scope = var.scope.as_slice();
+    scope == instance.as_bytes() || is_below(scope, instance.as_bytes())
+}
+
+/// Whether the path begins with the outer one and goes on with a dot.
+fn is_below(path: &[u8], outer: &[u8]) -> bool
+    ensures { result ≡ is_below outer.now path.now }
+{
+    path.len() > outer.len() && &path[..outer.len()] == outer && path[outer.len()] == b'.'
+}
+
+/// The codes of the variables of the signals, where the instance is there.
+fn codes_of(
+    alloc: Global,
+    signals: &[Signal],
+    vars: &[Var],
+    instance: &str,
+) -> Result<Vec<u32>, BindFault>
+    requires { list_any (stands_in instance.now) vars.now ≡ true }
+    ensures codes { IfOk result (λ codes. AreCodes vars.now instance.now signals.now codes.items) }
+    ensures fault { IfErr result (IsBindFault vars.now instance.now signals.now) }
+{
+    let mut codes = Vec::new(alloc);
+    for (place, signal) in signals.iter().enumerate() {
+        let Some(code) = code_of(vars, instance, signal) else {
+            return Err(BindFault::InputNotDumped { signal: place });
+        };
+        codes.push(code)?;
+    }
+    Ok(codes)
 }
 
 /// The code of the first variable that holds the values of the signal.

@@ -1,13 +1,16 @@
-//! Scores a dump for a design of inputs alone: binds its signals, follows their values over the steps of the dump,
-//! and lists its toggle points with their verdicts.
+//! Scores a dump for a design of inputs alone while it is read: binds its signals, follows their values over the steps
+//! of the dump, and lists its toggle points with their verdicts.
 #![tactic(auto)]
 
 mod binding;
+mod fault;
 mod points;
-mod replay;
-mod score;
+mod scorer;
 mod table;
 mod toggles;
+mod track;
+mod tracks;
 mod watched;
 
-pub use score::score_inputs;
+pub use fault::{BindFault, NoBaseline};
+pub use scorer::Scorer;

@@ -1,6 +1,5 @@
 ghost use Rattle.std.specs.Prelude.{◌≡◌, ◌<◌, ◌||◌, ℕ, Bool, false, Some};
-ghost use Rattle.input_toggles.specs.Toggling.{bit_at, toggles};
-ghost use Rattle.input_toggles.specs.Watched.{has_toggle};
+ghost use Rattle.input_toggles.specs.Toggling.{bit_at, has_toggle, toggles};
 
 use four_state::Four;
 

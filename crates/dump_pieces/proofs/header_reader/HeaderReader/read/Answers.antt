@@ -1,4 +1,5 @@
-use Rattle.std.proofs.Common.{ℕ, not, List, ◌++◌, take, subst, ap, ◌∙◌, arith}
+use Rattle.std.proofs.Common.{ℕ, not, List, ◌++◌, take, subst, sym, ap, ◌∙◌, arith}
+use Rattle.std.proofs.lemmas.Bool.{false≢true}
 use Rattle.std.proofs.lemmas.Result.{err_from_is_err_and}
 use Rattle.dump_pieces.specs.Standing.{HeaderStands}
 use Rattle.dump_pieces.proofs.HeaderStanding.{one_more, fault_in_piece}
@@ -13,6 +14,7 @@ pub returns-then-branch-clause-ok : goal.returns-then-branch-clause-ok
 returns-then-branch-clause-ok c = λ text stands. record {
   within = omega arith;
   done = c.in_ok-read_byte.ensures.progress ∙ ap not c.if-branch.true;
+  ends = λ at_end. absurd (false≢true (sym c.in_ok-read_byte.ensures.open ∙ at_end));
   stands = subst (λ (t : List ℕ). HeaderStands c.read_byte.new.self t) (one_more text c.args.piece.now c.loop-place.place _ c.loop-place-test.true) (c.in_ok-read_byte.ensures.ok (text ++ take c.loop-place.place c.args.piece.now) (c.loop-place.invariant.stands text stands));
 }
 

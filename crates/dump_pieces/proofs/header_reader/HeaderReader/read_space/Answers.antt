@@ -1,6 +1,6 @@
 use Rattle.std.proofs.Common.{refl}
 use Rattle.std.proofs.lemmas.Result.{err_from_is_err_and}
-use Rattle.dump_pieces.proofs.HeaderStanding.{space_kept, space_fault, space_no_room}
+use Rattle.dump_pieces.proofs.HeaderStanding.{done_open, space_kept, space_fault, space_no_room}
 use Rattle.dump_pieces.proofs.header_reader.HeaderReader.read_space.Goals as goal
 
 pub returns-in_err-is_last-clause-fault : goal.returns-in_err-is_last-clause-fault
@@ -15,3 +15,6 @@ returns-in_err-check_room-clause-fault c =
 
 pub returns-clause-ok : goal.returns-clause-ok
 returns-clause-ok c = λ text space white stands. space_kept c.args.self.now _ text space c.in_ok-is_last.is_last c.requires stands white (rw c.as_slice.ensures.value at c.in_ok-is_last.ensures.ok) c.in_ok-check_room.ensures.room c.clear.ensures.items refl c.progress-self.ensures
+
+pub returns-clause-open : goal.returns-clause-open
+returns-clause-open c = done_open c.in_ok-is_last.is_last _ c.progress-self.ensures

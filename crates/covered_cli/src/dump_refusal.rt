@@ -1,0 +1,103 @@
+ghost use Rattle.std.specs.Prelude.{◌≡◌, ◌++◌, codes, decimal};
+ghost use Rattle.cov_host.specs.Outside.{KeepsFiles};
+ghost use Rattle.whole_files.specs.Effects.{CountsUp};
+ghost use Rattle.covered_cli.specs.DumpRefusal.{kind_text, refusal_line};
+ghost use Rattle.covered_cli.specs.Effects.{WarnsLine};
+
+use crate::pieces::warn_pieces;
+use cov_host::{Host, Name};
+use dump_pieces::DumpKind;
+use itoa::Buffer;
+
+/// Why a dump is refused.
+#[derive(Debug, Drop)]
+pub(crate) enum DumpRefusal<'a> {
+    /// The first fault of the dump, and its byte.
+    At { kind: DumpKind, byte: u64 },
+    /// No variable stands in the scope of the path or below it.
+    NoInstance { path: &'a str },
+    /// This input of the top module has no variable.
+    InputNotDumped { top: &'a str, name: Name },
+    /// There is a second time, and this signal of the top module has no value before it.
+    NoBaseline { top: &'a str, name: Name },
+}
+
+/// Warns of a refused dump by its line.
+pub(crate) fn warn_refusal<H: Host>(host: &mut H, refusal: &DumpRefusal<'_>)
+    ensures line { WarnsLine (refusal_line refusal.now) (H.outside host.old) (H.outside host.new) }
+    ensures printed { (H.outside host.new).printed ≡ (H.outside host.old).printed }
+    ensures files { KeepsFiles (H.outside host.old) (H.outside host.new) }
+    ensures counts { CountsUp (H.outside host.old) (H.outside host.new) }
+{
+    match refusal {
+        DumpRefusal::At { kind, byte } => warn_fault(host, *kind, *byte),
+        DumpRefusal::NoInstance { path } => warn_pieces(
+            host,
+            &[
+                "covered: dump: bind 1 NoInstance ".as_bytes(),
+                path.as_bytes(),
+                "\n".as_bytes(),
+            ],
+        ),
+        DumpRefusal::InputNotDumped { top, name } => warn_pieces(
+            host,
+            &[
+                "covered: dump: bind 2 InputNotDumped ".as_bytes(),
+                top.as_bytes(),
+                ".".as_bytes(),
+                name.as_slice(),
+                "\n".as_bytes(),
+            ],
+        ),
+        DumpRefusal::NoBaseline { top, name } => warn_pieces(
+            host,
+            &[
+                "covered: dump: bind 3 NoBaseline ".as_bytes(),
+                top.as_bytes(),
+                ".".as_bytes(),
+                name.as_slice(),
+                "\n".as_bytes(),
+            ],
+        ),
+    }
+}
+
+/// Warns of a fault of a dump.
+fn warn_fault<H: Host>(host: &mut H, kind: DumpKind, byte: u64)
+    ensures line { WarnsLine (codes "covered: dump: " ++ kind_text kind ++ codes " at byte " ++ decimal byte ++ codes "\n") (H.outside host.old) (H.outside host.new) }
+    ensures printed { (H.outside host.new).printed ≡ (H.outside host.old).printed }
+    ensures files { KeepsFiles (H.outside host.old) (H.outside host.new) }
+    ensures counts { CountsUp (H.outside host.old) (H.outside host.new) }
+{
+    let mut digits = Buffer::new();
+    warn_pieces(
+        host,
+        &[
+            "covered: dump: ".as_bytes(),
+            text_of(kind).as_bytes(),
+            " at byte ".as_bytes(),
+            digits.format(byte).as_bytes(),
+            "\n".as_bytes(),
+        ],
+    );
+}
+
+/// The number and the name of a fault of a dump.
+fn text_of(kind: DumpKind) -> &'static str
+    ensures { result.now ≡ kind_text kind }
+{
+    match kind {
+        DumpKind::BadHeader => "1 BadHeader",
+        DumpKind::BadChange => "2 BadChange",
+        DumpKind::UnknownCode => "3 UnknownCode",
+        DumpKind::VectorTooLong => "4 VectorTooLong",
+        DumpKind::TimeBack => "5 TimeBack",
+        DumpKind::Truncated => "6 Truncated",
+        DumpKind::LongCode => "7 LongCode",
+        DumpKind::Gap => "8 Gap",
+        DumpKind::DeepScope => "9 DeepScope",
+        DumpKind::DumpTooLong => "10 DumpTooLong",
+        DumpKind::TimeTooLarge => "11 TimeTooLarge",
+        DumpKind::HeaderTooLong => "12 HeaderTooLong",
+    }
+}

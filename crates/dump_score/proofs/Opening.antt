@@ -1,0 +1,186 @@
+-- From the header of a dump to its end.
+use Rattle.std.proofs.Common.{◌≡◌, ◌⊎◌, ℕ, zero, suc, ◌+◌, ◌<◌, ◌≤◌, Bool, true, false, List, [], ◌∷◌, ◌++◌, length, take, drop, Option, None, Some, refl, sym, ap, subst, ◌∙◌, append_assoc, append-nil, inl, inr, arith}
+use Rattle.std.proofs.lemmas.Bool.{cases_Bool}
+use Rattle.std.proofs.lemmas.List.{length-append, length-take}
+use Rattle.cov_host.specs.Outside.{Outside}
+use Rattle.design_model.specs.declared.design.Design.{Design}
+use Rattle.dump_pieces.proofs.TextLemmas.{fault_stays}
+use Rattle.dump_pieces.specs.Dump.{BeginsAs, SaysBody}
+use Rattle.dump_pieces.specs.Pieces.{BodyHasEnded, BodyHasRead, BodyIs, HasRead, IsRead, Splits, body_at_end, header_at_end}
+use Rattle.dump_pieces.specs.Reading.{Body}
+use Rattle.dump_pieces.specs.Standing.{IsFaultOf}
+use Rattle.dump_pieces.specs.Text.{EndsAs, EndsWithFault, HasFault}
+use Rattle.dump_pieces.specs.declared.body.Body.{Body as BodyRow}
+use Rattle.dump_pieces.specs.declared.fault.DumpFault.{DumpFault}
+use Rattle.dump_pieces.specs.declared.fault.DumpFault.TheVariants as dump_fault
+use Rattle.dump_pieces.specs.declared.header.Header.{Header}
+use Rattle.dump_pieces.specs.declared.vars.Var.{Var}
+use Rattle.input_toggles.specs.Binding.{IsBindFault}
+use Rattle.input_toggles.specs.Scored.{HasNoBaseline}
+use Rattle.input_toggles.specs.Scores.{Scores}
+use Rattle.input_toggles.specs.declared.scorer.Scorer.{Scorer}
+use Rattle.whole_files.specs.Effects.{OnlyReads}
+use Rattle.dump_score.specs.Faults.{IsDumpFault, IsEndFault, IsFileFault, IsFoundFault, IsScoreFault, IsTextFault, SaysSome}
+use Rattle.dump_score.specs.Reading.{HasReadFile, IsFile}
+use Rattle.dump_score.specs.Scoring.{CanEnd, HasOpened, IsOpen, IsReading, IsScoring, ScoresOn, behind}
+use Rattle.dump_score.specs.declared.fault.ScoreFault.{ScoreFault}
+use Rattle.dump_score.specs.declared.fault.ScoreFault.TheVariants as fault
+use Rattle.dump_score.specs.declared.header.Opened.{Opened}
+use Rattle.dump_score.specs.declared.header.Span.{Span}
+use Rattle.dump_score.proofs.FileLemmas.{file_of}
+use Rattle.dump_score.proofs.Stepping.{all_of}
+
+-- what the loop over the pieces of a header keeps
+pub record ReadsHeader (header : Header) (at : ℕ) (start now : Outside) : Type 0 where
+  pub text : List ℕ
+  pub read : HasRead header text
+  pub at_is : at ≡ length text
+  pub reading : now.reading ≡ true
+  pub file : (name : List ℕ) (before : Outside) → HasReadFile name before start [] → HasReadFile name before now text
+  pub effects : OnlyReads start now
+
+count_is : (count : ℕ) (piece : List ℕ) → count ≤ length piece → length (take count piece) ≡ count
+count_is count piece l = omega (arith, length-take count piece, l)
+
+open_end : (ends header : Bool) (P : Type 0) → ends ≡ header → (header ≡ true → P) → (P → ⊥) → ends ≡ false
+open_end true header P e to not = absurd (not (to (sym e)))
+open_end false header P e to not = refl
+
+-- a header that is done
+pub header_opened : (name : List ℕ) (before now : Outside) (text piece : List ℕ) (opened : Opened) (h : Header) → opened.span.count ≤ length piece → HasReadFile name before now (text ++ take opened.span.count piece)
+    → opened.span.at ≡ length text + opened.span.count → opened.span.used ≤ length (take opened.span.count piece) → (header_at_end h ≡ true → take opened.span.count piece ≡ []) → Splits opened.vars opened.body (text ++ take opened.span.used (take opened.span.count piece))
+    → body_at_end opened.body ≡ header_at_end h → (opened.span.count ≡ 0 → IsFile before name text) → HasOpened name before now piece opened
+header_opened name before now text piece opened h within file at used ends splits at_end ended =
+    let p = take opened.span.count piece in
+    let count = count_is opened.span.count piece within in
+    let all = all_of text p opened.span.used in
+    record {
+      front = text ++ take opened.span.used p;
+      used_within = omega (arith, used, count);
+      count_within = within;
+      file = subst (λ t. HasReadFile name before now t) (sym all) file;
+      at_is = at ∙ omega (arith, ap length all, length-append text p, count);
+      splits = splits;
+      goes_on = λ some. open_end (body_at_end opened.body) (header_at_end h) (p ≡ []) at_end ends (λ none. absurd (omega (arith, some, count, ap length none)));
+      ended = λ none.
+          let empty : p ≡ [] = ap (λ n. take n piece) none in
+          let front : text ++ take opened.span.used p ≡ text = ap (λ t. text ++ take opened.span.used t) empty ∙ take_none opened.span.used in
+          subst (IsFile before name) (sym front) (ended none);
+    }
+  where
+    take_none : (n : ℕ) → text ++ take n [] ≡ text
+    take_none zero = append-nil text
+    take_none (suc n) = append-nil text
+
+-- a fault of the header
+pub header_fault : (name : List ℕ) (before now : Outside) (text piece : List ℕ) (f : DumpFault) → HasReadFile name before now (text ++ piece) → (length piece ≡ 0 → IsFile before name text) → IsFaultOf text piece f → (whole : List ℕ) × IsFile before name whole × IsDumpFault whole f
+header_fault name before now text [] (dump_fault.At kind byte) file ended is = (text, ended refl, inr is)
+header_fault name before now text [] dump_fault.NoMemory file ended is = (text, ended refl, tt)
+header_fault name before now text (byte ∷ piece) dump_fault.NoMemory file ended is = let whole = file_of name (text ++ byte ∷ piece) before now file in ((text ++ byte ∷ piece) ++ whole.0, whole.1, tt)
+header_fault name before now text (first ∷ piece) (dump_fault.At kind byte) file ended is =
+    let whole = file_of name (text ++ first ∷ piece) before now file in
+    ((text ++ first ∷ piece) ++ whole.0, whole.1, inl (fault_stays (text ++ first ∷ piece) whole.0 (dump_fault.At kind byte) is))
+
+begins_more : (text rest : List ℕ) (b : Body) → BeginsAs text b → BeginsAs (text ++ rest) b
+begins_more text rest b begun = record {
+  front = begun.front;
+  rest = begun.rest ++ rest;
+  word = begun.word;
+  split = ap (λ t. t ++ rest) begun.split ∙ append_assoc begun.front begun.rest rest;
+  stands = begun.stands;
+}
+
+named_fault : (text : List ℕ) (f : DumpFault) → HasFault text f → IsDumpFault text f
+named_fault text dump_fault.NoMemory is = tt
+named_fault text (dump_fault.At kind byte) is = inl is
+
+named_end : (text : List ℕ) (f : DumpFault) → EndsWithFault text f → IsDumpFault text f
+named_end text dump_fault.NoMemory is = tt
+named_end text (dump_fault.At kind byte) is = inr is
+
+-- a fault that was found stands in the whole file
+pub found_in_file : (name : List ℕ) (before after now : Outside) (design : Design) (instance text : List ℕ) (f : ScoreFault) → HasReadFile name before now text → IsFoundFault design instance text f → IsScoreFault name before after design instance f
+found_in_file name before after now design instance text (fault.Dump f) file is =
+    let whole = file_of name text before now file in
+    (text ++ whole.0, whole.1, named_fault (text ++ whole.0) f (fault_stays text whole.0 f is))
+found_in_file name before after now design instance text (fault.Baseline f) file is =
+    let whole = file_of name text before now file in
+    (text ++ whole.0, whole.1, (is.0, inl (begins_more text whole.0 is.0 is.1), is.2))
+found_in_file name before after now design instance text fault.NoMemory file is = absurd is
+found_in_file name before after now design instance text (fault.Refused call) file is = absurd is
+found_in_file name before after now design instance text (fault.Bind f) file is = absurd is
+
+-- so does one at its end
+pub end_in_file : (name : List ℕ) (before after : Outside) (design : Design) (instance text : List ℕ) (f : ScoreFault) → IsFile before name text → IsEndFault design instance text f → IsScoreFault name before after design instance f
+end_in_file name before after design instance text (fault.Dump f) file is = (text, file, named_end text f is)
+end_in_file name before after design instance text (fault.Baseline f) file is = (text, file, (is.0, inr is.1, is.2))
+end_in_file name before after design instance text fault.NoMemory file is = absurd is
+end_in_file name before after design instance text (fault.Refused call) file is = absurd is
+end_in_file name before after design instance text (fault.Bind f) file is = absurd is
+
+-- where the header ended the text says a body without entries
+header_says : (ends : Bool) (body : BodyRow) (front rest : List ℕ) (b : Body) → (ends ≡ true → rest ≡ []) → BodyIs ends body front b → SaysBody (front ++ rest) b
+header_says false body front rest b none stands = inl (record { front = front; rest = rest; word = stands.stands.word; split = refl; stands = stands.stands.stands })
+header_says true body front rest b none stands = inr (subst (λ t. EndsAs t b) (sym (ap (λ r. front ++ r) (none refl) ∙ append-nil front)) stands.ended.ends)
+
+false_is_true : (b : Bool) → b ≡ false → b ≡ true → ⊥
+false_is_true b e f = let no : false ≡ true = sym e ∙ f in cc
+
+is_none : (n : ℕ) → (0 < n → ⊥) → n ≡ 0
+is_none zero none = refl
+is_none (suc n) none = absurd (none (omega arith))
+
+-- a fault of the binding stands in the whole file
+pub bind_in_file : (name : List ℕ) (before after now : Outside) (design : Design) (instance piece : List ℕ) (opened : Opened) (f : _) → HasOpened name before now piece opened → IsBindFault opened.vars instance design.signals f → IsScoreFault name before after design instance (fault.Bind f)
+bind_in_file name before after now design instance piece opened f o is = go (body_at_end opened.body) refl o.splits.stands
+  where
+    bound : IsBindFault o.splits.b.vars instance design.signals f
+    bound = subst (λ vars. IsBindFault vars instance design.signals f) o.splits.vars_are is
+
+    go : (ends : Bool) → body_at_end opened.body ≡ ends → BodyIs ends opened.body o.front o.splits.b → IsFileFault name before design instance (fault.Bind f)
+    go false e stands =
+        let whole = file_of name (o.front ++ behind opened.span piece) before now o.file in
+        let more = behind opened.span piece ++ whole.0 in
+        let same : (o.front ++ behind opened.span piece) ++ whole.0 ≡ o.front ++ more = append_assoc o.front (behind opened.span piece) whole.0 in
+        (o.front ++ more, subst (IsFile before name) same whole.1, (o.splits.b, header_says false opened.body o.front more o.splits.b (λ no. absurd (let wrong : false ≡ true = no in cc)) stands, bound))
+    go true e stands =
+        let none = is_none opened.span.count (λ some. false_is_true (body_at_end opened.body) (o.goes_on some) e) in
+        (o.front, o.ended none, (o.splits.b, inr stands.ended.ends, bound))
+
+-- where the input goes on the body does
+pub opened_reading : (name : List ℕ) (before now : Outside) (piece : List ℕ) (opened : Opened) → HasOpened name before now piece opened → 0 < opened.span.count → IsReading opened.body
+opened_reading name before now piece opened o some = (o.front, o.splits.b, subst (λ ends. BodyIs ends opened.body o.front o.splits.b) (o.goes_on some) o.splits.stands)
+
+either_ends : (ends : Bool) (body : BodyRow) (text : List ℕ) (b : Body) → BodyIs ends body text b → BodyHasRead body text b ⊎ BodyHasEnded body text b
+either_ends false body text b stands = inl stands
+either_ends true body text b stands = inr stands
+
+-- the design was bound
+pub opened_bound : (name : List ℕ) (before now : Outside) (piece : List ℕ) (opened : Opened) (scorer : Scorer) (design : Design) (instance : List ℕ) → HasOpened name before now piece opened → Scores scorer design opened.vars instance [] → IsOpen name before now piece opened.span opened.body scorer design opened.vars instance
+opened_bound name before now piece opened scorer design instance o scores =
+    let said = subst (λ entries. Scores scorer design opened.vars instance entries) (sym o.splits.none) scores in
+    record {
+      front = o.front;
+      file = o.file;
+      at_is = o.at_is;
+      goes_on = λ some. record { b = o.splits.b; stands = subst (λ ends. BodyIs ends opened.body o.front o.splits.b) (o.goes_on some) o.splits.stands; vars_are = sym o.splits.vars_are; scores = said };
+      ended = λ none. (o.ended none, record { b = o.splits.b; stands = either_ends (body_at_end opened.body) opened.body o.front o.splits.b o.splits.stands; vars_are = sym o.splits.vars_are; scores = said });
+    }
+
+-- what the loop over the pieces of a body keeps
+pub record ReadsBody (start_body body : BodyRow) (start_scorer scorer : Scorer) (start_at at : ℕ) (start now : Outside) : Type 0 where
+  pub reads : IsReading body
+  pub reading : now.reading ≡ true
+  pub effects : OnlyReads start now
+  pub scores : (name : List ℕ) (before : Outside) (design : Design) (vars : List Var) (instance text : List ℕ) → HasReadFile name before start text → start_at ≡ length text → IsScoring start_body start_scorer design vars instance text
+      → (more : List ℕ) × HasReadFile name before now more × (at ≡ length more) × IsScoring body scorer design vars instance more
+
+pub can_end : (body : BodyRow) (scorer : Scorer) (design : Design) (vars : List Var) (instance text : List ℕ) → IsScoring body scorer design vars instance text → CanEnd body scorer design vars instance text
+can_end body scorer design vars instance text is = record { b = is.b; stands = inl is.stands; vars_are = is.vars_are; scores = is.scores }
+
+-- a dump that was read is not too long
+pub not_too_long : (body : BodyRow) (scorer : Scorer) (design : Design) (vars : List Var) (instance text : List ℕ) → IsScoring body scorer design vars instance text → length text ≤ 1099511627776
+not_too_long body scorer design vars instance text is = is.stands.stands.stands.within
+
+pub more_length : (text piece : List ℕ) (at count : ℕ) → at ≡ length text → count ≤ length piece → at + count ≡ length (text ++ take count piece)
+more_length text piece at count e within = omega (arith, e, length-append text (take count piece), count_is count piece within)

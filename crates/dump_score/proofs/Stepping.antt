@@ -1,0 +1,147 @@
+-- One step of a body, and what the scorer stands for behind it.
+use Rattle.std.proofs.Common.{◌≡◌, ◌⊎◌, ℕ, ◌+◌, ◌<◌, ◌≤◌, List, [], ◌∷◌, ◌++◌, length, take, drop, Option, None, Some, refl, sym, ap, subst, ◌∙◌, append_assoc, append-nil, inl, inr, arith, length-drop, take-append-drop}
+use Rattle.std.proofs.Math.Seq.{take-add, take-length}
+use Rattle.design_model.specs.declared.design.Design.{Design}
+use Rattle.dump_pieces.proofs.RisingTimes.{times_rise, times_rise_so_far}
+use Rattle.dump_pieces.specs.Dump.{BeginsAs, SaysBody}
+use Rattle.dump_pieces.specs.Pieces.{BodyHasEnded, BodyHasRead, IsFaultAt, StepsTo}
+use Rattle.dump_pieces.specs.Reading.{Body}
+use Rattle.dump_pieces.specs.Text.{EndsAs, EndsWithFault, HasFault}
+use Rattle.dump_pieces.specs.Times.{Rises}
+use Rattle.dump_pieces.specs.declared.body.Body.{Body as BodyRow}
+use Rattle.dump_pieces.specs.declared.entry.Entry.{Entry}
+use Rattle.dump_pieces.specs.declared.fault.DumpFault.{DumpFault}
+use Rattle.dump_pieces.specs.declared.item.Item.{Item}
+use Rattle.dump_pieces.specs.declared.item.Item.TheVariants as item
+use Rattle.dump_pieces.specs.declared.vars.Var.{Var}
+use Rattle.input_toggles.specs.Scored.{HasNoBaseline}
+use Rattle.input_toggles.specs.Scores.{Scores}
+use Rattle.input_toggles.specs.declared.scorer.Scorer.{Scorer}
+use Rattle.dump_score.specs.Faults.{IsEndFault, IsFoundFault, IsSayingFault}
+use Rattle.dump_score.specs.Scoring.{CanEnd, HasScored, IsReading, IsScoring, entries_of}
+use Rattle.dump_score.specs.declared.fault.ScoreFault.{ScoreFault}
+use Rattle.dump_score.specs.declared.fault.ScoreFault.TheVariants as fault
+
+-- what a step over a piece that is not empty leaves
+pub record Stepped (says : Item) (used : ℕ) (body : BodyRow) (text piece : List ℕ) (b : Body) : Type 0 where
+  pub at_least : 1 ≤ used
+  pub at_most : used ≤ length piece
+  pub next : Body
+  pub read : BodyHasRead body (text ++ take used piece) next
+  pub items : next.items ≡ b.items ++ entries_of says
+  pub vars : next.vars ≡ b.vars
+
+pub stepped : (says : Item) (used : ℕ) (body : BodyRow) (text piece : List ℕ) (b : Body) → 0 < length piece → StepsTo says used body text piece b → Stepped says used body text piece b
+stepped says used body text [] b some s = absurd (omega (arith, some))
+stepped (item.Time time) used body text (byte ∷ piece) b some s = record { at_least = s.steps.at_least; at_most = s.steps.at_most; next = s.steps.next.next; read = record { sound = s.sound; stands = s.steps.next.stands }; items = s.steps.next.said.items; vars = s.steps.next.said.vars }
+stepped (item.Value code value) used body text (byte ∷ piece) b some s = record { at_least = s.steps.at_least; at_most = s.steps.at_most; next = s.steps.next.next; read = record { sound = s.sound; stands = s.steps.next.stands }; items = s.steps.next.said.items; vars = s.steps.next.said.vars }
+stepped item.More used body text (byte ∷ piece) b some s =
+    let all : take used (byte ∷ piece) ≡ byte ∷ piece = ap (λ n. take n (byte ∷ piece)) s.steps.all ∙ take-length (byte ∷ piece) in
+    record {
+      at_least = omega (arith, s.steps.all);
+      at_most = omega (arith, s.steps.all);
+      next = s.steps.next.next;
+      read = subst (λ t. BodyHasRead body (text ++ t) s.steps.next.next) (sym all) (record { sound = s.sound; stands = s.steps.next.stands });
+      items = s.steps.next.said.items;
+      vars = s.steps.next.said.vars;
+    }
+stepped item.End used body text (byte ∷ piece) b some s = absurd s.steps
+
+-- the calls of a step
+abbrev pub Steps : Item → ℕ → BodyRow → BodyRow → List ℕ → Type 0
+Steps says used body new piece = (text : List ℕ) (b : Body) → BodyHasRead body text b → StepsTo says used new text piece b
+
+abbrev pub Says : Item → Scorer → Scorer → Type 0
+Says says scorer told = (design : Design) (vars : List Var) (instance : List ℕ) (entries : List Entry) → Rises None (entries ++ entries_of says) → Scores scorer design vars instance entries → Scores told design vars instance (entries ++ entries_of says)
+
+rises_read : (body : BodyRow) (text : List ℕ) (b : Body) → BodyHasRead body text b → Rises None b.items
+rises_read body text b read = times_rise_so_far text read.stands.word b read.stands.stands
+
+pub reading_step : (says : Item) (used : ℕ) (body new : BodyRow) (piece : List ℕ) → 0 < length piece → Steps says used body new piece → IsReading body → IsReading new × (1 ≤ used) × (used ≤ length piece)
+reading_step says used body new piece some steps (text, b, read) =
+    let s = stepped says used new text piece b some (steps text b read) in
+    ((text ++ take used piece, s.next, s.read), s.at_least, s.at_most)
+
+pub scored_step : (says : Item) (used : ℕ) (body new : BodyRow) (scorer told : Scorer) (piece : List ℕ) (design : Design) (vars : List Var) (instance text : List ℕ) → 0 < length piece → Steps says used body new piece → Says says scorer told → IsScoring body scorer design vars instance text → IsScoring new told design vars instance (text ++ take used piece)
+scored_step says used body new scorer told piece design vars instance text some steps tells is =
+    let s = stepped says used new text piece is.b some (steps text is.b is.stands) in
+    let rises = subst (Rises None) s.items (rises_read new (text ++ take used piece) s.next s.read) in
+    record {
+      b = s.next;
+      stands = s.read;
+      vars_are = s.vars ∙ is.vars_are;
+      scores = subst (λ entries. Scores told design vars instance entries) (sym s.items) (tells design vars instance is.b.items rises is.scores);
+    }
+
+-- the text of a part of a piece, and then of what is left of it
+pub further : (text piece : List ℕ) (used more : ℕ) → (text ++ take used piece) ++ take more (drop used piece) ≡ text ++ take (used + more) piece
+further text piece used more = append_assoc text (take used piece) (take more (drop used piece)) ∙ ap (λ t. text ++ t) (sym (take-add used more piece))
+
+pub all_of : (text piece : List ℕ) (used : ℕ) → (text ++ take used piece) ++ drop used piece ≡ text ++ piece
+all_of text piece used = append_assoc text (take used piece) (drop used piece) ∙ ap (λ t. text ++ t) (take-append-drop used piece)
+
+pub found_at : (text piece : List ℕ) (f : DumpFault) → 0 < length piece → IsFaultAt text piece f → HasFault (text ++ piece) f
+found_at text [] f some is = absurd (omega (arith, some))
+found_at text (byte ∷ piece) f some is = is
+
+no_baseline_at : (design : Design) (vars : List Var) (instance : List ℕ) (signal : ℕ) (b : Body) (entries : List Entry) → b.vars ≡ vars → b.items ≡ entries → HasNoBaseline vars instance design.signals entries signal → HasNoBaseline b.vars instance design.signals b.items signal
+no_baseline_at design vars instance signal b entries e f h =
+    subst (λ vs. HasNoBaseline vs instance design.signals b.items signal) (sym e) (subst (λ es. HasNoBaseline vars instance design.signals es signal) (sym f) h)
+
+-- what the scorer finds stands in what was read
+pub saying_found : (design : Design) (vars : List Var) (instance text rest : List ℕ) (body : BodyRow) (b : Body) (entries : List Entry) (f : ScoreFault) → b.vars ≡ vars → b.items ≡ entries → BodyHasRead body text b → IsSayingFault vars instance design entries f → IsFoundFault design instance (text ++ rest) f
+saying_found design vars instance text rest body b entries (fault.Baseline f) e g read h =
+    (b, record { front = text; rest = rest; word = read.stands.word; split = refl; stands = read.stands.stands }, no_baseline_at design vars instance f.signal b entries e g h)
+saying_found design vars instance text rest body b entries fault.NoMemory e g read h = absurd h
+saying_found design vars instance text rest body b entries (fault.Refused call) e g read h = absurd h
+saying_found design vars instance text rest body b entries (fault.Dump f) e g read h = absurd h
+saying_found design vars instance text rest body b entries (fault.Bind f) e g read h = absurd h
+
+pub saying_ends : (design : Design) (vars : List Var) (instance text : List ℕ) (b : Body) (entries : List Entry) (f : ScoreFault) → b.vars ≡ vars → b.items ≡ entries → EndsAs text b → IsSayingFault vars instance design entries f → IsEndFault design instance text f
+saying_ends design vars instance text b entries (fault.Baseline f) e g ends h = (b, ends, no_baseline_at design vars instance f.signal b entries e g h)
+saying_ends design vars instance text b entries fault.NoMemory e g ends h = absurd h
+saying_ends design vars instance text b entries (fault.Refused call) e g ends h = absurd h
+saying_ends design vars instance text b entries (fault.Dump f) e g ends h = absurd h
+saying_ends design vars instance text b entries (fault.Bind f) e g ends h = absurd h
+
+pub step_found : (says : Item) (used : ℕ) (body new : BodyRow) (scorer : Scorer) (piece : List ℕ) (design : Design) (vars : List Var) (instance text : List ℕ) (f : ScoreFault) → 0 < length piece → Steps says used body new piece
+    → ((design : Design) (vars : List Var) (instance : List ℕ) (entries : List Entry) → Scores scorer design vars instance entries → IsSayingFault vars instance design (entries ++ entries_of says) f)
+    → IsScoring body scorer design vars instance text → IsFoundFault design instance (text ++ piece) f
+step_found says used body new scorer piece design vars instance text f some steps faults is =
+    let s = stepped says used new text piece is.b some (steps text is.b is.stands) in
+    subst (λ t. IsFoundFault design instance t f) (all_of text piece used)
+    (saying_found design vars instance (text ++ take used piece) (drop used piece) new s.next (is.b.items ++ entries_of says) f (s.vars ∙ is.vars_are) s.items s.read (faults design vars instance is.b.items is.scores))
+
+-- ---- the end
+
+-- what the end of the input leaves
+pub record EndStepped (says : Item) (text : List ℕ) (b : Body) : Type 0 where
+  pub next : Body
+  pub ends : EndsAs text next
+  pub items : next.items ≡ b.items ++ entries_of says
+  pub vars : next.vars ≡ b.vars
+
+pub end_stepped : (says : Item) (used : ℕ) (body : BodyRow) (text : List ℕ) (b : Body) → StepsTo says used body text [] b → EndStepped says text b
+end_stepped (item.Time time) used body text b s = record { next = s.steps.next; ends = s.steps.ended.ends; items = s.steps.said.items; vars = s.steps.said.vars }
+end_stepped (item.Value code value) used body text b s = record { next = s.steps.next; ends = s.steps.ended.ends; items = s.steps.said.items; vars = s.steps.said.vars }
+end_stepped item.More used body text b s = absurd s.steps
+end_stepped item.End used body text b s = record { next = s.steps.next; ends = s.steps.ended.ends; items = s.steps.said.items; vars = s.steps.said.vars }
+
+pub ended_again : (text : List ℕ) (b : Body) → EndsAs text b → EndStepped item.End text b
+ended_again text b ends = record { next = b; ends = ends; items = sym (append-nil b.items); vars = refl }
+
+pub scored_end : (says : Item) (scorer told : Scorer) (design : Design) (vars : List Var) (instance text : List ℕ) (b : Body) → EndStepped says text b → Says says scorer told → b.vars ≡ vars → Scores scorer design vars instance b.items → HasScored told design vars instance text
+scored_end says scorer told design vars instance text b s tells vars_are scores =
+    let rises = subst (Rises None) s.items (times_rise text s.next s.ends) in
+    record {
+      b = s.next;
+      ends = s.ends;
+      vars_are = s.vars ∙ vars_are;
+      scores = subst (λ entries. Scores told design vars instance entries) (sym s.items) (tells design vars instance b.items rises scores);
+    }
+
+pub end_fault : (says : Item) (scorer : Scorer) (design : Design) (vars : List Var) (instance text : List ℕ) (b : Body) (f : ScoreFault) → EndStepped says text b
+    → ((design : Design) (vars : List Var) (instance : List ℕ) (entries : List Entry) → Scores scorer design vars instance entries → IsSayingFault vars instance design (entries ++ entries_of says) f)
+    → b.vars ≡ vars → Scores scorer design vars instance b.items → IsEndFault design instance text f
+end_fault says scorer design vars instance text b f s faults vars_are scores =
+    saying_ends design vars instance text s.next (b.items ++ entries_of says) f (s.vars ∙ vars_are) s.items s.ends (faults design vars instance b.items scores)

@@ -1,0 +1,65 @@
+-- Why a design is not scored by the dump of a text.
+use Rattle.std.specs.Prelude.{◌⊎◌, ℕ, List}
+use Rattle.cov_host.specs.Outside.{Outside}
+use Rattle.design_model.specs.declared.design.Design.{Design}
+use Rattle.dump_pieces.specs.Dump.{BeginsAs, SaysBody}
+use Rattle.dump_pieces.specs.Reading.{Body}
+use Rattle.dump_pieces.specs.Text.{EndsAs, EndsWithFault, HasFault}
+use Rattle.dump_pieces.specs.declared.entry.Entry.{Entry}
+use Rattle.dump_pieces.specs.declared.fault.DumpFault.{DumpFault}
+use Rattle.dump_pieces.specs.declared.fault.DumpFault.TheVariants as dump_fault
+use Rattle.dump_pieces.specs.declared.vars.Var.{Var}
+use Rattle.input_toggles.specs.Binding.{IsBindFault}
+use Rattle.input_toggles.specs.Scored.{HasNoBaseline}
+use Rattle.dump_score.specs.Reading.{IsCallFault, IsFile}
+use Rattle.dump_score.specs.declared.fault.ScoreFault.{ScoreFault}
+use Rattle.dump_score.specs.declared.fault.ScoreFault.TheVariants as fault
+
+-- the fault is the first one of the text, or that of its end, if it is not want of memory
+abbrev pub IsDumpFault : List ℕ → DumpFault → Type 0
+IsDumpFault text dump_fault.NoMemory = Unit {0}
+IsDumpFault text (dump_fault.At kind byte) = HasFault text (dump_fault.At kind byte) ⊎ EndsWithFault text (dump_fault.At kind byte)
+
+-- the text says a body of which this holds
+abbrev pub SaysSome : List ℕ → (Body → Type 0) → Type 0
+SaysSome text P = (b : Body) × SaysBody text b × P b
+
+-- the fault stands in the text of the dump of the design, which is the instance
+abbrev pub IsTextFault : Design → List ℕ → List ℕ → ScoreFault → Type 0
+IsTextFault design instance text fault.NoMemory = Unit {0}
+IsTextFault design instance text (fault.Refused call) = ⊥
+IsTextFault design instance text (fault.Dump f) = IsDumpFault text f
+IsTextFault design instance text (fault.Bind f) = SaysSome text (λ b. IsBindFault b.vars instance design.signals f)
+IsTextFault design instance text (fault.Baseline f) = SaysSome text (λ b. HasNoBaseline b.vars instance design.signals b.items f.signal)
+
+-- the fault stands in the text of the file
+abbrev pub IsFileFault : List ℕ → Outside → Design → List ℕ → ScoreFault → Type 0
+IsFileFault name before design instance f = (text : List ℕ) × IsFile before name text × IsTextFault design instance text f
+
+-- why a design is not scored by the dump in a file
+abbrev pub IsScoreFault : List ℕ → Outside → Outside → Design → List ℕ → ScoreFault → Type 0
+IsScoreFault name before after design instance fault.NoMemory = Unit {0}
+IsScoreFault name before after design instance (fault.Refused call) = IsCallFault name before after (fault.Refused call)
+IsScoreFault name before after design instance other = IsFileFault name before design instance other
+
+-- the fault stands in what was read, whatever comes behind it
+abbrev pub IsFoundFault : Design → List ℕ → List ℕ → ScoreFault → Type 0
+IsFoundFault design instance text (fault.Dump f) = HasFault text f
+IsFoundFault design instance text (fault.Baseline f) = (b : Body) × BeginsAs text b × HasNoBaseline b.vars instance design.signals b.items f.signal
+IsFoundFault design instance text other = ⊥
+
+-- the fault stands at the end of the text
+abbrev pub IsEndFault : Design → List ℕ → List ℕ → ScoreFault → Type 0
+IsEndFault design instance text (fault.Dump f) = EndsWithFault text f
+IsEndFault design instance text (fault.Baseline f) = (b : Body) × EndsAs text b × HasNoBaseline b.vars instance design.signals b.items f.signal
+IsEndFault design instance text other = ⊥
+
+-- the fault stands in these entries
+abbrev pub IsSayingFault : List Var → List ℕ → Design → List Entry → ScoreFault → Type 0
+IsSayingFault vars instance design entries (fault.Baseline f) = HasNoBaseline vars instance design.signals entries f.signal
+IsSayingFault vars instance design entries other = ⊥
+
+-- why no header was read from a file
+abbrev pub IsHeaderFault : List ℕ → Outside → Outside → ScoreFault → Type 0
+IsHeaderFault name before after (fault.Dump f) = (text : List ℕ) × IsFile before name text × IsDumpFault text f
+IsHeaderFault name before after other = IsCallFault name before after other

@@ -1,0 +1,29 @@
+-- A file that is read piece by piece.
+use Rattle.std.specs.Prelude.{◌≡◌, ◌⊎◌, ℕ, true, List, ◌++◌, Some, IfSome, IsSomeAnd}
+use Rattle.cov_host.specs.Outside.{Outside, IsCounted}
+use Rattle.whole_files.specs.Effects.{IsMissing, OnlyReads}
+use Rattle.whole_files.specs.declared.call.Call.TheVariants.{OpenRead, Read}
+use Rattle.dump_score.specs.declared.fault.ScoreFault.{ScoreFault}
+use Rattle.dump_score.specs.declared.fault.ScoreFault.TheVariants as fault
+
+-- the file has this text, where the host tells the files
+abbrev pub IsFile : Outside → List ℕ → List ℕ → Type 0
+IsFile outside name text = IfSome outside.files (λ files. files name ≡ Some text)
+
+-- the file was opened, and this text was read of it
+pub record HasReadFile (name : List ℕ) (before now : Outside) (text : List ℕ) : Type 0 where
+  pub reading : now.reading ≡ true
+  pub content : IfSome before.files (λ files. IsSomeAnd (files name) (λ content. IsSomeAnd now.rest (λ rest. content ≡ text ++ rest)))
+  pub effects : OnlyReads before now
+
+-- a call of reading gave nothing, because it failed or the file is not there
+abbrev pub IsCallFault : List ℕ → Outside → Outside → ScoreFault → Type 0
+IsCallFault name before after (fault.Refused OpenRead) = IsCounted before.faults after.faults ⊎ IsMissing name before after
+IsCallFault name before after (fault.Refused Read) = IsCounted before.faults after.faults
+IsCallFault name before after fault.NoMemory = Unit {0}
+IsCallFault name before after other = ⊥
+
+-- a piece was not read because the call failed
+abbrev pub IsPieceFault : Outside → Outside → ScoreFault → Type 0
+IsPieceFault before after (fault.Refused Read) = IsCounted before.faults after.faults
+IsPieceFault before after other = ⊥

@@ -1,0 +1,88 @@
+-- What is read of a dump and scored.
+use Rattle.std.specs.Prelude.{◌≡◌, ◌⊎◌, ◌<◌, ◌≤◌, ℕ, false, List, [], ◌∷◌, ◌++◌, drop, length, take}
+use Rattle.cov_host.specs.Outside.{Outside}
+use Rattle.coverage_db.specs.declared.db.Db.{Db}
+use Rattle.design_model.specs.declared.design.Design.{Design}
+use Rattle.dump_pieces.specs.Dump.{Dump, IsDump}
+use Rattle.dump_pieces.specs.Pieces.{BodyHasEnded, BodyHasRead, Splits, body_at_end}
+use Rattle.dump_pieces.specs.Reading.{Body}
+use Rattle.dump_pieces.specs.Text.{EndsAs}
+use Rattle.dump_pieces.specs.declared.body.Body.{Body as BodyRow}
+use Rattle.dump_pieces.specs.declared.entry.Entry.{Entry}
+use Rattle.dump_pieces.specs.declared.entry.Entry.TheVariants as entry
+use Rattle.dump_pieces.specs.declared.item.Item.{Item}
+use Rattle.dump_pieces.specs.declared.item.Item.TheVariants as item
+use Rattle.dump_pieces.specs.declared.vars.Var.{Var}
+use Rattle.input_toggles.specs.Scored.{IsToggleTable}
+use Rattle.input_toggles.specs.Scores.{Scores}
+use Rattle.input_toggles.specs.declared.scorer.Scorer.{Scorer}
+use Rattle.dump_score.specs.Reading.{HasReadFile, IsFile}
+use Rattle.dump_score.specs.declared.header.Opened.{Opened}
+use Rattle.dump_score.specs.declared.header.Span.{Span}
+
+-- what a step says
+abbrev pub entries_of : Item → List Entry
+entries_of (item.Time time) = entry.Time time ∷ []
+entries_of (item.Value code value) = entry.Value code value ∷ []
+entries_of item.More = []
+entries_of item.End = []
+
+-- the body goes on
+abbrev pub IsReading : BodyRow → Type 0
+IsReading body = (text : List ℕ) × (b : Body) × BodyHasRead body text b
+
+-- the text was read, and the design was scored by what it says
+pub record IsScoring (body : BodyRow) (scorer : Scorer) (design : Design) (vars : List Var) (instance text : List ℕ) : Type 0 where
+  pub b : Body
+  pub stands : BodyHasRead body text b
+  pub vars_are : b.vars ≡ vars
+  pub scores : Scores scorer design vars instance b.items
+
+-- the same for a text that may have ended
+pub record CanEnd (body : BodyRow) (scorer : Scorer) (design : Design) (vars : List Var) (instance text : List ℕ) : Type 0 where
+  pub b : Body
+  pub stands : BodyHasRead body text b ⊎ BodyHasEnded body text b
+  pub vars_are : b.vars ≡ vars
+  pub scores : Scores scorer design vars instance b.items
+
+-- the text is a dump, and the design was scored by it
+pub record HasScored (scorer : Scorer) (design : Design) (vars : List Var) (instance text : List ℕ) : Type 0 where
+  pub b : Body
+  pub ends : EndsAs text b
+  pub vars_are : b.vars ≡ vars
+  pub scores : Scores scorer design vars instance b.items
+
+-- the whole file was read, and the design was scored by what it says but for its last word
+abbrev pub ScoresOn : List ℕ → Outside → BodyRow → Scorer → Design → List Var → List ℕ → Type 0
+ScoresOn name before body scorer design vars instance = (text : List ℕ) × IsFile before name text × CanEnd body scorer design vars instance text
+
+-- of a piece this many bytes were read, and these stand behind the header
+abbrev pub behind : Span → List ℕ → List ℕ
+behind span piece = drop span.used (take span.count piece)
+
+-- a header was read from a file, and what stands behind it in the last piece was not
+pub record HasOpened (name : List ℕ) (before now : Outside) (piece : List ℕ) (opened : Opened) : Type 0 where
+  pub front : List ℕ
+  pub used_within : opened.span.used ≤ opened.span.count
+  pub count_within : opened.span.count ≤ length piece
+  pub file : HasReadFile name before now (front ++ behind opened.span piece)
+  pub at_is : opened.span.at ≡ length (front ++ behind opened.span piece)
+  pub splits : Splits opened.vars opened.body front
+  pub goes_on : 0 < opened.span.count → body_at_end opened.body ≡ false
+  pub ended : opened.span.count ≡ 0 → IsFile before name front
+
+-- the same once the design was bound
+pub record IsOpen (name : List ℕ) (before now : Outside) (piece : List ℕ) (span : Span) (body : BodyRow) (scorer : Scorer) (design : Design) (vars : List Var) (instance : List ℕ) : Type 0 where
+  pub front : List ℕ
+  pub file : HasReadFile name before now (front ++ behind span piece)
+  pub at_is : span.at ≡ length (front ++ behind span piece)
+  pub goes_on : 0 < span.count → IsScoring body scorer design vars instance front
+  pub ended : span.count ≡ 0 → IsFile before name front × CanEnd body scorer design vars instance front
+
+-- the table is that of the design under the dump in the file
+pub record IsScoreOfFile (name : List ℕ) (before : Outside) (design : Design) (source instance : List ℕ) (db : Db) : Type 0 where
+  pub text : List ℕ
+  pub dump : Dump
+  pub is : IsFile before name text
+  pub is_dump : IsDump text dump
+  pub table : IsToggleTable design dump source instance db

@@ -1,0 +1,131 @@
+ghost use Rattle.std.specs.Prelude.{◌≡◌, ◌<◌, ◌≤◌, ◌++◌, ℕ, true, List, None, length, OnOk, IfErr};
+ghost use Rattle.cov_host.specs.Outside.{Outside};
+ghost use Rattle.design_model.specs.declared.design.Design.{Design as SpecDesign};
+ghost use Rattle.dump_pieces.specs.Times.{Rises};
+ghost use Rattle.dump_pieces.specs.declared.entry.Entry.{Entry};
+ghost use Rattle.dump_pieces.specs.declared.vars.Var.{Var as SpecVar};
+ghost use Rattle.input_toggles.specs.Scores.{Scores};
+ghost use Rattle.whole_files.specs.Effects.{OnlyReads};
+ghost use Rattle.dump_score.specs.Reading.{HasReadFile};
+ghost use Rattle.dump_score.specs.Faults.{IsEndFault, IsFoundFault, IsSayingFault, IsScoreFault};
+ghost use Rattle.dump_score.specs.Scoring.{CanEnd, HasScored, IsOpen, IsReading, IsScoring, ScoresOn, entries_of};
+
+use crate::ScoreFault;
+use crate::header::Span;
+use crate::pieces::read;
+use cov_host::Host;
+use dump_pieces::{Body, DumpFault, DumpKind, Item};
+use input_toggles::Scorer;
+
+/// The longest dump, in bytes.
+const LONGEST_DUMP: u64 = 1_099_511_627_776;
+
+/// Tells the scorer what the body says.
+pub(crate) fn say(scorer: &mut Scorer, item: Item) -> Result<(), ScoreFault>
+    ensures ok { OnOk result ((design : SpecDesign) (vars : List SpecVar) (instance : List ℕ) (entries : List Entry) → Rises None (entries ++ entries_of item)
+        → Scores scorer.old design vars instance entries → Scores scorer.new design vars instance (entries ++ entries_of item)) }
+    ensures fault { IfErr result (λ fault. (design : SpecDesign) (vars : List SpecVar) (instance : List ℕ) (entries : List Entry)
+        → Scores scorer.old design vars instance entries → IsSayingFault vars instance design (entries ++ entries_of item) fault) }
+{
+    match item {
+        Item::Time(time) => scorer.open_step(time)?,
+        Item::Value { code, value } => scorer.change(code, value),
+        Item::More | Item::End => {}
+    }
+    Ok(())
+}
+
+/// Scores what a piece says.
+pub(crate) fn score_piece(
+    body: &mut Body,
+    scorer: &mut Scorer,
+    piece: &[u8],
+) -> Result<(), ScoreFault>
+    requires { IsReading body.old }
+    ensures reads { OnOk result (IsReading body.new) }
+    ensures ok { OnOk result ((design : SpecDesign) (vars : List SpecVar) (instance text : List ℕ) → IsScoring body.old scorer.old design vars instance text
+        → IsScoring body.new scorer.new design vars instance (text ++ piece.now)) }
+    ensures fault { IfErr result (λ fault. (design : SpecDesign) (vars : List SpecVar) (instance text : List ℕ) → IsScoring body.old scorer.old design vars instance text
+        → IsFoundFault design instance (text ++ piece.now) fault) }
+{
+    let mut used = 0;
+    while used < piece.len() {
+        let (_, rest) = piece.split_at(used);
+        let step = body.next(rest)?;
+        say(scorer, step.item)?;
+        used += step.used;
+    }
+    Ok(())
+}
+
+/// Scores what comes behind the header, of which so many bytes of a piece with so many bytes are a part, but for the
+/// last word. Where the piece has none, the file is at its end.
+pub(crate) fn score_body<H: Host>(
+    host: &mut H,
+    piece: &mut [u8],
+    span: &Span,
+    body: &mut Body,
+    scorer: &mut Scorer,
+) -> Result<(), ScoreFault>
+    requires reading { (H.outside host.old).reading ≡ true }
+    requires piece { 0 < length piece.old }
+    requires used { span.now.used ≤ span.now.count }
+    requires count { span.now.count ≤ length piece.old }
+    requires body { 0 < span.now.count → IsReading body.old }
+    ensures ok { OnOk result ((name : List ℕ) (before : Outside) (design : SpecDesign) (vars : List SpecVar) (instance : List ℕ)
+        → IsOpen name before (H.outside host.old) piece.old span.now body.old scorer.old design vars instance → ScoresOn name before body.new scorer.new design vars instance) }
+    ensures fault { IfErr result (λ fault. (name : List ℕ) (before : Outside) (design : SpecDesign) (vars : List SpecVar) (instance : List ℕ)
+        → IsOpen name before (H.outside host.old) piece.old span.now body.old scorer.old design vars instance → IsScoreFault name before (H.outside host.new) design instance fault) }
+    ensures effects { OnlyReads (H.outside host.old) (H.outside host.new) }
+{
+    if span.count == 0 {
+        return Ok(());
+    }
+    score_piece(body, scorer, &piece[span.used..span.count])?;
+    score_rest(host, piece, body, scorer, span.at)
+}
+
+/// Scores what comes behind the last piece, to the end of the file.
+pub(crate) fn score_rest<H: Host>(
+    host: &mut H,
+    piece: &mut [u8],
+    body: &mut Body,
+    scorer: &mut Scorer,
+    at: u64,
+) -> Result<(), ScoreFault>
+    requires reading { (H.outside host.old).reading ≡ true }
+    requires piece { 0 < length piece.old }
+    requires body { IsReading body.old }
+    ensures ok { OnOk result ((name : List ℕ) (before : Outside) (design : SpecDesign) (vars : List SpecVar) (instance text : List ℕ)
+        → HasReadFile name before (H.outside host.old) text → at ≡ length text → IsScoring body.old scorer.old design vars instance text
+        → ScoresOn name before body.new scorer.new design vars instance) }
+    ensures fault { IfErr result (λ fault. (name : List ℕ) (before : Outside) (design : SpecDesign) (vars : List SpecVar) (instance text : List ℕ)
+        → HasReadFile name before (H.outside host.old) text → at ≡ length text → IsScoring body.old scorer.old design vars instance text
+        → IsScoreFault name before (H.outside host.new) design instance fault) }
+    ensures effects { OnlyReads (H.outside host.old) (H.outside host.new) }
+{
+    let mut at = at;
+    while at <= LONGEST_DUMP {
+        let count = read(host, piece)?;
+        if count == 0 {
+            return Ok(());
+        }
+        score_piece(body, scorer, &piece[..count])?;
+        at += count as u64;
+    }
+    Err(ScoreFault::Dump(DumpFault::At {
+        kind: DumpKind::DumpTooLong,
+        byte: LONGEST_DUMP,
+    }))
+}
+
+/// Scores what the last word says, at the end of the file.
+pub(crate) fn score_end(body: &mut Body, scorer: &mut Scorer) -> Result<(), ScoreFault>
+    ensures ok { OnOk result ((design : SpecDesign) (vars : List SpecVar) (instance text : List ℕ) → CanEnd body.old scorer.old design vars instance text
+        → HasScored scorer.new design vars instance text) }
+    ensures fault { IfErr result (λ fault. (design : SpecDesign) (vars : List SpecVar) (instance text : List ℕ) → CanEnd body.old scorer.old design vars instance text
+        → IsEndFault design instance text fault) }
+{
+    let step = body.next(b"")?;
+    say(scorer, step.item)
+}

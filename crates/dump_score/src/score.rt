@@ -1,0 +1,47 @@
+ghost use Rattle.std.specs.Prelude.{IfErr, IfOk, IsTrue};
+ghost use Rattle.coverage_db.specs.Table.{is_file_name};
+ghost use Rattle.input_toggles.specs.InputDesign.{IsInputDesign};
+ghost use Rattle.whole_files.specs.Effects.{OnlyReads};
+ghost use Rattle.dump_score.specs.Faults.{IsScoreFault};
+ghost use Rattle.dump_score.specs.Scoring.{IsScoreOfFile};
+
+use crate::ScoreFault;
+use crate::header::{Opened, read_header};
+use crate::items::{score_body, score_end};
+use crate::pieces::{open, room};
+use cov_host::Host;
+use coverage_db::Db;
+use design_model::Design;
+use input_toggles::Scorer;
+use std::alloc::Global;
+
+/// The database of a design of inputs alone under the dump in a file, in which the design is the instance.
+///
+/// The file is opened once and read in pieces of 65,536 bytes. All room is made before the body is read, apart from
+/// the database's own.
+pub fn score_dump<H: Host>(
+    alloc: Global,
+    host: &mut H,
+    name: &str,
+    design: &Design,
+    source: &str,
+    instance: &str,
+) -> Result<Db, ScoreFault>
+    requires design { IsInputDesign design.now }
+    requires source { IsTrue (is_file_name source.now) }
+    ensures scored { IfOk result (IsScoreOfFile name.now (H.outside host.old) design.now source.now instance.now) }
+    ensures fault { IfErr result (IsScoreFault name.now (H.outside host.old) (H.outside host.new) design.now instance.now) }
+    ensures effects { OnlyReads (H.outside host.old) (H.outside host.new) }
+{
+    let mut piece = room(alloc)?;
+    open(host, name)?;
+    let Opened {
+        vars,
+        mut body,
+        span,
+    } = read_header(alloc, host, piece.as_mut_slice())?;
+    let mut scorer = Scorer::new(alloc, design, vars.as_slice(), instance)?;
+    score_body(host, piece.as_mut_slice(), &span, &mut body, &mut scorer)?;
+    score_end(&mut body, &mut scorer)?;
+    Ok(scorer.finish(alloc, design, source)?)
+}

@@ -1,0 +1,6 @@
+use Rattle.std.proofs.Common.{take}
+use Rattle.input_toggles.specs.Binding.{AreCodes}
+use Rattle.input_toggles.proofs.binding.codes_of.Given as goal
+
+abbrev pub invariant-loop-place : goal.invariant-loop-place
+invariant-loop-place l = AreCodes l.vars l.instance (take l.place l.signals) l.codes.items

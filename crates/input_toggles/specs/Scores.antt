@@ -1,0 +1,52 @@
+-- What a scorer stands for: a design under what a dump has said so far.
+use Rattle.std.specs.Prelude.{◌≡◌, ◌-◌, ◌<◌, ◌≤◌, ◌↔◌, ℕ, Bool, true, false, IsTrue, IsSome, List, [], map, length, slice_index_or, All}
+use Rattle.std.specs.List.{list_any}
+use Rattle.coverage_db.specs.declared.db.Db.{Db}
+use Rattle.design_model.specs.Shows.{AreRising}
+use Rattle.design_model.specs.declared.design.Design.{Design}
+use Rattle.design_model.specs.declared.design.Signal.{Signal}
+use Rattle.dump_pieces.specs.Dump.{steps_of, times_of}
+use Rattle.dump_pieces.specs.declared.entry.Entry.{Entry}
+use Rattle.dump_pieces.specs.declared.vars.Var.{Var}
+use Rattle.input_toggles.specs.Binding.{AreCodes, stands_in}
+use Rattle.input_toggles.specs.Scored.{IsToggleTable}
+use Rattle.input_toggles.specs.Toggling.{has_toggle}
+use Rattle.input_toggles.specs.Tracked.{Follows, IsTracked, ToggledBy, count_of, has_value, value_so_far}
+use Rattle.input_toggles.specs.Watched.{signals_of}
+use Rattle.input_toggles.specs.declared.scorer.Scorer.{Scorer}
+use Rattle.input_toggles.specs.declared.tracks.Tracks.{Tracks}
+use Rattle.input_toggles.specs.declared.watched.Watched.{Watched}
+
+-- the codes are followed, and nothing was said
+pub record FollowsAll (tracks : Tracks) (codes : List ℕ) : Type 0 where
+  pub follows : Follows tracks []
+  pub tracked : All (IsTracked tracks) codes
+
+-- the signals of the design, which is the instance, are bound to these variables, and this was said so far
+pub record Scores (scorer : Scorer) (design : Design) (vars : List Var) (instance : List ℕ) (entries : List Entry) : Type 0 where
+  pub instance_is : list_any (stands_in instance) vars ≡ true
+  pub codes_are : AreCodes vars instance design.signals scorer.codes.items
+  pub follows : Follows scorer.tracks entries
+  pub tracked : All (IsTracked scorer.tracks) scorer.codes.items
+  pub based : 2 ≤ count_of entries → All (λ code. IsSome (value_so_far entries code 1)) scorer.codes.items
+
+-- the code of the signal with this number has no value
+pub record LacksValue (scorer : Scorer) (signal : ℕ) : Type 0 where
+  pub listed : signal < length scorer.codes.items
+  pub none : has_value scorer.tracks (slice_index_or scorer.codes.items signal 0) ≡ false
+
+-- the toggles are those of the code, whatever was said
+abbrev pub HasToggles : Tracks → Watched → Type 0
+HasToggles tracks w =
+    (entries : List Entry) → Follows tracks entries → IsTracked tracks w.code → (place : ℕ) (rise : Bool) → IsTrue (has_toggle w.toggles place rise) ↔ ToggledBy (value_so_far entries w.code) (count_of entries - 1) place rise
+
+-- the signals with the codes and the toggles of the scorer
+pub record AreWatched (scorer : Scorer) (signals : List Signal) (watched : List Watched) : Type 0 where
+  pub signals_are : signals_of watched ≡ signals
+  pub codes_are : map (λ w. w.code) watched ≡ scorer.codes.items
+  pub toggles_are : All (HasToggles scorer.tracks) watched
+
+-- the table is that of the design under whatever was said
+abbrev pub IsScoreBy : Scorer → Design → List ℕ → Db → Type 0
+IsScoreBy scorer design source db =
+    (vars : List Var) (instance : List ℕ) (entries : List Entry) → Scores scorer design vars instance entries → AreRising (times_of (steps_of entries)) → IsToggleTable design (record { vars = vars; steps = steps_of entries }) source instance db

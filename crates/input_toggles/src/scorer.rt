@@ -1,0 +1,129 @@
+ghost use Rattle.std.specs.Prelude.{◌≡◌, ◌++◌, ◌∷◌, [], ℕ, List, None, IfErr, IfOk, OnOk, IsTrue, All, length};
+ghost use Rattle.coverage_db.specs.Table.{is_file_name};
+ghost use Rattle.design_model.specs.declared.design.Design.{Design as SpecDesign};
+ghost use Rattle.dump_pieces.specs.Times.{Rises};
+ghost use Rattle.dump_pieces.specs.declared.entry.Entry.{Entry};
+ghost use Rattle.dump_pieces.specs.declared.entry.Entry.TheVariants as entry;
+ghost use Rattle.dump_pieces.specs.declared.vars.Var.{Var as SpecVar};
+ghost use Rattle.input_toggles.specs.Binding.{IsBindFault};
+ghost use Rattle.input_toggles.specs.InputDesign.{IsInputDesign};
+ghost use Rattle.input_toggles.specs.Scored.{HasNoBaseline};
+ghost use Rattle.input_toggles.specs.Scores.{AreWatched, FollowsAll, IsScoreBy, LacksValue, Scores};
+ghost use Rattle.input_toggles.specs.Tracked.{has_value};
+
+use crate::binding::bind;
+use crate::table::table_of;
+use crate::tracks::Tracks;
+use crate::watched::Watched;
+use crate::{BindFault, NoBaseline};
+use cov_host::NoMemory;
+use coverage_db::Db;
+use design_model::{Design, Signal};
+use dump_pieces::Var;
+use four_state::Four;
+use std::alloc::Global;
+
+/// Scores a dump for a design of inputs alone while the dump is read.
+///
+/// It is made when the header ends. Only `new` and `finish` take memory.
+#[derive(Drop)]
+pub struct Scorer {
+    /// The codes of the signals in order.
+    pub(crate) codes: Vec<u32>,
+    pub(crate) tracks: Tracks,
+}
+
+impl Scorer {
+    /// Binds the signals of a design, which is the instance, to the variables of a dump.
+    pub fn new(
+        alloc: Global,
+        design: &Design,
+        vars: &[Var],
+        instance: &str,
+    ) -> Result<Self, BindFault>
+        ensures bound { IfOk result (λ scorer. Scores scorer design.now vars.now instance.now []) }
+        ensures fault { IfErr result (IsBindFault vars.now instance.now design.now.signals) }
+    {
+        let codes = bind(alloc, design.signals.as_slice(), vars, instance)?;
+        let tracks = follow(alloc, codes.as_slice())?;
+        Ok(Scorer { codes, tracks })
+    }
+
+    /// Takes a change of a code.
+    pub fn change(&mut self, code: u32, value: Four)
+        ensures { (design : SpecDesign) (vars : List SpecVar) (instance : List ℕ) (entries : List Entry) → Scores self.old design vars instance entries
+            → Scores self.new design vars instance (entries ++ entry.Value code value ∷ []) }
+    {
+        self.tracks.change(code, value);
+    }
+
+    /// Takes a time that is greater than the one before. At the second one each signal has to have a value.
+    pub fn open_step(&mut self, time: u64) -> Result<(), NoBaseline>
+        ensures ok { OnOk result ((design : SpecDesign) (vars : List SpecVar) (instance : List ℕ) (entries : List Entry) → Rises None (entries ++ entry.Time time ∷ [])
+            → Scores self.old design vars instance entries → Scores self.new design vars instance (entries ++ entry.Time time ∷ [])) }
+        ensures fault { IfErr result (λ fault. (design : SpecDesign) (vars : List SpecVar) (instance : List ℕ) (entries : List Entry)
+            → Scores self.old design vars instance entries → HasNoBaseline vars instance design.signals (entries ++ entry.Time time ∷ []) fault.signal) }
+    {
+        if self.tracks.is_first && self.tracks.last.is_some() {
+            self.check_values()?;
+        }
+        self.tracks.open_step(time);
+        Ok(())
+    }
+
+    /// Each signal has a value so far.
+    fn check_values(&self) -> Result<(), NoBaseline>
+        ensures ok { OnOk result (All (λ code. IsTrue (has_value self.now.tracks code)) self.now.codes.items) }
+        ensures fault { IfErr result (λ fault. LacksValue self.now fault.signal) }
+    {
+        for (place, code) in self.codes.iter().enumerate() {
+            if !self.tracks.has_value(*code) {
+                return Err(NoBaseline { signal: place });
+            }
+        }
+        Ok(())
+    }
+
+    /// The database of the design under the dump that was told.
+    pub fn finish(&self, alloc: Global, design: &Design, source: &str) -> Result<Db, NoMemory>
+        requires design { IsInputDesign design.now }
+        requires source { IsTrue (is_file_name source.now) }
+        requires codes { length self.now.codes.items ≡ length design.now.signals }
+        ensures { IfOk result (IsScoreBy self.now design.now source.now) }
+    {
+        let watched = self.watched(alloc, design.signals.as_slice())?;
+        table_of(alloc, design.top.as_slice(), source, watched)
+    }
+
+    /// The signals with their toggles.
+    fn watched<'a>(
+        &self,
+        alloc: Global,
+        signals: &'a [Signal],
+    ) -> Result<Vec<Watched<'a>>, NoMemory>
+        requires { length self.now.codes.items ≡ length signals.now }
+        ensures { IfOk result (λ watched. AreWatched self.now signals.now watched.items) }
+    {
+        let mut watched = Vec::new(alloc);
+        for (place, signal) in signals.iter().enumerate() {
+            let code = self.codes[place];
+            watched.push(Watched {
+                signal,
+                code,
+                toggles: self.tracks.toggles(code),
+            })?;
+        }
+        Ok(watched)
+    }
+}
+
+/// Room for these codes, before the dump says something.
+fn follow(alloc: Global, codes: &[u32]) -> Result<Tracks, NoMemory>
+    ensures { IfOk result (λ tracks. FollowsAll tracks codes.now) }
+{
+    let mut tracks = Tracks::new(alloc);
+    for code in codes {
+        tracks.add(*code)?;
+    }
+    Ok(tracks)
+}
