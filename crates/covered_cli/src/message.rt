@@ -10,7 +10,7 @@ ghost use Rattle.covered_cli.specs.Fault.{IsPlain, line_of};
 use crate::database_message::warn_database;
 use crate::dump_refusal::warn_refusal;
 use crate::fault::Fault;
-use crate::pieces::warn_pieces;
+use crate::pieces::warn_texts;
 use command_line::UsageFault;
 use cov_host::Host;
 use whole_files::Call;
@@ -26,22 +26,10 @@ pub(crate) fn warn_of<H: Host>(host: &mut H, fault: &Fault<'_>)
     match fault {
         Fault::Dump(refusal) => warn_refusal(host, refusal),
         Fault::Databases(fault) => warn_database(host, fault),
-        other => warn_pieces(host, &bytes_of(pieces_of(other))),
+        Fault::Usage(_) | Fault::SourceNotYet | Fault::Files { .. } | Fault::Memory => {
+            warn_texts(host, &pieces_of(fault))
+        }
     }
-}
-
-/// The pieces as bytes.
-fn bytes_of<'a>(texts: [&'a str; 5]) -> [&'a [u8]; 5]
-    ensures { flat_map (λ piece. piece.now) result ≡ flat_map (λ text. text.now) texts }
-{
-    let [first, second, third, fourth, fifth] = texts;
-    [
-        first.as_bytes(),
-        second.as_bytes(),
-        third.as_bytes(),
-        fourth.as_bytes(),
-        fifth.as_bytes(),
-    ]
 }
 
 /// The pieces of a fault's line in order, but for one of a dump or of a command over databases.

@@ -19,6 +19,43 @@ fn words_of(alloc: Global, words: &[&str]) -> Result<Words, Fail> {
     Ok(all)
 }
 
+/// A dump as a simulator writes it, with a real variable, a parameter, groups and a comment in the body.
+const REALISTIC: &str =
+    "$date\n\tThu Jan  4 12:00:00 2024\n$end\n$version\n\town example\n$end\n$timescale\n\t1ns\n$end\n$scope module tb $end\n$var reg 1 ! clk $end\n$var real 1 ) load $end\n$scope module dut $end\n$var wire 1 ! clk $end\n$var wire 2 \" a [1:0] $end\n$var parameter 2 ' IDLE $end\n$upscope $end\n$upscope $end\n$enddefinitions $end\n$comment Show the parameter values. $end\n$dumpall\nb0 '\n$end\n#0\n$dumpvars\nr0 )\n0!\nb0 \"\n$end\n#5\n1!\nb1 \"\n#10\n0!\nb1x \"\n#15\n1!\n";
+
+/// A dump whose input `a` has no value before the second time.
+const NO_BASELINE: &str =
+    "$scope module tb $end\n$scope module dut $end\n$var wire 1 ! clk $end\n$var wire 2 \" a $end\n$upscope $end\n$upscope $end\n$enddefinitions $end\n#0\n0!\n#5\n1!\nb01 \"\n#4\n";
+
+/// A dump whose time falls at byte 141.
+const TIME_BACK: &str =
+    "$scope module tb $end\n$scope module dut $end\n$var wire 1 ! clk $end\n$var wire 2 \" a $end\n$upscope $end\n$upscope $end\n$enddefinitions $end\n#5 #4\n";
+
+/// What scoring a dump ends with, and what is warned.
+fn refuses(alloc: Global, dump: &str, instance: &str, line: &str) -> Result<bool, Fail> {
+    let words = words_of(
+        alloc,
+        &[
+            "score", "-t", "pads", "-i", instance, "-v", "pads.v", "-vcd", "D", "-o", "B",
+        ],
+    )?;
+    let mut host = MemoryHost::new(alloc, Calls::new(alloc))?;
+    host.put("pads.v", SOURCE.as_bytes())?;
+    host.put("D", dump.as_bytes())?;
+    let status = covered(alloc, &words, &mut host);
+    Ok(status == Status::Dump && host.warned() == line.as_bytes() && host.file("B").is_none())
+}
+
+#[test]
+fn refuses_dumps(rt: HostRuntime) -> Result<(), Fail> {
+    let alloc = rt.alloc();
+    assert!(rt; refuses(alloc, DUMP, "tb.x", "covered: dump: bind 1 NoInstance tb.x\n")?);
+    assert!(rt; refuses(alloc, DUMP, "tb", "covered: dump: bind 2 InputNotDumped pads.clk\n")?);
+    assert!(rt; refuses(alloc, NO_BASELINE, "tb.dut", "covered: dump: bind 3 NoBaseline pads.a\n")?);
+    assert!(rt; refuses(alloc, TIME_BACK, "tb.dut", "covered: dump: 5 TimeBack at byte 141\n")?);
+    Ok(())
+}
+
 #[test]
 fn scores_a_module_of_inputs(rt: HostRuntime) -> Result<(), Fail> {
     let alloc = rt.alloc();
@@ -28,10 +65,10 @@ fn scores_a_module_of_inputs(rt: HostRuntime) -> Result<(), Fail> {
             "score", "-t", "pads", "-i", "tb.dut", "-v", "pads.v", "-vcd", "D", "-o", "B",
         ],
     )?;
-    for one_byte in [false, true] {
+    for (one_byte, dump) in [(false, DUMP), (true, DUMP), (false, REALISTIC), (true, REALISTIC)] {
         let mut host = MemoryHost::new(alloc, Calls::new(alloc))?;
         host.put("pads.v", SOURCE.as_bytes())?;
-        host.put("D", DUMP.as_bytes())?;
+        host.put("D", dump.as_bytes())?;
         if one_byte {
             host.one_byte();
         }

@@ -1,5 +1,5 @@
 -- What was read of a file so far.
-use Rattle.std.proofs.Common.{◌≡◌, ◌≢◌, ◌⊎◌, ℕ, true, List, [], ◌++◌, take, Option, None, Some, IfSome, refl, sym, ap, subst, ◌∙◌, append_assoc, append-nil, inl, inr}
+use Rattle.std.proofs.Common.{◌≡◌, ◌≢◌, ◌⊎◌, ◌<◌, ℕ, true, List, [], ◌∷◌, ◌++◌, length, take, Option, None, Some, IfSome, refl, sym, ap, subst, ◌∙◌, append_assoc, append-nil, inl, inr, arith}
 use Rattle.std.specs.Prelude.{IsSomeAnd}
 use Rattle.cov_host.specs.Outside.{Files, Outside, IsCounted, IsOpened, IsRead, Told}
 use Rattle.whole_files.specs.Effects.{CountsUp, IsMissing, OnlyReads}
@@ -110,3 +110,11 @@ call_refuses name before after design instance fault.NoMemory is = tt
 call_refuses name before after design instance (fault.Dump f) is = absurd is
 call_refuses name before after design instance (fault.Bind f) is = absurd is
 call_refuses name before after design instance (fault.Baseline f) is = absurd is
+
+some_piece : (piece : List ℕ) → 0 < length piece → piece ≢ []
+some_piece [] some = absurd (omega (arith, some))
+some_piece (byte ∷ piece) some = λ none. cc
+
+-- where no bytes were read the file was read whole
+pub read_all_of : (name text piece : List ℕ) (count : ℕ) (before old new : Outside) → HasReadFile name before old text → IsRead count piece old new → count ≡ 0 → 0 < length piece → IsFile before name text
+read_all_of name text piece count before old new read is none some = read_all name text before old read (is.none_at_end none (some_piece piece some))

@@ -1,11 +1,14 @@
 -- From the header of a dump to its end.
-use Rattle.std.proofs.Common.{◌≡◌, ◌⊎◌, ℕ, zero, suc, ◌+◌, ◌<◌, ◌≤◌, Bool, true, false, List, [], ◌∷◌, ◌++◌, length, take, drop, Option, None, Some, refl, sym, ap, subst, ◌∙◌, append_assoc, append-nil, inl, inr, arith}
+use Rattle.std.proofs.Common.{◌≡◌, ◌⊎◌, ℕ, zero, suc, ◌+◌, ◌-◌, ◌<◌, ◌≤◌, Bool, true, false, List, [], ◌∷◌, ◌++◌, length, take, drop, Option, None, Some, refl, sym, ap, subst, ◌∙◌, append_assoc, append-nil, inl, inr, arith}
 use Rattle.std.proofs.lemmas.Bool.{cases_Bool}
-use Rattle.std.proofs.lemmas.List.{length-append, length-take}
+use Rattle.std.proofs.lemmas.List.{length-append, length-take, take_all}
 use Rattle.cov_host.specs.Outside.{Outside}
 use Rattle.design_model.specs.declared.design.Design.{Design}
+use Rattle.coverage_db.specs.declared.db.Db.{Db}
+use Rattle.dump_pieces.proofs.RisingTimes.{times_rise}
 use Rattle.dump_pieces.proofs.TextLemmas.{fault_stays}
-use Rattle.dump_pieces.specs.Dump.{BeginsAs, SaysBody}
+use Rattle.input_toggles.proofs.DumpTimes.{steps_rise}
+use Rattle.dump_pieces.specs.Dump.{BeginsAs, SaysBody, steps_of}
 use Rattle.dump_pieces.specs.Pieces.{BodyHasEnded, BodyHasRead, BodyIs, HasRead, IsRead, Splits, body_at_end, header_at_end}
 use Rattle.dump_pieces.specs.Reading.{Body}
 use Rattle.dump_pieces.specs.Standing.{IsFaultOf}
@@ -17,12 +20,12 @@ use Rattle.dump_pieces.specs.declared.header.Header.{Header}
 use Rattle.dump_pieces.specs.declared.vars.Var.{Var}
 use Rattle.input_toggles.specs.Binding.{IsBindFault}
 use Rattle.input_toggles.specs.Scored.{HasNoBaseline}
-use Rattle.input_toggles.specs.Scores.{Scores}
+use Rattle.input_toggles.specs.Scores.{IsScoreBy, Scores}
 use Rattle.input_toggles.specs.declared.scorer.Scorer.{Scorer}
 use Rattle.whole_files.specs.Effects.{OnlyReads}
 use Rattle.dump_score.specs.Faults.{IsDumpFault, IsEndFault, IsFileFault, IsFoundFault, IsScoreFault, IsTextFault, SaysSome}
 use Rattle.dump_score.specs.Reading.{HasReadFile, IsFile}
-use Rattle.dump_score.specs.Scoring.{CanEnd, HasOpened, IsOpen, IsReading, IsScoring, ScoresOn, behind}
+use Rattle.dump_score.specs.Scoring.{CanEnd, HasOpened, HasScored, IsScoreOfFile, IsOpen, IsReading, IsScoring, ScoresOn, behind}
 use Rattle.dump_score.specs.declared.fault.ScoreFault.{ScoreFault}
 use Rattle.dump_score.specs.declared.fault.ScoreFault.TheVariants as fault
 use Rattle.dump_score.specs.declared.header.Opened.{Opened}
@@ -39,12 +42,24 @@ pub record ReadsHeader (header : Header) (at : ℕ) (start now : Outside) : Type
   pub file : (name : List ℕ) (before : Outside) → HasReadFile name before start [] → HasReadFile name before now text
   pub effects : OnlyReads start now
 
-count_is : (count : ℕ) (piece : List ℕ) → count ≤ length piece → length (take count piece) ≡ count
+pub count_is : (count : ℕ) (piece : List ℕ) → count ≤ length piece → length (take count piece) ≡ count
 count_is count piece l = omega (arith, length-take count piece, l)
 
 open_end : (ends header : Bool) (P : Type 0) → ends ≡ header → (header ≡ true → P) → (P → ⊥) → ends ≡ false
 open_end true header P e to not = absurd (not (to (sym e)))
 open_end false header P e to not = refl
+
+take_nil : (n : ℕ) → take {A = ℕ} n [] ≡ []
+take_nil zero = refl
+take_nil (suc n) = refl
+
+drop_take : (used count : ℕ) (piece : List ℕ) → used ≤ count → drop used (take count piece) ≡ take (count - used) (drop used piece)
+drop_take zero count piece l = let same : count ≡ count - 0 = omega arith in ap (λ n. take n piece) same
+drop_take (suc used) zero piece l = absurd (omega (arith, l))
+drop_take (suc used) (suc count) [] l = sym (take_nil (suc count - suc used))
+drop_take (suc used) (suc count) (byte ∷ piece) l =
+    let same : count - used ≡ suc count - suc used = omega arith in
+    drop_take used count piece (omega (arith, l)) ∙ ap (λ n. take n (drop used piece)) same
 
 -- a header that is done
 pub header_opened : (name : List ℕ) (before now : Outside) (text piece : List ℕ) (opened : Opened) (h : Header) → opened.span.count ≤ length piece → HasReadFile name before now (text ++ take opened.span.count piece)
@@ -53,10 +68,11 @@ pub header_opened : (name : List ℕ) (before now : Outside) (text piece : List 
 header_opened name before now text piece opened h within file at used ends splits at_end ended =
     let p = take opened.span.count piece in
     let count = count_is opened.span.count piece within in
-    let all = all_of text p opened.span.used in
+    let within_used : opened.span.used ≤ opened.span.count = omega (arith, used, count) in
+    let all = ap (λ t. (text ++ take opened.span.used p) ++ t) (sym (drop_take opened.span.used opened.span.count piece within_used)) ∙ all_of text p opened.span.used in
     record {
       front = text ++ take opened.span.used p;
-      used_within = omega (arith, used, count);
+      used_within = within_used;
       count_within = within;
       file = subst (λ t. HasReadFile name before now t) (sym all) file;
       at_is = at ∙ omega (arith, ap length all, length-append text p, count);
@@ -184,3 +200,22 @@ not_too_long body scorer design vars instance text is = is.stands.stands.stands.
 
 pub more_length : (text piece : List ℕ) (at count : ℕ) → at ≡ length text → count ≤ length piece → at + count ≡ length (text ++ take count piece)
 more_length text piece at count e within = omega (arith, e, length-append text (take count piece), count_is count piece within)
+
+-- a piece that was used up
+pub whole_piece : (body : BodyRow) (scorer : Scorer) (design : Design) (vars : List Var) (instance text piece : List ℕ) (used : ℕ) → length piece ≤ used → IsScoring body scorer design vars instance (text ++ take used piece) → IsScoring body scorer design vars instance (text ++ piece)
+whole_piece body scorer design vars instance text piece used all is = subst (λ t. IsScoring body scorer design vars instance (text ++ t)) (take_all used piece all) is
+
+pub positive : (n : ℕ) → (n ≡ 0 → ⊥) → 0 < n
+positive zero none = absurd (none refl)
+positive (suc n) none = omega arith
+
+-- the table of a design that was scored by a whole file
+pub scored_file : (name : List ℕ) (before : Outside) (design : Design) (source instance text : List ℕ) (vars : List Var) (scorer : Scorer) (db : Db) → IsFile before name text → HasScored scorer design vars instance text → IsScoreBy scorer design source db → IsScoreOfFile name before design source instance db
+scored_file name before design source instance text vars scorer db file scored by =
+    record {
+      text = text;
+      dump = record { vars = vars; steps = steps_of scored.b.items };
+      is = file;
+      is_dump = record { b = scored.b; ends = scored.ends; vars = sym scored.vars_are; steps = refl };
+      table = by vars instance scored.b.items scored.scores (steps_rise scored.b.items (times_rise text scored.b scored.ends));
+    }

@@ -11,6 +11,8 @@ use Rattle.dump_pieces.specs.Times.{Rises}
 use Rattle.dump_pieces.specs.declared.body.Body.{Body as BodyRow}
 use Rattle.dump_pieces.specs.declared.entry.Entry.{Entry}
 use Rattle.dump_pieces.specs.declared.fault.DumpFault.{DumpFault}
+use Rattle.std.specs.Prelude.{Result, Ok, Err, OnOk, IfErr}
+use Rattle.dump_pieces.specs.declared.item.Step.{Step}
 use Rattle.dump_pieces.specs.declared.item.Item.{Item}
 use Rattle.dump_pieces.specs.declared.item.Item.TheVariants as item
 use Rattle.dump_pieces.specs.declared.vars.Var.{Var}
@@ -145,3 +147,35 @@ pub end_fault : (says : Item) (scorer : Scorer) (design : Design) (vars : List V
     → b.vars ≡ vars → Scores scorer design vars instance b.items → IsEndFault design instance text f
 end_fault says scorer design vars instance text b f s faults vars_are scores =
     saying_ends design vars instance text s.next (b.items ++ entries_of says) f (s.vars ∙ vars_are) s.items s.ends (faults design vars instance b.items scores)
+
+-- ---- a part of a piece
+
+pub found_in_piece : (text piece : List ℕ) (used : ℕ) (f : DumpFault) → 0 < length (drop used piece) → IsFaultAt (text ++ take used piece) (drop used piece) f → HasFault (text ++ piece) f
+found_in_piece text piece used f some is = subst (λ t. HasFault t f) (all_of text piece used) (found_at (text ++ take used piece) (drop used piece) f some is)
+
+pub say_found_in_piece : (says : Item) (step used : ℕ) (body new : BodyRow) (scorer : Scorer) (piece : List ℕ) (design : Design) (vars : List Var) (instance text : List ℕ) (f : ScoreFault) → 0 < length (drop used piece) → Steps says step body new (drop used piece)
+    → ((design : Design) (vars : List Var) (instance : List ℕ) (entries : List Entry) → Scores scorer design vars instance entries → IsSayingFault vars instance design (entries ++ entries_of says) f)
+    → IsScoring body scorer design vars instance (text ++ take used piece) → IsFoundFault design instance (text ++ piece) f
+say_found_in_piece says step used body new scorer piece design vars instance text f some steps faults is =
+    subst (λ t. IsFoundFault design instance t f) (all_of text piece used) (step_found says step body new scorer (drop used piece) design vars instance (text ++ take used piece) f some steps faults is)
+
+pub scored_further : (says : Item) (step used : ℕ) (body new : BodyRow) (scorer told : Scorer) (piece : List ℕ) (design : Design) (vars : List Var) (instance text : List ℕ) → 0 < length (drop used piece) → Steps says step body new (drop used piece) → Says says scorer told → IsScoring body scorer design vars instance (text ++ take used piece) → IsScoring new told design vars instance (text ++ take (used + step) piece)
+scored_further says step used body new scorer told piece design vars instance text some steps tells is =
+    subst (λ t. IsScoring new told design vars instance t) (further text piece used step) (scored_step says step body new scorer told (drop used piece) design vars instance (text ++ take used piece) some steps tells is)
+
+pub OnOk-map : {T E P Q : Type 0} (result : Result T E) → (P → Q) → OnOk result P → OnOk result Q
+OnOk-map (Ok value) step holds = step holds
+OnOk-map (Err fault) step holds = tt
+
+pub IfErr-map : {T E : Type 0} {P Q : E → Type 0} (result : Result T E) → ((fault : E) → P fault → Q fault) → IfErr result P → IfErr result Q
+IfErr-map (Ok value) step holds = tt
+IfErr-map (Err fault) step holds = step fault holds
+
+-- what a step said
+abbrev pub item_in : Result Step DumpFault → Item
+item_in (Ok step) = step.item
+item_in (Err f) = item.End
+
+-- at the end of the input nothing more is said
+pub end_again : (says : Item) (text : List ℕ) (b : Body) → says ≡ item.End → EndsAs text b → EndStepped says text b
+end_again says text b e ends = subst (λ i. EndStepped i text b) (sym e) (ended_again text b ends)

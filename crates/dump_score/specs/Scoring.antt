@@ -1,5 +1,5 @@
 -- What is read of a dump and scored.
-use Rattle.std.specs.Prelude.{◌≡◌, ◌⊎◌, ◌<◌, ◌≤◌, ℕ, false, List, [], ◌∷◌, ◌++◌, drop, length, take}
+use Rattle.std.specs.Prelude.{◌≡◌, ◌⊎◌, ◌<◌, ◌≤◌, ℕ, false, List, [], ◌∷◌, ◌++◌, length, slice_range}
 use Rattle.cov_host.specs.Outside.{Outside}
 use Rattle.coverage_db.specs.declared.db.Db.{Db}
 use Rattle.design_model.specs.declared.design.Design.{Design}
@@ -56,9 +56,9 @@ pub record HasScored (scorer : Scorer) (design : Design) (vars : List Var) (inst
 abbrev pub ScoresOn : List ℕ → Outside → BodyRow → Scorer → Design → List Var → List ℕ → Type 0
 ScoresOn name before body scorer design vars instance = (text : List ℕ) × IsFile before name text × CanEnd body scorer design vars instance text
 
--- of a piece this many bytes were read, and these stand behind the header
+-- the bytes of a piece that were read and stand behind the header
 abbrev pub behind : Span → List ℕ → List ℕ
-behind span piece = drop span.used (take span.count piece)
+behind span piece = slice_range piece span.used span.count
 
 -- a header was read from a file, and what stands behind it in the last piece was not
 pub record HasOpened (name : List ℕ) (before now : Outside) (piece : List ℕ) (opened : Opened) : Type 0 where

@@ -1,4 +1,4 @@
-ghost use Rattle.std.specs.Prelude.{IfErr, IfOk, IsTrue};
+ghost use Rattle.std.specs.Prelude.{◌<◌, IfErr, IfOk, IsTrue, length};
 ghost use Rattle.coverage_db.specs.Table.{is_file_name};
 ghost use Rattle.input_toggles.specs.InputDesign.{IsInputDesign};
 ghost use Rattle.whole_files.specs.Effects.{OnlyReads};
@@ -6,7 +6,7 @@ ghost use Rattle.dump_score.specs.Faults.{IsScoreFault};
 ghost use Rattle.dump_score.specs.Scoring.{IsScoreOfFile};
 
 use crate::ScoreFault;
-use crate::header::{Opened, read_header};
+use crate::header::read_header;
 use crate::items::{score_body, score_end};
 use crate::pieces::{open, room};
 use cov_host::Host;
@@ -34,14 +34,39 @@ pub fn score_dump<H: Host>(
     ensures effects { OnlyReads (H.outside host.old) (H.outside host.new) }
 {
     let mut piece = room(alloc)?;
+    score_file(
+        alloc,
+        host,
+        piece.as_mut_slice(),
+        name,
+        design,
+        source,
+        instance,
+    )
+}
+
+/// The same with room for a piece.
+fn score_file<H: Host>(
+    alloc: Global,
+    host: &mut H,
+    piece: &mut [u8],
+    name: &str,
+    design: &Design,
+    source: &str,
+    instance: &str,
+) -> Result<Db, ScoreFault>
+    requires design { IsInputDesign design.now }
+    requires source { IsTrue (is_file_name source.now) }
+    requires piece { 0 < length piece.old }
+    ensures scored { IfOk result (IsScoreOfFile name.now (H.outside host.old) design.now source.now instance.now) }
+    ensures fault { IfErr result (IsScoreFault name.now (H.outside host.old) (H.outside host.new) design.now instance.now) }
+    ensures effects { OnlyReads (H.outside host.old) (H.outside host.new) }
+{
     open(host, name)?;
-    let Opened {
-        vars,
-        mut body,
-        span,
-    } = read_header(alloc, host, piece.as_mut_slice())?;
-    let mut scorer = Scorer::new(alloc, design, vars.as_slice(), instance)?;
-    score_body(host, piece.as_mut_slice(), &span, &mut body, &mut scorer)?;
-    score_end(&mut body, &mut scorer)?;
+    let mut opened = read_header(alloc, host, piece)?;
+    let mut scorer = Scorer::new(alloc, design, opened.vars.as_slice(), instance)?;
+    let span = opened.span;
+    score_body(host, piece, &span, &mut opened.body, &mut scorer)?;
+    score_end(&mut opened.body, &mut scorer)?;
     Ok(scorer.finish(alloc, design, source)?)
 }
