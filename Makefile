@@ -1,7 +1,7 @@
-# make example   builds the program, scores the example and shows its database
+# make example   builds the program, scores two dumps of the example, merges their databases and shows the report
 # make test      the gate: proves every crate, tries the edits that must fail, runs the tests and the program
 # make rows      runs the example cases of the stage that is reached, where they are at hand
-# make install   puts the program into $(PREFIX)/bin
+# make install   puts the program into $(PREFIX)/bin and its man page into $(PREFIX)/share/man/man1
 
 PREFIX ?= /usr/local
 PROGRAM = crates/covered/out/covered
@@ -16,7 +16,10 @@ $(PROGRAM): FORCE
 FORCE:
 
 example: $(PROGRAM)
-	cd examples/pads && ../../$(PROGRAM) score -t pads -i tb.dut -v pads.v -vcd pads.vcd -o pads.db && cat pads.db
+	cd examples/pads && COVERED=../../$(PROGRAM) \
+	  && $$COVERED score -t pads -i tb.dut -v pads.v -vcd pads.vcd -o pads.db && cat pads.db \
+	  && $$COVERED score -t pads -i tb.dut -v pads.v -vcd icarus.vcd -o icarus.db \
+	  && $$COVERED merge -o all.db pads.db icarus.db && $$COVERED report -d v all.db
 
 test:
 	bash .ci/run
@@ -27,3 +30,4 @@ rows:
 
 install: $(PROGRAM)
 	install -D $(PROGRAM) $(DESTDIR)$(PREFIX)/bin/covered
+	install -D -m 644 docs/covered.1 $(DESTDIR)$(PREFIX)/share/man/man1/covered.1

@@ -1,16 +1,23 @@
 -- Why a call of the program ends with its status.
-use Rattle.std.proofs.Common.{◌≡◌, ℕ, List, Option, Ok, Err, sym, refl, ◌∙◌}
-use Rattle.std.specs.Prelude.{Result, IfErr, OnOk, ◌↔◌}
+use Rattle.std.proofs.Common.{◌≡◌, ◌⊎◌, ℕ, List, [], ◌∷◌, ◌++◌, Option, None, Some, Ok, Err, sym, ap, subst, refl, ◌∙◌, inl, inr}
+use Rattle.std.specs.Prelude.{Contains, MatchOption, Result, IfErr, OnOk, ◌↔◌}
+use Rattle.command_line.specs.AnyCommand.{AreWordsOf, CommandValues, IsAnyCommand, score, merge, report, command_values}
 use Rattle.command_line.specs.CommandWords.{IsScore, ScoreValues, score_values}
-use Rattle.command_line.specs.Command.{IsCommand}
-use Rattle.command_line.specs.declared.command.Command.{Command}
-use Rattle.command_line.specs.declared.command.Command.TheVariants.{Score}
-use Rattle.command_line.proofs.ScoreOutcome.{outcome_of-score, outcome_of-fault}
+use Rattle.command_line.specs.DatabaseWords.{IsMerge, IsReport, MergeValues, ReportValues, merge_values, report_values}
+use Rattle.command_line.specs.declared.any_command.AnyCommand.{AnyCommand}
+use Rattle.command_line.specs.declared.any_command.AnyCommand.TheVariants.{Score, Merge, Report}
+use Rattle.command_line.proofs.OneCommand.{one_of_all}
+use Rattle.command_line.proofs.Outcome.{command_without_fault}
 use Rattle.cov_host.specs.Outside.{Outside, Files, Told}
-use Rattle.covered_cli.specs.Covered.{IsNoCommand, IsSomeCommand, KeepsOthers, KeepsUnnamed}
-use Rattle.covered_cli.specs.Fault.{Stands, StandsIn, StandsInWork, output_of, status_of}
+use Rattle.database_commands.specs.Faults.{IsMergeFault}
+use Rattle.database_commands.specs.Reporting.{IsReportFault, KeepsUnlessNamed, PrintsIfUnnamed}
+use Rattle.database_commands.specs.declared.fault.CommandFault.{CommandFault}
+use Rattle.database_commands.specs.declared.fault.CommandFault.TheVariants as database_fault
+use Rattle.covered_cli.specs.Covered.{IsNoCommand, IsSomeCommand, KeepsUnnamed, PrintsReport, output_in}
+use Rattle.covered_cli.specs.Databases.{database_status}
+use Rattle.covered_cli.specs.Fault.{IsDatabaseFault, Stands, StandsIn, StandsInDatabases, StandsInWork, output_of, status_of}
 use Rattle.covered_cli.specs.declared.fault.Fault.{Fault}
-use Rattle.covered_cli.specs.declared.fault.Fault.TheVariants.{Usage, SourceNotYet, Dump, Files as FilesFault, Memory}
+use Rattle.covered_cli.specs.declared.fault.Fault.TheVariants.{Usage, SourceNotYet, Dump, Files as FilesFault, Memory, Databases}
 use Rattle.covered_cli.specs.declared.status.Status.TheVariants as status
 use Rattle.whole_files.proofs.EffectLemmas.{Told-map}
 
@@ -23,34 +30,91 @@ pub IfErr-map : {T E : Type 0} {P Q : E → Type 0} (result : Result T E) → ((
 IfErr-map (Ok value) step holds = tt
 IfErr-map (Err fault) step holds = step fault holds
 
-stands_as_score : (words : List (List ℕ)) (score : ScoreValues) (before after : Outside) → IsScore words score → (fault : Fault) → StandsIn score before after fault → Stands words before after fault
-stands_as_score words score before after is (Usage usage) stands = absurd stands
-stands_as_score words score before after is SourceNotYet stands = (score, is, stands)
-stands_as_score words score before after is (Dump refusal) stands = (score, is, stands)
-stands_as_score words score before after is (FilesFault call file) stands = (score, is, stands)
-stands_as_score words score before after is Memory stands = (score, is, stands)
+stands_as_score : (words : List (List ℕ)) (values : ScoreValues) (before after : Outside) → IsScore words values → (fault : Fault) → StandsIn values before after fault → Stands words before after fault
+stands_as_score words values before after is (Usage usage) stands = absurd stands
+stands_as_score words values before after is SourceNotYet stands = (values, is, stands)
+stands_as_score words values before after is (Dump refusal) stands = (values, is, stands)
+stands_as_score words values before after is (FilesFault call file) stands = (values, is, stands)
+stands_as_score words values before after is Memory stands = (values, is, stands)
+stands_as_score words values before after is (Databases f) stands = absurd stands
+
+stands_as_merge : (words : List (List ℕ)) (values : MergeValues) (before after : Outside) → IsMerge words values → (fault : Fault) → IsDatabaseFault (IsMergeFault values before after) fault → Stands words before after fault
+stands_as_merge words values before after is (Usage usage) stands = absurd stands
+stands_as_merge words values before after is SourceNotYet stands = absurd stands
+stands_as_merge words values before after is (Dump refusal) stands = absurd stands
+stands_as_merge words values before after is (FilesFault call file) stands = absurd stands
+stands_as_merge words values before after is Memory stands = absurd stands
+stands_as_merge words values before after is (Databases f) stands = inl (values, is, stands)
+
+stands_as_report : (words : List (List ℕ)) (values : ReportValues) (before after : Outside) → IsReport words values → (fault : Fault) → IsDatabaseFault (IsReportFault values before after) fault → Stands words before after fault
+stands_as_report words values before after is (Usage usage) stands = absurd stands
+stands_as_report words values before after is SourceNotYet stands = absurd stands
+stands_as_report words values before after is (Dump refusal) stands = absurd stands
+stands_as_report words values before after is (FilesFault call file) stands = absurd stands
+stands_as_report words values before after is Memory stands = absurd stands
+stands_as_report words values before after is (Databases f) stands = inr (values, is, stands)
 
 -- what stands in the work of a command stands in the call of the program
-pub stands_in_call : (words : List (List ℕ)) (command : Command) (before after : Outside) → IsCommand words command → (fault : Fault) → StandsInWork command before after fault → Stands words before after fault
-stands_in_call words (Score score) before after is fault stands = stands_as_score words (score_values score) before after is fault stands
+pub stands_in_call : (words : List (List ℕ)) (command : AnyCommand) (before after : Outside) → IsAnyCommand words command → (fault : Fault) → StandsInWork command before after fault → Stands words before after fault
+stands_in_call words (Score values) before after is fault stands = stands_as_score words (score_values values) before after is fault stands
+stands_in_call words (Merge values) before after is fault stands = stands_as_merge words (merge_values values) before after is fault stands
+stands_in_call words (Report values) before after is fault stands = stands_as_report words (report_values values) before after is fault stands
 
 -- the words of a command are one
-pub is_some_command : (words : List (List ℕ)) (command : Command) → IsCommand words command → IsSomeCommand words
-is_some_command words (Score score) is = (score_values score, is)
+pub is_some_command : (words : List (List ℕ)) (command : AnyCommand) → IsAnyCommand words command → IsSomeCommand words
+is_some_command words command is = (command_values command, is)
+
+-- a command writes the file that its values name
+same_output : (command : AnyCommand) → output_in (command_values command) ≡ output_of command
+same_output (Score values) = refl
+same_output (Merge values) = refl
+same_output (Report values) = refl
+
+keeps_by : (words : List (List ℕ)) (values : CommandValues) (output : Option (List ℕ)) → AreWordsOf values words → output_in values ≡ output → (old new : Files) → KeepsUnlessNamed output old new → KeepsUnnamed words old new
+keeps_by words values None is names old new kept name unnamed = kept name
+keeps_by words values (Some output) is names old new kept name unnamed = kept name (λ same. unnamed (values, is, names ∙ ap Some (sym same)))
 
 -- a file that the words do not name is not the command's output
-pub keeps_unnamed : (words : List (List ℕ)) (command : Command) (old new : Option Files) → IsCommand words command → Told (KeepsOthers (output_of command)) old new → Told (KeepsUnnamed words) old new
-keeps_unnamed words (Score score) old new is kept = Told-map {S = KeepsUnnamed words} old new (λ x y others name unnamed. others name (λ same. unnamed (score_values score, is, same))) kept
+pub keeps_unnamed : (words : List (List ℕ)) (command : AnyCommand) (old new : Option Files) → IsAnyCommand words command → Told (KeepsUnlessNamed (output_of command)) old new → Told (KeepsUnnamed words) old new
+keeps_unnamed words command old new is kept =
+    Told-map {R = KeepsUnlessNamed (output_of command)} {S = KeepsUnnamed words} old new (λ x y. keeps_by words (command_values command) (output_of command) is (same_output command) x y) kept
+
+-- words that ask for no printed report print nothing
+pub prints_nothing : (words : List (List ℕ)) (command : AnyCommand) (before after : Outside) → IsAnyCommand words command → PrintsIfUnnamed (output_of command) before after → (PrintsReport words → ⊥) → after.printed ≡ before.printed
+prints_nothing words (Score values) before after is prints none = prints
+prints_nothing words (Merge values) before after is prints none = prints
+prints_nothing words (Report values) before after is prints none = go (report_values values).output refl prints
+  where
+    go : (output : Option (List ℕ)) → (report_values values).output ≡ output → PrintsIfUnnamed output before after → after.printed ≡ before.printed
+    go None same prints = absurd (none (report_values values, is, same))
+    go (Some name) same prints = prints
 
 -- the words of a command have no fault
 pub command_or_fault : (words : List (List ℕ)) → IsSomeCommand words → IsNoCommand words → ⊥
-command_or_fault words command fault =
-    let clash = sym (outcome_of-score words command.0 command.1) ∙ outcome_of-fault words fault.0 fault.1 in cc
+command_or_fault words command fault = command_without_fault words command.0 fault.0 command.1 fault.1
+
+-- the words of a score are no other command's
+pub score_or_databases : (words : List (List ℕ)) (values : ScoreValues) (before after : Outside) (f : CommandFault) → IsScore words values → StandsInDatabases words before after f → ⊥
+score_or_databases words values before after f is (inl stands) = let e = one_of_all words (score values) (merge stands.0) is stands.1 in cc
+score_or_databases words values before after f is (inr stands) = let e = one_of_all words (score values) (report stands.0) is stands.1 in cc
+
+databases_are_command : (words : List (List ℕ)) (before after : Outside) (f : CommandFault) → StandsInDatabases words before after f → IsSomeCommand words
+databases_are_command words before after f (inl stands) = (merge stands.0, stands.1)
+databases_are_command words before after f (inr stands) = (report stands.0, stands.1)
+
+-- no fault of a command over databases is one of usage
+no_usage : (f : CommandFault) → database_status f ≡ status.Usage → ⊥
+no_usage (database_fault.Files call file) same = cc
+no_usage database_fault.Print same = cc
+no_usage database_fault.Memory same = cc
+no_usage (database_fault.NoDatabase file kind line) same = cc
+no_usage (database_fault.DesignsDiffer file line first other) same = cc
 
 -- a fault ends with the status of usage exactly where the words are no command
 pub usage_exactly : (words : List (List ℕ)) (before after : Outside) → (fault : Fault) → Stands words before after fault → (status_of fault ≡ status.Usage) ↔ IsNoCommand words
 usage_exactly words before after (Usage usage) stands = (λ same. (usage, stands), λ none. refl)
-usage_exactly words before after SourceNotYet stands = (λ same. cc, λ none. absurd (command_or_fault words (stands.0, stands.1) none))
-usage_exactly words before after (Dump refusal) stands = (λ same. cc, λ none. absurd (command_or_fault words (stands.0, stands.1) none))
-usage_exactly words before after (FilesFault call file) stands = (λ same. cc, λ none. absurd (command_or_fault words (stands.0, stands.1) none))
-usage_exactly words before after Memory stands = (λ same. cc, λ none. absurd (command_or_fault words (stands.0, stands.1) none))
+usage_exactly words before after SourceNotYet stands = (λ same. cc, λ none. absurd (command_or_fault words (score stands.0, stands.1) none))
+usage_exactly words before after (Dump refusal) stands = (λ same. cc, λ none. absurd (command_or_fault words (score stands.0, stands.1) none))
+usage_exactly words before after (FilesFault call file) stands = (λ same. cc, λ none. absurd (command_or_fault words (score stands.0, stands.1) none))
+usage_exactly words before after Memory stands = (λ same. cc, λ none. absurd (command_or_fault words (score stands.0, stands.1) none))
+usage_exactly words before after (Databases f) stands = (λ same. absurd (no_usage f same), λ none. absurd (command_or_fault words (databases_are_command words before after f stands) none))

@@ -3,7 +3,8 @@ use Rattle.std.proofs.Common.{◌≡◌, ◌⊎◌, inl, inr, ℕ, ◌<◌, ◌�
 use Rattle.std.proofs.lemmas.Bool.{false≢true}
 use Rattle.std.specs.Prelude.{IfSome, IsSome, IsSomeAnd, MatchOption, slice_index_or}
 use Rattle.std.specs.List.{list_any}
-use Rattle.command_line.proofs.OneCommand.{one_command}
+use Rattle.command_line.proofs.OneCommand.{one_command, one_of_all}
+use Rattle.command_line.specs.AnyCommand.{AreWordsOf, CommandValues, score as of_score, merge as of_merge, report as of_report}
 use Rattle.command_line.specs.CommandWords.{IsScore, ScoreValues}
 use Rattle.cov_host.specs.Outside.{Files, Outside, IsCounted}
 use Rattle.design_model.specs.Design.{no_signal}
@@ -22,10 +23,10 @@ use Rattle.whole_files.specs.Effects.{CountsUp, IsMissing}
 use Rattle.whole_files.proofs.EffectLemmas.{IsCounted-later}
 use Rattle.whole_files.specs.declared.call.Call.{Call}
 use Rattle.whole_files.specs.declared.call.Call.TheVariants.{OpenRead, Read, OpenWrite, Write, CloseWrite}
-use Rattle.covered_cli.proofs.Causes.{command_or_fault}
+use Rattle.covered_cli.proofs.Causes.{command_or_fault, score_or_databases}
 use Rattle.covered_cli.specs.Complete.{EndsWith, HasBadDump, HasBadSource, HaveTexts, IsCommandWith, IsGoodScore, NoFaults}
 use Rattle.covered_cli.specs.Fault.{IsRefused, NamesFile, Stands, status_of}
-use Rattle.covered_cli.specs.Scoring.{HasNoScore, IsDone, IsDoneIn, IsDumpRefusal, IsRefusedDump, IsRefusedSource}
+use Rattle.covered_cli.specs.Scoring.{HasNoScore, IsDone, IsDoneBy, IsDoneIn, IsDumpRefusal, IsRefusedDump, IsRefusedSource}
 use Rattle.covered_cli.specs.declared.dump_refusal.DumpRefusal.{DumpRefusal}
 use Rattle.covered_cli.specs.declared.dump_refusal.DumpRefusal.TheVariants as refusal
 use Rattle.covered_cli.specs.declared.fault.Fault.{Fault}
@@ -130,7 +131,7 @@ module _ (score : ScoreValues) (before : Outside) (source text : List ℕ) (text
 -- how a fault ends that is no fault of the host, where the texts rule out those of the other texts
 module _ (words : List (List ℕ)) (score : ScoreValues) (is_score : IsScore words score) (before middle after : Outside) (first : before.faults ≤ middle.faults) (second : middle.faults ≤ after.faults) (none : NoFaults before after) (source text : List ℕ) (texts : HaveTexts score before source text) where
   ends_with : (expected : Status) → ((status_of fault.SourceNotYet ≡ expected) ⊎ (IsRefusedSource score before → ⊥)) → (((r : DumpRefusal) → status_of (fault.Dump r) ≡ expected) ⊎ ((r : DumpRefusal) → IsRefusedDump score before r → ⊥)) → (f : Fault) → Stands words before middle f → EndsWith expected (status_of f)
-  ends_with expected of_source of_dump (fault.Usage usage) stands = absurd (command_or_fault words (score, is_score) (usage, stands))
+  ends_with expected of_source of_dump (fault.Usage usage) stands = absurd (command_or_fault words (of_score score, is_score) (usage, stands))
   ends_with expected (inl is) of_dump fault.SourceNotYet stands = inl is
   ends_with expected (inr ruled_out) of_dump fault.SourceNotYet stands = absurd (ruled_out (subst (λ score. IsRefusedSource score before) (one_command words stands.0 score stands.1 is_score) stands.2))
   ends_with expected of_source (inl is) (fault.Dump r) stands = inl (is r)
@@ -139,6 +140,7 @@ module _ (words : List (List ℕ)) (score : ScoreValues) (is_score : IsScore wor
       let named = subst (λ score. NamesFile score call file.now) (one_command words stands.0 score stands.1 is_score) stands.2.0 in
       absurd (none (IsCounted-later before.faults middle.faults after.faults first second (refused_call score before source text texts call file.now middle named stands.2.1)))
   ends_with expected of_source of_dump fault.Memory stands = inr refl
+  ends_with expected of_source of_dump (fault.Databases f) stands = absurd (score_or_databases words score before middle f is_score stands)
 
 module _ (words : List (List ℕ)) (before middle after : Outside) (first : CountsUp before middle) (second : CountsUp middle after) (none : NoFaults before after) (f : Fault) (stands : Stands words before middle f) where
   pub good_ends : IsCommandWith IsGoodScore words before → EndsWith Done (status_of f)
@@ -165,7 +167,12 @@ module _ (words : List (List ℕ)) (before middle after : Outside) (first : Coun
 module _ (words : List (List ℕ)) (before after : Outside) (done : IsDone words before after) where
   -- what was done is done by the one command that the words are
   done_by : (score : ScoreValues) → IsScore words score → IsDoneIn score before after
-  done_by score is = subst (λ score. IsDoneIn score before after) (one_command words done.0 score done.1 is) done.2
+  done_by score is = by_values done.0 done.1 done.2
+    where
+      by_values : (values : CommandValues) → AreWordsOf values words → IsDoneBy values before after → IsDoneIn score before after
+      by_values (of_score other) is_other by = subst (λ score. IsDoneIn score before after) (one_command words other score is_other is) by
+      by_values (of_merge other) is_other by = let e = one_of_all words (of_merge other) (of_score score) is_other is in absurd (cc)
+      by_values (of_report other) is_other by = let e = one_of_all words (of_report other) (of_score score) is_other is in absurd (cc)
 
   pub bad_source_not_done : IsCommandWith HasBadSource words before → ⊥
   bad_source_not_done (score, is, bad) = source_done score before bad.source bad.text bad.texts after bad.refused (done_by score is)

@@ -1,5 +1,6 @@
 pub mod Causes
 pub mod Complete
+pub mod Databases
 pub mod Inputs
 pub mod Lines
 pub mod Scoring

@@ -1,9 +1,12 @@
 -- A line that is written in pieces.
-use Rattle.std.proofs.Common.{◌≡◌, ℕ, zero, suc, ◌+◌, ◌<◌, List, [], ◌∷◌, ◌++◌, length, take, drop, get_or, Option, None, Some, sym, ap, ◌∙◌, refl, arith, append_assoc, take-append-drop}
+use Rattle.std.proofs.Common.{◌≡◌, ℕ, zero, suc, ◌+◌, ◌<◌, List, [], ◌∷◌, ◌++◌, length, take, drop, get_or, Option, None, Some, sym, ap, subst, ◌∙◌, refl, inl, inr, arith, append_assoc, take-append-drop}
 use Rattle.std.proofs.Math.Seq.{take-append-add}
 use Rattle.std.proofs.lemmas.List.{take_at}
 use Rattle.std.specs.List.{flat_map}
-use Rattle.cov_host.specs.Outside.{Told, Appends, AppendsPrefix}
+use Rattle.cov_host.specs.Outside.{Outside, Told, Appends, AppendsPrefix}
+use Rattle.whole_files.specs.Effects.{CountsUp}
+use Rattle.whole_files.proofs.EffectLemmas.{IsCounted-earlier}
+use Rattle.covered_cli.specs.Effects.{WarnsLine}
 
 -- the first bytes of a list are its first bytes, whatever follows
 front_of_first : (first rest : List ℕ) (count : ℕ) → take count first ≡ take (length (take count first)) (first ++ rest)
@@ -28,3 +31,9 @@ AppendsPrefix-after line whole piece (Some x) (Some y) None joins first second =
 AppendsPrefix-after line whole piece (Some x) (Some y) (Some z) joins first second =
     let joined = joins second.0 in
     (joined.0, second.1 ∙ ap (λ all. all ++ take second.0 piece) first ∙ append_assoc x whole (take second.0 piece) ∙ ap (λ all. x ++ all) joined.1)
+
+-- a line that is warned after work that warned nothing
+pub WarnsLine-since : (line : List ℕ) (before middle after : Outside) → middle.warned ≡ before.warned → CountsUp before middle → CountsUp middle after → WarnsLine line middle after → WarnsLine line before after
+WarnsLine-since line before middle after same first second (inl whole) = inl (subst (λ warned. Told (Appends line) warned after.warned) same whole)
+WarnsLine-since line before middle after same first second (inr front) =
+    inr (IsCounted-earlier before.mute middle.mute after.mute first.mute second.mute front.0, subst (λ warned. Told (AppendsPrefix line) warned after.warned) same front.1)

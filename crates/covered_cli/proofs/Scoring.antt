@@ -2,15 +2,14 @@
 use Rattle.std.proofs.Common.{◌≡◌, ◌⊎◌, ℕ, ◌≤◌, List, length, Option, None, Some, Ok, Err, refl, sym, subst, ◌∙◌, inl, inr, arith}
 use Rattle.std.proofs.lemmas.Bool.{cases_lt}
 use Rattle.std.specs.Prelude.{IfSome, IsSomeAnd, MatchOption, Result, OnOk}
-use Rattle.command_line.specs.Command.{IsCommand}
+use Rattle.command_line.specs.AnyCommand.{IsAnyCommand, command_values}
 use Rattle.command_line.specs.CommandWords.{ScoreValues, score_values}
-use Rattle.command_line.specs.declared.command.Command.{Command}
-use Rattle.command_line.specs.declared.command.Command.TheVariants.{Score}
+use Rattle.command_line.specs.declared.any_command.AnyCommand.{AnyCommand}
 use Rattle.cov_host.specs.Outside.{Outside, Files, IsCounted, KeepsFiles, SameFiles, Told, HasFile}
 use Rattle.covered_cli.specs.Fault.{IsReadingFault, IsScoringFault, IsSourceFault, StandsIn}
 use Rattle.covered_cli.specs.Scoring.{HasNoDesign, IsDone, IsDoneIn, IsDoneWork, IsReadOf}
 use Rattle.covered_cli.specs.declared.fault.Fault.{Fault}
-use Rattle.covered_cli.specs.declared.fault.Fault.TheVariants.{Usage, SourceNotYet, Dump, Files as FilesFault, Memory}
+use Rattle.covered_cli.specs.declared.fault.Fault.TheVariants.{Usage, SourceNotYet, Dump, Files as FilesFault, Memory, Databases}
 use Rattle.design_model.specs.declared.design.Design.{Design}
 use Rattle.input_module.specs.SourceForm.{IsSource}
 use Rattle.coverage_db.specs.Text.{text_of}
@@ -89,6 +88,7 @@ source_stands score bytes before after read SourceNotYet is = record { text = re
 source_stands score bytes before after read (Dump refusal) is = absurd is
 source_stands score bytes before after read (FilesFault call file) is = absurd is
 source_stands score bytes before after read Memory is = tt
+source_stands score bytes before after read (Databases f) is = absurd is
 
 -- a fault of a file stands
 reading_stands : (score : ScoreValues) (before middle after : Outside) → KeepsFiles before middle → CountsUp before middle → CountsUp middle after → (fault : Fault) → IsReadingFault score.dump middle after fault → StandsIn score before after fault
@@ -101,6 +101,7 @@ reading_stands score before middle after kept first second (FilesFault OpenWrite
 reading_stands score before middle after kept first second (FilesFault Write file) is = absurd is
 reading_stands score before middle after kept first second (FilesFault CloseWrite file) is = absurd is
 reading_stands score before middle after kept first second Memory is = tt
+reading_stands score before middle after kept first second (Databases f) is = absurd is
 
 -- a fault of the scoring stands
 pub scoring_stands : (score : ScoreValues) (source : List ℕ) (design : Design) (before middle after : Outside) → IsReadOf 67108864 score.source before source → IsSource source score.top design → KeepsFiles before middle → CountsUp before middle → CountsUp middle after → (fault : Fault) → IsScoringFault score design middle after fault → StandsIn score before after fault
@@ -117,6 +118,7 @@ scoring_stands score source design before middle after from is_source kept first
 scoring_stands score source design before middle after from is_source kept first second SourceNotYet is = reading_stands score before middle after kept first second SourceNotYet is
 scoring_stands score source design before middle after from is_source kept first second (FilesFault call file) is = reading_stands score before middle after kept first second (FilesFault call file) is
 scoring_stands score source design before middle after from is_source kept first second Memory is = tt
+scoring_stands score source design before middle after from is_source kept first second (Databases f) is = absurd is
 
 written_since : (name text : List ℕ) (before middle after : Option Files) → Told SameFiles before middle → Told (HasFile name text) middle after → Told (HasFile name text) before after
 written_since name text None None None same written = tt
@@ -158,8 +160,8 @@ score_is_done score source text design db before middle later after from is_sour
     }
 
 -- what the command asks for is what the words ask for
-pub command_is_done : (words : List (List ℕ)) (command : Command) (before after : Outside) → IsCommand words command → IsDoneWork command before after → IsDone words before after
-command_is_done words (Score score) before after is done = (score_values score, is, done)
+pub command_is_done : (words : List (List ℕ)) (command : AnyCommand) (before after : Outside) → IsAnyCommand words command → IsDoneWork command before after → IsDone words before after
+command_is_done words command before after is done = (command_values command, is, done)
 
 pub OnOk-map : {T E P Q : Type 0} (result : Result T E) → (P → Q) → OnOk result P → OnOk result Q
 OnOk-map (Ok value) step holds = step holds

@@ -1,14 +1,18 @@
 -- What a call of the program leaves outside, and why it ends with a status above 0.
-use Rattle.std.specs.Prelude.{◌≡◌, ◌≢◌, ◌⊎◌, ℕ, List, None, MatchOption}
-use Rattle.command_line.specs.CommandWords.{IsScore, ScoreValues}
-use Rattle.command_line.specs.UsageFault.{HasUsageFault}
+use Rattle.std.specs.Prelude.{◌≡◌, ◌≢◌, ◌⊎◌, ℕ, List, [], ◌∷◌, Contains, Option, Some, None, MatchOption}
+use Rattle.command_line.specs.AnyCommand.{AreWordsOf, CommandValues, score, merge, report}
+use Rattle.command_line.specs.DatabaseWords.{IsMerge, IsReport, MergeValues, ReportValues}
+use Rattle.command_line.specs.UsageFault.{HasAnyUsageFault}
 use Rattle.command_line.specs.declared.usage_fault.UsageFault.{UsageFault}
 use Rattle.cov_host.specs.Outside.{Outside, Files, IsCounted}
+use Rattle.coverage_db.specs.declared.fault.DbKind.{DbKind}
+use Rattle.database_commands.specs.Complete.{IsGoodMerge, IsGoodReport}
+use Rattle.database_commands.specs.Faults.{IsNoTable, IsOtherDesign, inputs_of}
 use Rattle.covered_cli.specs.Effects.{WarnsLine}
 use Rattle.covered_cli.specs.Fault.{Stands, line_of, status_of}
 use Rattle.covered_cli.specs.declared.fault.Fault.{Fault}
 use Rattle.covered_cli.specs.declared.status.Status.{Status}
-use Rattle.covered_cli.specs.declared.status.Status.TheVariants.{Usage, Source, Dump}
+use Rattle.covered_cli.specs.declared.status.Status.TheVariants.{Usage, Source, Dump, Database}
 
 -- every file but this one is as before
 abbrev pub KeepsOthers : List ℕ → Files → Files → Type 0
@@ -16,36 +20,74 @@ KeepsOthers name old new = (other : List ℕ) → other ≢ name → new other �
 
 -- the words are a command
 abbrev pub IsSomeCommand : List (List ℕ) → Type 0
-IsSomeCommand words = (score : ScoreValues) × IsScore words score
+IsSomeCommand words = (values : CommandValues) × AreWordsOf values words
 
 -- the words are no command, and have a first fault
 abbrev pub IsNoCommand : List (List ℕ) → Type 0
-IsNoCommand words = (fault : UsageFault) × HasUsageFault words fault
+IsNoCommand words = (fault : UsageFault) × HasAnyUsageFault words fault
+
+-- the file that a command writes, if it writes one
+abbrev pub output_in : CommandValues → Option (List ℕ)
+output_in (score values) = Some values.output
+output_in (merge values) = Some values.output
+output_in (report values) = values.output
+
+-- the files that a command reads
+abbrev pub inputs_in : CommandValues → List (List ℕ)
+inputs_in (score values) = values.source ∷ values.dump ∷ []
+inputs_in (merge values) = inputs_of values
+inputs_in (report values) = values.file ∷ []
 
 -- the words name the file for the output
 abbrev pub IsOutput : List (List ℕ) → List ℕ → Type 0
-IsOutput words name = (score : ScoreValues) × IsScore words score × (name ≡ score.output)
+IsOutput words name = (values : CommandValues) × AreWordsOf values words × (output_in values ≡ Some name)
+
+-- the words name the file for reading
+abbrev pub IsInput : List (List ℕ) → List ℕ → Type 0
+IsInput words name = (values : CommandValues) × AreWordsOf values words × Contains (inputs_in values) name
 
 -- every file that is not the words' output is as before
 abbrev pub KeepsUnnamed : List (List ℕ) → Files → Files → Type 0
 KeepsUnnamed words old new = (name : List ℕ) → (IsOutput words name → ⊥) → new name ≡ old name
+
+-- the words ask for a report that is printed
+abbrev pub PrintsReport : List (List ℕ) → Type 0
+PrintsReport words = (values : ReportValues) × IsReport words values × (values.output ≡ None)
 
 -- the status is one that comes before the output is opened
 abbrev pub HasEarlyStatus : Status → Type 0
 HasEarlyStatus Usage = Unit {0}
 HasEarlyStatus Source = Unit {0}
 HasEarlyStatus Dump = Unit {0}
+HasEarlyStatus Database = Unit {0}
 HasEarlyStatus other = ⊥
 
 -- a file that the words name for reading is not among those that the host tells; where it tells none, an absence was counted
 abbrev pub MissesFile : List (List ℕ) → Outside → Outside → Type 0
-MissesFile words before after =
-    MatchOption before.files (IsCounted before.absences after.absences)
-    (λ files. (score : ScoreValues) × IsScore words score × ((files score.source ≡ None) ⊎ (files score.dump ≡ None)))
+MissesFile words before after = MatchOption before.files (IsCounted before.absences after.absences) (λ files. (name : List ℕ) × IsInput words name × (files name ≡ None))
 
 -- a call on the host failed, or a file that the words name for reading is missing
 abbrev pub HasFilesCause : List (List ℕ) → Outside → Outside → Type 0
 HasFilesCause words before after = IsCounted before.faults after.faults ⊎ MissesFile words before after
+
+-- the file is no table's
+abbrev pub HasNoTable : Outside → List ℕ → Type 0
+HasNoTable before name = (kind : DbKind) × (line : Option ℕ) × IsNoTable name before kind line
+
+-- the tables of two files are of different designs
+abbrev pub AreOfTwoDesigns : Outside → List ℕ → List ℕ → Type 0
+AreOfTwoDesigns before first name = (line : ℕ) × (a : List ℕ) × (b : List ℕ) × IsOtherDesign first name before line a b
+
+-- the words merge a file that is no table's, or one of another design than the first, or report one that is no table's
+abbrev pub HasDatabaseCause : List (List ℕ) → Outside → Type 0
+HasDatabaseCause words before =
+    ((values : MergeValues) × (name : List ℕ) × IsMerge words values × Contains (inputs_of values) name × (HasNoTable before name ⊎ AreOfTwoDesigns before values.first name))
+    ⊎ ((values : ReportValues) × IsReport words values × HasNoTable before values.file)
+
+-- the words merge files that have tables of one design, or report a file that has a table
+abbrev pub HasGoodDatabases : List (List ℕ) → Outside → Type 0
+HasGoodDatabases words before =
+    ((values : MergeValues) × IsMerge words values × IsGoodMerge values before) ⊎ ((values : ReportValues) × IsReport words values × IsGoodReport values before)
 
 -- a fault of this status stands, and its line was warned
 abbrev pub WarnsFault : List (List ℕ) → Status → Outside → Outside → Type 0

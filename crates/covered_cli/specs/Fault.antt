@@ -1,16 +1,23 @@
 -- Why a command ends with a status above 0, and the line that says so.
-use Rattle.std.specs.Prelude.{◌≡◌, ◌⊎◌, ℕ, List, ◌++◌, codes}
+use Rattle.std.specs.Prelude.{◌≡◌, ◌⊎◌, ℕ, IsTrue, List, ◌++◌, codes, Option, Some}
+use Rattle.std.specs.Option.{option_copied}
 use Rattle.command_line.specs.CommandWords.{IsScore, ScoreValues, score_values}
-use Rattle.command_line.specs.UsageFault.{HasUsageFault, usage_text}
-use Rattle.command_line.specs.declared.command.Command.{Command}
-use Rattle.command_line.specs.declared.command.Command.TheVariants.{Score}
+use Rattle.command_line.specs.DatabaseWords.{IsMerge, IsReport, MergeValues, ReportValues, merge_values, report_values}
+use Rattle.command_line.specs.UsageFault.{HasAnyUsageFault, usage_text}
+use Rattle.command_line.specs.declared.any_command.AnyCommand.{AnyCommand}
+use Rattle.command_line.specs.declared.any_command.AnyCommand.TheVariants.{Score, Merge, Report}
 use Rattle.cov_host.specs.Outside.{Outside, IsCounted}
+use Rattle.coverage_db.specs.Table.{is_file_name}
+use Rattle.database_commands.specs.Faults.{IsEarly as IsEarlyDatabase, IsMergeFault}
+use Rattle.database_commands.specs.Reporting.{IsReportFault}
+use Rattle.database_commands.specs.declared.fault.CommandFault.{CommandFault}
 use Rattle.design_model.specs.declared.design.Design.{Design}
 use Rattle.dump_score.specs.Reading.{IsFile}
 use Rattle.whole_files.specs.Call.{call_name}
 use Rattle.whole_files.specs.Effects.{IsMissing}
 use Rattle.whole_files.specs.declared.call.Call.{Call}
 use Rattle.whole_files.specs.declared.call.Call.TheVariants.{OpenRead, Read, OpenWrite, Write, CloseWrite}
+use Rattle.covered_cli.specs.Databases.{database_line, database_status}
 use Rattle.covered_cli.specs.Scoring.{HasNoDesign, IsDumpRefusal, IsRefusedDump, IsRefusedSource}
 use Rattle.covered_cli.specs.DumpRefusal.{refusal_line}
 use Rattle.covered_cli.specs.declared.fault.Fault.{Fault}
@@ -25,6 +32,7 @@ status_of fault.SourceNotYet = status.Source
 status_of (fault.Dump refusal) = status.Dump
 status_of (fault.Files call file) = status.Files
 status_of fault.Memory = status.Memory
+status_of (fault.Databases f) = database_status f
 
 -- the line that is warned
 abbrev pub line_of : Fault → List ℕ
@@ -33,6 +41,7 @@ line_of fault.SourceNotYet = codes "covered: source: early 1 NotYet\n"
 line_of (fault.Dump refusal) = refusal_line refusal
 line_of (fault.Files call file) = codes "covered: files: " ++ call_name call ++ codes " " ++ file.now ++ codes "\n"
 line_of fault.Memory = codes "covered: memory\n"
+line_of (fault.Databases f) = database_line f
 
 -- the command names the file for this call
 abbrev pub NamesFile : ScoreValues → Call → List ℕ → Type 0
@@ -52,22 +61,41 @@ StandsIn score before after fault.SourceNotYet = IsRefusedSource score before
 StandsIn score before after (fault.Dump refusal) = IsRefusedDump score before refusal
 StandsIn score before after (fault.Files call file) = NamesFile score call file.now × IsRefused call file.now before after
 StandsIn score before after fault.Memory = Unit {0}
+StandsIn score before after (fault.Databases f) = ⊥
 
--- the file that the command writes
-abbrev pub output_of : Command → List ℕ
-output_of (Score score) = score.output.now
+-- the file that the command writes, if it writes one
+abbrev pub output_of : AnyCommand → Option (List ℕ)
+output_of (Score score) = Some score.output.now
+output_of (Merge merge) = Some merge.output.now
+output_of (Report report) = option_copied report.output
 
--- the source that the command reads
-abbrev pub source_of : Command → List ℕ
-source_of (Score score) = score.source.now
+-- the source that the command reads, if it reads one, has a name that a database can have
+abbrev pub HasSourceName : AnyCommand → Type 0
+HasSourceName (Score score) = IsTrue (is_file_name score.source.now)
+HasSourceName (Merge merge) = Unit {0}
+HasSourceName (Report report) = Unit {0}
+
+-- the fault is one of a command over databases, of which this holds
+abbrev pub IsDatabaseFault : (CommandFault → Type 0) → Fault → Type 0
+IsDatabaseFault P (fault.Databases f) = P f
+IsDatabaseFault P other = ⊥
 
 -- the fault stands in the work of this command
-abbrev pub StandsInWork : Command → Outside → Outside → Fault → Type 0
+abbrev pub StandsInWork : AnyCommand → Outside → Outside → Fault → Type 0
 StandsInWork (Score score) before after fault = StandsIn (score_values score) before after fault
+StandsInWork (Merge merge) before after fault = IsDatabaseFault (IsMergeFault (merge_values merge) before after) fault
+StandsInWork (Report report) before after fault = IsDatabaseFault (IsReportFault (report_values report) before after) fault
+
+-- the fault stands in a command over databases that the words are
+abbrev pub StandsInDatabases : List (List ℕ) → Outside → Outside → CommandFault → Type 0
+StandsInDatabases words before after f =
+    ((merge : MergeValues) × IsMerge words merge × IsMergeFault merge before after f)
+    ⊎ ((report : ReportValues) × IsReport words report × IsReportFault report before after f)
 
 -- the fault stands in a call of the program with these words between two outsides
 abbrev pub Stands : List (List ℕ) → Outside → Outside → Fault → Type 0
-Stands words before after (fault.Usage usage) = HasUsageFault words usage
+Stands words before after (fault.Usage usage) = HasAnyUsageFault words usage
+Stands words before after (fault.Databases f) = StandsInDatabases words before after f
 Stands words before after other = (score : ScoreValues) × IsScore words score × StandsIn score before after other
 
 -- the fault comes before the output is opened
@@ -76,6 +104,7 @@ IsEarly (fault.Files OpenWrite file) = ⊥
 IsEarly (fault.Files Write file) = ⊥
 IsEarly (fault.Files CloseWrite file) = ⊥
 IsEarly fault.Memory = ⊥
+IsEarly (fault.Databases f) = IsEarlyDatabase f
 IsEarly other = Unit {0}
 
 -- a file was not read
@@ -106,7 +135,8 @@ abbrev pub IsScoringFault : ScoreValues → Design → Outside → Outside → F
 IsScoringFault score design before after (fault.Dump refusal) = (text : List ℕ) × IsFile before score.dump text × IsDumpRefusal design score.top score.instance text refusal
 IsScoringFault score design before after other = IsReadingFault score.dump before after other
 
--- the fault is none of a dump
-abbrev pub IsNoRefusal : Fault → Type 0
-IsNoRefusal (fault.Dump refusal) = ⊥
-IsNoRefusal other = Unit {0}
+-- the fault is none of a dump and none of a command over databases
+abbrev pub IsPlain : Fault → Type 0
+IsPlain (fault.Dump refusal) = ⊥
+IsPlain (fault.Databases f) = ⊥
+IsPlain other = Unit {0}

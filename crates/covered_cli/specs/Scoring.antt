@@ -2,13 +2,15 @@
 use Rattle.std.specs.Prelude.{◌≡◌, ◌⊎◌, ℕ, false, List, slice_index_or, All}
 use Rattle.std.specs.List.{list_any}
 use Rattle.command_line.specs.CommandWords.{IsScore, ScoreValues, score_values}
-use Rattle.command_line.specs.declared.command.Command.{Command}
-use Rattle.command_line.specs.declared.command.Command.TheVariants.{Score}
+use Rattle.command_line.specs.AnyCommand.{AreWordsOf, CommandValues, score as of_score, merge as of_merge, report as of_report, command_values}
+use Rattle.command_line.specs.declared.any_command.AnyCommand.{AnyCommand}
 use Rattle.cov_host.specs.Outside.{Outside, HasFile, Told}
 use Rattle.coverage_db.specs.Table.{IsTable}
 use Rattle.coverage_db.specs.Text.{text_of}
 use Rattle.coverage_db.specs.declared.db.Db.{Db}
 use Rattle.design_model.specs.Design.{no_signal}
+use Rattle.database_commands.specs.Merging.{IsMergedIn}
+use Rattle.database_commands.specs.Reporting.{IsReportedIn}
 use Rattle.design_model.specs.declared.design.Design.{Design}
 use Rattle.dump_pieces.specs.Dump.{Dump, IsDump}
 use Rattle.dump_pieces.specs.Text.{EndsWithFault, HasFault}
@@ -98,10 +100,16 @@ pub record IsDoneIn (score : ScoreValues) (before after : Outside) : Type 0 wher
   pub scores : IsScoreText design dump score.source score.instance text
   pub written : Told (HasFile score.output text) before.files after.files
 
+-- what a command with these values asks for was done
+abbrev pub IsDoneBy : CommandValues → Outside → Outside → Type 0
+IsDoneBy (of_score values) before after = IsDoneIn values before after
+IsDoneBy (of_merge values) before after = IsMergedIn values before after
+IsDoneBy (of_report values) before after = IsReportedIn values before after
+
 -- what the command asks for was done
-abbrev pub IsDoneWork : Command → Outside → Outside → Type 0
-IsDoneWork (Score score) before after = IsDoneIn (score_values score) before after
+abbrev pub IsDoneWork : AnyCommand → Outside → Outside → Type 0
+IsDoneWork command before after = IsDoneBy (command_values command) before after
 
 -- what the words ask for was done
 abbrev pub IsDone : List (List ℕ) → Outside → Outside → Type 0
-IsDone words before after = (score : ScoreValues) × IsScore words score × IsDoneIn score before after
+IsDone words before after = (values : CommandValues) × AreWordsOf values words × IsDoneBy values before after

@@ -2,8 +2,10 @@ ghost use Rattle.std.specs.Prelude.{◌≡◌};
 ghost use Rattle.covered_cli.specs.Fault.{status_of};
 
 use crate::Status;
+use crate::database_message::database_status;
 use crate::dump_refusal::DumpRefusal;
 use command_line::UsageFault;
+use database_commands::CommandFault;
 use whole_files::Call;
 
 /// Why a command ends with a status above 0.
@@ -17,6 +19,8 @@ pub(crate) enum Fault<'a> {
     /// A call on the host gave nothing.
     Files { call: Call, file: &'a str },
     Memory,
+    /// A command over databases ended without its output.
+    Databases(CommandFault<'a>),
 }
 
 impl Fault<'_> {
@@ -30,6 +34,7 @@ impl Fault<'_> {
             Fault::Dump(_) => Status::Dump,
             Fault::Files { .. } => Status::Files,
             Fault::Memory => Status::Memory,
+            Fault::Databases(fault) => database_status(fault),
         }
     }
 }

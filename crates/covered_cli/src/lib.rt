@@ -1,6 +1,7 @@
 //! The program over a host: it reads the words of a command, does the work, and answers with a status.
 #![tactic(auto)]
 
+mod database_message;
 mod dump_refusal;
 mod fault;
 mod message;

@@ -5,11 +5,12 @@ ghost use Rattle.cov_host.specs.Outside.{KeepsFiles};
 ghost use Rattle.whole_files.specs.Call.{call_name};
 ghost use Rattle.whole_files.specs.Effects.{CountsUp};
 ghost use Rattle.covered_cli.specs.Effects.{WarnsLine};
-ghost use Rattle.covered_cli.specs.Fault.{IsNoRefusal, line_of};
+ghost use Rattle.covered_cli.specs.Fault.{IsPlain, line_of};
 
+use crate::database_message::warn_database;
 use crate::dump_refusal::warn_refusal;
 use crate::fault::Fault;
-use crate::pieces::warn_pieces;
+use crate::pieces::warn_texts;
 use command_line::UsageFault;
 use cov_host::Host;
 use whole_files::Call;
@@ -24,32 +25,21 @@ pub(crate) fn warn_of<H: Host>(host: &mut H, fault: &Fault<'_>)
 {
     match fault {
         Fault::Dump(refusal) => warn_refusal(host, refusal),
-        other => warn_pieces(host, &bytes_of(pieces_of(other))),
+        Fault::Databases(fault) => warn_database(host, fault),
+        Fault::Usage(_) | Fault::SourceNotYet | Fault::Files { .. } | Fault::Memory => {
+            warn_texts(host, &pieces_of(fault))
+        }
     }
 }
 
-/// The pieces as bytes.
-fn bytes_of<'a>(texts: [&'a str; 5]) -> [&'a [u8]; 5]
-    ensures { flat_map (λ piece. piece.now) result ≡ flat_map (λ text. text.now) texts }
-{
-    let [first, second, third, fourth, fifth] = texts;
-    [
-        first.as_bytes(),
-        second.as_bytes(),
-        third.as_bytes(),
-        fourth.as_bytes(),
-        fifth.as_bytes(),
-    ]
-}
-
-/// The pieces of a fault's line in order, but for one of a dump.
+/// The pieces of a fault's line in order, but for one of a dump or of a command over databases.
 fn pieces_of<'a>(fault: &Fault<'a>) -> [&'a str; 5]
-    ensures { IsNoRefusal fault.now → flat_map (λ piece. piece.now) result ≡ line_of fault.now }
+    ensures { IsPlain fault.now → flat_map (λ piece. piece.now) result ≡ line_of fault.now }
 {
     match fault {
         Fault::Usage(usage) => usage_pieces(usage),
         Fault::SourceNotYet => ["covered: source: early 1 NotYet\n", "", "", "", ""],
-        Fault::Dump(_) => ["", "", "", "", ""],
+        Fault::Dump(_) | Fault::Databases(_) => ["", "", "", "", ""],
         Fault::Files { call, file } => file_pieces(*call, file),
         Fault::Memory => ["covered: memory\n", "", "", "", ""],
     }

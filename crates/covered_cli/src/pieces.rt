@@ -21,3 +21,18 @@ pub(crate) fn warn_pieces<H: Host>(host: &mut H, pieces: &[&[u8]])
         }
     }
 }
+
+/// The same for pieces that are texts.
+pub(crate) fn warn_texts<H: Host>(host: &mut H, texts: &[&str])
+    ensures line { WarnsLine (flat_map (λ text. text.now) texts.now) (H.outside host.old) (H.outside host.new) }
+    ensures printed { (H.outside host.new).printed ≡ (H.outside host.old).printed }
+    ensures files { KeepsFiles (H.outside host.old) (H.outside host.new) }
+    ensures counts { CountsUp (H.outside host.old) (H.outside host.new) }
+{
+    for text in texts {
+        match host.warn(text.as_bytes()) {
+            Ok(()) => {}
+            Err(_) => return,
+        }
+    }
+}

@@ -11,7 +11,7 @@ ghost use Rattle.input_toggles.specs.InputDesign.{IsInputDesign};
 ghost use Rattle.covered_cli.specs.Covered.{KeepsOthers};
 ghost use Rattle.covered_cli.specs.Fault.{StandsIn, IsEarly, IsReadingFault, IsWritingFault, IsSourceFault, IsScoringFault};
 ghost use Rattle.covered_cli.specs.Scoring.{IsDoneIn, IsReadOf};
-ghost use Rattle.covered_cli.specs.declared.fault.Fault.TheVariants as fault;
+ghost use Rattle.covered_cli.specs.declared.fault.Fault.TheVariants as fault_row;
 ghost use Rattle.input_module.specs.SourceForm.{IsSource};
 
 use crate::dump_refusal::DumpRefusal;
@@ -173,7 +173,7 @@ fn name_of(alloc: Global, design: &Design, signal: usize) -> Result<Name, NoMemo
 fn text_of<'a>(alloc: Global, db: &Db) -> Result<Text, Fault<'a>>
     requires { IsTable db.now }
     ensures text { IfOk result (λ text. text ≡ text_of db.now) }
-    ensures fault { IfErr result (λ fault. fault ≡ fault.Memory) }
+    ensures fault { IfErr result (λ fault. fault ≡ fault_row.Memory) }
 {
     match write_db(alloc, db) {
         Ok(text) => Ok(text),

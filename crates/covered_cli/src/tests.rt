@@ -79,3 +79,57 @@ fn scores_a_module_of_inputs(rt: HostRuntime) -> Result<(), Fail> {
     }
     Ok(())
 }
+
+/// The table of a register.
+const FIRST: &[u8] =
+    b"covered-db 1\ntop ff\nsource 1 ff.v\ninstance ff ff\npoints 11\nl ff 1 1:3 if = hit\nl ff 2 1:3 assign = hit\nl ff 3 1:3 assign = missed\nc ff 1 1:3 value 0 = missed\nc ff 1 1:3 value 1 = hit\nt ff a - 01 = missed\nt ff a - 10 = missed\nt ff clk - 01 = hit\nt ff clk - 10 = missed\nt ff q - 01 = missed\nt ff q - 10 = missed\nend\n";
+
+/// The same of another run.
+const SECOND: &[u8] =
+    b"covered-db 1\ntop ff\nsource 1 ff.v\ninstance ff ff\npoints 11\nl ff 1 1:3 if = hit\nl ff 2 1:3 assign = ? 5 ff.a\nl ff 3 1:3 assign = ? 5 ff.a\nc ff 1 1:3 value 0 = ? 5 ff.a\nc ff 1 1:3 value 1 = ? 5 ff.a\nt ff a - 01 = missed\nt ff a - 10 = hit\nt ff clk - 01 = hit\nt ff clk - 10 = missed\nt ff q - 01 = missed\nt ff q - 10 = missed\nend\n";
+
+/// Their merge.
+const MERGED: &[u8] =
+    b"covered-db 1\ntop ff\nsource 1 ff.v\ninstance ff ff\npoints 11\nl ff 1 1:3 if = hit\nl ff 2 1:3 assign = hit\nl ff 3 1:3 assign = ? 5 ff.a\nc ff 1 1:3 value 0 = ? 5 ff.a\nc ff 1 1:3 value 1 = hit\nt ff a - 01 = missed\nt ff a - 10 = hit\nt ff clk - 01 = hit\nt ff clk - 10 = missed\nt ff q - 01 = missed\nt ff q - 10 = missed\nend\n";
+
+/// A table of another design.
+const OTHER: &[u8] =
+    b"covered-db 1\ntop ffr\nsource 1 ffr.v\ninstance ffr ffr\npoints 0\nend\n";
+
+/// The report of all metrics of the first table.
+const REPORT: &[u8] =
+    b"covered report 1\ntop ff\nmodule ff\nmetric       hit  missed   undet   pct\nline           2       1       0   66%\nlogic          1       1       0   50%\ntoggle         1       5       0   16%\nfsm            0       0       0    -%\nmemory         0       0       0    -%\nall            4       7       0   36%\n";
+
+/// A host with the tables.
+fn host_with_tables(alloc: Global) -> Result<MemoryHost, Fail> {
+    let mut host = MemoryHost::new(alloc, Calls::new(alloc))?;
+    host.put("t1.db", FIRST)?;
+    host.put("t2.db", SECOND)?;
+    host.put("t5.db", OTHER)?;
+    Ok(host)
+}
+
+#[test]
+fn merges_and_reports(rt: HostRuntime) -> Result<(), Fail> {
+    let alloc = rt.alloc();
+    let mut host = host_with_tables(alloc)?;
+    let merge = words_of(alloc, &["merge", "-o", "m.db", "t2.db", "t1.db"])?;
+    assert_eq!(rt; covered(alloc, &merge, &mut host), Status::Done);
+    assert_eq!(rt; host.file("m.db"), Some(MERGED));
+    let report = words_of(alloc, &["report", "-m", "ltcfm", "t1.db"])?;
+    assert_eq!(rt; covered(alloc, &report, &mut host), Status::Done);
+    assert_eq!(rt; host.printed(), REPORT);
+    assert!(rt; host.warned().is_empty());
+    Ok(())
+}
+
+#[test]
+fn tells_faults_of_databases(rt: HostRuntime) -> Result<(), Fail> {
+    let alloc = rt.alloc();
+    let mut host = host_with_tables(alloc)?;
+    let merge = words_of(alloc, &["merge", "-o", "m.db", "t1.db", "t5.db"])?;
+    assert_eq!(rt; covered(alloc, &merge, &mut host), Status::Database);
+    assert_eq!(rt; host.warned(), b"covered: database: t5.db: 4 DesignsDiffer 2\n< top ff\n> top ffr\n".as_slice());
+    assert_eq!(rt; host.file("m.db"), None);
+    Ok(())
+}

@@ -1,41 +1,49 @@
-ghost use Rattle.std.specs.Prelude.{◌≡◌, ◌≢◌, ◌↔◌, IfErr, IsTrue, OnOk};
-ghost use Rattle.cov_host.specs.Outside.{KeepsFiles, KeepsStreams, Told};
-ghost use Rattle.coverage_db.specs.Table.{is_file_name};
+ghost use Rattle.std.specs.Prelude.{◌≡◌, ◌≢◌, ◌↔◌, IfErr, OnOk};
+ghost use Rattle.cov_host.specs.Outside.{KeepsFiles, Told};
+ghost use Rattle.database_commands.specs.Reporting.{KeepsUnlessNamed, PrintsIfUnnamed};
 ghost use Rattle.whole_files.specs.Effects.{CountsUp};
 ghost use Rattle.covered_cli.specs.Complete.{EndsWith, HasBadDump, HasBadSource, IsCommandWith, IsGoodScore, NoFaults};
-ghost use Rattle.covered_cli.specs.Covered.{HasEarlyStatus, HasFilesCause, IsNoCommand, IsSomeCommand, KeepsOthers, KeepsUnnamed, WarnsFault};
-ghost use Rattle.covered_cli.specs.Fault.{IsEarly, Stands, StandsInWork, output_of, source_of};
+ghost use Rattle.covered_cli.specs.Covered.{HasDatabaseCause, HasEarlyStatus, HasFilesCause, HasGoodDatabases, IsNoCommand, IsSomeCommand, KeepsUnnamed, PrintsReport, WarnsFault};
+ghost use Rattle.covered_cli.specs.Fault.{HasSourceName, IsEarly, Stands, StandsInWork, output_of};
 ghost use Rattle.covered_cli.specs.Scoring.{IsDone, IsDoneWork};
 
 use crate::Status;
 use crate::fault::Fault;
 use crate::message::warn_of;
 use crate::score::run_score;
-use command_line::{Command, read_command};
+use command_line::{AnyCommand, read_any_command};
 use cov_host::{Host, Words};
+use database_commands::{run_merge, run_report};
 use std::alloc::Global;
 
-/// Does all that the program does with the words that follow its name. A status above 0 is warned of in one line.
+/// Does all that the program does with the words that follow its name. A status above 0 is warned of in one line,
+/// and designs that differ in two more.
 pub fn covered<H: Host>(alloc: Global, words: &Words, host: &mut H) -> Status
-    // Nothing is printed, and no file changes but the one that the words name for the output.
-    ensures printed { (H.outside host.new).printed ≡ (H.outside host.old).printed }
+    // Nothing is printed but a report for which the words name no file, and no file changes but the one that the
+    // words name for the output.
+    ensures printed { (PrintsReport words.now → ⊥) → (H.outside host.new).printed ≡ (H.outside host.old).printed }
     ensures others { Told (KeepsUnnamed words.now) (H.outside host.old).files (H.outside host.new).files }
 
-    // With status 0 nothing is warned. A status from 1 to 3 leaves every file.
+    // With status 0 nothing is warned. A status from 1 to 3, and 7, leaves every file, and nothing is printed.
     ensures silent { result ≡ Status.Done → (H.outside host.new).warned ≡ (H.outside host.old).warned }
     ensures kept { HasEarlyStatus result → KeepsFiles (H.outside host.old) (H.outside host.new) }
+    ensures unprinted { HasEarlyStatus result → (H.outside host.new).printed ≡ (H.outside host.old).printed }
 
-    // With status 0 the output holds the table of the source and the dump: each toggle point once, with its verdict.
+    // With status 0 the output holds what the command asks for: of a score the table of the source and the dump, with
+    // each toggle point once and its verdict; of a merge the merge of the tables of the files; of a report its text,
+    // which was printed where no file is named.
     ensures done { result ≡ Status.Done → IsDone words.now (H.outside host.old) (H.outside host.new) }
 
-    // Where both files are told and no call of the host fails, the texts decide the status, want of memory aside.
+    // Where the files are told and no call of the host fails, their texts decide the status, want of memory aside.
     ensures complete { IsCommandWith IsGoodScore words.now (H.outside host.old) → NoFaults (H.outside host.old) (H.outside host.new) → EndsWith Status.Done result }
+    ensures databases { HasGoodDatabases words.now (H.outside host.old) → NoFaults (H.outside host.old) (H.outside host.new) → EndsWith Status.Done result }
     ensures source { IsCommandWith HasBadSource words.now (H.outside host.old) → NoFaults (H.outside host.old) (H.outside host.new) → EndsWith Status.Source result }
     ensures dump { IsCommandWith HasBadDump words.now (H.outside host.old) → NoFaults (H.outside host.old) (H.outside host.new) → EndsWith Status.Dump result }
 
     // The causes of the statuses, and the line that is warned.
     ensures usage { (result ≡ Status.Usage) ↔ IsNoCommand words.now }
     ensures files { result ≡ Status.Files → HasFilesCause words.now (H.outside host.old) (H.outside host.new) }
+    ensures database { result ≡ Status.Database → HasDatabaseCause words.now (H.outside host.old) }
     ensures warned { result ≢ Status.Done → WarnsFault words.now result (H.outside host.old) (H.outside host.new) }
 {
     match run(alloc, words, host) {
@@ -53,11 +61,13 @@ fn run<'a, H: Host>(alloc: Global, words: &'a Words, host: &mut H) -> Result<(),
     ensures done { OnOk result (IsDone words.now (H.outside host.old) (H.outside host.new)) }
     ensures fault { IfErr result (Stands words.now (H.outside host.old) (H.outside host.new)) }
     ensures early { IfErr result (λ fault. IsEarly fault → KeepsFiles (H.outside host.old) (H.outside host.new)) }
+    ensures unprinted { IfErr result (λ fault. IsEarly fault → (H.outside host.new).printed ≡ (H.outside host.old).printed) }
     ensures others { Told (KeepsUnnamed words.now) (H.outside host.old).files (H.outside host.new).files }
-    ensures streams { KeepsStreams (H.outside host.old) (H.outside host.new) }
+    ensures printed { (PrintsReport words.now → ⊥) → (H.outside host.new).printed ≡ (H.outside host.old).printed }
+    ensures warned { (H.outside host.new).warned ≡ (H.outside host.old).warned }
     ensures counts { CountsUp (H.outside host.old) (H.outside host.new) }
 {
-    match read_command(words) {
+    match read_any_command(words) {
         Ok(command) => run_command(alloc, &command, host),
         Err(fault) => Err(Fault::Usage(fault)),
     }
@@ -66,18 +76,28 @@ fn run<'a, H: Host>(alloc: Global, words: &'a Words, host: &mut H) -> Result<(),
 /// Does the command.
 fn run_command<'a, H: Host>(
     alloc: Global,
-    command: &Command<'a>,
+    command: &AnyCommand<'a>,
     host: &mut H,
 ) -> Result<(), Fault<'a>>
-    requires { IsTrue (is_file_name (source_of command.now)) }
+    requires { HasSourceName command.now }
     ensures done { OnOk result (IsDoneWork command.now (H.outside host.old) (H.outside host.new)) }
     ensures fault { IfErr result (StandsInWork command.now (H.outside host.old) (H.outside host.new)) }
     ensures early { IfErr result (λ fault. IsEarly fault → KeepsFiles (H.outside host.old) (H.outside host.new)) }
-    ensures others { Told (KeepsOthers (output_of command.now)) (H.outside host.old).files (H.outside host.new).files }
-    ensures streams { KeepsStreams (H.outside host.old) (H.outside host.new) }
+    ensures unprinted { IfErr result (λ fault. IsEarly fault → (H.outside host.new).printed ≡ (H.outside host.old).printed) }
+    ensures others { Told (KeepsUnlessNamed (output_of command.now)) (H.outside host.old).files (H.outside host.new).files }
+    ensures printed { PrintsIfUnnamed (output_of command.now) (H.outside host.old) (H.outside host.new) }
+    ensures warned { (H.outside host.new).warned ≡ (H.outside host.old).warned }
     ensures counts { CountsUp (H.outside host.old) (H.outside host.new) }
 {
     match command {
-        Command::Score(values) => run_score(alloc, values, host),
+        AnyCommand::Score(words) => run_score(alloc, words, host),
+        AnyCommand::Merge(words) => match run_merge(alloc, words, host) {
+            Ok(()) => Ok(()),
+            Err(fault) => Err(Fault::Databases(fault)),
+        },
+        AnyCommand::Report(words) => match run_report(alloc, words, host) {
+            Ok(()) => Ok(()),
+            Err(fault) => Err(Fault::Databases(fault)),
+        },
     }
 }

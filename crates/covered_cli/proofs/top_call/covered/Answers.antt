@@ -1,5 +1,9 @@
+use Rattle.std.proofs.Common.{◌∙◌, sym}
+use Rattle.whole_files.proofs.EffectLemmas.{KeepsFiles-trans}
 use Rattle.covered_cli.proofs.Causes.{command_or_fault, usage_exactly}
 use Rattle.covered_cli.proofs.Complete.{bad_dump_ends, bad_dump_not_done, bad_source_ends, bad_source_not_done, good_ends}
+use Rattle.covered_cli.proofs.Databases.{database_cause, early_status, files_cause, good_databases_end, stands_later}
+use Rattle.covered_cli.proofs.Lines.{WarnsLine-since}
 use Rattle.covered_cli.proofs.top_call.covered.Goals as goal
 
 pub returns-in-Ok-clause-usage : goal.returns-in-Ok-clause-usage
@@ -22,3 +26,25 @@ returns-in-Err-clause-source g c bad none = rw c.status.ensures (bad_source_ends
 
 pub returns-in-Err-clause-dump : goal.returns-in-Err-clause-dump
 returns-in-Err-clause-dump g c bad none = rw c.status.ensures (bad_dump_ends _ _ _ _ c.run.ensures.counts c.warn_of.ensures.counts none _ c.in-Err.ensures.fault bad)
+
+pub returns-in-Err-clause-databases : goal.returns-in-Err-clause-databases
+returns-in-Err-clause-databases g c good none = rw c.status.ensures (good_databases_end c.args.alloc _ _ _ _ c.run.ensures.counts c.warn_of.ensures.counts none _ c.in-Err.ensures.fault good)
+
+pub returns-in-Err-clause-files : goal.returns-in-Err-clause-files
+returns-in-Err-clause-files g c is = files_cause _ _ _ _ c.run.ensures.counts c.warn_of.ensures.counts _ c.in-Err.ensures.fault (rw c.status.ensures at is)
+
+pub returns-in-Err-clause-database : goal.returns-in-Err-clause-database
+returns-in-Err-clause-database g c is = database_cause _ _ _ _ c.in-Err.ensures.fault (rw c.status.ensures at is)
+
+pub returns-in-Err-clause-kept : goal.returns-in-Err-clause-kept
+returns-in-Err-clause-kept g c early = KeepsFiles-trans _ _ _ (c.in-Err.ensures.early (early_status _ (rw c.status.ensures at early))) c.warn_of.ensures.files
+
+pub returns-in-Err-clause-unprinted : goal.returns-in-Err-clause-unprinted
+returns-in-Err-clause-unprinted g c early = c.warn_of.ensures.printed ∙ c.in-Err.ensures.unprinted (early_status _ (rw c.status.ensures at early))
+
+pub returns-in-Err-clause-warned : goal.returns-in-Err-clause-warned
+returns-in-Err-clause-warned g c above =
+    let before = g.H.Host.outside c.args.host.now in
+    let middle = g.H.Host.outside c.run.new.host in
+    let after = g.H.Host.outside c.warn_of.new.host in
+    (c.in-Err.fault, sym c.status.ensures, stands_later before middle after c.run.ensures.counts c.warn_of.ensures.counts c.args.words.now c.in-Err.fault c.in-Err.ensures.fault, WarnsLine-since _ before middle after c.run.ensures.warned c.run.ensures.counts c.warn_of.ensures.counts c.warn_of.ensures.line)

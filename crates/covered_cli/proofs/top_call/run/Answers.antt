@@ -1,4 +1,5 @@
-use Rattle.covered_cli.proofs.Causes.{IfErr-map, OnOk-intro, is_some_command, keeps_unnamed, stands_in_call}
+use Rattle.covered_cli.proofs.Causes.{IfErr-map, OnOk-intro, is_some_command, keeps_unnamed, prints_nothing, stands_in_call}
+use Rattle.covered_cli.proofs.Scoring.{OnOk-map, command_is_done}
 use Rattle.covered_cli.proofs.Inputs.{source_of_command}
 use Rattle.covered_cli.proofs.top_call.run.Goals as goal
 
@@ -13,3 +14,9 @@ returns-in-Ok-clause-fault g c = IfErr-map c.run_command.result (stands_in_call 
 
 pub returns-in-Ok-clause-others : goal.returns-in-Ok-clause-others
 returns-in-Ok-clause-others g c = keeps_unnamed _ _ _ _ c.in-Ok.ensures.command c.run_command.ensures.others
+
+pub returns-in-Ok-clause-printed : goal.returns-in-Ok-clause-printed
+returns-in-Ok-clause-printed g c = prints_nothing _ _ _ _ c.in-Ok.ensures.command c.run_command.ensures.printed
+
+pub returns-in-Ok-clause-done : goal.returns-in-Ok-clause-done
+returns-in-Ok-clause-done g c = OnOk-map c.run_command.result (command_is_done _ _ _ _ c.in-Ok.ensures.command) c.run_command.ensures.done

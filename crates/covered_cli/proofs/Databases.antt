@@ -1,0 +1,214 @@
+-- Why a command ends as it does, where commands over databases are among them.
+use Rattle.std.proofs.Common.{◌≡◌, ◌⊎◌, ℕ, ◌≤◌, List, [], ◌∷◌, ◌++◌, Option, None, Some, refl, sym, ap, subst, ◌∙◌, inl, inr, arith}
+use Rattle.std.proofs.lemmas.List.Elements.{Contains-append_right}
+use Rattle.std.specs.Global.{Global}
+use Rattle.std.specs.Prelude.{Contains, MatchOption}
+use Rattle.command_line.specs.AnyCommand.{AreWordsOf, CommandValues, score as of_score, merge as of_merge, report as of_report}
+use Rattle.command_line.specs.CommandWords.{IsScore, ScoreValues}
+use Rattle.command_line.specs.DatabaseWords.{IsMerge, IsReport, MergeValues, ReportValues}
+use Rattle.command_line.proofs.OneCommand.{one_merge, one_of_all, one_report}
+use Rattle.cov_host.specs.Outside.{Files as HostFiles, IsCounted, Outside}
+use Rattle.database_commands.specs.Complete.{IsGoodMerge, IsGoodReport}
+use Rattle.database_commands.specs.Faults.{ComesTo, IsMergeFault, IsNoTable, IsReading, IsRefused as IsRefusedFile, IsWriting, inputs_of}
+use Rattle.database_commands.specs.Reporting.{IsReportFault}
+use Rattle.database_commands.specs.declared.fault.CommandFault.{CommandFault}
+use Rattle.database_commands.specs.declared.fault.CommandFault.TheVariants as database
+use Rattle.database_commands.proofs.Complete.{good_merge, good_report, refused_write}
+use Rattle.whole_files.specs.Effects.{CountsUp, IsMissing}
+use Rattle.whole_files.specs.declared.call.Call.{Call}
+use Rattle.whole_files.specs.declared.call.Call.TheVariants.{OpenRead, Read, OpenWrite, Write, CloseWrite}
+use Rattle.whole_files.proofs.EffectLemmas.{IsCounted-later}
+use Rattle.covered_cli.specs.Complete.{EndsWith, NoFaults}
+use Rattle.covered_cli.specs.Covered.{HasDatabaseCause, HasEarlyStatus, HasFilesCause, HasGoodDatabases, HasNoTable, IsInput, MissesFile}
+use Rattle.covered_cli.specs.Databases.{database_status}
+use Rattle.covered_cli.specs.Fault.{IsEarly, IsRefused, NamesFile, Stands, StandsInDatabases, status_of}
+use Rattle.covered_cli.specs.declared.fault.Fault.{Fault}
+use Rattle.covered_cli.specs.declared.fault.Fault.TheVariants.{Usage, SourceNotYet, Dump, Files as FilesFault, Memory, Databases}
+use Rattle.covered_cli.specs.declared.status.Status.TheVariants as status
+use Rattle.covered_cli.proofs.Causes.{command_or_fault}
+
+-- a status that comes before the output is opened is that of such a fault
+pub early_status : (fault : Fault) → HasEarlyStatus (status_of fault) → IsEarly fault
+early_status (Usage usage) early = tt
+early_status SourceNotYet early = tt
+early_status (Dump refusal) early = tt
+early_status (FilesFault call file) early = absurd early
+early_status Memory early = absurd early
+early_status (Databases (database.Files call file)) early = absurd early
+early_status (Databases database.Print) early = absurd early
+early_status (Databases database.Memory) early = absurd early
+early_status (Databases (database.NoDatabase file kind line)) early = tt
+early_status (Databases (database.DesignsDiffer file line first other)) early = tt
+
+-- ---- good databases
+
+good_are_words : (words : List (List ℕ)) (before : Outside) → HasGoodDatabases words before → (values : CommandValues) × AreWordsOf values words
+good_are_words words before (inl good) = (of_merge good.0, good.1)
+good_are_words words before (inr good) = (of_report good.0, good.1)
+
+good_or_score : (words : List (List ℕ)) (before : Outside) (values : ScoreValues) → HasGoodDatabases words before → IsScore words values → ⊥
+good_or_score words before values (inl good) is = let e = one_of_all words (of_merge good.0) (of_score values) good.1 is in cc
+good_or_score words before values (inr good) is = let e = one_of_all words (of_report good.0) (of_score values) good.1 is in cc
+
+merge_or_report : (words : List (List ℕ)) (merge : MergeValues) (report : ReportValues) → IsMerge words merge → IsReport words report → ⊥
+merge_or_report words merge report is_merge is_report = let e = one_of_all words (of_merge merge) (of_report report) is_merge is_report in cc
+
+-- of good databases no fault but want of memory stands
+good_fault : (alloc : Global) (words : List (List ℕ)) (before after : Outside) → NoFaults before after → HasGoodDatabases words before → (f : CommandFault) → StandsInDatabases words before after f → f ≡ database.Memory
+good_fault alloc words before after none (inl good) f (inl stands) =
+    good_merge alloc good.0 before after good.2 none f (subst (λ merge. IsMergeFault merge before after f) (one_merge words stands.0 good.0 stands.1 good.1) stands.2)
+good_fault alloc words before after none (inl good) f (inr stands) = absurd (merge_or_report words good.0 stands.0 good.1 stands.1)
+good_fault alloc words before after none (inr good) f (inl stands) = absurd (merge_or_report words stands.0 good.0 stands.1 good.1)
+good_fault alloc words before after none (inr good) f (inr stands) =
+    good_report good.0 before after good.2 none f (subst (λ report. IsReportFault report before after f) (one_report words stands.0 good.0 stands.1 good.1) stands.2)
+
+pub good_databases_end : (alloc : Global) (words : List (List ℕ)) (before middle after : Outside) → CountsUp before middle → CountsUp middle after → NoFaults before after → (fault : Fault) → Stands words before middle fault → HasGoodDatabases words before → EndsWith status.Done (status_of fault)
+good_databases_end alloc words before middle after first second none (Usage usage) stands good = absurd (command_or_fault words (good_are_words words before good) (usage, stands))
+good_databases_end alloc words before middle after first second none SourceNotYet stands good = absurd (good_or_score words before stands.0 good stands.1)
+good_databases_end alloc words before middle after first second none (Dump refusal) stands good = absurd (good_or_score words before stands.0 good stands.1)
+good_databases_end alloc words before middle after first second none (FilesFault call file) stands good = absurd (good_or_score words before stands.0 good stands.1)
+good_databases_end alloc words before middle after first second none Memory stands good = inr refl
+good_databases_end alloc words before middle after first second none (Databases f) stands good =
+    inr (ap database_status (good_fault alloc words before middle (λ counted. none (IsCounted-later before.faults middle.faults after.faults first.faults second.faults counted)) good f stands))
+
+-- ---- the cause of a database fault
+
+comes_within : (files : List (List ℕ)) (before : Outside) (file : List ℕ) → ComesTo files before file → Contains files file
+comes_within files before file comes =
+    subst (λ files. Contains files file) (sym comes.files_are) (Contains-append_right comes.earlier (file ∷ comes.later) file (0, omega arith, refl))
+
+database_fault_cause : (words : List (List ℕ)) (before after : Outside) (f : CommandFault) → StandsInDatabases words before after f → database_status f ≡ status.Database → HasDatabaseCause words before
+database_fault_cause words before after (database.Files call file) stands is = absurd (cc)
+database_fault_cause words before after database.Print stands is = absurd (cc)
+database_fault_cause words before after database.Memory stands is = absurd (cc)
+database_fault_cause words before after (database.NoDatabase file kind line) (inl (merge, is_merge, fault)) is =
+    inl (merge, file.now, is_merge, comes_within (inputs_of merge) before file.now fault.0, inl (kind, line, fault.1))
+database_fault_cause words before after (database.NoDatabase file kind line) (inr (report, is_report, fault)) is =
+    inr (report, is_report, (kind, line, subst (λ name. IsNoTable name before kind line) fault.0 fault.1))
+database_fault_cause words before after (database.DesignsDiffer file line first other) (inl (merge, is_merge, fault)) is =
+    inl (merge, file.now, is_merge, comes_within (inputs_of merge) before file.now fault.0, inr (line, first, other, fault.1))
+database_fault_cause words before after (database.DesignsDiffer file line first other) (inr (report, is_report, fault)) is = absurd fault
+
+pub database_cause : (words : List (List ℕ)) (before after : Outside) (fault : Fault) → Stands words before after fault → status_of fault ≡ status.Database → HasDatabaseCause words before
+database_cause words before after (Usage usage) stands is = absurd (cc)
+database_cause words before after SourceNotYet stands is = absurd (cc)
+database_cause words before after (Dump refusal) stands is = absurd (cc)
+database_cause words before after (FilesFault call file) stands is = absurd (cc)
+database_cause words before after Memory stands is = absurd (cc)
+database_cause words before after (Databases f) stands is = database_fault_cause words before after f stands is
+
+-- ---- the cause of a fault of files
+
+misses_at : (words : List (List ℕ)) (name : List ℕ) (files : Option HostFiles) (P : Type 0) → IsInput words name → MatchOption files P (λ files. files name ≡ None) → MatchOption files P (λ files. (name : List ℕ) × IsInput words name × (files name ≡ None))
+misses_at words name None P input missing = missing
+misses_at words name (Some files) P input missing = (name, input, missing)
+
+missing_cause : (words : List (List ℕ)) (before after : Outside) (name : List ℕ) → IsInput words name → IsCounted before.faults after.faults ⊎ IsMissing name before after → HasFilesCause words before after
+missing_cause words before after name input (inl counted) = inl counted
+missing_cause words before after name input (inr missing) = inr (misses_at words name before.files (IsCounted before.absences after.absences) input missing)
+
+score_call : (words : List (List ℕ)) (before after : Outside) (score : ScoreValues) (call : Call) (file : List ℕ) → IsScore words score → NamesFile score call file → IsRefused call file before after → HasFilesCause words before after
+score_call words before after score OpenRead file is names refused = missing_cause words before after file (of_score score, is, named_input names) refused
+  where
+    named_input : (file ≡ score.source) ⊎ (file ≡ score.dump) → Contains (score.source ∷ score.dump ∷ []) file
+    named_input (inl same) = (0, omega arith, sym same)
+    named_input (inr same) = (1, omega arith, sym same)
+score_call words before after score Read file is names counted = inl counted
+score_call words before after score OpenWrite file is names counted = inl counted
+score_call words before after score Write file is names counted = inl counted
+score_call words before after score CloseWrite file is names counted = inl counted
+
+reading_call : (words : List (List ℕ)) (before after : Outside) (call : Call) (file : List ℕ) → IsReading call → IsInput words file → IsRefusedFile call file before after → HasFilesCause words before after
+reading_call words before after OpenRead file reading input refused = missing_cause words before after file input refused
+reading_call words before after Read file reading input counted = inl counted
+reading_call words before after OpenWrite file reading input counted = absurd reading
+reading_call words before after Write file reading input counted = absurd reading
+reading_call words before after CloseWrite file reading input counted = absurd reading
+
+databases_files_cause : (words : List (List ℕ)) (before after : Outside) (f : CommandFault) → StandsInDatabases words before after f → database_status f ≡ status.Files → HasFilesCause words before after
+databases_files_cause words before after (database.Files call file) (inl (merge, is_merge, inl fault)) is =
+    reading_call words before after call file.now fault.0 (of_merge merge, is_merge, comes_within (inputs_of merge) before file.now fault.1) fault.2
+databases_files_cause words before after (database.Files call file) (inl (merge, is_merge, inr fault)) is = inl (refused_write before after call file.now fault.0 fault.2)
+databases_files_cause words before after (database.Files call file) (inr (report, is_report, inl fault)) is =
+    reading_call words before after call file.now fault.0 (of_report report, is_report, (0, omega arith, sym fault.1)) fault.2
+databases_files_cause words before after (database.Files call file) (inr (report, is_report, inr fault)) is = inl (refused_write before after call file.now fault.0 fault.2)
+databases_files_cause words before after database.Print (inl (merge, is_merge, fault)) is = absurd fault
+databases_files_cause words before after database.Print (inr (report, is_report, fault)) is = inl fault.1
+databases_files_cause words before after database.Memory stands is = absurd (cc)
+databases_files_cause words before after (database.NoDatabase file kind line) stands is = absurd (cc)
+databases_files_cause words before after (database.DesignsDiffer file line first other) stands is = absurd (cc)
+
+files_fault_cause : (words : List (List ℕ)) (before after : Outside) (fault : Fault) → Stands words before after fault → status_of fault ≡ status.Files → HasFilesCause words before after
+files_fault_cause words before after (Usage usage) stands is = absurd (cc)
+files_fault_cause words before after SourceNotYet stands is = absurd (cc)
+files_fault_cause words before after (Dump refusal) stands is = absurd (cc)
+files_fault_cause words before after (FilesFault call file) stands is = score_call words before after stands.0 call file.now stands.1 stands.2.0 stands.2.1
+files_fault_cause words before after Memory stands is = absurd (cc)
+files_fault_cause words before after (Databases f) stands is = databases_files_cause words before after f stands is
+
+misses_later : (words : List (List ℕ)) (files : Option HostFiles) (a b c : ℕ) → a ≤ b → b ≤ c → MatchOption files (IsCounted a b) (λ files. (name : List ℕ) × IsInput words name × (files name ≡ None)) → MatchOption files (IsCounted a c) (λ files. (name : List ℕ) × IsInput words name × (files name ≡ None))
+misses_later words None a b c first second missing = IsCounted-later a b c first second missing
+misses_later words (Some files) a b c first second missing = missing
+
+cause_later : (words : List (List ℕ)) (before middle after : Outside) → CountsUp before middle → CountsUp middle after → HasFilesCause words before middle → HasFilesCause words before after
+cause_later words before middle after first second (inl counted) = inl (IsCounted-later before.faults middle.faults after.faults first.faults second.faults counted)
+cause_later words before middle after first second (inr misses) = inr (misses_later words before.files before.absences middle.absences after.absences first.absences second.absences misses)
+
+pub files_cause : (words : List (List ℕ)) (before middle after : Outside) → CountsUp before middle → CountsUp middle after → (fault : Fault) → Stands words before middle fault → status_of fault ≡ status.Files → HasFilesCause words before after
+files_cause words before middle after first second fault stands is = cause_later words before middle after first second (files_fault_cause words before middle fault stands is)
+
+-- ---- a fault stands also where more was counted since
+
+missing_later : (name : List ℕ) (files : Option HostFiles) (a b c : ℕ) → a ≤ b → b ≤ c → MatchOption files (IsCounted a b) (λ files. files name ≡ None) → MatchOption files (IsCounted a c) (λ files. files name ≡ None)
+missing_later name None a b c first second missing = IsCounted-later a b c first second missing
+missing_later name (Some files) a b c first second missing = missing
+
+module _ (before middle after : Outside) (first : CountsUp before middle) (second : CountsUp middle after) where
+  counted_later : IsCounted before.faults middle.faults → IsCounted before.faults after.faults
+  counted_later counted = IsCounted-later before.faults middle.faults after.faults first.faults second.faults counted
+
+  open_later : (name : List ℕ) → IsCounted before.faults middle.faults ⊎ IsMissing name before middle → IsCounted before.faults after.faults ⊎ IsMissing name before after
+  open_later name (inl counted) = inl (counted_later counted)
+  open_later name (inr missing) = inr (missing_later name before.files before.absences middle.absences after.absences first.absences second.absences missing)
+
+  refused_later : (call : Call) (name : List ℕ) → IsRefused call name before middle → IsRefused call name before after
+  refused_later OpenRead name refused = open_later name refused
+  refused_later Read name counted = counted_later counted
+  refused_later OpenWrite name counted = counted_later counted
+  refused_later Write name counted = counted_later counted
+  refused_later CloseWrite name counted = counted_later counted
+
+  refused_file_later : (call : Call) (name : List ℕ) → IsRefusedFile call name before middle → IsRefusedFile call name before after
+  refused_file_later OpenRead name refused = open_later name refused
+  refused_file_later Read name counted = counted_later counted
+  refused_file_later OpenWrite name counted = counted_later counted
+  refused_file_later Write name counted = counted_later counted
+  refused_file_later CloseWrite name counted = counted_later counted
+
+  merge_fault_later : (merge : MergeValues) (f : CommandFault) → IsMergeFault merge before middle f → IsMergeFault merge before after f
+  merge_fault_later merge (database.Files call file) (inl fault) = inl (fault.0, fault.1, refused_file_later call file.now fault.2)
+  merge_fault_later merge (database.Files call file) (inr fault) = inr (fault.0, fault.1, refused_file_later call file.now fault.2)
+  merge_fault_later merge database.Print fault = absurd fault
+  merge_fault_later merge database.Memory fault = tt
+  merge_fault_later merge (database.NoDatabase file kind line) fault = fault
+  merge_fault_later merge (database.DesignsDiffer file line one other) fault = fault
+
+  report_fault_later : (report : ReportValues) (f : CommandFault) → IsReportFault report before middle f → IsReportFault report before after f
+  report_fault_later report (database.Files call file) (inl fault) = inl (fault.0, fault.1, refused_file_later call file.now fault.2)
+  report_fault_later report (database.Files call file) (inr fault) = inr (fault.0, fault.1, refused_file_later call file.now fault.2)
+  report_fault_later report database.Print fault = (fault.0, counted_later fault.1)
+  report_fault_later report database.Memory fault = tt
+  report_fault_later report (database.NoDatabase file kind line) fault = fault
+  report_fault_later report (database.DesignsDiffer file line one other) fault = absurd fault
+
+  databases_stand_later : (words : List (List ℕ)) (f : CommandFault) → StandsInDatabases words before middle f → StandsInDatabases words before after f
+  databases_stand_later words f (inl (merge, is, fault)) = inl (merge, is, merge_fault_later merge f fault)
+  databases_stand_later words f (inr (report, is, fault)) = inr (report, is, report_fault_later report f fault)
+
+  pub stands_later : (words : List (List ℕ)) (fault : Fault) → Stands words before middle fault → Stands words before after fault
+  stands_later words (Usage usage) stands = stands
+  stands_later words SourceNotYet stands = stands
+  stands_later words (Dump refusal) stands = stands
+  stands_later words (FilesFault call file) stands = (stands.0, stands.1, (stands.2.0, refused_later call file.now stands.2.1))
+  stands_later words Memory stands = stands
+  stands_later words (Databases f) stands = databases_stand_later words f stands
