@@ -56,4 +56,3 @@ dump_goes_on text b whole (inl begun) e = begun_goes_on text b whole begun e
 dump_goes_on text b whole (inr ended) e =
     let same : b ≡ whole = one_dump text b whole ended e in
     record { vars = ap (λ (x : Body). x.vars) (sym same); more = []; items = ap (λ (x : Body). x.items) (sym same) ∙ sym (append-nil b.items) }
-

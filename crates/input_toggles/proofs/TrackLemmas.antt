@@ -3,8 +3,6 @@ use Rattle.std.proofs.Common.{◌≡◌, ◌⊎◌, ◌↔◌, ℕ, zero, suc, �
 use Rattle.std.proofs.lemmas.Bool.{cases_Bool, cases_lt, false≢true}
 use Rattle.std.proofs.lemmas.Bool.Decides.{nat_tests}
 use Rattle.four_state.specs.Vector.{Vector}
-
-
 use Rattle.four_state.specs.declared.Bit.TheVariants.{X}
 use Rattle.input_toggles.specs.Toggling.{bit_at, has_toggle, new_bit, old_bit, toggles}
 use Rattle.input_toggles.specs.Tracked.{IsClosed, IsTrack, StandsFor, ToggledBy}
