@@ -3,7 +3,7 @@ use Rattle.std.proofs.Common.{◌≡◌, ◌∙◌, ℕ, Bool, List, ◌∷◌, 
 use Rattle.command_line.specs.declared.report_level.ReportLevel.{ReportLevel}
 use Rattle.command_line.specs.declared.report_metrics.ReportMetrics.{ReportMetrics}
 use Rattle.command_line.specs.declared.score_option.ScoreOption.{ScoreOption}
-use Rattle.command_line.specs.AnyCommand.{AreWordsOf, CommandValues, score, merge, report}
+use Rattle.command_line.specs.Command.{AreWordsOf, CommandValues, score, merge, report}
 use Rattle.command_line.specs.CommandWords.{AreValues, IsScore, ScoreValues, value_in}
 use Rattle.command_line.specs.DatabaseWords.{AreMergeValues, AreReportValues, IsMerge, IsReport, Item, MergeValues, ReportValues}
 use Rattle.command_line.proofs.Outcome.{outcome_of-score, outcome_of-merge, outcome_of-report}

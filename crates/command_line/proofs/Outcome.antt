@@ -1,4 +1,4 @@
--- What words come to, as a function of them: one of all commands, or the text of a fault.
+-- What words come to, as a function of them: a command, or the text of a fault.
 use Rattle.std.proofs.Common.{◌≡◌, ◌∙◌, ◌⊎◌, ℕ, cond, true, false, sym, ap, refl, inl, inr, List, [], ◌∷◌, ◌++◌, Option, Some, None, Result, Ok, Err, codes}
 use Rattle.std.specs.Str.{bytes_eq}
 use Rattle.std.proofs.lemmas.Bool.{false_from_ne_true}
@@ -8,11 +8,11 @@ use Rattle.command_line.specs.declared.database_command.DatabaseCommand.TheVaria
 use Rattle.command_line.specs.declared.database_option.DatabaseOption.TheVariants.{Output}
 use Rattle.command_line.specs.declared.usage_fault.UsageFault.{UsageFault}
 use Rattle.command_line.specs.declared.usage_fault.UsageFault.TheVariants.{NoCommand, UnknownCommand, UnknownWord, GivenTwice, NeedsValue, BadValue, Missing}
-use Rattle.command_line.specs.AnyCommand.{AreWordsOf, CommandValues, score, merge, report}
+use Rattle.command_line.specs.Command.{AreWordsOf, CommandValues, score, merge, report}
 use Rattle.command_line.specs.CommandWords.{AreValues, GivenOption, IsScore, ScoreValues, value_in}
 use Rattle.command_line.specs.DatabaseFault.{missing_of, HasDatabaseFault}
 use Rattle.command_line.specs.DatabaseWords.{AreMergeValues, AreReportValues, Item, IsMerge, IsReport, IsUpTo, MergeValues, ReportValues, command_text, files_in, value_in as item_value}
-use Rattle.command_line.specs.UsageFault.{usage_text, HasAnyUsageFault, HasScoreFault}
+use Rattle.command_line.specs.UsageFault.{usage_text, HasScoreFault, HasUsageFault}
 use Rattle.command_line.proofs.DatabaseOutcome as database
 use Rattle.command_line.proofs.ScoreOutcome as scoring
 
@@ -57,7 +57,7 @@ no_name : (word name : List ℕ) → (word ≡ name → ⊥) → bytes_eq word n
 no_name word name other = false_from_ne_true (bytes_eq word name) (λ e. other ((bytes_eq-Decides word name).0 e))
 
 -- a fault is what the words come to
-pub outcome_of-fault : (words : List (List ℕ)) (fault : UsageFault) → HasAnyUsageFault words fault → outcome_of words ≡ Err (usage_text fault)
+pub outcome_of-fault : (words : List (List ℕ)) (fault : UsageFault) → HasUsageFault words fault → outcome_of words ≡ Err (usage_text fault)
 outcome_of-fault words NoCommand h = ap outcome_of h
 outcome_of-fault words (UnknownCommand word) h =
     ap outcome_of h.0.1 ∙ rw (no_name word.now (codes "score") h.1.0, no_name word.now (codes "merge") h.1.1, no_name word.now (codes "report") h.1.2)
@@ -88,7 +88,7 @@ pub outcome_of-report : (words : List (List ℕ)) (values : ReportValues) (is : 
 outcome_of-report words values is = outcome_of-items Report words is.0 [] is.1 ∙ ap (mapped (items Report)) (ap (database.at_end is.0) (report_end is.0 values is.2))
 
 -- so words that come to a command have no fault
-pub command_without_fault : (words : List (List ℕ)) (values : CommandValues) (fault : UsageFault) → AreWordsOf values words → HasAnyUsageFault words fault → ⊥
+pub command_without_fault : (words : List (List ℕ)) (values : CommandValues) (fault : UsageFault) → AreWordsOf values words → HasUsageFault words fault → ⊥
 command_without_fault words (score values) fault is has = let e = sym (outcome_of-score words values is) ∙ outcome_of-fault words fault has in cc
 command_without_fault words (merge values) fault is has = let e = sym (outcome_of-merge words values is) ∙ outcome_of-fault words fault has in cc
 command_without_fault words (report values) fault is has = let e = sym (outcome_of-report words values is) ∙ outcome_of-fault words fault has in cc

@@ -38,11 +38,6 @@ outcome given [] = at_end given (first_missing (value_in given))
 outcome given (word ∷ []) = at_option given word (named word) (λ option. Err (word ++ codes " needs a value"))
 outcome given (word ∷ value ∷ left) = at_option given word (named word) (λ option. cond (accepts option value) (outcome (given ++ record { option = option; value = value } ∷ []) left) (Err (codes "bad value " ++ value)))
 
--- of all words
-abbrev pub outcome_of : List (List ℕ) → Outcome
-outcome_of [] = Err (codes "no command")
-outcome_of (word ∷ left) = cond (bytes_eq word (codes "score")) (outcome [] left) (Err (codes "unknown command " ++ word))
-
 named_text : (option : ScoreOption) → named (option_text option) ≡ Some option
 unfolding named
 named_text Top = refl
@@ -71,9 +66,6 @@ outcome-spelled front (x ∷ more) left h =
 pub outcome-up_to : (given : List GivenOption) (left : List (List ℕ)) → AreGiven given → outcome [] (spelled given ++ left) ≡ outcome given left
 outcome-up_to given left are = outcome-spelled [] given left are
 
-outcome_of-up_to : (words : List (List ℕ)) (given : List GivenOption) (left : List (List ℕ)) → IsScoreUpTo words given left → outcome_of words ≡ outcome given left
-outcome_of-up_to words given left up_to = ap outcome_of up_to.spells ∙ outcome-spelled [] given left up_to.are_given
-
 -- a word that is no option
 outcome-unknown : (given : List GivenOption) (word : List ℕ) (rest : List (List ℕ)) → named word ≡ None → outcome given (word ∷ rest) ≡ Err (codes "unknown word " ++ word)
 outcome-unknown given word [] h = rw h
@@ -92,17 +84,3 @@ outcome-fault given left (GivenTwice word) h = ap (outcome given) h.0.1 ∙ outc
 outcome-fault given left (NeedsValue word) h = ap (outcome given) h.0 ∙ rw (named_word word.now h.1.0 h.1.1, h.1.2)
 outcome-fault given left (BadValue word) h = ap (outcome given) h.2 ∙ rw (named_text h.0, h.3, h.4)
 outcome-fault given left (Missing word) h = ap (outcome given) h.0 ∙ rw (h.1.1, h.1.2)
-
--- a fault is what the words come to
-pub outcome_of-fault : (words : List (List ℕ)) (fault : UsageFault) → HasUsageFault words fault → outcome_of words ≡ Err (usage_text fault)
-outcome_of-fault words NoCommand h = ap outcome_of h
-outcome_of-fault words (UnknownCommand word) h =
-    let other = false_from_ne_true (bytes_eq word.now (codes "score")) (λ e. h.1 ((bytes_eq-Decides word.now (codes "score")).0 e)) in
-    ap outcome_of h.0.1 ∙ rw other
-outcome_of-fault words fault h = outcome_of-up_to words h.0 h.1 h.2 ∙ outcome-fault h.0 h.1 fault h.3
-
--- so a command's words come to its options
-pub outcome_of-score : (words : List (List ℕ)) (values : ScoreValues) (score : IsScore words values) → outcome_of words ≡ Ok score.0
-outcome_of-score words values score =
-    let at = score.2 in
-    outcome_of-up_to words score.0 [] score.1 ∙ rw (at.top, at.instance, at.source, at.dump, at.output)

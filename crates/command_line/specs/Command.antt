@@ -1,9 +1,28 @@
 -- A command with its values.
 use Rattle.std.specs.Prelude.{ℕ, List}
 use Rattle.command_line.specs.declared.command.Command.{Command}
-use Rattle.command_line.specs.declared.command.Command.TheVariants.{Score}
-use Rattle.command_line.specs.CommandWords.{IsScore, score_values}
+use Rattle.command_line.specs.declared.command.Command.TheVariants as command
+use Rattle.command_line.specs.CommandWords.{IsScore, ScoreValues, score_values}
+use Rattle.command_line.specs.DatabaseWords.{IsMerge, IsReport, MergeValues, ReportValues, merge_values, report_values}
+
+-- the values of a command
+pub data CommandValues : Type 0 where
+  score : ScoreValues → CommandValues
+  merge : MergeValues → CommandValues
+  report : ReportValues → CommandValues
+
+-- the words are the command with these values
+abbrev pub AreWordsOf : CommandValues → List (List ℕ) → Type 0
+AreWordsOf (score values) words = IsScore words values
+AreWordsOf (merge values) words = IsMerge words values
+AreWordsOf (report values) words = IsReport words values
+
+-- the values as texts, without where they lie in memory
+abbrev pub command_values : Command → CommandValues
+command_values (command.Score words) = score (score_values words)
+command_values (command.Merge words) = merge (merge_values words)
+command_values (command.Report words) = report (report_values words)
 
 -- the words are this command
 abbrev pub IsCommand : List (List ℕ) → Command → Type 0
-IsCommand words (Score score) = IsScore words (score_values score)
+IsCommand words command = AreWordsOf (command_values command) words

@@ -10,6 +10,5 @@ pub mod DatabaseWords
 pub mod DatabaseFault
 pub mod UsageFault
 pub mod Command
-pub mod AnyCommand
 pub mod GivenValues
 pub mod GivenWords

@@ -61,18 +61,12 @@ FaultAfter given left (Missing word) = (left ≡ []) × IsMissing given word.now
 abbrev pub HasScoreFault : List (List ℕ) → UsageFault → Type 0
 HasScoreFault words fault = (given : List GivenOption) × (left : List (List ℕ)) × IsScoreUpTo words given left × FaultAfter given left fault
 
--- the words are no command, and this is their first fault from the left
-abbrev pub HasUsageFault : List (List ℕ) → UsageFault → Type 0
-HasUsageFault words NoCommand = words ≡ []
-HasUsageFault words (UnknownCommand word) = BeginsWith word.now words × (word.now ≢ codes "score")
-HasUsageFault words fault = HasScoreFault words fault
-
--- the word names none of the commands
+-- the word names no command
 abbrev pub NamesNoCommand : List ℕ → Type 0
 NamesNoCommand word = (word ≢ codes "score") × (word ≢ codes "merge") × (word ≢ codes "report")
 
--- the words are none of the commands, and this is their first fault from the left
-abbrev pub HasAnyUsageFault : List (List ℕ) → UsageFault → Type 0
-HasAnyUsageFault words NoCommand = words ≡ []
-HasAnyUsageFault words (UnknownCommand word) = BeginsWith word.now words × NamesNoCommand word.now
-HasAnyUsageFault words fault = HasScoreFault words fault ⊎ HasDatabaseFault Merge words fault ⊎ HasDatabaseFault Report words fault
+-- the words are no command, and this is their first fault from the left
+abbrev pub HasUsageFault : List (List ℕ) → UsageFault → Type 0
+HasUsageFault words NoCommand = words ≡ []
+HasUsageFault words (UnknownCommand word) = BeginsWith word.now words × NamesNoCommand word.now
+HasUsageFault words fault = HasScoreFault words fault ⊎ HasDatabaseFault Merge words fault ⊎ HasDatabaseFault Report words fault

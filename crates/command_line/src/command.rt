@@ -4,16 +4,21 @@ ghost use Rattle.command_line.specs.CommandWords.{IsScore, score_values};
 ghost use Rattle.command_line.specs.UsageFault.{HasScoreFault, HasUsageFault};
 ghost use Rattle.command_line.specs.WordsLeft.{left_words};
 
+use crate::database_words::{read_merge, read_report};
 use crate::given_values::GivenValues;
 use crate::words_left::WordsLeft;
-use crate::{ScoreOption, ScoreWords, UsageFault};
+use crate::{MergeWords, ReportWords, ScoreOption, ScoreWords, UsageFault};
 use cov_host::Words;
 
 /// A command with its values.
-#[derive(Clone, Copy, Debug, PartialEq, Eq)]
+#[derive(Clone, Copy, Debug)]
 pub enum Command<'a> {
     /// Scores the coverage of a design from a value change dump.
     Score(ScoreWords<'a>),
+    /// Joins databases of one design.
+    Merge(MergeWords<'a>),
+    /// Shows a database.
+    Report(ReportWords<'a>),
 }
 
 /// Reads the words that follow the name of the program. It takes no memory. The fault is the first one from
@@ -26,12 +31,14 @@ pub fn read_command<'a>(words: &'a Words) -> Result<Command<'a>, UsageFault<'a>>
     match left.next_word() {
         None => Err(UsageFault::NoCommand),
         Some("score") => read_score(&mut left).map(Command::Score),
+        Some("merge") => read_merge(&mut left).map(Command::Merge),
+        Some("report") => read_report(&mut left).map(Command::Report),
         Some(word) => Err(UsageFault::UnknownCommand(word)),
     }
 }
 
 /// Reads the words that are left after `score`.
-pub(crate) fn read_score<'a>(left: &mut WordsLeft<'a>) -> Result<ScoreWords<'a>, UsageFault<'a>>
+fn read_score<'a>(left: &mut WordsLeft<'a>) -> Result<ScoreWords<'a>, UsageFault<'a>>
     ensures score { IfOk result (λ score. IsScore (codes "score" ∷ left_words left.old) (score_values score)) }
     ensures fault { IfErr result (λ fault. HasScoreFault (codes "score" ∷ left_words left.old) fault) }
 {

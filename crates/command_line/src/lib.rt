@@ -5,7 +5,6 @@
 //! borrow from the words.
 #![tactic(auto)]
 
-mod any_command;
 mod command;
 mod database_command;
 mod database_files;
@@ -26,15 +25,11 @@ mod usage_fault;
 mod value_form;
 mod words_left;
 
-pub use any_command::{AnyCommand, read_any_command};
 pub use command::{Command, read_command};
 pub use database_command::DatabaseCommand;
 pub use database_files::DatabaseFiles;
 pub use database_option::DatabaseOption;
-pub use laws::{
-    any_commands_have_no_fault, commands_have_no_fault, words_are_one_command,
-    words_are_one_of_all_commands, words_have_one_fault, words_have_one_fault_of_all,
-};
+pub use laws::{commands_have_no_fault, words_are_one_command, words_have_one_fault};
 pub use merge_words::MergeWords;
 pub use report_level::ReportLevel;
 pub use report_metrics::ReportMetrics;

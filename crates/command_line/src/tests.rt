@@ -1,7 +1,6 @@
 //! Each fault as it is told, and a whole command of each kind.
 use crate::{
-    AnyCommand, Command, MergeWords, ReportLevel, ReportMetrics, ReportWords, ScoreWords,
-    read_any_command, read_command,
+    Command, MergeWords, ReportLevel, ReportMetrics, ReportWords, ScoreWords, read_command,
 };
 use cov_host::{NoMemory, Words};
 use std::alloc::Global;
@@ -95,7 +94,7 @@ fn words_of(alloc: Global, texts: &[&str]) -> Result<Words, NoMemory> {
 fn tells_the_first_fault(rt: HostRuntime) -> Result<(), Fail> {
     for (texts, told) in &FAULTS {
         let words = words_of(rt.alloc(), texts)?;
-        let fault = read_any_command(&words).err().ok_or("a command")?;
+        let fault = read_command(&words).err().ok_or("a command")?;
         let displayed = format!(in rt.alloc(); "{fault}")?;
         assert_eq!(rt; displayed.as_str(), *told);
         let [before, word, after] = fault.pieces();
@@ -127,7 +126,6 @@ fn reads_options_in_any_order(rt: HostRuntime) -> Result<(), Fail> {
     };
     for order in &orders {
         let words = words_of(rt.alloc(), order)?;
-        assert_eq!(rt; read_command(&words), Ok(Command::Score(score)));
         assert_eq!(rt; score_of(&words), Some(score));
     }
     Ok(())
@@ -135,24 +133,24 @@ fn reads_options_in_any_order(rt: HostRuntime) -> Result<(), Fail> {
 
 /// The values of a `score` command.
 fn score_of(words: &Words) -> Option<ScoreWords<'_>> {
-    match read_any_command(words) {
-        Ok(AnyCommand::Score(score)) => Some(score),
+    match read_command(words) {
+        Ok(Command::Score(score)) => Some(score),
         _ => None,
     }
 }
 
 /// The values of a `merge` command.
 fn merge_of(words: &Words) -> Option<MergeWords<'_>> {
-    match read_any_command(words) {
-        Ok(AnyCommand::Merge(merge)) => Some(merge),
+    match read_command(words) {
+        Ok(Command::Merge(merge)) => Some(merge),
         _ => None,
     }
 }
 
 /// The values of a `report` command.
 fn report_of(words: &Words) -> Option<ReportWords<'_>> {
-    match read_any_command(words) {
-        Ok(AnyCommand::Report(report)) => Some(report),
+    match read_command(words) {
+        Ok(Command::Report(report)) => Some(report),
         _ => None,
     }
 }
@@ -180,7 +178,7 @@ fn reads_databases_in_the_order_of_the_words(rt: HostRuntime) -> Result<(), Fail
 #[test]
 fn reads_the_options_of_a_report(rt: HostRuntime) -> Result<(), Fail> {
     let plain = words_of(rt.alloc(), &["report", "t1.db"])?;
-    let summary = ReportWords {
+    let mut report = ReportWords {
         file: "t1.db",
         level: ReportLevel::Summary,
         metrics: ReportMetrics {
@@ -194,27 +192,24 @@ fn reads_the_options_of_a_report(rt: HostRuntime) -> Result<(), Fail> {
         covered: false,
         output: None,
     };
-    assert_eq!(rt; report_of(&plain), Some(summary));
+    assert_eq!(rt; report_of(&plain), Some(report));
     let options = words_of(
         rt.alloc(),
         &[
             "report", "-c", "-m", "mt", "t1.db", "-i", "-d", "v", "-o", "R",
         ],
     )?;
-    let verbose = ReportWords {
-        file: "t1.db",
-        level: ReportLevel::Verbose,
-        metrics: ReportMetrics {
-            line: false,
-            logic: false,
-            toggle: true,
-            fsm: false,
-            memory: true,
-        },
-        by_instance: true,
-        covered: true,
-        output: Some("R"),
+    report.level = ReportLevel::Verbose;
+    report.metrics = ReportMetrics {
+        line: false,
+        logic: false,
+        toggle: true,
+        fsm: false,
+        memory: true,
     };
-    assert_eq!(rt; report_of(&options), Some(verbose));
+    report.by_instance = true;
+    report.covered = true;
+    report.output = Some("R");
+    assert_eq!(rt; report_of(&options), Some(report));
     Ok(())
 }

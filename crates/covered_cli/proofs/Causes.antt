@@ -1,11 +1,11 @@
 -- Why a call of the program ends with its status.
 use Rattle.std.proofs.Common.{◌≡◌, ◌⊎◌, ℕ, List, [], ◌∷◌, ◌++◌, Option, None, Some, Ok, Err, sym, ap, subst, refl, ◌∙◌, inl, inr}
 use Rattle.std.specs.Prelude.{Contains, MatchOption, Result, IfErr, OnOk, ◌↔◌}
-use Rattle.command_line.specs.AnyCommand.{AreWordsOf, CommandValues, IsAnyCommand, score, merge, report, command_values}
+use Rattle.command_line.specs.Command.{AreWordsOf, CommandValues, IsCommand, score, merge, report, command_values}
 use Rattle.command_line.specs.CommandWords.{IsScore, ScoreValues, score_values}
 use Rattle.command_line.specs.DatabaseWords.{IsMerge, IsReport, MergeValues, ReportValues, merge_values, report_values}
-use Rattle.command_line.specs.declared.any_command.AnyCommand.{AnyCommand}
-use Rattle.command_line.specs.declared.any_command.AnyCommand.TheVariants.{Score, Merge, Report}
+use Rattle.command_line.specs.declared.command.Command.{Command}
+use Rattle.command_line.specs.declared.command.Command.TheVariants.{Score, Merge, Report}
 use Rattle.command_line.proofs.OneCommand.{one_of_all}
 use Rattle.command_line.proofs.Outcome.{command_without_fault}
 use Rattle.cov_host.specs.Outside.{Outside, Files, Told}
@@ -55,17 +55,17 @@ stands_as_report words values before after is Memory stands = absurd stands
 stands_as_report words values before after is (Databases f) stands = inr (values, is, stands)
 
 -- what stands in the work of a command stands in the call of the program
-pub stands_in_call : (words : List (List ℕ)) (command : AnyCommand) (before after : Outside) → IsAnyCommand words command → (fault : Fault) → StandsInWork command before after fault → Stands words before after fault
+pub stands_in_call : (words : List (List ℕ)) (command : Command) (before after : Outside) → IsCommand words command → (fault : Fault) → StandsInWork command before after fault → Stands words before after fault
 stands_in_call words (Score values) before after is fault stands = stands_as_score words (score_values values) before after is fault stands
 stands_in_call words (Merge values) before after is fault stands = stands_as_merge words (merge_values values) before after is fault stands
 stands_in_call words (Report values) before after is fault stands = stands_as_report words (report_values values) before after is fault stands
 
 -- the words of a command are one
-pub is_some_command : (words : List (List ℕ)) (command : AnyCommand) → IsAnyCommand words command → IsSomeCommand words
+pub is_some_command : (words : List (List ℕ)) (command : Command) → IsCommand words command → IsSomeCommand words
 is_some_command words command is = (command_values command, is)
 
 -- a command writes the file that its values name
-same_output : (command : AnyCommand) → output_in (command_values command) ≡ output_of command
+same_output : (command : Command) → output_in (command_values command) ≡ output_of command
 same_output (Score values) = refl
 same_output (Merge values) = refl
 same_output (Report values) = refl
@@ -75,12 +75,12 @@ keeps_by words values None is names old new kept name unnamed = kept name
 keeps_by words values (Some output) is names old new kept name unnamed = kept name (λ same. unnamed (values, is, names ∙ ap Some (sym same)))
 
 -- a file that the words do not name is not the command's output
-pub keeps_unnamed : (words : List (List ℕ)) (command : AnyCommand) (old new : Option Files) → IsAnyCommand words command → Told (KeepsUnlessNamed (output_of command)) old new → Told (KeepsUnnamed words) old new
+pub keeps_unnamed : (words : List (List ℕ)) (command : Command) (old new : Option Files) → IsCommand words command → Told (KeepsUnlessNamed (output_of command)) old new → Told (KeepsUnnamed words) old new
 keeps_unnamed words command old new is kept =
     Told-map {R = KeepsUnlessNamed (output_of command)} {S = KeepsUnnamed words} old new (λ x y. keeps_by words (command_values command) (output_of command) is (same_output command) x y) kept
 
 -- words that ask for no printed report print nothing
-pub prints_nothing : (words : List (List ℕ)) (command : AnyCommand) (before after : Outside) → IsAnyCommand words command → PrintsIfUnnamed (output_of command) before after → (PrintsReport words → ⊥) → after.printed ≡ before.printed
+pub prints_nothing : (words : List (List ℕ)) (command : Command) (before after : Outside) → IsCommand words command → PrintsIfUnnamed (output_of command) before after → (PrintsReport words → ⊥) → after.printed ≡ before.printed
 prints_nothing words (Score values) before after is prints none = prints
 prints_nothing words (Merge values) before after is prints none = prints
 prints_nothing words (Report values) before after is prints none = go (report_values values).output refl prints

@@ -4,7 +4,7 @@ use Rattle.std.proofs.lemmas.Bool.{false≢true}
 use Rattle.std.specs.Prelude.{IfSome, IsSome, IsSomeAnd, MatchOption, slice_index_or}
 use Rattle.std.specs.List.{list_any}
 use Rattle.command_line.proofs.OneCommand.{one_command, one_of_all}
-use Rattle.command_line.specs.AnyCommand.{AreWordsOf, CommandValues, score as of_score, merge as of_merge, report as of_report}
+use Rattle.command_line.specs.Command.{AreWordsOf, CommandValues, score as of_score, merge as of_merge, report as of_report}
 use Rattle.command_line.specs.CommandWords.{IsScore, ScoreValues}
 use Rattle.cov_host.specs.Outside.{Files, Outside, IsCounted}
 use Rattle.design_model.specs.Design.{no_signal}

@@ -3,10 +3,10 @@ use Rattle.std.proofs.Common.{◌≡◌, ℕ, Bool, true, false, not, ◌&&◌, 
 use Rattle.std.proofs.lemmas.Bool.{cases_lt, false≢true, le-leb, lt-ltb}
 use Rattle.std.specs.Prelude.{IsTrue}
 use Rattle.std.specs.List.{list_all, list_any}
-use Rattle.command_line.specs.AnyCommand.{IsAnyCommand}
+use Rattle.command_line.specs.Command.{IsCommand}
 use Rattle.command_line.specs.CommandWords.{AreGiven, GivenOption, IsScore, ScoreValues, score_values, value_in}
-use Rattle.command_line.specs.declared.any_command.AnyCommand.{AnyCommand}
-use Rattle.command_line.specs.declared.any_command.AnyCommand.TheVariants.{Score, Merge, Report}
+use Rattle.command_line.specs.declared.command.Command.{Command}
+use Rattle.command_line.specs.declared.command.Command.TheVariants.{Score, Merge, Report}
 use Rattle.covered_cli.specs.Fault.{HasSourceName}
 use Rattle.command_line.specs.ScoreOption.{accepts, is_same}
 use Rattle.command_line.specs.ValueForm.{is_file_name as is_file_word}
@@ -61,7 +61,7 @@ file_name_of_word (byte ∷ name) is =
 pub source_named : (words : List (List ℕ)) (score : ScoreValues) → IsScore words score → IsTrue (is_file_name score.source)
 source_named words score is = file_name_of_word score.source (value_accepted is.0 Source score.source is.1.are_given is.2.source)
 
-pub source_of_command : (words : List (List ℕ)) (command : AnyCommand) → IsAnyCommand words command → HasSourceName command
+pub source_of_command : (words : List (List ℕ)) (command : Command) → IsCommand words command → HasSourceName command
 source_of_command words (Score score) is = source_named words (score_values score) is
 source_of_command words (Merge merge) is = tt
 source_of_command words (Report report) is = tt

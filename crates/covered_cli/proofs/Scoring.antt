@@ -2,9 +2,9 @@
 use Rattle.std.proofs.Common.{◌≡◌, ◌⊎◌, ℕ, ◌≤◌, List, length, Option, None, Some, Ok, Err, refl, sym, subst, ◌∙◌, inl, inr, arith}
 use Rattle.std.proofs.lemmas.Bool.{cases_lt}
 use Rattle.std.specs.Prelude.{IfSome, IsSomeAnd, MatchOption, Result, OnOk}
-use Rattle.command_line.specs.AnyCommand.{IsAnyCommand, command_values}
+use Rattle.command_line.specs.Command.{IsCommand, command_values}
 use Rattle.command_line.specs.CommandWords.{ScoreValues, score_values}
-use Rattle.command_line.specs.declared.any_command.AnyCommand.{AnyCommand}
+use Rattle.command_line.specs.declared.command.Command.{Command}
 use Rattle.cov_host.specs.Outside.{Outside, Files, IsCounted, KeepsFiles, SameFiles, Told, HasFile}
 use Rattle.covered_cli.specs.Fault.{IsReadingFault, IsScoringFault, IsSourceFault, StandsIn}
 use Rattle.covered_cli.specs.Scoring.{HasNoDesign, IsDone, IsDoneIn, IsDoneWork, IsReadOf}
@@ -160,7 +160,7 @@ score_is_done score source text design db before middle later after from is_sour
     }
 
 -- what the command asks for is what the words ask for
-pub command_is_done : (words : List (List ℕ)) (command : AnyCommand) (before after : Outside) → IsAnyCommand words command → IsDoneWork command before after → IsDone words before after
+pub command_is_done : (words : List (List ℕ)) (command : Command) (before after : Outside) → IsCommand words command → IsDoneWork command before after → IsDone words before after
 command_is_done words command before after is done = (command_values command, is, done)
 
 pub OnOk-map : {T E P Q : Type 0} (result : Result T E) → (P → Q) → OnOk result P → OnOk result Q

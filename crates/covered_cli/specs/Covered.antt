@@ -1,8 +1,8 @@
 -- What a call of the program leaves outside, and why it ends with a status above 0.
 use Rattle.std.specs.Prelude.{◌≡◌, ◌≢◌, ◌⊎◌, ℕ, List, [], ◌∷◌, Contains, Option, Some, None, MatchOption}
-use Rattle.command_line.specs.AnyCommand.{AreWordsOf, CommandValues, score, merge, report}
+use Rattle.command_line.specs.Command.{AreWordsOf, CommandValues, score, merge, report}
 use Rattle.command_line.specs.DatabaseWords.{IsMerge, IsReport, MergeValues, ReportValues}
-use Rattle.command_line.specs.UsageFault.{HasAnyUsageFault}
+use Rattle.command_line.specs.UsageFault.{HasUsageFault}
 use Rattle.command_line.specs.declared.usage_fault.UsageFault.{UsageFault}
 use Rattle.cov_host.specs.Outside.{Outside, Files, IsCounted}
 use Rattle.coverage_db.specs.declared.fault.DbKind.{DbKind}
@@ -24,7 +24,7 @@ IsSomeCommand words = (values : CommandValues) × AreWordsOf values words
 
 -- the words are no command, and have a first fault
 abbrev pub IsNoCommand : List (List ℕ) → Type 0
-IsNoCommand words = (fault : UsageFault) × HasAnyUsageFault words fault
+IsNoCommand words = (fault : UsageFault) × HasUsageFault words fault
 
 -- the file that a command writes, if it writes one
 abbrev pub output_in : CommandValues → Option (List ℕ)

@@ -3,9 +3,9 @@ use Rattle.std.specs.Prelude.{◌≡◌, ◌⊎◌, ℕ, IsTrue, List, ◌++◌,
 use Rattle.std.specs.Option.{option_copied}
 use Rattle.command_line.specs.CommandWords.{IsScore, ScoreValues, score_values}
 use Rattle.command_line.specs.DatabaseWords.{IsMerge, IsReport, MergeValues, ReportValues, merge_values, report_values}
-use Rattle.command_line.specs.UsageFault.{HasAnyUsageFault, usage_text}
-use Rattle.command_line.specs.declared.any_command.AnyCommand.{AnyCommand}
-use Rattle.command_line.specs.declared.any_command.AnyCommand.TheVariants.{Score, Merge, Report}
+use Rattle.command_line.specs.UsageFault.{HasUsageFault, usage_text}
+use Rattle.command_line.specs.declared.command.Command.{Command}
+use Rattle.command_line.specs.declared.command.Command.TheVariants.{Score, Merge, Report}
 use Rattle.cov_host.specs.Outside.{Outside, IsCounted}
 use Rattle.coverage_db.specs.Table.{is_file_name}
 use Rattle.database_commands.specs.Faults.{IsEarly as IsEarlyDatabase, IsMergeFault}
@@ -64,13 +64,13 @@ StandsIn score before after fault.Memory = Unit {0}
 StandsIn score before after (fault.Databases f) = ⊥
 
 -- the file that the command writes, if it writes one
-abbrev pub output_of : AnyCommand → Option (List ℕ)
+abbrev pub output_of : Command → Option (List ℕ)
 output_of (Score score) = Some score.output.now
 output_of (Merge merge) = Some merge.output.now
 output_of (Report report) = option_copied report.output
 
 -- the source that the command reads, if it reads one, has a name that a database can have
-abbrev pub HasSourceName : AnyCommand → Type 0
+abbrev pub HasSourceName : Command → Type 0
 HasSourceName (Score score) = IsTrue (is_file_name score.source.now)
 HasSourceName (Merge merge) = Unit {0}
 HasSourceName (Report report) = Unit {0}
@@ -81,7 +81,7 @@ IsDatabaseFault P (fault.Databases f) = P f
 IsDatabaseFault P other = ⊥
 
 -- the fault stands in the work of this command
-abbrev pub StandsInWork : AnyCommand → Outside → Outside → Fault → Type 0
+abbrev pub StandsInWork : Command → Outside → Outside → Fault → Type 0
 StandsInWork (Score score) before after fault = StandsIn (score_values score) before after fault
 StandsInWork (Merge merge) before after fault = IsDatabaseFault (IsMergeFault (merge_values merge) before after) fault
 StandsInWork (Report report) before after fault = IsDatabaseFault (IsReportFault (report_values report) before after) fault
@@ -94,7 +94,7 @@ StandsInDatabases words before after f =
 
 -- the fault stands in a call of the program with these words between two outsides
 abbrev pub Stands : List (List ℕ) → Outside → Outside → Fault → Type 0
-Stands words before after (fault.Usage usage) = HasAnyUsageFault words usage
+Stands words before after (fault.Usage usage) = HasUsageFault words usage
 Stands words before after (fault.Databases f) = StandsInDatabases words before after f
 Stands words before after other = (score : ScoreValues) × IsScore words score × StandsIn score before after other
 

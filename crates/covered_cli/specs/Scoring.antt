@@ -2,8 +2,8 @@
 use Rattle.std.specs.Prelude.{◌≡◌, ◌⊎◌, ℕ, false, List, slice_index_or, All}
 use Rattle.std.specs.List.{list_any}
 use Rattle.command_line.specs.CommandWords.{IsScore, ScoreValues, score_values}
-use Rattle.command_line.specs.AnyCommand.{AreWordsOf, CommandValues, score as of_score, merge as of_merge, report as of_report, command_values}
-use Rattle.command_line.specs.declared.any_command.AnyCommand.{AnyCommand}
+use Rattle.command_line.specs.Command.{AreWordsOf, CommandValues, score as of_score, merge as of_merge, report as of_report, command_values}
+use Rattle.command_line.specs.declared.command.Command.{Command}
 use Rattle.cov_host.specs.Outside.{Outside, HasFile, Told}
 use Rattle.coverage_db.specs.Table.{IsTable}
 use Rattle.coverage_db.specs.Text.{text_of}
@@ -107,7 +107,7 @@ IsDoneBy (of_merge values) before after = IsMergedIn values before after
 IsDoneBy (of_report values) before after = IsReportedIn values before after
 
 -- what the command asks for was done
-abbrev pub IsDoneWork : AnyCommand → Outside → Outside → Type 0
+abbrev pub IsDoneWork : Command → Outside → Outside → Type 0
 IsDoneWork command before after = IsDoneBy (command_values command) before after
 
 -- what the words ask for was done

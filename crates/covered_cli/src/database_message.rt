@@ -30,16 +30,7 @@ pub(crate) fn warn_database<H: Host>(host: &mut H, fault: &CommandFault<'_>)
     ensures counts { CountsUp (H.outside host.old) (H.outside host.new) }
 {
     match fault {
-        CommandFault::Files { call, file } => warn_pieces(
-            host,
-            &[
-                "covered: files: ".as_bytes(),
-                call.name().as_bytes(),
-                " ".as_bytes(),
-                file.as_bytes(),
-                "\n".as_bytes(),
-            ],
-        ),
+        CommandFault::Files { call, file } => warn_file(host, call.name(), file),
         CommandFault::Print => warn_pieces(host, &["covered: files: print -\n".as_bytes()]),
         CommandFault::Memory => warn_pieces(host, &["covered: memory\n".as_bytes()]),
         CommandFault::NoDatabase { file, kind, line } => warn_kind(host, file, *kind, *line),
@@ -52,6 +43,25 @@ pub(crate) fn warn_database<H: Host>(host: &mut H, fault: &CommandFault<'_>)
     }
 }
 
+/// Warns of a call on a file.
+fn warn_file<'a, H: Host>(host: &mut H, call: &'a str, file: &'a str)
+    ensures line { WarnsLine (codes "covered: files: " ++ call.now ++ codes " " ++ file.now ++ codes "\n") (H.outside host.old) (H.outside host.new) }
+    ensures printed { (H.outside host.new).printed ≡ (H.outside host.old).printed }
+    ensures files { KeepsFiles (H.outside host.old) (H.outside host.new) }
+    ensures counts { CountsUp (H.outside host.old) (H.outside host.new) }
+{
+    warn_pieces(
+        host,
+        &[
+            "covered: files: ".as_bytes(),
+            call.as_bytes(),
+            " ".as_bytes(),
+            file.as_bytes(),
+            "\n".as_bytes(),
+        ],
+    );
+}
+
 /// Warns of a file that is no database.
 fn warn_kind<H: Host>(host: &mut H, file: &str, kind: DbKind, line: Option<u32>)
     ensures line { WarnsLine (codes "covered: database: " ++ file.now ++ codes ": " ++ kind_text kind ++ line_text line ++ codes "\n") (H.outside host.old) (H.outside host.new) }
@@ -60,19 +70,34 @@ fn warn_kind<H: Host>(host: &mut H, file: &str, kind: DbKind, line: Option<u32>)
     ensures counts { CountsUp (H.outside host.old) (H.outside host.new) }
 {
     let mut digits = Buffer::new();
-    let (space, number): (&str, &str) = match line {
-        None => ("", ""),
-        Some(line) => (" ", digits.format(line)),
-    };
+    match line {
+        None => warn_fault(host, file, text_of(kind), "", ""),
+        Some(line) => warn_fault(host, file, text_of(kind), " ", digits.format(line)),
+    }
+}
+
+/// Warns of a fault of a database, with a space and the number of its line, or with neither.
+fn warn_fault<'a, H: Host>(
+    host: &mut H,
+    file: &'a str,
+    fault: &'a str,
+    space: &'a str,
+    line: &'a str,
+)
+    ensures line { WarnsLine (codes "covered: database: " ++ file.now ++ codes ": " ++ fault.now ++ space.now ++ line.now ++ codes "\n") (H.outside host.old) (H.outside host.new) }
+    ensures printed { (H.outside host.new).printed ≡ (H.outside host.old).printed }
+    ensures files { KeepsFiles (H.outside host.old) (H.outside host.new) }
+    ensures counts { CountsUp (H.outside host.old) (H.outside host.new) }
+{
     warn_pieces(
         host,
         &[
             "covered: database: ".as_bytes(),
             file.as_bytes(),
             ": ".as_bytes(),
-            text_of(kind).as_bytes(),
+            fault.as_bytes(),
             space.as_bytes(),
-            number.as_bytes(),
+            line.as_bytes(),
             "\n".as_bytes(),
         ],
     );
@@ -86,13 +111,29 @@ fn warn_difference<H: Host>(host: &mut H, file: &str, line: u32, first: &[u8], o
     ensures counts { CountsUp (H.outside host.old) (H.outside host.new) }
 {
     let mut digits = Buffer::new();
+    warn_lines(host, file, digits.format(line), first, other);
+}
+
+/// Warns of designs that differ at a line.
+fn warn_lines<'a, H: Host>(
+    host: &mut H,
+    file: &'a str,
+    line: &'a str,
+    first: &'a [u8],
+    other: &'a [u8],
+)
+    ensures line { WarnsLine (codes "covered: database: " ++ file.now ++ codes ": 4 DesignsDiffer " ++ line.now ++ codes "\n< " ++ first.now ++ codes "\n> " ++ other.now ++ codes "\n") (H.outside host.old) (H.outside host.new) }
+    ensures printed { (H.outside host.new).printed ≡ (H.outside host.old).printed }
+    ensures files { KeepsFiles (H.outside host.old) (H.outside host.new) }
+    ensures counts { CountsUp (H.outside host.old) (H.outside host.new) }
+{
     warn_pieces(
         host,
         &[
             "covered: database: ".as_bytes(),
             file.as_bytes(),
             ": 4 DesignsDiffer ".as_bytes(),
-            digits.format(line).as_bytes(),
+            line.as_bytes(),
             "\n< ".as_bytes(),
             first,
             "\n> ".as_bytes(),

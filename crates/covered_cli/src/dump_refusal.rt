@@ -31,35 +31,51 @@ pub(crate) fn warn_refusal<H: Host>(host: &mut H, refusal: &DumpRefusal<'_>)
 {
     match refusal {
         DumpRefusal::At { kind, byte } => warn_fault(host, *kind, *byte),
-        DumpRefusal::NoInstance { path } => warn_pieces(
-            host,
-            &[
-                "covered: dump: bind 1 NoInstance ".as_bytes(),
-                path.as_bytes(),
-                "\n".as_bytes(),
-            ],
-        ),
-        DumpRefusal::InputNotDumped { top, name } => warn_pieces(
-            host,
-            &[
-                "covered: dump: bind 2 InputNotDumped ".as_bytes(),
-                top.as_bytes(),
-                ".".as_bytes(),
-                name.as_slice(),
-                "\n".as_bytes(),
-            ],
-        ),
-        DumpRefusal::NoBaseline { top, name } => warn_pieces(
-            host,
-            &[
-                "covered: dump: bind 3 NoBaseline ".as_bytes(),
-                top.as_bytes(),
-                ".".as_bytes(),
-                name.as_slice(),
-                "\n".as_bytes(),
-            ],
-        ),
+        DumpRefusal::NoInstance { path } => warn_instance(host, path),
+        DumpRefusal::InputNotDumped { top, name } => {
+            warn_signal(host, "2 InputNotDumped ", top, name.as_slice())
+        }
+        DumpRefusal::NoBaseline { top, name } => {
+            warn_signal(host, "3 NoBaseline ", top, name.as_slice())
+        }
     }
+}
+
+/// Warns of an instance that is not there.
+fn warn_instance<H: Host>(host: &mut H, path: &str)
+    ensures line { WarnsLine (codes "covered: dump: bind 1 NoInstance " ++ path.now ++ codes "\n") (H.outside host.old) (H.outside host.new) }
+    ensures printed { (H.outside host.new).printed ≡ (H.outside host.old).printed }
+    ensures files { KeepsFiles (H.outside host.old) (H.outside host.new) }
+    ensures counts { CountsUp (H.outside host.old) (H.outside host.new) }
+{
+    warn_pieces(
+        host,
+        &[
+            "covered: dump: bind 1 NoInstance ".as_bytes(),
+            path.as_bytes(),
+            "\n".as_bytes(),
+        ],
+    );
+}
+
+/// Warns of a fault of a signal of the top module.
+fn warn_signal<'a, H: Host>(host: &mut H, fault: &'a str, top: &'a str, name: &'a [u8])
+    ensures line { WarnsLine (codes "covered: dump: bind " ++ fault.now ++ top.now ++ codes "." ++ name.now ++ codes "\n") (H.outside host.old) (H.outside host.new) }
+    ensures printed { (H.outside host.new).printed ≡ (H.outside host.old).printed }
+    ensures files { KeepsFiles (H.outside host.old) (H.outside host.new) }
+    ensures counts { CountsUp (H.outside host.old) (H.outside host.new) }
+{
+    warn_pieces(
+        host,
+        &[
+            "covered: dump: bind ".as_bytes(),
+            fault.as_bytes(),
+            top.as_bytes(),
+            ".".as_bytes(),
+            name,
+            "\n".as_bytes(),
+        ],
+    );
 }
 
 /// Warns of a fault of a dump.

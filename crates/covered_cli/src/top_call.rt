@@ -11,7 +11,7 @@ use crate::Status;
 use crate::fault::Fault;
 use crate::message::warn_of;
 use crate::score::run_score;
-use command_line::{AnyCommand, read_any_command};
+use command_line::{Command, read_command};
 use cov_host::{Host, Words};
 use database_commands::{run_merge, run_report};
 use std::alloc::Global;
@@ -67,7 +67,7 @@ fn run<'a, H: Host>(alloc: Global, words: &'a Words, host: &mut H) -> Result<(),
     ensures warned { (H.outside host.new).warned ≡ (H.outside host.old).warned }
     ensures counts { CountsUp (H.outside host.old) (H.outside host.new) }
 {
-    match read_any_command(words) {
+    match read_command(words) {
         Ok(command) => run_command(alloc, &command, host),
         Err(fault) => Err(Fault::Usage(fault)),
     }
@@ -76,7 +76,7 @@ fn run<'a, H: Host>(alloc: Global, words: &'a Words, host: &mut H) -> Result<(),
 /// Does the command.
 fn run_command<'a, H: Host>(
     alloc: Global,
-    command: &AnyCommand<'a>,
+    command: &Command<'a>,
     host: &mut H,
 ) -> Result<(), Fault<'a>>
     requires { HasSourceName command.now }
@@ -90,12 +90,12 @@ fn run_command<'a, H: Host>(
     ensures counts { CountsUp (H.outside host.old) (H.outside host.new) }
 {
     match command {
-        AnyCommand::Score(words) => run_score(alloc, words, host),
-        AnyCommand::Merge(words) => match run_merge(alloc, words, host) {
+        Command::Score(words) => run_score(alloc, words, host),
+        Command::Merge(words) => match run_merge(alloc, words, host) {
             Ok(()) => Ok(()),
             Err(fault) => Err(Fault::Databases(fault)),
         },
-        AnyCommand::Report(words) => match run_report(alloc, words, host) {
+        Command::Report(words) => match run_report(alloc, words, host) {
             Ok(()) => Ok(()),
             Err(fault) => Err(Fault::Databases(fault)),
         },

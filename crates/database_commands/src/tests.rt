@@ -1,6 +1,6 @@
 //! The commands over files in memory.
 use crate::{CommandFault, run_merge, run_report};
-use command_line::{AnyCommand, MergeWords, ReportWords, read_any_command};
+use command_line::{Command, MergeWords, ReportWords, read_command};
 use cov_host::{Calls, MemoryHost, NoMemory, Words};
 use coverage_db::DbKind;
 use std::alloc::Global;
@@ -36,16 +36,16 @@ fn words_of(alloc: Global, texts: &[&str]) -> Result<Words, NoMemory> {
 
 /// The values of a `merge` command.
 fn merge_of(words: &Words) -> Option<MergeWords<'_>> {
-    match read_any_command(words) {
-        Ok(AnyCommand::Merge(merge)) => Some(merge),
+    match read_command(words) {
+        Ok(Command::Merge(merge)) => Some(merge),
         _ => None,
     }
 }
 
 /// The values of a `report` command.
 fn report_of(words: &Words) -> Option<ReportWords<'_>> {
-    match read_any_command(words) {
-        Ok(AnyCommand::Report(report)) => Some(report),
+    match read_command(words) {
+        Ok(Command::Report(report)) => Some(report),
         _ => None,
     }
 }

@@ -1,5 +1,5 @@
 use Rattle.std.proofs.Common.{◌∙◌, sym}
-use Rattle.command_line.proofs.ScoreOutcome.{outcome_of-fault}
+use Rattle.command_line.proofs.Outcome.{outcome_of-fault}
 use Rattle.command_line.proofs.laws.words_have_one_fault.Goals as goal
 
 pub returns : goal.returns
