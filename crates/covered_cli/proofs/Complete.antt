@@ -154,7 +154,7 @@ module _ (words : List (List ℕ)) (before middle after : Outside) (first : Coun
   bad_source_ends (score, is, bad) =
       ends_with words score is before middle after first.faults second.faults none bad.source bad.text bad.texts source_status
       (inl refl)
-      (inr (λ refused. bad.refused refused.design (subst (λ text. IsSource text score.top refused.design) (sym (same_source score before bad.source bad.text bad.texts refused.source refused.source_is)) refused.is_source)))
+      (inr (λ refusal refused. bad.refused refused.design (subst (λ text. IsSource text score.top refused.design) (sym (same_source score before bad.source bad.text bad.texts refused.source refused.source_is)) refused.is_source)))
       f stands
 
   pub bad_dump_ends : IsCommandWith HasBadDump words before → EndsWith dump_status (status_of f)

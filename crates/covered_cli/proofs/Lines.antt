@@ -37,3 +37,7 @@ pub WarnsLine-since : (line : List ℕ) (before middle after : Outside) → midd
 WarnsLine-since line before middle after same first second (inl whole) = inl (subst (λ warned. Told (Appends line) warned after.warned) same whole)
 WarnsLine-since line before middle after same first second (inr front) =
     inr (IsCounted-earlier before.mute middle.mute after.mute first.mute second.mute front.0, subst (λ warned. Told (AppendsPrefix line) warned after.warned) same front.1)
+
+-- a line that was warned, written otherwise
+pub WarnsLine-is : (line other : List ℕ) (before after : Outside) → line ≡ other → WarnsLine line before after → WarnsLine other before after
+WarnsLine-is line other before after same warned = subst (λ all. WarnsLine all before after) same warned

@@ -1,12 +1,13 @@
 -- From what was read to what a score says.
 use Rattle.std.proofs.Common.{◌≡◌, ◌⊎◌, ℕ, ◌≤◌, List, length, Option, None, Some, Ok, Err, refl, sym, subst, ◌∙◌, inl, inr, arith}
 use Rattle.std.proofs.lemmas.Bool.{cases_lt}
-use Rattle.std.specs.Prelude.{IfSome, IsSomeAnd, MatchOption, Result, OnOk}
+use Rattle.std.specs.Prelude.{IfErr, IfSome, IsSomeAnd, MatchOption, Result, OnOk}
 use Rattle.command_line.specs.Command.{IsCommand, command_values}
 use Rattle.command_line.specs.CommandWords.{ScoreValues, score_values}
 use Rattle.command_line.specs.declared.command.Command.{Command}
 use Rattle.cov_host.specs.Outside.{Outside, Files, IsCounted, KeepsFiles, SameFiles, Told, HasFile}
-use Rattle.covered_cli.specs.Fault.{IsReadingFault, IsScoringFault, IsSourceFault, StandsIn}
+use Rattle.covered_cli.specs.Covered.{KeepsOthers}
+use Rattle.covered_cli.specs.Fault.{IsEarly, IsReadingFault, IsScoringFault, IsSourceFault, IsWritingFault, StandsIn}
 use Rattle.covered_cli.specs.Scoring.{HasNoDesign, IsDone, IsDoneIn, IsDoneWork, IsReadOf}
 use Rattle.covered_cli.specs.declared.fault.Fault.{Fault}
 use Rattle.covered_cli.specs.declared.fault.Fault.TheVariants.{Usage, SourceNotYet, Dump, Files as FilesFault, Memory, Databases}
@@ -20,7 +21,7 @@ use Rattle.input_runs.proofs.Reasoned.{reasoned_table}
 use Rattle.input_runs.proofs.Sound.{sound_table}
 use Rattle.input_toggles.proofs.DumpTimes.{times_rise}
 use Rattle.input_toggles.specs.InputDesign.{IsInputDesign}
-use Rattle.whole_files.proofs.EffectLemmas.{IsCounted-earlier}
+use Rattle.whole_files.proofs.EffectLemmas.{IsCounted-earlier, Told-map, Told-trans}
 use Rattle.whole_files.specs.Effects.{CountsUp, IsMissing}
 use Rattle.whole_files.specs.declared.call.Call.TheVariants.{OpenRead, Read, OpenWrite, Write, CloseWrite}
 use Rattle.whole_files.specs.Files.{IsContent}
@@ -166,3 +167,40 @@ command_is_done words command before after is done = (command_values command, is
 pub OnOk-map : {T E P Q : Type 0} (result : Result T E) → (P → Q) → OnOk result P → OnOk result Q
 OnOk-map (Ok value) step holds = step holds
 OnOk-map (Err fault) step holds = tt
+
+pub IfErr-map : {T E : Type 0} {P Q : E → Type 0} (result : Result T E) → ((fault : E) → P fault → Q fault) → IfErr result P → IfErr result Q
+IfErr-map (Ok value) step holds = tt
+IfErr-map (Err fault) step holds = step fault holds
+
+-- a fault of writing stands
+pub writing_stands : (score : ScoreValues) (before later after : Outside) → CountsUp before later → CountsUp later after → (fault : Fault) → IsWritingFault score.output later after fault → StandsIn score before after fault
+writing_stands score before later after first second (Usage usage) is = absurd is
+writing_stands score before later after first second SourceNotYet is = absurd is
+writing_stands score before later after first second (Dump refusal) is = absurd is
+writing_stands score before later after first second (FilesFault OpenRead file) is = absurd is
+writing_stands score before later after first second (FilesFault Read file) is = absurd is
+writing_stands score before later after first second (FilesFault OpenWrite file) is = (is.0, IsCounted-earlier before.faults later.faults after.faults first.faults second.faults is.1)
+writing_stands score before later after first second (FilesFault Write file) is = (is.0, IsCounted-earlier before.faults later.faults after.faults first.faults second.faults is.1)
+writing_stands score before later after first second (FilesFault CloseWrite file) is = (is.0, IsCounted-earlier before.faults later.faults after.faults first.faults second.faults is.1)
+writing_stands score before later after first second Memory is = tt
+writing_stands score before later after first second (Databases f) is = absurd is
+
+-- a fault of writing comes when the output was opened, or might have been
+pub writing_is_late : (name : List ℕ) (before after : Outside) (fault : Fault) → IsWritingFault name before after fault → IsEarly fault → ⊥
+writing_is_late name before after (Usage usage) is early = is
+writing_is_late name before after SourceNotYet is early = is
+writing_is_late name before after (Dump refusal) is early = is
+writing_is_late name before after (FilesFault OpenRead file) is early = is
+writing_is_late name before after (FilesFault Read file) is early = is
+writing_is_late name before after (FilesFault OpenWrite file) is early = early
+writing_is_late name before after (FilesFault Write file) is early = early
+writing_is_late name before after (FilesFault CloseWrite file) is early = early
+writing_is_late name before after Memory is early = early
+writing_is_late name before after (Databases f) is early = is
+
+-- files that are all as before are so but for one
+pub others_kept : (name : List ℕ) (before after : Option Files) → Told SameFiles before after → Told (KeepsOthers name) before after
+others_kept name before after same = Told-map before after (λ old new kept other apart. kept other) same
+
+pub others_kept_since : (name : List ℕ) (before later after : Option Files) → Told SameFiles before later → Told (KeepsOthers name) later after → Told (KeepsOthers name) before after
+others_kept_since name before later after same kept = Told-trans before later after (λ old middle new first second other apart. second other apart ∙ first other) same kept

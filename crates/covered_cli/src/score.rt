@@ -148,12 +148,20 @@ fn fault_of<'a>(
         ScoreFault::Bind(BindFault::NoInstance) => Fault::Dump(DumpRefusal::NoInstance {
             path: words.instance,
         }),
-        ScoreFault::Bind(BindFault::InputNotDumped { signal }) => match name_of(alloc, design, signal) {
-            Ok(name) => Fault::Dump(DumpRefusal::InputNotDumped { top: words.top, name }),
+        ScoreFault::Bind(BindFault::InputNotDumped { signal }) => match name_of(
+            alloc, design, signal,
+        ) {
+            Ok(name) => Fault::Dump(DumpRefusal::InputNotDumped {
+                top: words.top,
+                name,
+            }),
             Err(NoMemory) => Fault::Memory,
         },
         ScoreFault::Baseline(NoBaseline { signal }) => match name_of(alloc, design, signal) {
-            Ok(name) => Fault::Dump(DumpRefusal::NoBaseline { top: words.top, name }),
+            Ok(name) => Fault::Dump(DumpRefusal::NoBaseline {
+                top: words.top,
+                name,
+            }),
             Err(NoMemory) => Fault::Memory,
         },
     }

@@ -49,10 +49,38 @@ fn refuses(alloc: Global, dump: &str, instance: &str, line: &str) -> Result<bool
 #[test]
 fn refuses_dumps(rt: HostRuntime) -> Result<(), Fail> {
     let alloc = rt.alloc();
-    assert!(rt; refuses(alloc, DUMP, "tb.x", "covered: dump: bind 1 NoInstance tb.x\n")?);
-    assert!(rt; refuses(alloc, DUMP, "tb", "covered: dump: bind 2 InputNotDumped pads.clk\n")?);
-    assert!(rt; refuses(alloc, NO_BASELINE, "tb.dut", "covered: dump: bind 3 NoBaseline pads.a\n")?);
-    assert!(rt; refuses(alloc, TIME_BACK, "tb.dut", "covered: dump: 5 TimeBack at byte 141\n")?);
+    assert!(rt;
+        refuses(
+            alloc,
+            DUMP,
+            "tb.x",
+            "covered: dump: bind 1 NoInstance tb.x\n"
+        )?
+    );
+    assert!(rt;
+        refuses(
+            alloc,
+            DUMP,
+            "tb",
+            "covered: dump: bind 2 InputNotDumped pads.clk\n"
+        )?
+    );
+    assert!(rt;
+        refuses(
+            alloc,
+            NO_BASELINE,
+            "tb.dut",
+            "covered: dump: bind 3 NoBaseline pads.a\n"
+        )?
+    );
+    assert!(rt;
+        refuses(
+            alloc,
+            TIME_BACK,
+            "tb.dut",
+            "covered: dump: 5 TimeBack at byte 141\n"
+        )?
+    );
     Ok(())
 }
 
@@ -65,7 +93,12 @@ fn scores_a_module_of_inputs(rt: HostRuntime) -> Result<(), Fail> {
             "score", "-t", "pads", "-i", "tb.dut", "-v", "pads.v", "-vcd", "D", "-o", "B",
         ],
     )?;
-    for (one_byte, dump) in [(false, DUMP), (true, DUMP), (false, REALISTIC), (true, REALISTIC)] {
+    for (one_byte, dump) in [
+        (false, DUMP),
+        (true, DUMP),
+        (false, REALISTIC),
+        (true, REALISTIC),
+    ] {
         let mut host = MemoryHost::new(alloc, Calls::new(alloc))?;
         host.put("pads.v", SOURCE.as_bytes())?;
         host.put("D", dump.as_bytes())?;
@@ -93,8 +126,7 @@ const MERGED: &[u8] =
     b"covered-db 1\ntop ff\nsource 1 ff.v\ninstance ff ff\npoints 11\nl ff 1 1:3 if = hit\nl ff 2 1:3 assign = hit\nl ff 3 1:3 assign = ? 5 ff.a\nc ff 1 1:3 value 0 = ? 5 ff.a\nc ff 1 1:3 value 1 = hit\nt ff a - 01 = missed\nt ff a - 10 = hit\nt ff clk - 01 = hit\nt ff clk - 10 = missed\nt ff q - 01 = missed\nt ff q - 10 = missed\nend\n";
 
 /// A table of another design.
-const OTHER: &[u8] =
-    b"covered-db 1\ntop ffr\nsource 1 ffr.v\ninstance ffr ffr\npoints 0\nend\n";
+const OTHER: &[u8] = b"covered-db 1\ntop ffr\nsource 1 ffr.v\ninstance ffr ffr\npoints 0\nend\n";
 
 /// The report of all metrics of the first table.
 const REPORT: &[u8] =
@@ -129,7 +161,10 @@ fn tells_faults_of_databases(rt: HostRuntime) -> Result<(), Fail> {
     let mut host = host_with_tables(alloc)?;
     let merge = words_of(alloc, &["merge", "-o", "m.db", "t1.db", "t5.db"])?;
     assert_eq!(rt; covered(alloc, &merge, &mut host), Status::Database);
-    assert_eq!(rt; host.warned(), b"covered: database: t5.db: 4 DesignsDiffer 2\n< top ff\n> top ffr\n".as_slice());
+    assert_eq!(rt;
+        host.warned(),
+        b"covered: database: t5.db: 4 DesignsDiffer 2\n< top ff\n> top ffr\n".as_slice()
+    );
     assert_eq!(rt; host.file("m.db"), None);
     Ok(())
 }

@@ -10,6 +10,4 @@ returns-in-Err-clause-line g c =
     let refused = c.in-Err.ensures in
     let pieces = c.args.pieces.now in
     let line = flat_map (λ piece. piece.now) pieces in
-    let joins : (count : ℕ) → (total : ℕ) × (flat_map (λ piece. piece.now) (take c.loop-piece.piece-index pieces) ++ take count c.piece-item.result.now ≡ take total line) =
-    λ count. front_of_pieces (λ piece. piece.now) pieces c.loop-piece.piece-index count _ (omega arith) in
-    inr (IsCounted-earlier _ _ _ turn.counts.mute refused.counts.mute refused.refused_is_counted, AppendsPrefix-after line _ _ _ _ _ joins turn.warned refused.refused)
+    inr (IsCounted-earlier _ _ _ turn.counts.mute refused.counts.mute refused.refused_is_counted, AppendsPrefix-after line _ _ _ _ _ (λ count. front_of_pieces (λ piece. piece.now) pieces c.loop-piece.piece-index count _ (omega arith)) turn.warned refused.refused)

@@ -1,5 +1,5 @@
 use Rattle.std.proofs.Common.{◌∙◌, sym}
-use Rattle.whole_files.proofs.EffectLemmas.{KeepsFiles-trans}
+use Rattle.whole_files.proofs.EffectLemmas.{KeepsFiles-trans, Told-trans}
 use Rattle.covered_cli.proofs.Causes.{command_or_fault, usage_exactly}
 use Rattle.covered_cli.proofs.Complete.{bad_dump_ends, bad_dump_not_done, bad_source_ends, bad_source_not_done, good_ends}
 use Rattle.covered_cli.proofs.Databases.{database_cause, early_status, files_cause, good_databases_end, stands_later}
@@ -37,7 +37,11 @@ pub returns-in-Err-clause-database : goal.returns-in-Err-clause-database
 returns-in-Err-clause-database g c is = database_cause _ _ _ _ c.in-Err.ensures.fault (rw c.status.ensures at is)
 
 pub returns-in-Err-clause-kept : goal.returns-in-Err-clause-kept
-returns-in-Err-clause-kept g c early = KeepsFiles-trans _ _ _ (c.in-Err.ensures.early (early_status _ (rw c.status.ensures at early))) c.warn_of.ensures.files
+returns-in-Err-clause-kept g c early =
+    let before = g.H.Host.outside c.args.host.now in
+    let middle = g.H.Host.outside c.run.new.host in
+    let after = g.H.Host.outside c.warn_of.new.host in
+    KeepsFiles-trans before middle after (c.in-Err.ensures.early (early_status _ (rw c.status.ensures at early))) c.warn_of.ensures.files
 
 pub returns-in-Err-clause-unprinted : goal.returns-in-Err-clause-unprinted
 returns-in-Err-clause-unprinted g c early = c.warn_of.ensures.printed ∙ c.in-Err.ensures.unprinted (early_status _ (rw c.status.ensures at early))
@@ -48,3 +52,10 @@ returns-in-Err-clause-warned g c above =
     let middle = g.H.Host.outside c.run.new.host in
     let after = g.H.Host.outside c.warn_of.new.host in
     (c.in-Err.fault, sym c.status.ensures, stands_later before middle after c.run.ensures.counts c.warn_of.ensures.counts c.args.words.now c.in-Err.fault c.in-Err.ensures.fault, WarnsLine-since _ before middle after c.run.ensures.warned c.run.ensures.counts c.warn_of.ensures.counts c.warn_of.ensures.line)
+
+pub returns-in-Err-clause-others : goal.returns-in-Err-clause-others
+returns-in-Err-clause-others g c =
+    let before = g.H.Host.outside c.args.host.now in
+    let middle = g.H.Host.outside c.run.new.host in
+    let after = g.H.Host.outside c.warn_of.new.host in
+    Told-trans before.files middle.files after.files (λ old between new first second name unnamed. second name ∙ first name unnamed) c.run.ensures.others c.warn_of.ensures.files
