@@ -1,3 +1,7 @@
+pub mod AnswerLemmas
+pub mod ViewLemmas
+pub mod ValueLemmas
+pub mod LoopLemmas
 pub mod ScopeLemmas
 pub mod ContextLemmas
 pub mod PartLemmas

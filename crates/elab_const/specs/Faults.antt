@@ -1,12 +1,13 @@
 -- The first fault of an expression: of its constants, bounds and widths.
-use Rattle.std.specs.Prelude.{ℕ, ◌*◌, nat_lt, Bool, true, false, not, ◌&&◌, ◌||◌, if◌then◌else◌, Option, Some, None, Result}
+use Rattle.std.specs.Prelude.{ℕ, ◌*◌, nat_lt, Bool, true, false, not, ◌&&◌, ◌||◌, if◌then◌else◌, List, Option, Some, None, Result}
 use Rattle.cov_host.specs.declared.place.Place.{Place}
 use Rattle.four_state.specs.declared.index.Index.{Index}
 use Rattle.four_state.specs.declared.index.Index.TheVariants as number
 use Rattle.four_state.specs.Vector.{Vector}
+use Rattle.four_state.specs.declared.bit.Bit.{Bit}
 use Rattle.verilog_tree.specs.Tree.{Expr, literal, identifier, bit_select, part_select, indexed_part, unary_operator, binary_operator, conditional, concatenation, replication, sign_cast, parentheses, Exprs, no_exprs, an_expr, place_of}
 use Rattle.elab_const.specs.Scope.{Names, Entry, Constant, Turn, Fault, NotConstant, TooWide, BadRange, fault_if, earlier, or_else, unless}
-use Rattle.elab_const.specs.Meaning.{Shape, number_of, count_of, part_width, falls, shape, constant, parts_of}
+use Rattle.elab_const.specs.Meaning.{Shape, number_of, count_of, part_width, falls, shape, constant, parts_of, meaning, vector_in}
 
 -- a parameter, or a loop variable in one turn
 abbrev pub is_constant_entry : Option Entry → Bool
@@ -123,6 +124,22 @@ width_answer g es = unless (first_fault g None es) (parts_of g es).width
 -- the number that an expression says which must be a constant number, or its first fault
 abbrev pub number_answer : Names → Expr → Result Index Fault
 number_answer g e = unless (number_fault g e (fault_of g e)) (number_of g e)
+
+-- the value of an expression alone, or its first fault
+abbrev pub alone_answer : Names → Expr → Result Vector Fault
+alone_answer g e = unless (fault_of g e) (constant g e)
+
+-- the value of an expression in a context, or its first fault
+abbrev pub value_answer : Names → Expr → Shape → Result Vector Fault
+value_answer g e s = unless (fault_of g e) (vector_in (meaning g e) s)
+
+-- an unsigned vector
+abbrev pub unsigned : List Bit → Vector
+unsigned bs = record { bits = bs; signed = false }
+
+-- the parts of a concatenation that begins here, or their first fault
+abbrev pub joined_answer : Names → Place → Exprs → Result Vector Fault
+joined_answer g p es = unless (or_else (first_fault g None es) (size_fault (parts_of g es).width p)) (unsigned (parts_of g es).bits)
 
 -- a bound of the part with this bracket
 abbrev pub bound_answer : Names → Place → Expr → Result ℕ Fault

@@ -3,3 +3,5 @@ pub mod NamesView
 pub mod Meaning
 pub mod Faults
 pub mod Loops
+pub mod Calls
+pub mod Cases

@@ -14,9 +14,9 @@ use Rattle.design_model.specs.Shape.{is_wide_unary, is_wide_binary, is_shift, is
 use Rattle.design_model.specs.Value.{copies}
 use Rattle.verilog_tree.specs.Tree.{Expr, literal, identifier, bit_select, part_select, indexed_part, unary_operator, binary_operator, conditional, concatenation, replication, sign_cast, parentheses, Exprs, no_exprs, an_expr}
 use Rattle.elab_const.specs.Scope.{Names, Entry, Constant, Turn, Signal, Memory, IsWidth}
-pub use Rattle.elab_const.specs.declared.shape.Shape.{Shape}
-pub use Rattle.elab_const.specs.declared.shape.Operands.{Operands}
-pub use Rattle.elab_const.specs.declared.shape.Operands.TheVariants.{Wide, Shift, Logic, Compared}
+pub use Rattle.elab_const.specs.declared.width.Shape.{Shape}
+pub use Rattle.elab_const.specs.declared.width.Operands.{Operands}
+pub use Rattle.elab_const.specs.declared.width.Operands.TheVariants.{Wide, Shift, Logic, Compared}
 
 -- the shape of this width and sign
 abbrev pub shape_as : ℕ → Bool → Shape
@@ -61,17 +61,25 @@ means s f = record { shape = s; bits = f }
 abbrev pub in_context : Meaning → ℕ → Bool → List Bit
 in_context m w s = extend w s (m.bits w s)
 
+-- bits in a context: extended by its sign, or cut
+abbrev pub vector_as : Shape → List Bit → Vector
+vector_as s bs = record { bits = extend s.width s.signed bs; signed = s.signed }
+
 -- the value in a context
 abbrev pub vector_in : Meaning → Shape → Vector
-vector_in m s = record { bits = in_context m s.width s.signed; signed = s.signed }
+vector_in m s = vector_as s (m.bits s.width s.signed)
 
 -- in no context: of its own width and sign
 abbrev pub alone : Meaning → List Bit
 alone m = in_context m m.shape.width m.shape.signed
 
--- the number that it says
+-- the number that a vector says
+abbrev pub number_in : Vector → Index
+number_in v = index_of (index v.signed v.bits)
+
+-- the number that it says alone
 abbrev pub number_alone : Meaning → Index
-number_alone m = index_of (index m.shape.signed (alone m))
+number_alone m = number_in (vector_in m m.shape)
 
 -- the number, 0 where it is none
 abbrev pub count_of : Index → ℕ
@@ -124,9 +132,13 @@ one_bit = shape_as 1 false
 abbrev pub unary_shape : Unary → Shape → Shape
 unary_shape op a = if is_wide_unary op then a else one_bit
 
--- what an operator gives, of an operand in its context or else alone
+-- the context that an operator gives its operand
+abbrev pub operand_shape : Unary → Shape → Shape → Shape
+operand_shape op a s = if is_wide_unary op then s else a
+
+-- what an operator gives
 abbrev pub unary_bits : Unary → Meaning → ℕ → Bool → List Bit
-unary_bits op a w s = unary_value op (if is_wide_unary op then in_context a w s else alone a)
+unary_bits op a w s = unary_value op (vector_in a (operand_shape op a.shape (shape_as w s))).bits
 
 -- how an operator takes two operands
 abbrev pub operands_of : Binary → Operands
@@ -142,20 +154,28 @@ joint_shape _ a b = one_bit
 abbrev pub binary_shape : Binary → Shape → Shape → Shape
 binary_shape op a b = joint_shape (operands_of op) a b
 
--- a comparison: its operands have their common shape
-abbrev pub comparison_bits : Binary → Shape → Meaning → Meaning → List Bit
-comparison_bits op common a b = binary_value op common.signed (in_context a common.width common.signed) (in_context b common.width common.signed)
+-- the contexts that an operator gives its operands: its own, or none, or their common shape
+abbrev pub operand_shapes : Operands → Shape → Shape → Shape → Shape × Shape
+operand_shapes Wide a b s = (s, s)
+operand_shapes Shift a b s = (s, b)
+operand_shapes Logic a b s = (a, b)
+operand_shapes Compared a b s = (common_shape a b, common_shape a b)
 
--- what an operator gives, of two operands in its context; the amount of a shift, and what && and || take, are alone
-abbrev pub joint_bits : Operands → Binary → Meaning → Meaning → ℕ → Bool → List Bit
-joint_bits Wide op a b w s = binary_value op s (in_context a w s) (in_context b w s)
-joint_bits Shift op a b w s = binary_value op s (in_context a w s) (alone b)
-joint_bits Logic op a b w s = binary_value op a.shape.signed (alone a) (alone b)
-joint_bits Compared op a b w s = comparison_bits op (common_shape a.shape b.shape) a b
+-- two values in two contexts
+abbrev pub values_in : Meaning → Meaning → Shape × Shape → Vector × Vector
+values_in a b s = (vector_in a s.0, vector_in b s.1)
 
--- the same by the operator
+-- both operands of an operator as it takes them
+abbrev pub operand_values : Operands → Meaning → Meaning → Shape → Vector × Vector
+operand_values o a b s = values_in a b (operand_shapes o a.shape b.shape s)
+
+-- what an operator gives of two vectors
+abbrev pub pair_bits : Binary → Vector × Vector → List Bit
+pair_bits op p = binary_value op p.0.signed p.0.bits p.1.bits
+
+-- what an operator gives in a context
 abbrev pub binary_bits : Binary → Meaning → Meaning → ℕ → Bool → List Bit
-binary_bits op a b w s = joint_bits (operands_of op) op a b w s
+binary_bits op a b w s = pair_bits op (operand_values (operands_of op) a b (shape_as w s))
 
 -- what c ? a : b gives
 abbrev pub choice_bits : Meaning → Meaning → Meaning → ℕ → Bool → List Bit
@@ -205,7 +225,7 @@ shape g e = (meaning g e).shape
 
 -- the value of an expression alone
 abbrev pub constant : Names → Expr → Vector
-constant g e = record { bits = alone (meaning g e); signed = (shape g e).signed }
+constant g e = vector_in (meaning g e) (shape g e)
 
 -- the number that an expression says
 abbrev pub number_of : Names → Expr → Index

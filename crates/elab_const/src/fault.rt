@@ -1,6 +1,7 @@
 ghost use Rattle.std.specs.Prelude.{◌≡◌};
 ghost use Rattle.elab_const.specs.Scope as scope;
 ghost use Rattle.elab_const.specs.declared.fault.ConstFault.TheVariants as const_fault;
+ghost use Rattle.elab_const.specs.Calls.{told};
 
 use cov_host::{NoMemory, Place};
 use std::alloc::{AllocError, AllocFailed};
@@ -114,5 +115,15 @@ impl From<NoMemory> for ConstFault {
 
     fn from(_: NoMemory) -> Self {
         ConstFault::NoMemory
+    }
+}
+
+/// An answer, with its fault told.
+pub(crate) fn tell<T: Drop>(answer: Result<T, Fault>) -> Result<T, ConstFault>
+    ensures { result ≡ told answer }
+{
+    match answer {
+        Ok(value) => Ok(value),
+        Err(fault) => Err(ConstFault::of(fault)),
     }
 }

@@ -2,15 +2,26 @@
 #![tactic(auto)]
 
 mod answer;
+mod applied;
+mod calls;
+mod cases;
 mod constancy;
+mod context;
 mod entry;
+mod evaluate;
 mod fault;
 mod names;
 mod scope;
 mod selected;
-mod shape;
+#[cfg(test)]
+mod tests;
+mod turn;
+mod width;
 
+pub use calls::{constant, shape, turns};
+pub use cases::case_shape;
 pub use entry::Entry;
 pub use fault::{ConstFault, ConstKind};
 pub use scope::Scope;
-pub use shape::Shape;
+pub use turn::Turns;
+pub use width::Shape;

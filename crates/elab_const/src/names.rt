@@ -7,12 +7,14 @@ use cov_host::Name;
 use std::marker::Model;
 
 /// The names that an expression may use: those of a scope, before which a loop variable may stand.
+#[derive(Drop)]
 pub(crate) struct Names<'a> {
     scope: &'a Scope,
     turn: Option<LoopTurn<'a>>,
 }
 
 /// A loop variable, and what it stands for in one turn.
+#[derive(Drop)]
 struct LoopTurn<'a> {
     variable: &'a Name,
     entry: &'a Entry,
