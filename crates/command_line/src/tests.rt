@@ -178,7 +178,7 @@ fn reads_databases_in_the_order_of_the_words(rt: HostRuntime) -> Result<(), Fail
 #[test]
 fn reads_the_options_of_a_report(rt: HostRuntime) -> Result<(), Fail> {
     let plain = words_of(rt.alloc(), &["report", "t1.db"])?;
-    let mut report = ReportWords {
+    let summary = ReportWords {
         file: "t1.db",
         level: ReportLevel::Summary,
         metrics: ReportMetrics {
@@ -192,24 +192,27 @@ fn reads_the_options_of_a_report(rt: HostRuntime) -> Result<(), Fail> {
         covered: false,
         output: None,
     };
-    assert_eq!(rt; report_of(&plain), Some(report));
+    assert_eq!(rt; report_of(&plain), Some(summary));
     let options = words_of(
         rt.alloc(),
         &[
             "report", "-c", "-m", "mt", "t1.db", "-i", "-d", "v", "-o", "R",
         ],
     )?;
-    report.level = ReportLevel::Verbose;
-    report.metrics = ReportMetrics {
-        line: false,
-        logic: false,
-        toggle: true,
-        fsm: false,
-        memory: true,
+    let verbose = ReportWords {
+        file: "t1.db",
+        level: ReportLevel::Verbose,
+        metrics: ReportMetrics {
+            line: false,
+            logic: false,
+            toggle: true,
+            fsm: false,
+            memory: true,
+        },
+        by_instance: true,
+        covered: true,
+        output: Some("R"),
     };
-    report.by_instance = true;
-    report.covered = true;
-    report.output = Some("R");
-    assert_eq!(rt; report_of(&options), Some(report));
+    assert_eq!(rt; report_of(&options), Some(verbose));
     Ok(())
 }
