@@ -6,6 +6,8 @@
 PREFIX ?= /usr/local
 PROGRAM = crates/covered/out/covered
 STAGE = inputs
+# parts of later stages that stand already: dumps, bindings, merge and report
+AHEAD = merge-report pieces assigns
 ROWS ?= $(firstword $(wildcard ../*/rows))
 
 .PHONY: example test rows install
@@ -26,7 +28,7 @@ test:
 
 rows:
 	if test -f '$(ROWS)/run.py' && command -v python3 > /dev/null; then \
-	  $(MAKE) --no-print-directory $(PROGRAM) && python3 '$(ROWS)/run.py' $(PROGRAM) --stage $(STAGE); fi
+	  $(MAKE) --no-print-directory $(PROGRAM) && python3 '$(ROWS)/run.py' $(PROGRAM) --stage $(STAGE) $(AHEAD:%=--ahead %); fi
 
 install: $(PROGRAM)
 	install -D $(PROGRAM) $(DESTDIR)$(PREFIX)/bin/covered
