@@ -1,0 +1,232 @@
+//! Expressions with their depths.
+
+use crate::fault::ReadFault;
+use cov_host::{Name, NoMemory, Place};
+use four_state::{Binary, Four, Unary};
+use std::alloc::Global;
+use verilog_tree::{Depth, Expr, ExprForm};
+
+/// An expression and how deep it nests.
+#[derive(Drop)]
+pub(crate) struct Measured {
+    expr: Expr,
+    depth: Depth,
+}
+
+impl Measured {
+    /// The expression without its depth.
+    pub(crate) fn into_expr(self) -> Expr {
+        let Measured { expr, depth: _ } = self;
+        expr
+    }
+
+    /// How deep the expression nests.
+    pub(crate) fn depth(&self) -> Depth {
+        self.depth
+    }
+
+    /// Whether it is a select of one bit.
+    pub(crate) fn is_bit(&self) -> bool {
+        matches!(&self.expr.form, ExprForm::Bit { .. })
+    }
+
+    /// A number.
+    pub(crate) fn number(place: Place, value: Four) -> Measured {
+        Measured {
+            expr: Expr::number(place, value),
+            depth: Depth::alone(place),
+        }
+    }
+
+    /// A name.
+    pub(crate) fn name(place: Place, name: Name) -> Measured {
+        Measured {
+            expr: Expr::name(place, name),
+            depth: Depth::alone(place),
+        }
+    }
+
+    /// `of[index]`.
+    pub(crate) fn bit(alloc: Global, of: Measured, index: Measured) -> Result<Measured, NoMemory> {
+        let depth = of.depth().deeper(index.depth()).under()?;
+        Ok(Measured {
+            expr: Expr::bit(alloc, of.into_expr(), index.into_expr())?,
+            depth,
+        })
+    }
+
+    /// `of[high:low]`.
+    pub(crate) fn part(
+        alloc: Global,
+        of: Measured,
+        high: Measured,
+        low: Measured,
+        bracket: Place,
+    ) -> Result<Measured, NoMemory> {
+        let depth = of.depth().deeper(high.depth()).deeper(low.depth()).under()?;
+        let (of, high, low) = (of.into_expr(), high.into_expr(), low.into_expr());
+        Ok(Measured {
+            expr: Expr::part(alloc, of, high, low, bracket)?,
+            depth,
+        })
+    }
+
+    /// `of[base +: width]`, or where `up` is false `of[base -: width]`.
+    pub(crate) fn slide(
+        alloc: Global,
+        of: Measured,
+        base: Measured,
+        width: Measured,
+        up: bool,
+        bracket: Place,
+    ) -> Result<Measured, NoMemory> {
+        let depth = of
+            .depth()
+            .deeper(base.depth())
+            .deeper(width.depth())
+            .under()?;
+        let (of, base, width) = (of.into_expr(), base.into_expr(), width.into_expr());
+        Ok(Measured {
+            expr: Expr::slide(alloc, of, base, width, up, bracket)?,
+            depth,
+        })
+    }
+
+    /// An operator before its operand.
+    pub(crate) fn unary(
+        alloc: Global,
+        place: Place,
+        op: Unary,
+        a: Measured,
+    ) -> Result<Measured, NoMemory> {
+        let depth = a.depth().under()?;
+        Ok(Measured {
+            expr: Expr::unary(alloc, place, op, a.into_expr())?,
+            depth,
+        })
+    }
+
+    /// An operator between its operands.
+    pub(crate) fn binary(
+        alloc: Global,
+        op: Binary,
+        a: Measured,
+        b: Measured,
+    ) -> Result<Measured, NoMemory> {
+        let depth = a.depth().deeper(b.depth()).under()?;
+        Ok(Measured {
+            expr: Expr::binary(alloc, op, a.into_expr(), b.into_expr())?,
+            depth,
+        })
+    }
+
+    /// `test ? yes : no`.
+    pub(crate) fn choice(
+        alloc: Global,
+        test: Measured,
+        yes: Measured,
+        no: Measured,
+    ) -> Result<Measured, NoMemory> {
+        let depth = test.depth().deeper(yes.depth()).deeper(no.depth()).under()?;
+        let (test, yes, no) = (test.into_expr(), yes.into_expr(), no.into_expr());
+        Ok(Measured {
+            expr: Expr::choice(alloc, test, yes, no)?,
+            depth,
+        })
+    }
+
+    /// `$signed(a)`, or where the flag is false `$unsigned(a)`.
+    pub(crate) fn sign(
+        alloc: Global,
+        place: Place,
+        signed: bool,
+        a: Measured,
+    ) -> Result<Measured, NoMemory> {
+        let depth = a.depth().under()?;
+        Ok(Measured {
+            expr: Expr::sign(alloc, place, signed, a.into_expr())?,
+            depth,
+        })
+    }
+
+    /// `(a)`.
+    pub(crate) fn paren(alloc: Global, place: Place, a: Measured) -> Result<Measured, NoMemory> {
+        let depth = a.depth().under()?;
+        Ok(Measured {
+            expr: Expr::paren(alloc, place, a.into_expr())?,
+            depth,
+        })
+    }
+
+    /// A concatenation of all these, of which this is the depth.
+    pub(crate) fn concat(place: Place, parts: MeasuredList) -> Result<Measured, NoMemory> {
+        let (exprs, deepest) = parts.into_parts();
+        Ok(Measured {
+            expr: Expr::concat(place, exprs),
+            depth: deepest.under()?,
+        })
+    }
+
+    /// A repeated concatenation.
+    pub(crate) fn repeat(
+        alloc: Global,
+        place: Place,
+        count: Measured,
+        parts: MeasuredList,
+    ) -> Result<Measured, NoMemory> {
+        let (exprs, deepest) = parts.into_parts();
+        let depth = deepest.under()?;
+        Ok(Measured {
+            expr: Expr::repeat(alloc, place, count.into_expr(), exprs)?,
+            depth,
+        })
+    }
+}
+
+/// Expressions, and the depth of the deepest of them and of what stood before them.
+#[derive(Drop)]
+pub(crate) struct MeasuredList {
+    exprs: Vec<Expr>,
+    start: Depth,
+    deepest: Depth,
+}
+
+impl MeasuredList {
+    /// One expression, behind what has this depth.
+    pub(crate) fn one(
+        alloc: Global,
+        start: Depth,
+        first: Measured,
+    ) -> Result<MeasuredList, ReadFault> {
+        let mut list = MeasuredList {
+            exprs: Vec::new(alloc),
+            start,
+            deepest: start,
+        };
+        list.push(first)?;
+        Ok(list)
+    }
+
+    /// Adds an expression at the end.
+    pub(crate) fn push(&mut self, expr: Measured) -> Result<(), ReadFault> {
+        let depth = expr.depth();
+        self.exprs.push(expr.into_expr())?;
+        self.deepest = self.deepest.deeper(depth);
+        Ok(())
+    }
+
+    /// The expressions and the depth.
+    fn into_parts(self) -> (Vec<Expr>, Depth) {
+        let MeasuredList {
+            exprs,
+            start: _,
+            deepest,
+        } = self;
+        (exprs, deepest)
+    }
+
+    /// The expressions.
+    pub(crate) fn into_exprs(self) -> Vec<Expr> {
+        self.into_parts().0
+    }
+}
