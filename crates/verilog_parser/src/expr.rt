@@ -70,6 +70,7 @@ pub(crate) fn may_grow(
 
 /// Operands and operators of a level and of all tighter ones, nested no deeper than `depth`.
 #[cycle(expr)]
+#[tactic(auto, using(crate::proofs::Levels::nearer))]
 fn operand(
     alloc: Global,
     cursor: &mut Cursor<'_, '_>,

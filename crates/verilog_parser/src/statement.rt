@@ -245,13 +245,13 @@ pub(crate) fn set(
 
 /// What stands in the parentheses of a `for`.
 #[derive(Drop)]
-struct Turns {
+struct LoopHeader {
     start: (Expr, Expr),
     test: Expr,
     turn: (Expr, Expr),
 }
 
-fn turns(alloc: Global, cursor: &mut Cursor<'_, '_>, depth: u32) -> Result<Turns, ReadFault> {
+fn for_header(alloc: Global, cursor: &mut Cursor<'_, '_>, depth: u32) -> Result<LoopHeader, ReadFault> {
     cursor.take(Kind::OpenParen)?;
     let start = set(alloc, cursor, depth)?;
     cursor.take(Kind::Semicolon)?;
@@ -259,7 +259,7 @@ fn turns(alloc: Global, cursor: &mut Cursor<'_, '_>, depth: u32) -> Result<Turns
     cursor.take(Kind::Semicolon)?;
     let turn = set(alloc, cursor, depth)?;
     cursor.take(Kind::CloseParen)?;
-    Ok(Turns { start, test, turn })
+    Ok(LoopHeader { start, test, turn })
 }
 
 #[cycle(statement)]
@@ -270,7 +270,7 @@ fn for_loop(
     body: Body,
 ) -> Result<Statement, ReadFault> {
     let word = cursor.take(Kind::For)?;
-    let Turns { start, test, turn } = turns(alloc, cursor, depth)?;
+    let LoopHeader { start, test, turn } = for_header(alloc, cursor, depth)?;
     let body = statement(alloc, cursor, depth, body)?;
     Ok(Statement::for_loop(alloc, word.place, start, test, turn, body)?)
 }

@@ -1,9 +1,9 @@
 -- Calls of one depth go down the list of functions; the others go one deeper.
 use Rattle.std.proofs.Common.{◌+◌, ◌*◌}
-use Rattle.verilog_parser.proofs.+statement.Given as goal
+use Rattle.verilog_parser.proofs.statement.+statement.Given as goal
 
 abbrev pub decreases-statement : goal.decreases-statement
-decreases-statement l = l.depth * 6 + 0
+decreases-statement l = l.depth * 6
 
 abbrev pub decreases-block : goal.decreases-block
 decreases-block l = l.depth * 6 + 5
