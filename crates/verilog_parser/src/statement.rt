@@ -110,11 +110,7 @@ fn block(
 }
 
 /// An expression in parentheses that are no part of it.
-fn condition(
-    alloc: Global,
-    cursor: &mut Cursor<'_, '_>,
-    depth: u32,
-) -> Result<Expr, ReadFault> {
+fn condition(alloc: Global, cursor: &mut Cursor<'_, '_>, depth: u32) -> Result<Expr, ReadFault> {
     let (_, inner) = in_parentheses(alloc, cursor, depth)?;
     Ok(inner.into_expr())
 }
@@ -251,7 +247,11 @@ struct LoopHeader {
     turn: (Expr, Expr),
 }
 
-fn for_header(alloc: Global, cursor: &mut Cursor<'_, '_>, depth: u32) -> Result<LoopHeader, ReadFault> {
+fn for_header(
+    alloc: Global,
+    cursor: &mut Cursor<'_, '_>,
+    depth: u32,
+) -> Result<LoopHeader, ReadFault> {
     cursor.take(Kind::OpenParen)?;
     let start = set(alloc, cursor, depth)?;
     cursor.take(Kind::Semicolon)?;

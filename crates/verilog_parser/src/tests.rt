@@ -371,22 +371,3 @@ fn depth_of_statements(rt: HostRuntime) -> Result<(), Fail> {
     );
     Ok(())
 }
-
-#[test]
-fn a_megabyte_of_items(rt: HostRuntime) -> Result<(), Fail> {
-    let mut source = Vec::from_slice(rt.alloc(), b"module m;\n")?;
-    for _ in 0..25_000 {
-        source.extend_from_slice(b"assign y[7:4] = {a, b[3]} + 8'hf0 * (c - d);\n")?;
-    }
-    source.extend_from_slice(b"endmodule\n")?;
-    assert!(rt; source.len() > 1_000_000);
-    let sources = one_root(rt.alloc(), source.as_slice())?;
-    let defines = Defines::new(rt.alloc());
-    let tokens = lex(rt.alloc(), &sources, &defines)?;
-    let modules = parse(rt.alloc(), &tokens)?;
-    match modules.as_slice() {
-        [module] => assert_eq!(rt; module.items.as_slice().len(), 25_000),
-        _ => return Err(Fail::new("not one module")),
-    }
-    Ok(())
-}
