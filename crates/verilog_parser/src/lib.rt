@@ -4,6 +4,7 @@
 mod answer;
 mod cursor;
 mod declaration;
+mod digits;
 mod expr;
 mod fault;
 mod instance;

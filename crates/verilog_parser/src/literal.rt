@@ -1,8 +1,14 @@
-//! The values of number literals.
+//! The values of number literals (IEEE 1364-2001 clause 2.5.1).
 
-ghost use Rattle.std.specs.Prelude.{◌≡◌, ◌-◌, ◌^◌, ◌≤◌};
+ghost use Rattle.std.specs.Prelude.{◌≡◌, ◌%◌, ◌^◌, ◌≤◌, slice_index, drop, filter};
+ghost use Rattle.verilog_lexer.specs.Number.{number, with_digit};
+ghost use Rattle.verilog_lexer.specs.Based.{letter_at, digits_at};
+ghost use Rattle.verilog_lexer.specs.Run.{is_white};
+ghost use Rattle.verilog_grammar.specs.Literal.{decimal_vector, width_of, bits_of_decimal, based_vector};
+ghost use Rattle.verilog_parser.specs.Digits.{is_digit, capped};
 
 use crate::cursor::Cursor;
+use crate::digits::{digits_value, first_digit, low_mask, strange_bit};
 use crate::fault::ReadFault;
 use crate::measured::Measured;
 use four_state::{Bit, Four};
@@ -23,143 +29,133 @@ pub(crate) fn number(cursor: &mut Cursor<'_, '_>) -> Result<Measured, ReadFault>
     Ok(Measured::number(decimal.place, value))
 }
 
-/// The number that decimal digits with underscores write, cut to 128 bits.
-fn decimal_number(text: &[u8]) -> u128 {
+/// The number that decimal digits write, underscores passed over, cut to 128 bits.
+#[tactic(auto, using(crate::proofs::Numbers::numbers))]
+fn decimal_number(digits: &[u8]) -> u128
+    ensures { result ≡ number 0 digits.now % 2 ^ 128 }
+{
     let mut value: u128 = 0;
-    for byte in text {
-        if *byte != b'_' {
-            value = value.wrapping_mul(10).wrapping_add((*byte & 15) as u128);
-        }
+    for byte in digits {
+        value = with_digit(value, *byte);
     }
     value
 }
 
-/// The mask of so many low bits.
-fn low_mask(width: u8) -> u128
-    requires low { 1 ≤ width }
-    requires high { width ≤ 128 }
-    ensures { result ≡ 2 ^ width - 1 }
+/// The number with one digit more, cut to 128 bits. An underscore adds nothing.
+fn with_digit(value: u128, byte: u8) -> u128
+    ensures { result ≡ with_digit value byte % 2 ^ 128 }
 {
-    u128::MAX >> (128 - width)
+    if byte == b'_' {
+        return value;
+    }
+    value
+        .wrapping_mul(10)
+        .wrapping_add(u128::from(byte.saturating_sub(b'0')))
 }
 
 /// A plain decimal number has 32 bits and a sign.
-fn decimal_value(text: &[u8]) -> Four {
+fn decimal_value(text: &[u8]) -> Four
+    ensures { result ≡ decimal_vector text.now }
+{
     Four::make(32, true, decimal_number(text) & 0xffff_ffff, 0)
 }
 
 /// The number of bits by the size before a based number, from 1 to 128.
+#[tactic(auto, using(crate::proofs::Numbers::sizes))]
 fn width_of(size: &[u8]) -> u8
+    ensures value { result ≡ width_of size.now }
     ensures low { 1 ≤ result }
     ensures high { result ≤ 128 }
 {
-    let size = decimal_number(size);
-    if size == 0 {
+    let mut width: u8 = 0;
+    for byte in size {
+        width = longer_size(width, *byte);
+    }
+    if width == 0 {
         1
-    } else if size >= 128 {
+    } else if width >= 128 {
         128
     } else {
-        size as u8
+        width
     }
 }
 
-/// What a digit stands for.
-enum Digit {
-    Known(u8),
-    X,
-    Z,
+/// The size with one digit more, or 255 where it is greater.
+fn longer_size(size: u8, byte: u8) -> u8
+    ensures { result ≡ capped (with_digit size byte) }
+{
+    if byte == b'_' {
+        return size;
+    }
+    size.saturating_mul(10)
+        .saturating_add(byte.saturating_sub(b'0'))
 }
 
-fn digit_of(byte: u8) -> Digit {
-    match byte {
-        b'x' | b'X' => Digit::X,
-        b'z' | b'Z' | b'?' => Digit::Z,
-        b'a'..=b'f' => Digit::Known(byte - b'a' + 10),
-        b'A'..=b'F' => Digit::Known(byte - b'A' + 10),
-        b'0'..=b'9' => Digit::Known(byte - b'0'),
-        _ => Digit::Known(0),
+/// The byte at a place, and 0 past the end.
+fn byte_at(text: &[u8], place: usize) -> u8
+    ensures { result ≡ slice_index text.now place }
+{
+    match text.get(place) {
+        Some(byte) => *byte,
+        None => 0,
     }
 }
 
-/// Whether the letter behind the quote makes the number signed.
-fn is_signed(text: &[u8]) -> bool {
-    matches!(text.get(1), Some(b's') | Some(b'S'))
+/// Where the letter of the base stands.
+fn letter_at(text: &[u8]) -> usize
+    ensures value { result ≡ letter_at text.now }
+    ensures within { result ≤ 2 }
+{
+    match byte_at(text, 1) {
+        b's' | b'S' => 2,
+        _ => 1,
+    }
 }
 
-/// A based number of so many bits.
+/// The digits behind the letter of the base and white space.
+#[tactic(auto, unfolding(verilog_lexer::specs::Based::digits_at))]
+fn digits(text: &[u8]) -> &[u8]
+    ensures { result.now ≡ drop (digits_at text.now) text.now }
+{
+    let behind = text.get(letter_at(text) + 1..).unwrap_or(&[]);
+    let white = behind.iter().take_while(|byte| is_white(**byte)).count();
+    behind.get(white..).unwrap_or(&[])
+}
+
+/// Whether the byte is white space (IEEE 1364-2001 clause 2.2).
+fn is_white(byte: u8) -> bool
+    ensures { result ≡ is_white byte }
+{
+    byte == b' ' || (9 <= byte && byte <= 13)
+}
+
+/// A based number of so many bits. A letter that names no base stands for 0.
+#[tactic(auto, unfolding(verilog_grammar::specs::Literal::based_vector))]
 fn based_value(width: u8, text: &[u8]) -> Four
     requires low { 1 ≤ width }
     requires high { width ≤ 128 }
+    ensures { result ≡ based_vector width text.now }
 {
-    let signed = is_signed(text);
-    let letter_at = if signed { 2 } else { 1 };
-    let letter = match text.get(letter_at) {
-        Some(letter) => *letter,
-        None => b'b',
-    };
-    let digits = if letter_at + 1 <= text.len() {
-        &text[letter_at + 1..]
-    } else {
-        &text[text.len()..]
-    };
-    match letter {
+    let letter_at = letter_at(text);
+    let signed = letter_at == 2;
+    let digits = digits(text);
+    match byte_at(text, letter_at) {
         b'b' | b'B' => digits_value(width, signed, 1, digits),
         b'o' | b'O' => digits_value(width, signed, 3, digits),
         b'h' | b'H' => digits_value(width, signed, 4, digits),
-        _ => decimal_digits_value(width, signed, digits),
+        b'd' | b'D' => decimal_digits_value(width, signed, digits),
+        _ => Four::fill(width, signed, Bit::Zero),
     }
-}
-
-/// The value of digits of so many bits each, filled up by x or z where the leftmost one is.
-fn digits_value(width: u8, signed: bool, bits: u8, digits: &[u8]) -> Four
-    requires low { 1 ≤ width }
-    requires high { width ≤ 128 }
-    requires least { 1 ≤ bits }
-    requires most { bits ≤ 4 }
-{
-    let each = low_mask(bits);
-    let (mut ones, mut strange): (u128, u128) = (0, 0);
-    let mut begun = false;
-    for byte in digits {
-        if *byte == b'_' || byte.is_ascii_whitespace() || *byte == 0x0b {
-            continue;
-        }
-        let (one, odd, fill) = match digit_of(*byte) {
-            Digit::Known(value) => (value as u128, 0, (0, 0)),
-            Digit::X => (0, each, (0, u128::MAX)),
-            Digit::Z => (each, each, (u128::MAX, u128::MAX)),
-        };
-        if !begun {
-            (ones, strange) = fill;
-            begun = true;
-        }
-        ones = ones << bits | one & each;
-        strange = strange << bits | odd;
-    }
-    Four::make(
-        width,
-        signed,
-        ones & low_mask(width),
-        strange & low_mask(width),
-    )
 }
 
 /// The value of decimal digits, or of one x or z.
 fn decimal_digits_value(width: u8, signed: bool, digits: &[u8]) -> Four
     requires low { 1 ≤ width }
     requires high { width ≤ 128 }
+    ensures { result ≡ record { bits = bits_of_decimal width (filter is_digit digits.now); signed = signed } }
 {
-    let mut value: u128 = 0;
-    for byte in digits {
-        match digit_of(*byte) {
-            Digit::X => return Four::fill(width, signed, Bit::X),
-            Digit::Z => return Four::fill(width, signed, Bit::Z),
-            Digit::Known(digit) => {
-                if byte.is_ascii_digit() {
-                    value = value.wrapping_mul(10).wrapping_add(digit as u128);
-                }
-            }
-        }
+    match strange_bit(first_digit(digits)) {
+        Some(bit) => Four::fill(width, signed, bit),
+        None => Four::make(width, signed, decimal_number(digits) & low_mask(width), 0),
     }
-    Four::make(width, signed, value & low_mask(width), 0)
 }

@@ -1,0 +1,5 @@
+pub mod Digits
+pub mod Gives
+pub mod LeftOut
+pub mod Measured
+pub mod Cursor
