@@ -27,10 +27,18 @@ impl Shown {
     }
 
     fn number(&mut self, value: u128) -> Result<(), AllocError> {
-        if value >= 10 {
-            self.number(value / 10)?;
+        let start = self.bytes.len();
+        let mut rest = value;
+        for _ in 0..39 {
+            self.bytes.push(b'0' + (rest % 10) as u8)?;
+            rest /= 10;
+            if rest == 0 {
+                break;
+            }
         }
-        self.bytes.push(b'0' + (value % 10) as u8)?;
+        if let Some(digits) = self.bytes.get_mut(start..) {
+            digits.reverse();
+        }
         Ok(())
     }
 
@@ -70,8 +78,7 @@ impl Shown {
 
     fn list(&mut self, exprs: &[Expr]) -> Result<(), AllocError> {
         for expr in exprs {
-            self.put(" ")?;
-            self.expr(expr)?;
+            self.behind(" ", expr)?;
         }
         Ok(())
     }
@@ -80,54 +87,67 @@ impl Shown {
         self.put("(")?;
         self.put(tag)?;
         for expr in exprs {
-            self.put(" ")?;
-            self.expr(expr)?;
+            self.behind(" ", expr)?;
         }
         self.put(")")
     }
 
     pub(crate) fn expr(&mut self, expr: &Expr) -> Result<(), AllocError> {
-        match &expr.form {
-            ExprForm::Number(value) => self.four(value),
-            ExprForm::Name(name) => {
-                self.bytes.extend_from_slice(name.as_slice())?;
-                Ok(())
-            }
-            ExprForm::Bit { of, index } => self.tagged("bit", &[of, index]),
-            ExprForm::Part {
-                of,
-                high,
-                low,
-                bracket: _,
-            } => self.tagged("part", &[of, high, low]),
-            ExprForm::Slide {
-                of,
-                base,
-                width,
-                up,
-                bracket: _,
-            } => self.tagged(if *up { "up" } else { "down" }, &[of, base, width]),
-            ExprForm::Unary(op, a) => self.tagged(unary_text(*op), &[a]),
-            ExprForm::Binary(op, a, b) => self.tagged(binary_text(*op), &[a, b]),
-            ExprForm::Choice { test, yes, no } => self.tagged("?", &[test, yes, no]),
-            ExprForm::Concat(parts) => {
-                self.put("{")?;
-                self.list(parts.as_slice())?;
-                self.put("}")
-            }
-            ExprForm::Repeat(count, parts) => {
-                self.put("{*")?;
-                self.expr(count)?;
-                self.list(parts.as_slice())?;
-                self.put("}")
-            }
-            ExprForm::Sign(signed, a) => {
-                self.tagged(if *signed { "signed" } else { "unsigned" }, &[a])
-            }
-            ExprForm::Paren(a) => self.tagged("", &[a]),
-        }
+        self.behind("", expr)
     }
 
+    /// An expression behind a text.
+    fn behind(&mut self, front: &str, expr: &Expr) -> Result<(), AllocError> {
+        self.put(front)?;
+        self.put(opening(&expr.form))?;
+        self.put(tag(&expr.form))?;
+        match &expr.form {
+            ExprForm::Number(value) => self.four(value)?,
+            ExprForm::Name(name) => self.bytes.extend_from_slice(name.as_slice())?,
+            ExprForm::Unary(_, a) | ExprForm::Sign(_, a) | ExprForm::Paren(a) => {
+                self.behind(" ", a)?;
+            }
+            ExprForm::Bit { of: a, index: b } | ExprForm::Binary(_, a, b) => {
+                self.behind(" ", a)?;
+                self.behind(" ", b)?;
+            }
+            ExprForm::Part {
+                of: a,
+                high: b,
+                low: c,
+                ..
+            }
+            | ExprForm::Slide {
+                of: a,
+                base: b,
+                width: c,
+                ..
+            }
+            | ExprForm::Choice {
+                test: a,
+                yes: b,
+                no: c,
+            } => {
+                self.behind(" ", a)?;
+                self.behind(" ", b)?;
+                self.behind(" ", c)?;
+            }
+            ExprForm::Concat(parts) => {
+                for part in parts {
+                    self.behind(" ", part)?;
+                }
+            }
+            ExprForm::Repeat(count, parts) => {
+                self.behind("", count)?;
+                for part in parts {
+                    self.behind(" ", part)?;
+                }
+            }
+        }
+        self.put(closing(&expr.form))
+    }
+
+    #[cycle(statement_text)]
     fn arm(&mut self, arm: &Arm) -> Result<(), AllocError> {
         self.put(" [")?;
         self.list(arm.labels.as_slice())?;
@@ -136,6 +156,7 @@ impl Shown {
         self.put("]")
     }
 
+    #[cycle(statement_text)]
     pub(crate) fn statement(&mut self, statement: &Statement) -> Result<(), AllocError> {
         match &statement.form {
             StatementForm::Block(parts) => {
@@ -411,5 +432,35 @@ fn case_text(kind: CaseKind) -> &'static str {
         CaseKind::Exact => "case",
         CaseKind::AnyZ => "casez",
         CaseKind::AnyXZ => "casex",
+    }
+}
+
+fn opening(form: &ExprForm) -> &'static str {
+    match form {
+        ExprForm::Number(_) | ExprForm::Name(_) => "",
+        ExprForm::Concat(_) => "{",
+        ExprForm::Repeat(..) => "{*",
+        _ => "(",
+    }
+}
+
+fn closing(form: &ExprForm) -> &'static str {
+    match form {
+        ExprForm::Number(_) | ExprForm::Name(_) => "",
+        ExprForm::Concat(_) | ExprForm::Repeat(..) => "}",
+        _ => ")",
+    }
+}
+
+fn tag(form: &ExprForm) -> &'static str {
+    match form {
+        ExprForm::Bit { .. } => "bit",
+        ExprForm::Part { .. } => "part",
+        ExprForm::Slide { up, .. } => if *up { "up" } else { "down" },
+        ExprForm::Unary(op, _) => unary_text(*op),
+        ExprForm::Binary(op, _, _) => binary_text(*op),
+        ExprForm::Choice { .. } => "?",
+        ExprForm::Sign(signed, _) => if *signed { "signed" } else { "unsigned" },
+        _ => "",
     }
 }
