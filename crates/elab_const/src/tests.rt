@@ -318,8 +318,8 @@ fn faults_of_widths(rt: HostRuntime) {
     }
 }
 
-/// The loop over `i` of a first value, a test and a step, at column 50.
-fn loop_of(rt: &impl Abort, alloc: Global, text: &str) -> For {
+/// The loop over `i` of a first value, a test and a step of this variable, at column 50.
+fn loop_of(rt: &impl Abort, alloc: Global, text: &str, target: &str) -> For {
     let (first, rest) = text.split_once(" ; ").expect(rt, text);
     let (test, step) = rest.split_once(" ; ").expect(rt, text);
     let body = Statement {
@@ -331,7 +331,7 @@ fn loop_of(rt: &impl Abort, alloc: Global, text: &str) -> For {
         name: expression(rt, alloc, "i"),
         first: expression(rt, alloc, first),
         test: expression(rt, alloc, test),
-        target: expression(rt, alloc, "i"),
+        target: expression(rt, alloc, target),
         step: expression(rt, alloc, step),
         body: Box::new(alloc, body).expect(rt, "memory"),
     }
@@ -342,7 +342,7 @@ fn turns_of_loops(rt: HostRuntime) {
     let scope = scope_of_signals(&rt, rt.alloc());
     for line in LOOPS.lines().filter(|line| !line.is_empty()) {
         let (text, want) = line.split_once(" =").expect(&rt, line);
-        let header = loop_of(&rt, rt.alloc(), text);
+        let header = loop_of(&rt, rt.alloc(), text, "i");
         let found = turns(rt.alloc(), &header, &scope);
         if let Ok(turns) = &found {
             let mut values = want.split_whitespace();
@@ -359,9 +359,16 @@ fn turns_of_loops(rt: HostRuntime) {
 
 #[test]
 fn the_most_turns_of_a_loop(rt: HostRuntime) {
-    let header = loop_of(&rt, rt.alloc(), "0 ; i 1024 < ; i 1 +");
+    let header = loop_of(&rt, rt.alloc(), "0 ; i 1024 < ; i 1 +", "i");
     let found = turns(rt.alloc(), &header, &Scope::new(rt.alloc())).expect(&rt, "1024 turns");
     assert_eq!(rt; found.len(), 1024);
+}
+
+#[test]
+fn a_step_of_another_variable(rt: HostRuntime) {
+    let header = loop_of(&rt, rt.alloc(), "0 ; i 3 < ; i 1 +", "j");
+    let found = turns(rt.alloc(), &header, &Scope::new(rt.alloc()));
+    assert_eq!(rt; told(found), fault_of("LoopNotConstant", 50));
 }
 
 #[test]
