@@ -1,5 +1,5 @@
 -- The parts of a concatenation, one after the other.
-use Rattle.std.proofs.Common.{◌≡◌, ◌<◌, ◌≤◌, ◌+◌, ◌++◌, ℕ, List, length, length-append, drop, drop-cons, get_or, add-one, refl, ap, subst, arith, Option, None}
+use Rattle.std.proofs.Common.{◌≡◌, ◌<◌, ◌≤◌, ◌+◌, ◌++◌, ℕ, List, length, length-append, drop, drop-cons, append_assoc, get_or, add-one, refl, ap, subst, arith, Option, Some, None}
 use Rattle.four_state.specs.declared.bit.Bit.{Bit}
 use Rattle.verilog_tree.specs.Tree as t
 use Rattle.verilog_tree.specs.Tree.{Exprs, no_exprs, exprs_of, an_expr}
@@ -44,3 +44,18 @@ next_part_is parts i d e within is = rw is (next_part parts i d within)
 -- a part of parts without a fault has none
 pub part_sound : (g : Names) (parts : List Expr) (i : ℕ) (d e : Expr) → i < length parts → e ≡ get_or parts i d → first_fault g None (exprs_of (exprs_view (drop i parts))) ≡ None → fault_of g (expr_view e) ≡ None
 part_sound g parts i d e within is sound = (sound_parts g (expr_view e) (exprs_of (exprs_view (drop (i + 1) parts))) (subst (λ es. first_fault g None es ≡ None) (next_part_is parts i d e within is) sound)).0
+
+-- what is found behind a part without a fault, and behind one with it
+pub part_found : (g : Names) (o : Option Fault) (e : t.Expr) (es : Exprs) → fault_of g e ≡ None → first_fault g o (an_expr e es) ≡ first_fault g o es
+part_found g None e es none = rw none refl
+part_found g (Some f) e es none = rw none refl
+
+pub part_failed : (g : Names) (o : Option Fault) (e : t.Expr) (es : Exprs) (h r : Fault) → fault_of g e ≡ Some h → Some r ≡ earlier o (Some h) → first_fault g (Some r) es ≡ first_fault g o (an_expr e es)
+part_failed g o e es h r is first = rw (is, first) refl
+
+-- one part more: its width and its bits
+pub width_with : (g : Names) (e : t.Expr) (es : Exprs) (w n k all : ℕ) → w + (parts_of g (an_expr e es)).width ≡ all → n ≡ (meaning g e).shape.width → k ≡ w + n → k + (parts_of g es).width ≡ all
+width_with g e es w n k all whole here more = omega arith
+
+pub bits_with : (g : Names) (e : t.Expr) (es : Exprs) (before after all : List Bit) → (parts_of g (an_expr e es)).bits ++ before ≡ all → after ≡ alone (meaning g e) ++ before → (parts_of g es).bits ++ after ≡ all
+bits_with g e es before after all whole more = rw (more, ← append_assoc) whole

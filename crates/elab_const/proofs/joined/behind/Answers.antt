@@ -1,0 +1,6 @@
+use Rattle.std.proofs.Common.{◌≡◌, ◌++◌, sym, append-nil}
+use Rattle.elab_const.specs.Meaning.{bits_before}
+use Rattle.elab_const.proofs.joined.behind.Goals as goal
+
+pub returns-in-None : goal.returns-in-None
+returns-in-None c = rw c.in-None.is (sym (append-nil c.args.part.now.bits))
