@@ -7,8 +7,8 @@ use Rattle.cov_host.specs.declared.place.Place.{Place}
 use Rattle.design_model.specs.Value.{copies}
 use Rattle.four_state.specs.declared.bit.Bit.{Bit}
 use Rattle.four_state.specs.declared.index.Index.{Index}
-use Rattle.verilog_tree.specs.Tree.{Expr, Exprs, place_of}
-use Rattle.elab_const.specs.Scope.{Names, Fault, ConstKind, NotConstant, BadRange, TooWide, IsWidth, fault_at, fault_if, both, earlier, on_ok, or_else, unless}
+use Rattle.verilog_tree.specs.Tree.{Expr, place_of}
+use Rattle.elab_const.specs.Scope.{Names, Fault, ConstKind, NotConstant, BadRange, TooWide, IsWidth, fault_if, both, earlier, on_ok, or_else, unless}
 use Rattle.elab_const.specs.Meaning.{Shape, Evaluated, Joined, number_of, count_of, constant, shape_as, bits_before, bits_within}
 use Rattle.elab_const.specs.Faults.{fault_of, is_constant, is_no_number, number_fault, is_bad_bound, is_below_one, size_fault, bound_from, size_from, count_from, number_answer, bound_answer, size_answer, count_answer}
 
@@ -29,14 +29,7 @@ pub made_or_fault : {A B : Type 0} (f : Option Fault) (a : A) (h : A → Option 
 made_or_fault None a h k = refl
 made_or_fault (Some f) a h k = refl
 
--- of two faults none is there
-pub neither : (f h : Option Fault) → earlier f h ≡ None → (f ≡ None) × (h ≡ None)
-neither None None e = (refl, refl)
-neither None (Some h) e = absurd cc
-neither (Some f) None e = absurd cc
-neither (Some f) (Some h) e = absurd cc
-
--- nor the first or the second of two in turn
+-- of two faults in turn none is there
 pub none_in_turn : (f h : Option Fault) → or_else f h ≡ None → (f ≡ None) × (h ≡ None)
 none_in_turn None h e = (refl, e)
 none_in_turn (Some f) h e = absurd cc
@@ -71,11 +64,6 @@ size_is g p e n r number from =
 pub count_is : (g : Names) (p : Place) (e : Expr) (n : Result Index Fault) (r : Result ℕ Fault) → n ≡ number_answer g e → r ≡ on_ok n (count_from p) → r ≡ count_answer g p e
 count_is g p e n r number from =
     from ∙ of_made_or (number_fault g e (fault_of g e)) (number_of g e) (λ i. fault_if (is_below_one i) BadRange p) (λ i. count_of i) n number
-
--- an answer that failed fails for any other value too
-pub failed : {A B : Type 0} (f : Option Fault) (a : A) (b : B) (h : Fault) → unless f a ≡ Err h → Err h ≡ unless f b
-failed None a b h e = absurd cc
-failed (Some f) a b h e = cc
 
 -- an answer that was found has no fault, and is the value
 pub found : {A : Type 0} (f : Option Fault) (a x : A) → unless f a ≡ Ok x → (f ≡ None) × (a ≡ x)
@@ -116,30 +104,11 @@ pub number_is : (g : Names) (e : Expr) (p : Place) → is_constant g e ≡ true 
     ≡ unless (or_else (if is_constant g e then fault_of g e else fault_if true NotConstant (place_of e)) (fault_if (is_no_number (number_of g e)) NotConstant (place_of e))) (number_of g e)
 number_is g e p con here = rw (con, here) refl
 
--- the value of an expression that is constant, and of one that is not
+-- the value of an expression that is constant
 pub constant_is : (g : Names) (e : Expr) → is_constant g e ≡ true → unless (fault_of g e) (constant g e) ≡ unless (if is_constant g e then fault_of g e else fault_if true NotConstant (place_of e)) (constant g e)
 constant_is g e con = rw con refl
 
-pub no_constant : (g : Names) (e : Expr) (p : Place) → is_constant g e ≡ false → place_of e ≡ p → Err (fault_at NotConstant p) ≡ unless (if is_constant g e then fault_of g e else fault_if true NotConstant (place_of e)) (constant g e)
-no_constant g e p con here = rw (con, here) refl
-
--- parts side by side, in what stands around them
-pub concat_is : (p : Place) (around : Option Shape) (f : Option Fault) (w : ℕ) (bs : List Bit) (j : Result Joined Fault) (r : Result Evaluated Fault) →
-    on_ok j (λ x. Ok x.width) ≡ unless f w → IfOk j (λ x. x.width ≤ 128 → bits_before x.value ≡ bs) →
-    r ≡ on_ok j (λ x. unless (size_fault x.width p) (bits_within (shape_as x.width false) (bits_before x.value) around)) →
-    r ≡ unless (or_else f (size_fault w p)) (bits_within (shape_as w false) bs around)
-concat_is p around (Some f) w bs (Err h) r width bits e = e ∙ cc
-concat_is p around None w bs (Err h) r width bits e = absurd cc
-concat_is p around (Some f) w bs (Ok x) r width bits e = absurd cc
-concat_is p around None w bs (Ok x) r width bits e =
-    let same : x.width ≡ w = cc in
-    e ∙ subst (λ n. unless (size_fault x.width p) (bits_within (shape_as x.width false) (bits_before x.value) around) ≡ unless (size_fault n p) (bits_within (shape_as n false) bs around)) same (go (size_fault x.width p) refl)
-  where
-    go : (o : Option Fault) → size_fault x.width p ≡ o → unless o (bits_within (shape_as x.width false) (bits_before x.value) around) ≡ unless o (bits_within (shape_as x.width false) bs around)
-    go (Some h) is = refl
-    go None none = ap (λ b. Ok (bits_within (shape_as x.width false) b around)) (bits (width_within x.width p none).1)
-
--- so many of them
+-- so many copies of parts side by side, in what stands around them
 pub repeat_is : (p : Place) (around : Option Shape) (h f : Option Fault) (n w : ℕ) (bs : List Bit) (k : Result ℕ Fault) (j : Result Joined Fault) (q : Result (ℕ × Joined) Fault) (r : Result Evaluated Fault) →
     k ≡ unless h n → on_ok j (λ x. Ok x.width) ≡ unless f w → IfOk j (λ x. x.width ≤ 128 → bits_before x.value ≡ bs) → q ≡ both k j →
     r ≡ on_ok q (λ x. unless (size_fault (x.0 * x.1.width) p) (bits_within (shape_as (x.0 * x.1.width) false) (copies x.0 (bits_before x.1.value)) around)) →

@@ -1,5 +1,5 @@
 -- The contexts of operands, and their widths and signs.
-use Rattle.std.proofs.Common.{◌≡◌, ◌≤◌, ◌∙◌, ℕ, Bool, true, false, max, ◌&&◌, refl, sym, ap, subst, arith, if◌then◌else◌, length, Option, Some, None, Result, Ok, Err}
+use Rattle.std.proofs.Common.{◌≡◌, ◌∙◌, ℕ, Bool, true, false, ◌&&◌, refl, sym, ap, arith, if◌then◌else◌, Option, Some, None, Result, Ok}
 use Rattle.std.specs.Prelude.{IfOk}
 use Rattle.std.specs.Bool.{OnTrue}
 use Rattle.four_state.specs.Operators.{takes_same_shape, SameShape, unary_value}
@@ -9,7 +9,7 @@ use Rattle.four_state.specs.declared.operator.Binary.TheVariants as op
 use Rattle.four_state.specs.declared.operator.Unary.{Unary}
 use Rattle.design_model.specs.Shape.{is_wide_unary}
 use Rattle.elab_const.specs.Scope.{Fault, both, earlier, unless}
-use Rattle.elab_const.specs.Meaning.{Shape, Meaning, Evaluated, at, within, bits_within, means, both_at, pair_within, operands_within, one_bit, shape_as, common_shape, context_of, vector_in, unary_shape, unary_bits, operand_shape, around_operand, operands_of, operand_values}
+use Rattle.elab_const.specs.Meaning.{Shape, Meaning, Evaluated, at, within, bits_within, means, pair_within, operands_within, one_bit, shape_as, common_shape, context_of, vector_in, unary_shape, unary_bits, operand_shape, around_operand, operands_of, operand_values}
 use Rattle.elab_const.specs.Faults.{beside, shape_in, value_in}
 use Rattle.elab_const.proofs.ContextLemmas.{length-fit}
 

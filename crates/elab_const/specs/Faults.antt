@@ -1,5 +1,5 @@
 -- The first fault of an expression: of its constants, bounds and widths.
-use Rattle.std.specs.Prelude.{ℕ, ◌*◌, nat_lt, Bool, true, false, not, ◌&&◌, ◌||◌, if◌then◌else◌, List, Option, Some, None, Result, Ok, Err}
+use Rattle.std.specs.Prelude.{ℕ, ◌*◌, nat_lt, Bool, true, false, ◌&&◌, if◌then◌else◌, List, Option, Some, None, Result, Ok, Err}
 use Rattle.cov_host.specs.declared.place.Place.{Place}
 use Rattle.four_state.specs.declared.index.Index.{Index}
 use Rattle.four_state.specs.declared.index.Index.TheVariants as number
@@ -8,7 +8,7 @@ use Rattle.four_state.specs.declared.bit.Bit.{Bit}
 use Rattle.four_state.specs.declared.operator.Binary.{Binary}
 use Rattle.verilog_tree.specs.Tree.{Expr, literal, identifier, bit_select, part_select, indexed_part, unary_operator, binary_operator, conditional, concatenation, replication, sign_cast, parentheses, Exprs, no_exprs, an_expr, place_of}
 use Rattle.elab_const.specs.Scope.{Names, Entry, Constant, Turn, Fault, NotConstant, TooWide, BadRange, fault_if, earlier, or_else, unless}
-use Rattle.elab_const.specs.Meaning.{Shape, Evaluated, context_of, within, pair_within, operands_within, number_of, count_of, part_width, falls, shape, constant, parts_of, meaning, vector_in}
+use Rattle.elab_const.specs.Meaning.{Shape, Evaluated, context_of, within, pair_within, operands_within, number_of, count_of, part_width, falls, shape, constant, parts_of, meaning}
 
 -- a parameter, or a loop variable in one turn
 abbrev pub is_constant_entry : Option Entry → Bool

@@ -1,6 +1,5 @@
 -- The width and sign of an expression, and its value in a context (IEEE 1364-2001, 4.4 and 4.5).
-use Rattle.std.specs.Prelude.{◌≡◌, ◌≤◌, ℕ, zero, suc, ◌+◌, ◌*◌, ◌-◌, max, nat_le, Bool, true, false, not, ◌&&◌, ◌||◌, if◌then◌else◌, List, [], ◌∷◌, ◌++◌, length, Option, Some, None}
-use Rattle.cov_host.specs.declared.place.Place.{Place}
+use Rattle.std.specs.Prelude.{◌≡◌, ◌≤◌, ℕ, ◌+◌, ◌*◌, ◌-◌, max, nat_le, Bool, true, false, not, ◌&&◌, ◌||◌, if◌then◌else◌, List, [], ◌∷◌, ◌++◌, length, Option, Some, None}
 use Rattle.four_state.specs.Vector.{Vector, truth, extend}
 use Rattle.four_state.specs.Operators.{unary_value, binary_value, choice_value}
 use Rattle.four_state.specs.Parts.{index, index_of}

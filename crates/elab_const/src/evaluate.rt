@@ -213,7 +213,7 @@ fn operands(
 }
 
 /// Two expressions in their common context, or their first fault. The width of one must be known before the other can be
-/// evaluated, so one is looked at twice: the one in which fewer counts stand. Else the time would double with each level.
+/// evaluated, so one is looked at twice: the one with fewer repeats. Else the time could double with each nested count.
 #[cycle(evaluate)]
 fn pair(
     names: &Names,

@@ -1,8 +1,15 @@
+ghost use Rattle.std.specs.Prelude.{◌≡◌, min};
+ghost use Rattle.verilog_tree.specs.Tree.{exprs_of};
+ghost use Rattle.verilog_tree.specs.View.{expr_view, exprs_view};
+ghost use Rattle.elab_const.specs.Weight as spec;
+
 use verilog_tree::{Expr, ExprForm};
 
-/// How many repeats stand in an expression, also in their counts.
+/// How many repeats stand in an expression, also in their counts, as far as a number can say it.
 #[cycle(weight)]
-pub(crate) fn repeats(expr: &Expr) -> u64 {
+pub(crate) fn repeats(expr: &Expr) -> u64
+    ensures { result ≡ min (spec.repeats (expr_view expr.now)) 18446744073709551615 }
+{
     match &expr.form {
         ExprForm::Number(_) | ExprForm::Name(_) => 0,
         ExprForm::Bit { of, index } => repeats(of).saturating_add(repeats(index)),
@@ -36,7 +43,9 @@ pub(crate) fn repeats(expr: &Expr) -> u64 {
 
 /// The same of all of them together.
 #[cycle(weight)]
-fn repeats_of_all(parts: &[Expr]) -> u64 {
+fn repeats_of_all(parts: &[Expr]) -> u64
+    ensures { result ≡ min (spec.repeats_of_all (exprs_of (exprs_view parts.now))) 18446744073709551615 }
+{
     let mut sum: u64 = 0;
     for part in parts {
         sum = sum.saturating_add(repeats(part));

@@ -1,4 +1,4 @@
-use Rattle.std.proofs.Common.{◌≡◌, ◌∙◌, ◌*◌, length, sym, ap, subst, arith, false, Ok}
+use Rattle.std.proofs.Common.{◌∙◌, ◌*◌, length, sym, ap, arith, false}
 use Rattle.elab_const.specs.Meaning.{bits_before, shape_as}
 use Rattle.elab_const.specs.Faults.{size_fault}
 use Rattle.elab_const.proofs.AnswerLemmas.{found, factors, width_within}

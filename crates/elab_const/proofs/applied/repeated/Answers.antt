@@ -1,4 +1,4 @@
-use Rattle.std.proofs.Common.{◌<◌, arith, refl, sym, append-nil}
+use Rattle.std.proofs.Common.{◌<◌, arith, sym, append-nil}
 use Rattle.elab_const.proofs.ContextLemmas.{copies_fit}
 use Rattle.elab_const.proofs.applied.repeated.Goals as goal
 

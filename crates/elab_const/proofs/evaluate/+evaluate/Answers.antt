@@ -1,4 +1,4 @@
-use Rattle.std.proofs.Common.{◌≡◌, ◌<◌, ◌≤◌, ◌+◌, ◌*◌, ◌++◌, ◌∷◌, ◌∙◌, length, sym, ap, subst, false, None, Ok, [], drop, refl, arith}
+use Rattle.std.proofs.Common.{◌≡◌, ◌<◌, ◌+◌, ◌*◌, ◌++◌, ◌∷◌, ◌∙◌, length, sym, ap, subst, false, None, [], drop, refl, arith}
 use Rattle.std.specs.Prelude.{IfOk}
 use Rattle.std.specs.Bool.{OnTrue}
 use Rattle.four_state.specs.Operators.{takes_same_shape, SameShape, unary_value, choice_value}
@@ -6,14 +6,14 @@ use Rattle.four_state.specs.Vector.{truth}
 use Rattle.four_state.specs.declared.bit.Bit.TheVariants.{X}
 use Rattle.verilog_tree.specs.Tree.{exprs_of}
 use Rattle.verilog_tree.specs.View.{expr_view, exprs_view}
-use Rattle.elab_const.specs.Scope.{look_up, earlier, or_else, on_ok, fault_if, unless, NotConstant}
-use Rattle.elab_const.specs.Meaning.{meaning, shape, shape_as, within, bits_within, pair_within, operands_within, select_shape, unary_shape, binary_shape, common_shape, part_width, falls, number_of, number_in, count_of, parts_of, pair_bits, constant, bits_before}
+use Rattle.elab_const.specs.Scope.{look_up, earlier, fault_if, unless, NotConstant}
+use Rattle.elab_const.specs.Meaning.{meaning, shape, shape_as, within, bits_within, pair_within, operands_within, select_shape, unary_shape, binary_shape, common_shape, part_width, number_of, number_in, count_of, parts_of, pair_bits, constant, bits_before}
 use Rattle.elab_const.specs.Faults.{shape_answer, evaluated_answer, fault_of, bound_fault, width_fault, count_fault, first_fault, size_fault, is_no_number}
-use Rattle.elab_const.proofs.AnswerLemmas.{of_both, of_made, of_made_or, bound_is, size_is, count_is, number_is, found, is_fault, concat_is, repeat_is}
+use Rattle.elab_const.proofs.AnswerLemmas.{of_both, of_made, of_made_or, bound_is, size_is, count_is, number_is, found, is_fault, repeat_is}
 use Rattle.elab_const.proofs.PartLemmas.{next_part_is, part_found, part_failed, width_with, bits_with}
 use Rattle.elab_const.proofs.ContextLemmas.{length_alone}
 use Rattle.elab_const.proofs.ValueLemmas.{fit_answer, fit_sides, unary_is, pair_is, shape_of, value_of}
-use Rattle.elab_const.proofs.ViewLemmas.{bit_view, part_view, slide_view, unary_view, binary_view, choice_view, repeat_view, sign_view, place_is}
+use Rattle.elab_const.proofs.ViewLemmas.{bit_view, unary_view, binary_view, choice_view, repeat_view, sign_view, place_is}
 use Rattle.elab_const.proofs.evaluate.+evaluate.Goals.{joined_parts-in-Ok, joined_parts-in-Err}
 use Rattle.elab_const.proofs.evaluate.+evaluate.Goals as goal
 

@@ -1,5 +1,4 @@
-use Rattle.std.proofs.Common.{◌≡◌, ◌++◌, sym, append-nil}
-use Rattle.elab_const.specs.Meaning.{bits_before}
+use Rattle.std.proofs.Common.{sym, append-nil}
 use Rattle.elab_const.proofs.joined.behind.Goals as goal
 
 pub returns-in-None : goal.returns-in-None

@@ -1,6 +1,6 @@
 use Rattle.std.proofs.Common.{◌≡◌, ◌∙◌, sym, ap, max, true, Some, Ok, arith}
 use Rattle.verilog_tree.specs.View.{expr_view}
-use Rattle.elab_const.specs.Scope.{look_up, unless}
+use Rattle.elab_const.specs.Scope.{look_up}
 use Rattle.elab_const.specs.Meaning.{meaning, shape, shape_as, within, vector_in}
 use Rattle.elab_const.specs.Faults.{fault_of}
 use Rattle.elab_const.specs.Loops.{integer_value, integer_in}
