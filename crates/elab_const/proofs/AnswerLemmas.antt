@@ -1,13 +1,16 @@
 -- Answers of the expressions in an expression, and its own.
-use Rattle.std.proofs.Common.{◌≡◌, ◌≤◌, ◌*◌, ℕ, zero, suc, Bool, true, false, nat_lt, refl, sym, ap, subst, IsErrAnd, if◌then◌else◌, ◌∙◌, ⊎_elim, arith, Option, Some, None, Result, Ok, Err}
+use Rattle.std.proofs.Common.{◌≡◌, ◌≤◌, ◌*◌, ℕ, zero, suc, Bool, true, false, nat_lt, refl, sym, ap, subst, if◌then◌else◌, ◌∙◌, ⊎_elim, arith, List, Option, Some, None, Result, Ok, Err}
+use Rattle.std.specs.Prelude.{IfOk}
 use Rattle.std.proofs.lemmas.Bool.{cases_lt, false≢true, lt-ltb}
 use Rattle.std.proofs.Math.Nat.{suc-mul, zero-mul, mul-zero}
 use Rattle.cov_host.specs.declared.place.Place.{Place}
+use Rattle.design_model.specs.Value.{copies}
+use Rattle.four_state.specs.declared.bit.Bit.{Bit}
 use Rattle.four_state.specs.declared.index.Index.{Index}
-use Rattle.verilog_tree.specs.Tree.{Expr, Exprs, place_of}
-use Rattle.elab_const.specs.Scope.{Names, Fault, ConstKind, NotConstant, BadRange, TooWide, IsWidth, fault_at, fault_if, both, earlier, on_ok, or_else, unless}
-use Rattle.elab_const.specs.Meaning.{number_of, count_of, constant, parts_of}
-use Rattle.elab_const.specs.Faults.{fault_of, first_fault, is_constant, is_no_number, number_fault, count_fault, width_answer, is_bad_bound, is_below_one, size_fault, bound_from, size_from, count_from, number_answer, bound_answer, size_answer, count_answer}
+use Rattle.verilog_tree.specs.Tree.{Expr, place_of}
+use Rattle.elab_const.specs.Scope.{Names, Fault, ConstKind, NotConstant, BadRange, TooWide, IsWidth, fault_if, both, earlier, on_ok, or_else, unless}
+use Rattle.elab_const.specs.Meaning.{Shape, Evaluated, Joined, number_of, count_of, constant, shape_as, bits_before, bits_within}
+use Rattle.elab_const.specs.Faults.{fault_of, is_constant, is_no_number, number_fault, is_bad_bound, is_below_one, size_fault, bound_from, size_from, count_from, number_answer, bound_answer, size_answer, count_answer}
 
 -- two answers are one of both
 pub both_answers : {A B : Type 0} (f h : Option Fault) (a : A) (b : B) → both (unless f a) (unless h b) ≡ unless (earlier f h) (a, b)
@@ -26,14 +29,7 @@ pub made_or_fault : {A B : Type 0} (f : Option Fault) (a : A) (h : A → Option 
 made_or_fault None a h k = refl
 made_or_fault (Some f) a h k = refl
 
--- of two faults none is there
-pub neither : (f h : Option Fault) → earlier f h ≡ None → (f ≡ None) × (h ≡ None)
-neither None None e = (refl, refl)
-neither None (Some h) e = absurd cc
-neither (Some f) None e = absurd cc
-neither (Some f) (Some h) e = absurd cc
-
--- nor the first or the second of two in turn
+-- of two faults in turn none is there
 pub none_in_turn : (f h : Option Fault) → or_else f h ≡ None → (f ≡ None) × (h ≡ None)
 none_in_turn None h e = (refl, e)
 none_in_turn (Some f) h e = absurd cc
@@ -69,15 +65,15 @@ pub count_is : (g : Names) (p : Place) (e : Expr) (n : Result Index Fault) (r : 
 count_is g p e n r number from =
     from ∙ of_made_or (number_fault g e (fault_of g e)) (number_of g e) (λ i. fault_if (is_below_one i) BadRange p) (λ i. count_of i) n number
 
--- an answer that failed fails for any other value too
-pub failed : {A B : Type 0} (f : Option Fault) (a : A) (b : B) (h : Fault) → unless f a ≡ Err h → Err h ≡ unless f b
-failed None a b h e = absurd cc
-failed (Some f) a b h e = cc
-
 -- an answer that was found has no fault, and is the value
 pub found : {A : Type 0} (f : Option Fault) (a x : A) → unless f a ≡ Ok x → (f ≡ None) × (a ≡ x)
 found None a x e = (refl, cc)
 found (Some f) a x e = absurd cc
+
+-- an answer that failed has that fault
+pub is_fault : {A : Type 0} (f : Option Fault) (a : A) (h : Fault) → unless f a ≡ Err h → f ≡ Some h
+is_fault None a h e = absurd cc
+is_fault (Some f) a h e = cc
 
 -- a fault that is none does not hold
 no_fault : (b : Bool) (k : ConstKind) (p : Place) → fault_if b k p ≡ None → b ≡ false
@@ -102,66 +98,40 @@ factors zero w within = absurd (omega (arith, zero-mul w, within.0))
 factors (suc n) zero within = absurd (omega (arith, mul-zero (suc n), within.0))
 factors (suc n) (suc w) within = (omega arith, (omega arith, omega (arith, suc-mul n (suc w), within.1)))
 
--- what is made of an answer that failed
-pub failed_at : {A B C : Type 0} (f : Option Fault) (a : A) (k : A → B) (x : C) (m : Result A Fault) (r : Result B Fault) (h : Fault) → m ≡ unless f a → r ≡ on_ok m (λ y. Ok (k y)) → r ≡ Err h → Err h ≡ unless f x
-failed_at f a k x m r h answer made err = failed f (k a) x h (sym (of_made f a k m answer) ∙ sym made ∙ err)
-
--- what is made of an answer that was found
-pub found_at : {A B : Type 0} (f : Option Fault) (a : A) (k : A → B) (y : B) (m : Result A Fault) (r : Result B Fault) → m ≡ unless f a → r ≡ on_ok m (λ z. Ok (k z)) → r ≡ Ok y → k a ≡ y
-found_at f a k y m r answer made ok = (found f (k a) y (sym (of_made f a k m answer) ∙ sym made ∙ ok)).1
-
 -- the number of an expression that is constant
 pub number_is : (g : Names) (e : Expr) (p : Place) → is_constant g e ≡ true → place_of e ≡ p →
     unless (or_else (fault_of g e) (fault_if (is_no_number (number_of g e)) NotConstant p)) (number_of g e)
     ≡ unless (or_else (if is_constant g e then fault_of g e else fault_if true NotConstant (place_of e)) (fault_if (is_no_number (number_of g e)) NotConstant (place_of e))) (number_of g e)
 number_is g e p con here = rw (con, here) refl
 
--- the value of an expression that is constant, and of one that is not
+-- the value of an expression that is constant
 pub constant_is : (g : Names) (e : Expr) → is_constant g e ≡ true → unless (fault_of g e) (constant g e) ≡ unless (if is_constant g e then fault_of g e else fault_if true NotConstant (place_of e)) (constant g e)
 constant_is g e con = rw con refl
 
-pub no_constant : (g : Names) (e : Expr) (p : Place) → is_constant g e ≡ false → place_of e ≡ p → Err (fault_at NotConstant p) ≡ unless (if is_constant g e then fault_of g e else fault_if true NotConstant (place_of e)) (constant g e)
-no_constant g e p con here = rw (con, here) refl
+-- so many copies of parts side by side, in what stands around them
+pub repeat_is : (p : Place) (around : Option Shape) (h f : Option Fault) (n w : ℕ) (bs : List Bit) (k : Result ℕ Fault) (j : Result Joined Fault) (q : Result (ℕ × Joined) Fault) (r : Result Evaluated Fault) →
+    k ≡ unless h n → on_ok j (λ x. Ok x.width) ≡ unless f w → IfOk j (λ x. x.width ≤ 128 → bits_before x.value ≡ bs) → q ≡ both k j →
+    r ≡ on_ok q (λ x. unless (size_fault (x.0 * x.1.width) p) (bits_within (shape_as (x.0 * x.1.width) false) (copies x.0 (bits_before x.1.value)) around)) →
+    r ≡ unless (or_else (earlier h f) (size_fault (n * w) p)) (bits_within (shape_as (n * w) false) (copies n bs) around)
+repeat_is p around h f n w bs k j q r times width bits pair e = rw (e, pair, times) (go h f j width bits)
+  where
+    made : Result (ℕ × Joined) Fault → Result Evaluated Fault
+    made q = on_ok q (λ x. unless (size_fault (x.0 * x.1.width) p) (bits_within (shape_as (x.0 * x.1.width) false) (copies x.0 (bits_before x.1.value)) around))
 
--- what a count that fits says
-pub record Fits (g : Names) (p : Place) (n : Expr) (es : Exprs) (times : ℕ) : Type 0 where
-  pub whole : or_else (earlier (count_fault g p n (fault_of g n)) (first_fault g None es)) (size_fault (count_of (number_of g n) * (parts_of g es).width) p) ≡ None
-  pub count : count_of (number_of g n) ≡ times
-  pub sound : first_fault g None es ≡ None
-  pub some : 1 ≤ times
-  pub width : IsWidth (parts_of g es).width
-  pub within : times * (parts_of g es).width ≤ 128
+    fits : (x : Joined) (o : Option Fault) → x.width ≡ w → (x.width ≤ 128 → bits_before x.value ≡ bs) → size_fault (n * x.width) p ≡ o →
+        unless o (bits_within (shape_as (n * x.width) false) (copies n (bits_before x.value)) around) ≡ unless o (bits_within (shape_as (n * x.width) false) (copies n bs) around)
+    fits x (Some h) same bits is = refl
+    fits x None same bits none = ap (λ b. Ok (bits_within (shape_as (n * x.width) false) (copies n b) around)) (bits (factors n x.width (width_within (n * x.width) p none)).1.1)
 
--- the answer for a count
-pub counted : (g : Names) (p : Place) (n : Expr) (es : Exprs) (times width : Result ℕ Fault) (pair : Result (ℕ × ℕ) Fault) (r : Result ℕ Fault) →
-    times ≡ count_answer g p n → width ≡ width_answer g es → pair ≡ both times width → r ≡ on_ok pair (λ q. unless (size_fault (q.0 * q.1) p) q.0) →
-    r ≡ unless (or_else (earlier (count_fault g p n (fault_of g n)) (first_fault g None es)) (size_fault (count_of (number_of g n) * (parts_of g es).width) p)) (count_of (number_of g n))
-counted g p n es times width pair r a b c d =
-    let fn = count_fault g p n (fault_of g n) in
-    let fs = first_fault g None es in
-    let whole = of_both fn fs (count_of (number_of g n)) (parts_of g es).width times width pair a b c in
-    d ∙ of_made_or (earlier fn fs) (count_of (number_of g n), (parts_of g es).width) (λ q. size_fault (q.0 * q.1) p) (λ q. q.0) pair whole
-
-pub fits : (g : Names) (p : Place) (n : Expr) (es : Exprs) (times : ℕ) (r : Result ℕ Fault) →
-    r ≡ unless (or_else (earlier (count_fault g p n (fault_of g n)) (first_fault g None es)) (size_fault (count_of (number_of g n) * (parts_of g es).width) p)) (count_of (number_of g n)) → r ≡ Ok times → Fits g p n es times
-fits g p n es times r answer ok =
-    let k = count_of (number_of g n) in
-    let w = (parts_of g es).width in
-    let both_faults = earlier (count_fault g p n (fault_of g n)) (first_fault g None es) in
-    let here = found (or_else both_faults (size_fault (k * w) p)) k times (sym answer ∙ ok) in
-    let none = none_in_turn both_faults (size_fault (k * w) p) here.0 in
-    let size = width_within (k * w) p none.1 in
-    let parts = factors k w size in
-    record {
-      whole = here.0;
-      count = here.1;
-      sound = (neither (count_fault g p n (fault_of g n)) (first_fault g None es) none.0).1;
-      some = subst (λ x. 1 ≤ x) here.1 parts.0;
-      width = parts.1;
-      within = subst (λ x. x * w ≤ 128) here.1 size.1;
-    }
-
--- a fault that is passed on
-pub passed_on : {A : Type 0} (r : Result A Fault) (h : Fault) → IsErrAnd r (λ y. y ≡ h) → r ≡ Err h
-passed_on (Ok x) h is = absurd is
-passed_on (Err y) h is = ap Err is
+    go : (h f : Option Fault) (j : Result Joined Fault) → on_ok j (λ x. Ok x.width) ≡ unless f w → IfOk j (λ x. x.width ≤ 128 → bits_before x.value ≡ bs) →
+        made (both (unless h n) j) ≡ unless (or_else (earlier h f) (size_fault (n * w) p)) (bits_within (shape_as (n * w) false) (copies n bs) around)
+    go None None (Ok x) width bits =
+        let same : x.width ≡ w = cc in
+        subst (λ m. unless (size_fault (n * x.width) p) (bits_within (shape_as (n * x.width) false) (copies n (bits_before x.value)) around) ≡ unless (size_fault (n * m) p) (bits_within (shape_as (n * m) false) (copies n bs) around)) same (fits x (size_fault (n * x.width) p) same bits refl)
+    go (Some h) None (Ok x) width bits = refl
+    go None (Some f) (Err y) width bits = cc
+    go (Some h) (Some f) (Err y) width bits = cc
+    go None (Some f) (Ok x) width bits = absurd cc
+    go (Some h) (Some f) (Ok x) width bits = absurd cc
+    go None None (Err y) width bits = absurd cc
+    go (Some h) None (Err y) width bits = absurd cc

@@ -2,7 +2,7 @@
 use Rattle.std.proofs.Common.{◌≡◌, ℕ, zero, suc, ◌+◌, ◌*◌, ◌<◌, ◌≤◌, List, [], ◌∷◌, length, length-append, refl, sym, ap, arith}
 use Rattle.std.proofs.Math.Nat.{mul-le-mul_right, suc-mul, zero-mul}
 use Rattle.design_model.specs.Value.{copies}
-use Rattle.four_state.specs.Vector.{fit, extend}
+use Rattle.four_state.specs.Vector.{fit}
 use Rattle.elab_const.specs.Meaning.{Meaning, alone}
 use Rattle.four_state.specs.declared.bit.Bit.{Bit}
 

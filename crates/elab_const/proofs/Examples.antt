@@ -1,8 +1,8 @@
 -- Widths, signs, values, faults and turns of expressions, computed.
 use Rattle.std.proofs.Common.{◌≡◌, refl}
-use Rattle.std.specs.Prelude.{true, false, List, [], ◌∷◌, length, None, Some, Ok, Err, codes}
+use Rattle.std.specs.Prelude.{true, false, [], ◌∷◌, None, Some, Ok, Err, codes}
 use Rattle.four_state.specs.declared.operator.Binary.TheVariants as op
-use Rattle.verilog_tree.specs.Tree.{Header, literal, identifier, bit_select, part_select, indexed_part, unary_operator, conditional, concatenation, replication, sign_cast, no_exprs, an_expr}
+use Rattle.verilog_tree.specs.Tree.{Header, literal, identifier, bit_select, part_select, indexed_part, conditional, concatenation, replication, sign_cast, no_exprs, an_expr}
 use Rattle.elab_const.specs.Scope.{Names, Constant, Signal, Memory, NotConstant, TooWide, BadRange, LoopNotConstant, fault_at, with_entry}
 use Rattle.elab_const.specs.Meaning.{shape, shape_as, constant}
 use Rattle.elab_const.specs.Faults.{fault_of, shape_answer, constant_answer}

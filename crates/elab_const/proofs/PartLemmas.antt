@@ -1,5 +1,5 @@
 -- The parts of a concatenation, one after the other.
-use Rattle.std.proofs.Common.{◌≡◌, ◌<◌, ◌≤◌, ◌+◌, ◌++◌, ℕ, List, length, length-append, drop, drop-cons, get_or, add-one, refl, ap, subst, arith, Option, None}
+use Rattle.std.proofs.Common.{◌≡◌, ◌<◌, ◌+◌, ◌++◌, ℕ, List, length, drop, drop-cons, append_assoc, get_or, add-one, refl, arith, Option, Some, None}
 use Rattle.four_state.specs.declared.bit.Bit.{Bit}
 use Rattle.verilog_tree.specs.Tree as t
 use Rattle.verilog_tree.specs.Tree.{Exprs, no_exprs, exprs_of, an_expr}
@@ -8,39 +8,28 @@ use Rattle.verilog_tree.specs.declared.expr.Expr.{Expr}
 use Rattle.elab_const.specs.Scope.{Names, Fault, earlier}
 use Rattle.elab_const.specs.Meaning.{meaning, alone, parts_of}
 use Rattle.elab_const.specs.Faults.{fault_of, first_fault}
-use Rattle.elab_const.proofs.AnswerLemmas.{neither}
-use Rattle.elab_const.proofs.ContextLemmas.{length_alone}
 
 -- the rest is the next part and what follows it
 pub next_part : (parts : List Expr) (i : ℕ) (d : Expr) → i < length parts →
     exprs_of (exprs_view (drop i parts)) ≡ an_expr (expr_view (get_or parts i d)) (exprs_of (exprs_view (drop (i + 1) parts)))
 next_part parts i d within = rw (drop-cons parts i d within, add-one i) refl
 
--- what is found without a fault began without one
-none_found : (g : Names) (o : Option Fault) (es : Exprs) → first_fault g o es ≡ None → o ≡ None
-none_found g o no_exprs h = h
-none_found g o (an_expr e es) h = (neither o (fault_of g e) (none_found g (earlier o (fault_of g e)) es h)).0
-
--- of parts without a fault the first has none, nor have the others
-pub sound_parts : (g : Names) (e : t.Expr) (es : Exprs) → first_fault g None (an_expr e es) ≡ None → (fault_of g e ≡ None) × (first_fault g None es ≡ None)
-sound_parts g e es h =
-    let first : fault_of g e ≡ None = none_found g (fault_of g e) es h in
-    (first, subst (λ o. first_fault g o es ≡ None) first h)
-
--- the bits of parts are as many as their widths
-pub length_parts : (g : Names) (es : Exprs) → length (parts_of g es).bits ≡ (parts_of g es).width
-length_parts g no_exprs = refl
-length_parts g (an_expr e es) = omega (arith, length-append (parts_of g es).bits (alone (meaning g e)), length_parts g es, length_alone (meaning g e))
-
--- one part more fits
-pub part_fits : (xs ys zs all : List Bit) → (xs ++ ys) ++ zs ≡ all → length all ≤ 128 → length zs + length ys ≤ 128
-part_fits xs ys zs all whole fits = omega (arith, length-append (xs ++ ys) zs, length-append xs ys, ap length whole)
-
 -- the same with the part by its name
 pub next_part_is : (parts : List Expr) (i : ℕ) (d e : Expr) → i < length parts → e ≡ get_or parts i d →
     exprs_of (exprs_view (drop i parts)) ≡ an_expr (expr_view e) (exprs_of (exprs_view (drop (i + 1) parts)))
 next_part_is parts i d e within is = rw is (next_part parts i d within)
 
--- a part of parts without a fault has none
-pub part_sound : (g : Names) (parts : List Expr) (i : ℕ) (d e : Expr) → i < length parts → e ≡ get_or parts i d → first_fault g None (exprs_of (exprs_view (drop i parts))) ≡ None → fault_of g (expr_view e) ≡ None
-part_sound g parts i d e within is sound = (sound_parts g (expr_view e) (exprs_of (exprs_view (drop (i + 1) parts))) (subst (λ es. first_fault g None es ≡ None) (next_part_is parts i d e within is) sound)).0
+-- what is found behind a part without a fault, and behind one with it
+pub part_found : (g : Names) (o : Option Fault) (e : t.Expr) (es : Exprs) → fault_of g e ≡ None → first_fault g o (an_expr e es) ≡ first_fault g o es
+part_found g None e es none = rw none refl
+part_found g (Some f) e es none = rw none refl
+
+pub part_failed : (g : Names) (o : Option Fault) (e : t.Expr) (es : Exprs) (h r : Fault) → fault_of g e ≡ Some h → Some r ≡ earlier o (Some h) → first_fault g (Some r) es ≡ first_fault g o (an_expr e es)
+part_failed g o e es h r is first = rw (is, first) refl
+
+-- one part more: its width and its bits
+pub width_with : (g : Names) (e : t.Expr) (es : Exprs) (w n k all : ℕ) → w + (parts_of g (an_expr e es)).width ≡ all → n ≡ (meaning g e).shape.width → k ≡ w + n → k + (parts_of g es).width ≡ all
+width_with g e es w n k all whole here more = omega arith
+
+pub bits_with : (g : Names) (e : t.Expr) (es : Exprs) (before after all : List Bit) → (parts_of g (an_expr e es)).bits ++ before ≡ all → after ≡ alone (meaning g e) ++ before → (parts_of g es).bits ++ after ≡ all
+bits_with g e es before after all whole more = rw (more, ← append_assoc) whole

@@ -1,13 +1,14 @@
 -- The first fault of an expression: of its constants, bounds and widths.
-use Rattle.std.specs.Prelude.{ℕ, ◌*◌, nat_lt, Bool, true, false, not, ◌&&◌, ◌||◌, if◌then◌else◌, List, Option, Some, None, Result}
+use Rattle.std.specs.Prelude.{ℕ, ◌*◌, nat_lt, Bool, true, false, ◌&&◌, if◌then◌else◌, List, Option, Some, None, Result, Ok, Err}
 use Rattle.cov_host.specs.declared.place.Place.{Place}
 use Rattle.four_state.specs.declared.index.Index.{Index}
 use Rattle.four_state.specs.declared.index.Index.TheVariants as number
 use Rattle.four_state.specs.Vector.{Vector}
 use Rattle.four_state.specs.declared.bit.Bit.{Bit}
+use Rattle.four_state.specs.declared.operator.Binary.{Binary}
 use Rattle.verilog_tree.specs.Tree.{Expr, literal, identifier, bit_select, part_select, indexed_part, unary_operator, binary_operator, conditional, concatenation, replication, sign_cast, parentheses, Exprs, no_exprs, an_expr, place_of}
 use Rattle.elab_const.specs.Scope.{Names, Entry, Constant, Turn, Fault, NotConstant, TooWide, BadRange, fault_if, earlier, or_else, unless}
-use Rattle.elab_const.specs.Meaning.{Shape, number_of, count_of, part_width, falls, shape, constant, parts_of, meaning, vector_in}
+use Rattle.elab_const.specs.Meaning.{Shape, Evaluated, context_of, within, pair_within, operands_within, number_of, count_of, part_width, falls, shape, constant, parts_of, meaning}
 
 -- a parameter, or a loop variable in one turn
 abbrev pub is_constant_entry : Option Entry → Bool
@@ -129,17 +130,36 @@ number_answer g e = unless (number_fault g e (fault_of g e)) (number_of g e)
 abbrev pub alone_answer : Names → Expr → Result Vector Fault
 alone_answer g e = unless (fault_of g e) (constant g e)
 
--- the value of an expression in a context, or its first fault
-abbrev pub value_answer : Names → Expr → Shape → Result Vector Fault
-value_answer g e s = unless (fault_of g e) (vector_in (meaning g e) s)
+-- the shape and the value of an expression in what stands around it, or its first fault
+abbrev pub evaluated_answer : Names → Expr → Option Shape → Result Evaluated Fault
+evaluated_answer g e around = unless (fault_of g e) (within (meaning g e) around)
+
+-- the same of two expressions in their common context
+abbrev pub pair_answer : Names → Expr → Expr → Option Shape → Result (Evaluated × Evaluated) Fault
+pair_answer g a b around = unless (earlier (fault_of g a) (fault_of g b)) (pair_within (meaning g a) (meaning g b) around)
+
+-- the same of both operands of an operator
+abbrev pub operands_answer : Names → Binary → Expr → Expr → Option Shape → Result (Evaluated × Evaluated) Fault
+operands_answer g op a b around = unless (earlier (fault_of g a) (fault_of g b)) (operands_within op (meaning g a) (meaning g b) around)
+
+-- the shape in an answer
+abbrev pub shape_in : Result Evaluated Fault → Result Shape Fault
+shape_in (Ok e) = Ok e.shape
+shape_in (Err f) = Err f
+
+-- the value in an answer
+abbrev pub value_in : Result Evaluated Fault → Result Vector Fault
+value_in (Ok e) = Ok e.value
+value_in (Err f) = Err f
+
+-- what stands around an operand, with the other operand, if that has no fault
+abbrev pub beside : Option Shape → Result Shape Fault → Option Shape
+beside around (Ok s) = Some (context_of around s)
+beside around (Err f) = around
 
 -- an unsigned vector
 abbrev pub unsigned : List Bit → Vector
 unsigned bs = record { bits = bs; signed = false }
-
--- the parts of a concatenation that begins here, or their first fault
-abbrev pub joined_answer : Names → Place → Exprs → Result Vector Fault
-joined_answer g p es = unless (or_else (first_fault g None es) (size_fault (parts_of g es).width p)) (unsigned (parts_of g es).bits)
 
 -- a bound of the part with this bracket
 abbrev pub bound_answer : Names → Place → Expr → Result ℕ Fault

@@ -5,3 +5,4 @@ pub mod Faults
 pub mod Loops
 pub mod Calls
 pub mod Cases
+pub mod Weight

@@ -1,5 +1,5 @@
 -- The turns of a loop: the values of its variable in order, or what is wrong with its header (clause 9.6).
-use Rattle.std.specs.Prelude.{ℕ, zero, suc, max, Bool, true, false, not, ◌&&◌, if◌then◌else◌, List, [], ◌∷◌, bytes_eq, Option, Some, None, Result, Ok, Err}
+use Rattle.std.specs.Prelude.{ℕ, zero, suc, max, Bool, true, false, ◌&&◌, if◌then◌else◌, List, [], ◌∷◌, bytes_eq, Option, Some, None, Result, Ok, Err}
 use Rattle.cov_host.specs.declared.place.Place.{Place}
 use Rattle.four_state.specs.Vector.{Vector, truth, extend}
 use Rattle.four_state.specs.declared.bit.Bit.TheVariants.{X}

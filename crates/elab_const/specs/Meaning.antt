@@ -1,6 +1,5 @@
 -- The width and sign of an expression, and its value in a context (IEEE 1364-2001, 4.4 and 4.5).
-use Rattle.std.specs.Prelude.{ℕ, zero, suc, ◌+◌, ◌*◌, ◌-◌, max, nat_le, Bool, true, false, not, ◌&&◌, ◌||◌, if◌then◌else◌, List, [], ◌∷◌, ◌++◌, length, Option, Some, None}
-use Rattle.cov_host.specs.declared.place.Place.{Place}
+use Rattle.std.specs.Prelude.{◌≡◌, ◌≤◌, ℕ, ◌+◌, ◌*◌, ◌-◌, max, nat_le, Bool, true, false, not, ◌&&◌, ◌||◌, if◌then◌else◌, List, [], ◌∷◌, ◌++◌, length, Option, Some, None}
 use Rattle.four_state.specs.Vector.{Vector, truth, extend}
 use Rattle.four_state.specs.Operators.{unary_value, binary_value, choice_value}
 use Rattle.four_state.specs.Parts.{index, index_of}
@@ -14,6 +13,8 @@ use Rattle.design_model.specs.Shape.{is_wide_unary, is_wide_binary, is_shift, is
 use Rattle.design_model.specs.Value.{copies}
 use Rattle.verilog_tree.specs.Tree.{Expr, literal, identifier, bit_select, part_select, indexed_part, unary_operator, binary_operator, conditional, concatenation, replication, sign_cast, parentheses, Exprs, no_exprs, an_expr}
 use Rattle.elab_const.specs.Scope.{Names, Entry, Constant, Turn, Signal, Memory, IsWidth}
+pub use Rattle.elab_const.specs.declared.evaluated.Evaluated.{Evaluated}
+pub use Rattle.elab_const.specs.declared.joined.Joined.{Joined}
 pub use Rattle.elab_const.specs.declared.width.Shape.{Shape}
 pub use Rattle.elab_const.specs.declared.width.Operands.{Operands}
 pub use Rattle.elab_const.specs.declared.width.Operands.TheVariants.{Wide, Shift, Logic, Compared}
@@ -68,6 +69,23 @@ vector_as s bs = record { bits = extend s.width s.signed bs; signed = s.signed }
 -- the value in a context
 abbrev pub vector_in : Meaning → Shape → Vector
 vector_in m s = vector_as s (m.bits s.width s.signed)
+
+-- the context of an expression of this shape: its own, or with what stands around it
+abbrev pub context_of : Option Shape → Shape → Shape
+context_of None s = s
+context_of (Some c) s = common_shape c s
+
+-- the shape of an expression, and its value in a context
+abbrev pub at : Meaning → Shape → Evaluated
+at m s = record { shape = m.shape; value = vector_in m s }
+
+-- the same in what stands around it
+abbrev pub within : Meaning → Option Shape → Evaluated
+within m around = at m (context_of around m.shape)
+
+-- bits of this shape in what stands around them
+abbrev pub bits_within : Shape → List Bit → Option Shape → Evaluated
+bits_within s bs around = record { shape = s; value = vector_as (context_of around s) bs }
 
 -- in no context: of its own width and sign
 abbrev pub alone : Meaning → List Bit
@@ -136,6 +154,10 @@ unary_shape op a = if is_wide_unary op then a else one_bit
 abbrev pub operand_shape : Unary → Shape → Shape → Shape
 operand_shape op a s = if is_wide_unary op then s else a
 
+-- what stands around the operand of an operator
+abbrev pub around_operand : Unary → Option Shape → Option Shape
+around_operand op around = if is_wide_unary op then around else None
+
 -- what an operator gives
 abbrev pub unary_bits : Unary → Meaning → ℕ → Bool → List Bit
 unary_bits op a w s = unary_value op (vector_in a (operand_shape op a.shape (shape_as w s))).bits
@@ -160,6 +182,18 @@ operand_shapes Wide a b s = (s, s)
 operand_shapes Shift a b s = (s, b)
 operand_shapes Logic a b s = (a, b)
 operand_shapes Compared a b s = (common_shape a b, common_shape a b)
+
+-- two expressions in two contexts
+abbrev pub both_at : Meaning → Meaning → Shape × Shape → Evaluated × Evaluated
+both_at a b s = (at a s.0, at b s.1)
+
+-- two expressions in one context: their common one
+abbrev pub pair_within : Meaning → Meaning → Option Shape → Evaluated × Evaluated
+pair_within a b around = both_at a b (context_of around (common_shape a.shape b.shape), context_of around (common_shape a.shape b.shape))
+
+-- both operands of an operator as it takes them, in what stands around it
+abbrev pub operands_within : Binary → Meaning → Meaning → Option Shape → Evaluated × Evaluated
+operands_within op a b around = both_at a b (operand_shapes (operands_of op) a.shape b.shape (context_of around (binary_shape op a.shape b.shape)))
 
 -- two values in two contexts
 abbrev pub values_in : Meaning → Meaning → Shape × Shape → Vector × Vector
@@ -190,6 +224,10 @@ pub record Parts : Type 0 where
 abbrev pub bits_before : Option Vector → List Bit
 bits_before None = []
 bits_before (Some v) = v.bits
+
+-- as many bits as the width says, where that is at most 128
+abbrev pub IsJoined : Joined → Type 0
+IsJoined j = j.width ≤ 128 → length (bits_before j.value) ≡ j.width
 
 -- one part before the others
 abbrev pub part_before : Meaning → Parts → Parts

@@ -9,13 +9,16 @@ mod constancy;
 mod context;
 mod entry;
 mod evaluate;
+mod evaluated;
 mod fault;
+mod joined;
 mod names;
 mod scope;
 mod selected;
 #[cfg(test)]
 mod tests;
 mod turn;
+mod weight;
 mod width;
 
 pub use calls::{constant, shape, turns};

@@ -268,6 +268,38 @@ fn expressions(rt: HostRuntime) {
     test_expressions(&rt, rt.alloc(), OWN);
 }
 
+/// A repeat of one bit by this count, beside a wider zero on either side, or in a concatenation.
+fn repeat_within(rt: &impl Abort, alloc: Global, level: u32, count: Expr) -> Expr {
+    let mut bit = Vec::new(alloc);
+    bit.push(expression(rt, alloc, "1'b1")).expect(rt, "memory");
+    let repeat = Expr::repeat(alloc, place(1), count, bit).expect(rt, "memory");
+    let zero = expression(rt, alloc, "2'b00");
+    match level % 3 {
+        0 => Expr::binary(alloc, Binary::Add, repeat, zero).expect(rt, "memory"),
+        1 => Expr::binary(alloc, Binary::BitwiseOr, zero, repeat).expect(rt, "memory"),
+        _ => {
+            let mut parts = Vec::new(alloc);
+            parts.push(repeat).expect(rt, "memory");
+            Expr::concat(place(1), parts)
+        }
+    }
+}
+
+/// Each count is 1, and holds the repeat before it: `{{..}{1'b1}} + 2'b00`, `2'b00 | {{..}{1'b1}}` and `{{{..}{1'b1}}}` in
+/// turn. If a count is evaluated twice on each level, its width first and then its value, the last one takes 2^40 steps.
+#[test]
+fn repeats_nested_in_counts(rt: HostRuntime) {
+    let alloc = rt.alloc();
+    let mut count = expression(&rt, alloc, "1'b1");
+    for level in 0..40 {
+        count = repeat_within(&rt, alloc, level, count);
+    }
+    let found = constant(alloc, &count, &Scope::new(alloc)).expect(&rt, "a constant");
+    assert_eq!(rt; found, vector(&rt, "2'b01"));
+    let found = shape(&count, &Scope::new(alloc)).expect(&rt, "a shape");
+    assert_eq!(rt; (found.width, found.signed), (2, false));
+}
+
 /// A scope in which `a` has 128 bits and `b` one.
 fn scope_of_signals(rt: &impl Abort, alloc: Global) -> Scope {
     let mut scope = Scope::new(alloc);

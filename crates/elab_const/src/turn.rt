@@ -7,7 +7,7 @@ ghost use Rattle.elab_const.specs.Loops as spec;
 ghost use Rattle.elab_const.specs.Scope.{look_up, on_ok, with_turn};
 
 use crate::constancy::is_constant;
-use crate::evaluate::{alone, measure, value};
+use crate::evaluate::{alone, evaluate};
 use crate::fault::Fault;
 use crate::names::Names;
 use crate::{ConstFault, ConstKind, Entry, Scope, Shape};
@@ -26,13 +26,12 @@ const MOST_TURNS: u32 = 1024;
 pub(crate) fn integer_value(names: &Names, expr: &Expr) -> Result<Four, Fault>
     ensures { result ≡ spec.integer_answer (look_up names.now) (expr_view expr.now) }
 {
-    let shape = measure(names, expr)?;
-    let context = Shape {
-        width: shape.width.max(32),
-        signed: shape.signed,
+    let integer = Shape {
+        width: 32,
+        signed: true,
     };
-    let value = value(names, expr, context)?;
-    Ok(value.extend(32, true))
+    let found = evaluate(names, expr, Some(integer))?;
+    Ok(found.value.extend(32, true))
 }
 
 /// A loop over a variable, in a scope.

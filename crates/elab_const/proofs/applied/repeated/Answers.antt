@@ -1,5 +1,5 @@
-use Rattle.std.proofs.Common.{◌<◌, arith, refl, append-nil}
-use Rattle.elab_const.proofs.ContextLemmas.{copies_fit, fit-own}
+use Rattle.std.proofs.Common.{◌<◌, arith, sym, append-nil}
+use Rattle.elab_const.proofs.ContextLemmas.{copies_fit}
 use Rattle.elab_const.proofs.applied.repeated.Goals as goal
 
 pub append-value-requires : goal.append-value-requires
@@ -8,4 +8,4 @@ append-value-requires c =
     rw c.loop.invariant (copies_fit c.loop.counter c.args.times c.args.part.now.bits less c.requires.within)
 
 pub loop-init : goal.loop-init
-loop-init c = rw (c.extend-value.ensures, c.width.ensures.value, fit-own, append-nil) refl
+loop-init c = sym (append-nil c.args.part.now.bits)

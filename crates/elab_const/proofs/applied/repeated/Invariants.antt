@@ -1,8 +1,7 @@
 use Rattle.std.proofs.Common.{◌≡◌}
-use Rattle.elab_const.specs.Faults.{unsigned}
 use Rattle.design_model.specs.Value.{copies}
 use Rattle.elab_const.proofs.applied.repeated.Given as goal
 
 -- so many copies so far
 abbrev pub invariant-loop : goal.invariant-loop
-invariant-loop l = l.value ≡ unsigned (copies l.counter l.part.bits)
+invariant-loop l = l.value.bits ≡ copies l.counter l.part.bits

@@ -1,4 +1,4 @@
-use Rattle.std.proofs.Common.{◌≡◌, ◌∙◌, sym}
+use Rattle.std.proofs.Common.{◌∙◌, sym}
 use Rattle.verilog_tree.specs.View.{expr_view}
 use Rattle.elab_const.specs.Scope.{look_up}
 use Rattle.elab_const.proofs.AnswerLemmas.{constant_is}

@@ -1,6 +1,6 @@
-use Rattle.std.proofs.Common.{◌≡◌, ◌∙◌, sym, ap, subst, Err}
+use Rattle.std.proofs.Common.{◌∙◌, sym, ap, subst}
 use Rattle.std.specs.Option.{option_copied}
-use Rattle.verilog_tree.specs.View.{expr_view, loop_view}
+use Rattle.verilog_tree.specs.View.{expr_view}
 use Rattle.verilog_tree.specs.declared.statement.For.{out-For}
 use Rattle.verilog_tree.specs.Tree.{Header}
 use Rattle.elab_const.specs.Calls.{Gives}

@@ -1,4 +1,4 @@
-use Rattle.std.proofs.Common.{◌≡◌, ◌∙◌, sym, ap, Ok}
+use Rattle.std.proofs.Common.{◌∙◌, sym, ap, Ok}
 use Rattle.verilog_tree.specs.View.{expr_view}
 use Rattle.elab_const.specs.Scope.{look_up, with_turn}
 use Rattle.elab_const.specs.Loops.{begins, integer_answer}

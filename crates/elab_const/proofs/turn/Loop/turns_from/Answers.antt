@@ -1,6 +1,5 @@
-use Rattle.std.proofs.Common.{◌≡◌, ◌∙◌, ◌<◌, ◌≤◌, ◌+◌, ◌-◌, sym, ap, subst, arith, Ok, Err}
+use Rattle.std.proofs.Common.{◌∙◌, ◌<◌, ◌≤◌, ◌+◌, ◌-◌, sym, ap, arith, Ok}
 use Rattle.verilog_tree.specs.View.{expr_view}
-use Rattle.elab_const.specs.Calls.{Gives}
 use Rattle.elab_const.specs.Scope.{look_up}
 use Rattle.elab_const.specs.Loops as loops
 use Rattle.elab_const.proofs.LoopLemmas.{turns_before, turn_follows, turns_end, turn_fails, all_turns, end_fails}
