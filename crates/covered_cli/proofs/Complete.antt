@@ -13,11 +13,11 @@ use Rattle.input_module.proofs.SourceLemmas.{IsSource-once}
 use Rattle.input_module.specs.SourceForm.{IsSource}
 use Rattle.input_toggles.specs.Binding.{code_of, stands_in}
 use Rattle.input_toggles.specs.Scored.{IsBound, first_value}
-use Rattle.dump_pieces.proofs.FaultLaws.{dump_excludes, fault_excludes}
-use Rattle.dump_pieces.proofs.Growing.{dump_goes_on}
-use Rattle.dump_pieces.specs.Dump.{Dump, GoesOn, IsDump, SaysBody, steps_of}
-use Rattle.dump_pieces.specs.Reading.{Body}
-use Rattle.dump_pieces.specs.declared.fault.DumpFault.TheVariants.{At}
+use Rattle.vcd_reader.proofs.FaultLaws.{dump_excludes, fault_excludes}
+use Rattle.vcd_reader.proofs.Growing.{dump_goes_on}
+use Rattle.vcd_reader.specs.Dump.{Dump, GoesOn, IsDump, SaysBody, steps_of}
+use Rattle.vcd_reader.specs.Reading.{Body}
+use Rattle.vcd_reader.specs.declared.fault.DumpFault.TheVariants.{At}
 use Rattle.input_toggles.proofs.FirstSteps.{first_stays}
 use Rattle.whole_files.specs.Effects.{CountsUp, IsMissing}
 use Rattle.whole_files.proofs.EffectLemmas.{IsCounted-later}

@@ -5,7 +5,7 @@ use Rattle.cov_host.specs.Outside.{Outside, IsCounted}
 use Rattle.design_model.specs.declared.design.Design.{Design}
 use Rattle.input_module.specs.SourceForm.{IsSource}
 use Rattle.input_toggles.specs.Scored.{IsBound}
-use Rattle.dump_pieces.specs.Dump.{Dump, IsDump}
+use Rattle.vcd_reader.specs.Dump.{Dump, IsDump}
 use Rattle.covered_cli.specs.Scoring.{HasNoDesign, HasNoScore}
 use Rattle.covered_cli.specs.declared.status.Status.{Status}
 use Rattle.covered_cli.specs.declared.status.Status.TheVariants.{Memory}

@@ -12,9 +12,9 @@ use Rattle.design_model.specs.Design.{no_signal}
 use Rattle.database_commands.specs.Merging.{IsMergedIn}
 use Rattle.database_commands.specs.Reporting.{IsReportedIn}
 use Rattle.design_model.specs.declared.design.Design.{Design}
-use Rattle.dump_pieces.specs.Dump.{Dump, IsDump}
-use Rattle.dump_pieces.specs.Text.{EndsWithFault, HasFault}
-use Rattle.dump_pieces.specs.declared.fault.DumpFault.TheVariants.{At}
+use Rattle.vcd_reader.specs.Dump.{Dump, IsDump}
+use Rattle.vcd_reader.specs.Text.{EndsWithFault, HasFault}
+use Rattle.vcd_reader.specs.declared.fault.DumpFault.TheVariants.{At}
 use Rattle.dump_score.specs.Faults.{SaysSome}
 use Rattle.dump_score.specs.Reading.{IsFile}
 use Rattle.input_module.specs.SourceForm.{IsSource}

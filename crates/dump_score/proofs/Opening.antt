@@ -5,19 +5,19 @@ use Rattle.std.proofs.lemmas.List.{length-append, length-take, take_all}
 use Rattle.cov_host.specs.Outside.{Outside}
 use Rattle.design_model.specs.declared.design.Design.{Design}
 use Rattle.coverage_db.specs.declared.db.Db.{Db}
-use Rattle.dump_pieces.proofs.RisingTimes.{times_rise}
-use Rattle.dump_pieces.proofs.TextLemmas.{fault_stays}
+use Rattle.vcd_reader.proofs.RisingTimes.{times_rise}
+use Rattle.vcd_reader.proofs.TextLemmas.{fault_stays}
 use Rattle.input_toggles.proofs.DumpTimes.{steps_rise}
-use Rattle.dump_pieces.specs.Dump.{BeginsAs, SaysBody, steps_of}
-use Rattle.dump_pieces.specs.Pieces.{BodyHasEnded, BodyHasRead, BodyIs, HasRead, IsRead, Splits, body_at_end, header_at_end}
-use Rattle.dump_pieces.specs.Reading.{Body}
-use Rattle.dump_pieces.specs.Standing.{IsFaultOf}
-use Rattle.dump_pieces.specs.Text.{EndsAs, EndsWithFault, HasFault}
-use Rattle.dump_pieces.specs.declared.body.Body.{Body as BodyRow}
-use Rattle.dump_pieces.specs.declared.fault.DumpFault.{DumpFault}
-use Rattle.dump_pieces.specs.declared.fault.DumpFault.TheVariants as dump_fault
-use Rattle.dump_pieces.specs.declared.header.Header.{Header}
-use Rattle.dump_pieces.specs.declared.vars.Var.{Var}
+use Rattle.vcd_reader.specs.Dump.{BeginsAs, SaysBody, steps_of}
+use Rattle.vcd_reader.specs.Pieces.{BodyHasEnded, BodyHasRead, BodyIs, HasRead, IsRead, Splits, body_at_end, header_at_end}
+use Rattle.vcd_reader.specs.Reading.{Body}
+use Rattle.vcd_reader.specs.Standing.{IsFaultOf}
+use Rattle.vcd_reader.specs.Text.{EndsAs, EndsWithFault, HasFault}
+use Rattle.vcd_reader.specs.declared.body.Body.{Body as BodyRow}
+use Rattle.vcd_reader.specs.declared.fault.DumpFault.{DumpFault}
+use Rattle.vcd_reader.specs.declared.fault.DumpFault.TheVariants as dump_fault
+use Rattle.vcd_reader.specs.declared.header.Header.{Header}
+use Rattle.vcd_reader.specs.declared.vars.Var.{Var}
 use Rattle.input_toggles.specs.Binding.{IsBindFault}
 use Rattle.input_toggles.specs.Scored.{HasNoBaseline}
 use Rattle.input_toggles.specs.Scores.{IsScoreBy, Scores}

@@ -2,13 +2,13 @@
 use Rattle.std.specs.Prelude.{◌⊎◌, ℕ, List}
 use Rattle.cov_host.specs.Outside.{Outside}
 use Rattle.design_model.specs.declared.design.Design.{Design}
-use Rattle.dump_pieces.specs.Dump.{BeginsAs, SaysBody}
-use Rattle.dump_pieces.specs.Reading.{Body}
-use Rattle.dump_pieces.specs.Text.{EndsAs, EndsWithFault, HasFault}
-use Rattle.dump_pieces.specs.declared.entry.Entry.{Entry}
-use Rattle.dump_pieces.specs.declared.fault.DumpFault.{DumpFault}
-use Rattle.dump_pieces.specs.declared.fault.DumpFault.TheVariants as dump_fault
-use Rattle.dump_pieces.specs.declared.vars.Var.{Var}
+use Rattle.vcd_reader.specs.Dump.{BeginsAs, SaysBody}
+use Rattle.vcd_reader.specs.Reading.{Body}
+use Rattle.vcd_reader.specs.Text.{EndsAs, EndsWithFault, HasFault}
+use Rattle.vcd_reader.specs.declared.entry.Entry.{Entry}
+use Rattle.vcd_reader.specs.declared.fault.DumpFault.{DumpFault}
+use Rattle.vcd_reader.specs.declared.fault.DumpFault.TheVariants as dump_fault
+use Rattle.vcd_reader.specs.declared.vars.Var.{Var}
 use Rattle.input_toggles.specs.Binding.{IsBindFault}
 use Rattle.input_toggles.specs.Scored.{HasNoBaseline}
 use Rattle.dump_score.specs.Reading.{IsCallFault, IsFile}

@@ -9,11 +9,11 @@ use Rattle.design_model.specs.Design.{no_signal}
 use Rattle.design_model.specs.declared.design.Design.{Design}
 use Rattle.design_model.specs.declared.design.Signal.{Signal}
 use Rattle.four_state.specs.Vector.{Vector}
-use Rattle.dump_pieces.specs.Dump.{Dump, steps_of}
-use Rattle.dump_pieces.specs.Times.{last_time}
-use Rattle.dump_pieces.specs.declared.entry.Entry.{Entry}
-use Rattle.dump_pieces.specs.declared.entry.Entry.TheVariants.{Time, Value}
-use Rattle.dump_pieces.specs.declared.vars.Var.{Var}
+use Rattle.vcd_reader.specs.Dump.{Dump, steps_of}
+use Rattle.vcd_reader.specs.Times.{last_time}
+use Rattle.vcd_reader.specs.declared.entry.Entry.{Entry}
+use Rattle.vcd_reader.specs.declared.entry.Entry.TheVariants.{Time, Value}
+use Rattle.vcd_reader.specs.declared.vars.Var.{Var}
 use Rattle.input_toggles.specs.Binding.{AreCodes, code_of}
 use Rattle.input_toggles.specs.Scored.{HasNoBaseline, IsBound, first_value}
 use Rattle.input_toggles.specs.Scores.{LacksValue, Scores}

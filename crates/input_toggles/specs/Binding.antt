@@ -5,7 +5,7 @@ use Rattle.std.specs.Option.{option_map}
 use Rattle.std.specs.Str.{bytes_eq}
 use Rattle.design_model.specs.Design.{no_signal}
 use Rattle.design_model.specs.declared.design.Signal.{Signal}
-use Rattle.dump_pieces.specs.declared.vars.Var.{Var}
+use Rattle.vcd_reader.specs.declared.vars.Var.{Var}
 use Rattle.input_toggles.specs.declared.fault.BindFault.{BindFault}
 use Rattle.input_toggles.specs.declared.fault.BindFault.TheVariants as bind_fault
 

@@ -11,9 +11,9 @@ use Rattle.design_model.specs.Design.{no_signal}
 use Rattle.design_model.specs.declared.design.Design.{Design}
 use Rattle.design_model.specs.declared.design.Signal.{Signal}
 use Rattle.four_state.specs.Vector.{Vector}
-use Rattle.dump_pieces.specs.Dump.{Dump, DumpStep, last_value, steps_of}
-use Rattle.dump_pieces.specs.declared.entry.Entry.{Entry}
-use Rattle.dump_pieces.specs.declared.vars.Var.{Var}
+use Rattle.vcd_reader.specs.Dump.{Dump, DumpStep, last_value, steps_of}
+use Rattle.vcd_reader.specs.declared.entry.Entry.{Entry}
+use Rattle.vcd_reader.specs.declared.vars.Var.{Var}
 use Rattle.input_toggles.specs.Binding.{code_of, stands_in}
 use Rattle.input_toggles.specs.Points.{HasIndex, IsTogglePoint, place_of, toggle_address}
 use Rattle.input_toggles.specs.Toggling.{TogglesIn}
