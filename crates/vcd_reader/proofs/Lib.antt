@@ -1,3 +1,4 @@
+pub mod PlaceLemmas
 pub mod CodeLemmas
 pub mod DecimalTests
 pub mod Paths

@@ -2,11 +2,13 @@ pub mod Words
 pub mod Values
 pub mod Masks
 pub mod Codes
+pub mod Kinds
 pub mod Answer
 pub mod Header
 pub mod Body
 pub mod Reading
 pub mod CodeViews
+pub mod Places
 pub mod Views
 pub mod Holding
 pub mod Text

@@ -1,10 +1,11 @@
-ghost use Rattle.std.specs.Prelude.{◌≡◌, [], IfOk, OnOk, length, option_map};
+ghost use Rattle.std.specs.Prelude.{◌≡◌, ◌<◌, ◌++◌, ◌∷◌, [], ℕ, List, None, Some, IfOk, OnOk, length, option_map};
 ghost use Rattle.vcd_reader.specs.Codes.{code_of, with_code, entered, declared_code};
 ghost use Rattle.vcd_reader.specs.Header.{number_of, size_in};
-ghost use Rattle.vcd_reader.specs.CodeViews.{without_text, with_text};
+ghost use Rattle.vcd_reader.specs.CodeViews.{without_text, with_text, codes_in};
+ghost use Rattle.vcd_reader.specs.Places.{place_of};
 
+use crate::places::Places;
 use cov_host::NoMemory;
-use indexmap::IndexMap;
 use std::alloc::Global;
 use std::marker::Model;
 
@@ -16,20 +17,34 @@ pub(crate) struct Code {
     pub(crate) is_read: bool,
 }
 
+/// A code beside its bytes.
+#[derive(Drop)]
+pub(crate) struct Row {
+    pub(crate) text: Vec<u8>,
+    pub(crate) code: Code,
+}
+
 /// The identifier codes of a header, numbered by first appearance.
 #[derive(Drop)]
 pub(crate) struct Codes {
     alloc: Global,
-    codes: IndexMap<Vec<u8>, Code>,
+    /// The codes in order of their numbers.
+    rows: Vec<Row>,
+    places: Places,
 }
 
 impl Model for Codes {
-    ghost use Rattle.std.specs.Prelude.{List, map};
+    ghost use Rattle.std.specs.Prelude.{List};
     ghost use Rattle.vcd_reader.specs.Codes.{Code};
 
     ghost Value = { List Code };
 
-    ghost view = { λ c. map (λ entry. record { text = entry.0.items; number = entry.1.number; size = entry.1.size; is_read = entry.1.is_read }) c.codes.entries };
+    ghost use Rattle.vcd_reader.specs.CodeViews.{codes_in};
+    ghost use Rattle.vcd_reader.specs.Places.{ArePlacesOf};
+
+    ghost view = { λ c. codes_in c.rows.items };
+
+    ghost invariant = { λ c. ArePlacesOf c.places (codes_in c.rows.items) };
 }
 
 impl Codes {
@@ -38,7 +53,8 @@ impl Codes {
     {
         Codes {
             alloc,
-            codes: IndexMap::new(alloc),
+            rows: Vec::new(alloc),
+            places: Places::new(alloc),
         }
     }
 
@@ -46,7 +62,9 @@ impl Codes {
     pub(crate) fn find(&self, bytes: &[u8]) -> Option<Code>
         ensures { result ≡ option_map without_text (code_of self.now bytes.now) }
     {
-        self.codes.get(bytes).copied()
+        let place = self.places.get(bytes)?;
+        let row = self.rows.get(place as usize)?;
+        Some(row.code)
     }
 
     /// The size of the code of these bytes.
@@ -90,8 +108,25 @@ impl Codes {
     fn enter(&mut self, bytes: &[u8], code: Code) -> Result<(), NoMemory>
         ensures { OnOk result (self.new ≡ entered self.old (with_text bytes.now code)) }
     {
-        let key = Vec::from_slice(self.alloc, bytes)?;
-        let _ = self.codes.insert(key, code)?;
+        match self.places.get(bytes) {
+            Some(place) => {
+                replace(&mut self.rows, place as usize, code);
+                Ok(())
+            }
+            None => self.append(bytes, code),
+        }
+    }
+
+    /// Adds a new code. There is room for it before its place is set, so that an `Err` changes nothing.
+    fn append(&mut self, bytes: &[u8], code: Code) -> Result<(), NoMemory>
+        requires { place_of self.old bytes.now ≡ None }
+        ensures { OnOk result (self.new ≡ self.old ++ with_text bytes.now code ∷ []) }
+    {
+        let place = self.next_number()?;
+        let text = Vec::from_slice(self.alloc, bytes)?;
+        self.rows.reserve(1)?;
+        self.places.set(self.alloc, bytes, place)?;
+        self.rows.push(Row { text, code })?;
         Ok(())
     }
 
@@ -99,9 +134,17 @@ impl Codes {
     fn next_number(&self) -> Result<u32, NoMemory>
         ensures { IfOk result (λ number. number ≡ length self.now) }
     {
-        match u32::try_from(self.codes.len()) {
+        match u32::try_from(self.rows.len()) {
             Ok(number) => Ok(number),
             Err(_) => Err(NoMemory),
         }
     }
+}
+
+/// Changes the code in a row.
+fn replace(rows: &mut Vec<Row>, place: usize, code: Code)
+    requires { place < length rows.old.items }
+    ensures { (text : List ℕ) → place_of (codes_in rows.old.items) text ≡ Some place → codes_in rows.new.items ≡ entered (codes_in rows.old.items) (with_text text code) }
+{
+    rows[place].code = code;
 }

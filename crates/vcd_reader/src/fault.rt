@@ -35,8 +35,12 @@ pub enum DumpKind {
 }
 
 impl DumpKind {
+    ghost use Rattle.vcd_reader.specs.Kinds.{kind_number};
+
     /// The number of the kind in messages.
-    pub fn number(self) -> u8 {
+    pub fn number(self) -> u8
+        ensures { result ≡ kind_number self }
+    {
         self as u8
     }
 }

@@ -20,6 +20,7 @@ mod keyword;
 mod laws;
 mod letters;
 mod masks;
+mod places;
 mod progress;
 mod reading;
 mod sections;

@@ -1,12 +1,26 @@
-use Rattle.std.proofs.Common.{◌∙◌, ap, List, ℕ}
+use Rattle.std.proofs.Common.{◌≡◌, ◌∙◌, sym, ap, ℕ, List, Some, None}
+use Rattle.std.proofs.lemmas.Result.{on_ok_weaker}
 use Rattle.vcd_reader.specs.Codes.{Code, entered}
-use Rattle.vcd_reader.specs.CodeViews.{with_text}
-use Rattle.vcd_reader.proofs.CodeLemmas.{codes_in, insert_entry-entered}
+use Rattle.vcd_reader.specs.CodeViews.{codes_in, with_text}
+use Rattle.vcd_reader.specs.Places.{place_in, place_of}
+use Rattle.vcd_reader.proofs.CodeLemmas.{entered-new, place_of-entered, place_of-within}
 use Rattle.vcd_reader.proofs.codes.Codes.enter.Goals as goal
 
-pub returns : goal.returns
-returns c =
-    let key = c.in_ok-key.key in
-    ap codes_in c.in_ok-insert.ensures.entries ∙ insert_entry-entered c.self.inside.codes.entries key c.args.code
-    ∙ ap (λ (codes : List Code). entered codes (with_text key.items c.args.code)) c.self.view_is
-    ∙ ap (λ (text : List ℕ). entered c.args.self.now (with_text text c.args.code)) c.in_ok-key.ensures.items
+pub replace-requires : goal.replace-requires
+replace-requires c = place_of-within c.self.inside.rows.items c.args.bytes.now c.in-Some.place (sym (c.self.invariant c.args.bytes.now) ∙ sym c.in-Some.ensures)
+
+pub invariant_of-self : goal.invariant_of-self
+invariant_of-self c text =
+    let place : place_of (codes_in c.self.inside.rows.items) c.args.bytes.now ≡ Some c.in-Some.place = sym (c.self.invariant c.args.bytes.now) ∙ sym c.in-Some.ensures in
+    let new : codes_in c.replace.new.rows.items ≡ entered (codes_in c.self.inside.rows.items) (with_text c.args.bytes.now c.args.code) = c.replace.ensures c.args.bytes.now place in
+    c.self.invariant text ∙ sym (place_of-entered (codes_in c.self.inside.rows.items) (with_text c.args.bytes.now c.args.code) c.in-Some.place place text) ∙ ap (λ (codes : List Code). place_of codes text) (sym new)
+
+pub returns-in-Some : goal.returns-in-Some
+returns-in-Some c =
+    let place : place_of (codes_in c.self.inside.rows.items) c.args.bytes.now ≡ Some c.in-Some.place = sym (c.self.invariant c.args.bytes.now) ∙ sym c.in-Some.ensures in
+    rw (← c.self.view_is) (c.replace.ensures c.args.bytes.now place)
+
+pub returns-in-None : goal.returns-in-None
+returns-in-None c =
+    let none : place_of c.args.self.now c.args.bytes.now ≡ None = ap (λ (codes : List Code). place_of codes c.args.bytes.now) (sym c.self.view_is) ∙ sym (c.self.invariant c.args.bytes.now) ∙ sym c.get.ensures ∙ c.in-None.is in
+    on_ok_weaker c.append.result (λ added. added ∙ sym (entered-new c.args.self.now (with_text c.args.bytes.now c.args.code) none)) c.append.ensures
