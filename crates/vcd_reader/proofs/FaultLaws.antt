@@ -87,7 +87,7 @@ pub record Goes (whole rest front word : List ℕ) : Type 0 where
   pub is : front ≡ whole ++ more
   pub rest_is : rest ≡ more ++ word
 
-goes_on : (before : Bool) (whole rest front word : List ℕ) → ends_open before whole ≡ true → IsBlack word → whole ++ rest ≡ front ++ word → Goes whole rest front word
+pub goes_on : (before : Bool) (whole rest front word : List ℕ) → ends_open before whole ≡ true → IsBlack word → whole ++ rest ≡ front ++ word → Goes whole rest front word
 goes_on before [] rest front word ends black same = record { more = front; is = refl; rest_is = same }
 goes_on before (byte ∷ whole) rest [] word ends black same = absurd (has_white before byte whole ends (black_front (byte ∷ whole) rest (subst (λ (t : List ℕ). IsBlack t) (sym same) black)))
 goes_on before (byte ∷ whole) rest (first ∷ front) word ends black same =

@@ -14,3 +14,4 @@ pub mod FaultLaws
 pub mod FaultNames
 pub mod RisingTimes
 pub mod Growing
+pub mod OneHeader

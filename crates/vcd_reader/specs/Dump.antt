@@ -76,6 +76,10 @@ pub record BeginsAs (text : List ℕ) (b : Body) : Type 0 where
 abbrev pub SaysBody : List ℕ → Body → Type 0
 SaysBody text b = BeginsAs text b ⊎ EndsAs text b
 
+-- the text says no body: its header is not whole
+abbrev pub HasNoBody : List ℕ → Type 0
+HasNoBody text = (b : Body) → SaysBody text b → ⊥
+
 -- the body has these variables and says this, and maybe more behind it
 pub record GoesOn (b whole : Body) : Type 0 where
   pub vars : whole.vars ≡ b.vars

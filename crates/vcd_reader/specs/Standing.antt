@@ -1,6 +1,7 @@
 -- Where the reader of a header stands after a text.
 use Rattle.std.specs.Prelude.{◌≡◌, ◌<◌, ◌≤◌, ℕ, true, false, List, [], ◌∷◌, ◌++◌, length, take}
 use Rattle.vcd_reader.specs.Reading.{header, body, body_after}
+use Rattle.vcd_reader.specs.Dump.{HasNoBody}
 use Rattle.vcd_reader.specs.Text.{Stands, HasFault, EndsWithFault, EndsAs}
 use Rattle.vcd_reader.specs.Views.{reading_of, declared_of}
 use Rattle.vcd_reader.specs.Progress.{is_at_end, is_going}
@@ -23,15 +24,15 @@ pub record HeaderStands (reader : HeaderReader) (text : List ℕ) : Type 0 where
   pub at : reader.at ≡ length text
   pub means : HeaderMeans reader.progress reader text
 
--- the fault stands in the text, if it is not want of memory
+-- the fault stands in the header of the text, if it is not want of memory
 abbrev pub IsFoundFault : List ℕ → DumpFault → Type 0
 IsFoundFault text dump_fault.NoMemory = Unit {0}
-IsFoundFault text (dump_fault.At kind byte) = HasFault text (dump_fault.At kind byte)
+IsFoundFault text (dump_fault.At kind byte) = HasFault text (dump_fault.At kind byte) × HasNoBody text
 
 -- the same where the text ends
 abbrev pub IsFaultAtEnd : List ℕ → DumpFault → Type 0
 IsFaultAtEnd text dump_fault.NoMemory = Unit {0}
-IsFaultAtEnd text (dump_fault.At kind byte) = EndsWithFault text (dump_fault.At kind byte)
+IsFaultAtEnd text (dump_fault.At kind byte) = EndsWithFault text (dump_fault.At kind byte) × HasNoBody text
 
 -- the same for a text and the next piece, of which an empty one is the end
 abbrev pub IsFaultOf : List ℕ → List ℕ → DumpFault → Type 0

@@ -35,3 +35,8 @@ pub fn example_dump()
 pub fn dump_goes_on()
     ensures { (text : List ℕ) (b whole : Body) → SaysBody text b → EndsAs text whole → GoesOn b whole }
 {}
+
+/// All that a text says at its places has the variables of one header.
+pub fn one_header()
+    ensures { (text : List ℕ) (b other : Body) → SaysBody text b → SaysBody text other → other.vars ≡ b.vars }
+{}

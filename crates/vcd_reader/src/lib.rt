@@ -35,7 +35,7 @@ pub use entry::Entry;
 pub use fault::{DumpFault, DumpKind};
 pub use header::Header;
 pub use item::{Fed, Item, Step};
-pub use laws::{dump_goes_on, example_dump, one_reading, rising_times};
+pub use laws::{dump_goes_on, example_dump, one_header, one_reading, rising_times};
 pub use vars::{Var, Vars};
 
 #[cfg(test)]
