@@ -1,5 +1,5 @@
 -- The signals of a design that are bound, and those that lack a first value.
-use Rattle.std.proofs.Common.{◌≡◌, ℕ, zero, suc, ◌+◌, ◌<◌, ◌≤◌, Bool, true, false, Option, Some, None, IsSome, IsTrue, IfSome, is_some, List, [], ◌∷◌, ◌++◌, length, map, get_or, refl, sym, ap, subst, ◌∙◌, arith}
+use Rattle.std.proofs.Common.{◌≡◌, ℕ, zero, suc, ◌<◌, ◌≤◌, true, false, Option, Some, None, IsSome, IsTrue, IfSome, is_some, List, [], ◌∷◌, ◌++◌, length, map, get_or, refl, sym, ap, subst, ◌∙◌, arith}
 use Rattle.std.specs.Prelude.{nat_lt, IsSomeAnd, take}
 use Rattle.std.specs.List.{All}
 use Rattle.std.proofs.lemmas.Bool.Decides.{nat_tests}
@@ -9,7 +9,7 @@ use Rattle.design_model.specs.Design.{no_signal}
 use Rattle.design_model.specs.declared.design.Design.{Design}
 use Rattle.design_model.specs.declared.design.Signal.{Signal}
 use Rattle.four_state.specs.Vector.{Vector}
-use Rattle.vcd_reader.specs.Dump.{Dump, steps_of}
+use Rattle.vcd_reader.specs.Dump.{steps_of}
 use Rattle.vcd_reader.specs.Times.{last_time}
 use Rattle.vcd_reader.specs.declared.entry.Entry.{Entry}
 use Rattle.vcd_reader.specs.declared.entry.Entry.TheVariants.{Time, Value}

@@ -1,5 +1,5 @@
 -- The times of a dump rise.
-use Rattle.std.proofs.Common.{◌≡◌, ℕ, ◌<◌, List, [], ◌∷◌, Option, None, Some, refl, sym, ap, subst, ◌∙◌}
+use Rattle.std.proofs.Common.{◌≡◌, ℕ, List, [], ◌∷◌, Option, None, Some, refl, sym, ap, subst}
 use Rattle.design_model.specs.Shows.{AreRising}
 use Rattle.vcd_reader.proofs.RisingTimes.{times_rise as entries_rise}
 use Rattle.vcd_reader.specs.Dump.{Change, Dump, DumpStep, IsDump, leading, steps_of, timed, times_of, with_leading}

@@ -1,5 +1,5 @@
 -- The first value stays behind the second time.
-use Rattle.std.proofs.Common.{◌≡◌, ℕ, suc, ◌≤◌, List, [], ◌∷◌, ◌++◌, length, refl, sym, ap, subst, ◌∙◌, arith}
+use Rattle.std.proofs.Common.{◌≡◌, ℕ, ◌≤◌, List, [], ◌∷◌, ◌++◌, length, refl, ap, ◌∙◌, arith}
 use Rattle.vcd_reader.specs.Dump.{Change, DumpStep, leading, steps_of, timed, with_leading}
 use Rattle.vcd_reader.specs.declared.entry.Entry.{Entry}
 use Rattle.vcd_reader.specs.declared.entry.Entry.TheVariants.{Time, Value}

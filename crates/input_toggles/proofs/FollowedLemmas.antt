@@ -16,7 +16,7 @@ use Rattle.input_toggles.specs.Binding.{code_of}
 use Rattle.input_toggles.specs.InputDesign.{IsInput, IsInputDesign}
 use Rattle.input_toggles.specs.PointList.{IsTableOf}
 use Rattle.input_toggles.specs.Scored.{HasHead, IsScored, IsToggleTable, ListsTogglePoints}
-use Rattle.input_toggles.specs.Scores.{AreWatched, HasToggles, IsScoreBy, Scores}
+use Rattle.input_toggles.specs.Scores.{AreWatched, HasToggles, Scores}
 use Rattle.input_toggles.specs.Tracked.{IsTracked}
 use Rattle.input_toggles.specs.Watched.{signals_of}
 use Rattle.input_toggles.specs.declared.scorer.Scorer.{Scorer}

@@ -1,9 +1,9 @@
 -- Where codes stand in a list, also after one was put in.
-use Rattle.std.proofs.Common.{◌≡◌, ◌∙◌, sym, ap, refl, inl, inr, ℕ, suc, ◌<◌, Bool, true, false, arith, List, [], ◌∷◌, ◌++◌, length, map, if◌then◌else◌, cond, bytes_eq, Option, Some, None, slice_index_or, slice_set}
+use Rattle.std.proofs.Common.{◌≡◌, ◌∙◌, sym, ap, refl, inl, inr, ℕ, suc, ◌<◌, Bool, true, false, arith, List, [], ◌∷◌, ◌++◌, length, if◌then◌else◌, cond, bytes_eq, Option, Some, None, slice_index_or, slice_set}
 use Rattle.std.proofs.lemmas.Bool.{cases_Bool}
 use Rattle.std.proofs.lemmas.List.{map-append}
 use Rattle.std.proofs.lemmas.Slice.Eq.{bytes_eq-Decides}
-use Rattle.std.specs.Prelude.{option_map, slice_get}
+use Rattle.std.specs.Prelude.{option_map}
 use Rattle.vcd_reader.specs.Codes.{Code, code_of, entered}
 use Rattle.vcd_reader.specs.CodeViews.{codes_in, with_text, without_text}
 use Rattle.vcd_reader.specs.Places.{place_of}

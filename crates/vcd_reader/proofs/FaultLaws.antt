@@ -1,13 +1,12 @@
 -- Where a text has a fault, reading does not go on, and no dump ends.
-use Rattle.std.proofs.Common.{◌≡◌, ℕ, suc, ◌+◌, ◌-◌, ◌<◌, ◌≤◌, Bool, true, false, cond, eqb, List, [], ◌∷◌, ◌++◌, length, refl, sym, ap, subst, ◌∙◌, append_assoc, inl, inr, arith}
-use Rattle.std.specs.Prelude.{not, nat_lt}
-use Rattle.std.specs.List.{list_all}
+use Rattle.std.proofs.Common.{◌≡◌, ℕ, ◌+◌, ◌<◌, ◌≤◌, Bool, true, false, cond, eqb, List, [], ◌∷◌, ◌++◌, length, refl, sym, ap, subst, ◌∙◌, append_assoc, inl, inr, arith}
+use Rattle.std.specs.Prelude.{nat_lt}
 use Rattle.std.proofs.lemmas.Bool.{cases_Bool, cases_lt}
 use Rattle.std.proofs.lemmas.Bool.Decides.{nat_tests}
 use Rattle.std.proofs.lemmas.List.{length-append, append-nil}
 use Rattle.vcd_reader.specs.Words.{Word, is_white_space, joined, words_from, words_of, ends_open, IsWhole, IsBlack}
 use Rattle.vcd_reader.specs.Reading.{Body, Meaning, body, fault, room_of, stop_of, with_word, meaning_after, meaning_of, start}
-use Rattle.vcd_reader.specs.Text.{Stands, word_at, after, HasFault, behind_a_word, in_a_word, is_alone, is_open, EndsWithFault, in_the_last_word, cut_short, EndsAs}
+use Rattle.vcd_reader.specs.Text.{Stands, after, HasFault, behind_a_word, in_a_word, is_alone, is_open, EndsWithFault, in_the_last_word, cut_short, EndsAs}
 use Rattle.vcd_reader.specs.declared.fault.DumpFault.{DumpFault}
 use Rattle.vcd_reader.proofs.TextLemmas.{meaning-append, meaning_behind, black-first}
 

@@ -1,15 +1,15 @@
 -- No fault of a text is want of memory.
-use Rattle.std.proofs.Common.{◌≡◌, ℕ, ◌-◌, Bool, true, false, cond, eqb, List, [], ◌∷◌, length, Option, Some, None, Ok, Err, sym, subst}
+use Rattle.std.proofs.Common.{ℕ, ◌-◌, Bool, true, false, cond, eqb, List, [], ◌∷◌, length, Option, Some, None, Ok, Err, subst}
 use Rattle.std.specs.Prelude.{bytes_eq, codes, not, ◌||◌}
 use Rattle.cov_host.specs.Decimal.{decimal_value}
 use Rattle.vcd_reader.specs.Values.{is_digit}
 use Rattle.vcd_reader.specs.Words.{Word, words_of}
 use Rattle.vcd_reader.specs.Codes.{Code, code_of}
 use Rattle.vcd_reader.specs.Answer.{Answer, fault_if, unless}
-use Rattle.vcd_reader.specs.Body.{BodyReading, Begun, nothing, digits, passed, comment, Said, time_fault, change_of, change, saying, scalar, time_word, digits_word, new_time, is_passed_letter, are_digits, is_group_word, said, begins, dollar_word, first_word, behind_letter, word_after, next_word}
-use Rattle.vcd_reader.specs.Header.{Declared, keyword_of, keyword_fault, code_fault, variable_fault, field_fault, end_fault, size_of}
-use Rattle.vcd_reader.specs.Reading.{HeaderReading, Section, section_word, word_in, header_word, Body, Meaning, header, body, fault, after_header_word, after_body_word, stop_of, reading_on, with_word, meaning_after, meaning_of, start}
-use Rattle.vcd_reader.specs.Text.{Stands, word_at, after, HasFault, behind_a_word, in_a_word, EndsWithFault, in_the_last_word, cut_short}
+use Rattle.vcd_reader.specs.Body.{Begun, nothing, digits, passed, comment, Said, time_fault, change_of, change, saying, scalar, time_word, digits_word, new_time, is_passed_letter, are_digits, is_group_word, said, begins, dollar_word, first_word, behind_letter, word_after}
+use Rattle.vcd_reader.specs.Header.{Declared, keyword_of, keyword_fault, variable_fault, field_fault, end_fault}
+use Rattle.vcd_reader.specs.Reading.{HeaderReading, Section, word_in, Body, Meaning, header, body, fault, after_header_word, after_body_word, stop_of, reading_on, with_word, meaning_after, start}
+use Rattle.vcd_reader.specs.Text.{Stands, word_at, HasFault, behind_a_word, in_a_word, EndsWithFault, in_the_last_word, cut_short}
 use Rattle.vcd_reader.specs.Named.{IsNamed}
 use Rattle.vcd_reader.specs.declared.entry.Entry.{Entry}
 use Rattle.vcd_reader.specs.declared.fault.DumpFault.{DumpFault}

@@ -1,13 +1,12 @@
 -- A text that goes on keeps its variables and what it said.
-use Rattle.std.proofs.Common.{◌≡◌, ℕ, Bool, true, false, cond, List, [], ◌∷◌, ◌++◌, length, Option, Ok, Err, refl, sym, ap, ◌∙◌, append_assoc, inl, inr}
-use Rattle.std.specs.Prelude.{◌⊎◌, nat_lt, ◌+◌}
+use Rattle.std.proofs.Common.{◌≡◌, ℕ, Bool, true, false, cond, List, [], ◌∷◌, ◌++◌, length, Ok, Err, refl, sym, ap, ◌∙◌, append_assoc, inl, inr}
+use Rattle.std.specs.Prelude.{nat_lt, ◌+◌}
 use Rattle.std.specs.Option.{option_to_list}
-use Rattle.std.proofs.lemmas.Bool.{cases_Bool}
 use Rattle.std.proofs.lemmas.List.{append-nil}
 use Rattle.vcd_reader.specs.Answer.{Answer}
 use Rattle.vcd_reader.specs.Body.{Said, next_word}
 use Rattle.vcd_reader.specs.Dump.{BeginsAs, GoesOn, SaysBody}
-use Rattle.vcd_reader.specs.Reading.{Body, Meaning, body, fault, after_body_word, room_of, stop_of, reading_on, with_word, meaning_after, meaning_of}
+use Rattle.vcd_reader.specs.Reading.{Body, Meaning, body, fault, after_body_word, room_of, stop_of, reading_on, meaning_after, meaning_of}
 use Rattle.vcd_reader.specs.Text.{EndsAs}
 use Rattle.vcd_reader.specs.Words.{Word, words_from, words_of}
 use Rattle.vcd_reader.specs.declared.fault.DumpFault.{DumpFault}

@@ -1,12 +1,11 @@
 -- A text has one header: where that is read, what follows changes no variable, and where it has a fault, no body is said.
 use Rattle.std.proofs.Common.{◌≡◌, ℕ, Bool, true, false, cond, List, [], ◌∷◌, ◌++◌, length, Ok, Err, refl, sym, ap, subst, ◌∙◌, append_assoc, append-nil, inl, inr}
 use Rattle.std.specs.Prelude.{◌⊎◌, nat_lt, ◌+◌}
-use Rattle.std.specs.Option.{option_to_list}
 use Rattle.vcd_reader.specs.Answer.{Answer}
 use Rattle.vcd_reader.specs.Body.{Said, next_word}
 use Rattle.vcd_reader.specs.Dump.{BeginsAs, HasNoBody, SaysBody}
-use Rattle.vcd_reader.specs.Reading.{Body, HeaderReading, Meaning, header, body, fault, after_body_word, room_of, stop_of, reading_on, with_word, meaning_after, meaning_of}
-use Rattle.vcd_reader.specs.Text.{Stands, HasFault, EndsAs, EndsWithFault}
+use Rattle.vcd_reader.specs.Reading.{Body, HeaderReading, Meaning, header, body, fault, after_body_word, room_of, stop_of, with_word, meaning_after, meaning_of}
+use Rattle.vcd_reader.specs.Text.{Stands, HasFault, EndsWithFault}
 use Rattle.vcd_reader.specs.Words.{Word, words_from, words_of}
 use Rattle.vcd_reader.specs.declared.fault.DumpFault.{DumpFault}
 use Rattle.vcd_reader.specs.declared.vars.Var.{Var}

@@ -1,10 +1,9 @@
 -- The times that a text says rise.
-use Rattle.std.proofs.Common.{◌≡◌, ℕ, ◌+◌, ◌-◌, ◌<◌, Bool, true, false, cond, eqb, List, [], ◌∷◌, ◌++◌, length, Option, Some, None, Ok, Err, refl, sym, ap, subst, ◌∙◌, inl, inr, arith}
+use Rattle.std.proofs.Common.{◌≡◌, ℕ, ◌+◌, ◌-◌, ◌<◌, Bool, true, false, cond, eqb, List, [], ◌∷◌, ◌++◌, length, Option, Some, None, Ok, Err, refl, sym, subst, ◌∙◌, inl, inr, arith}
 use Rattle.std.specs.Prelude.{bytes_eq, codes, not, ◌||◌, ◌^◌, nat_lt, nat_le}
 use Rattle.std.specs.Option.{option_to_list}
 use Rattle.std.proofs.lemmas.Bool.{cases_Bool, eqb-true}
 use Rattle.std.proofs.lemmas.Bool.Decides.{nat_tests}
-use Rattle.std.proofs.lemmas.List.{append-nil}
 use Rattle.cov_host.specs.Decimal.{decimal_value}
 use Rattle.four_state.specs.Vector.{Vector}
 use Rattle.vcd_reader.specs.Words.{Word, words_of}
@@ -12,9 +11,9 @@ use Rattle.vcd_reader.specs.Values.{is_digit}
 use Rattle.vcd_reader.specs.Codes.{Code, code_of}
 use Rattle.vcd_reader.specs.Answer.{Answer, fault_if, unless}
 use Rattle.vcd_reader.specs.Header.{END, is_decimal}
-use Rattle.vcd_reader.specs.Body.{BodyReading, Begun, nothing, digits, passed, comment, Said, said, begins, is_back, new_time, time_fault, value_of, change_of, change, saying, scalar, time_word, digits_word, are_digits, is_group_word, is_passed_letter, dollar_word, first_word, behind_letter, word_after, next_word}
-use Rattle.vcd_reader.specs.Reading.{HeaderReading, header_word, Body, Meaning, header, body, fault, after_header_word, after_body_word, room_of, stop_of, reading_on, with_word, meaning_after, meaning_of, start}
-use Rattle.vcd_reader.specs.Text.{Stands, word_at, after, EndsAs}
+use Rattle.vcd_reader.specs.Body.{Begun, nothing, digits, passed, comment, Said, said, begins, is_back, new_time, time_fault, value_of, change_of, change, saying, scalar, time_word, digits_word, are_digits, is_group_word, is_passed_letter, dollar_word, first_word, behind_letter, word_after, next_word}
+use Rattle.vcd_reader.specs.Reading.{HeaderReading, header_word, Body, Meaning, header, body, fault, after_header_word, after_body_word, room_of, stop_of, reading_on, with_word, meaning_after, start}
+use Rattle.vcd_reader.specs.Text.{Stands, word_at, EndsAs}
 use Rattle.vcd_reader.specs.Times.{IsLater, Rises, last_time}
 use Rattle.vcd_reader.specs.declared.entry.Entry.{Entry}
 use Rattle.vcd_reader.specs.declared.entry.Entry.TheVariants.{Time, Value}

@@ -1,7 +1,7 @@
 -- A dump with all kinds of words.
-use Rattle.std.specs.Prelude.{ℕ, true, false, List, [], ◌∷◌, codes, Option, Some, None}
+use Rattle.std.specs.Prelude.{ℕ, true, false, List, [], ◌∷◌, codes, Some}
 use Rattle.four_state.specs.declared.Bit.{Bit}
-use Rattle.four_state.specs.declared.Bit.TheVariants.{Zero, One, X, Z}
+use Rattle.four_state.specs.declared.Bit.TheVariants.{Zero, One, X}
 use Rattle.vcd_reader.specs.Body.{nothing}
 use Rattle.vcd_reader.specs.Reading.{Body}
 use Rattle.vcd_reader.specs.declared.entry.Entry.{Entry}

@@ -1,4 +1,4 @@
-use Rattle.std.proofs.Common.{[], refl, lit≤, arith}
+use Rattle.std.proofs.Common.{[], refl, lit≤}
 use Rattle.vcd_reader.specs.Reading.{body}
 use Rattle.vcd_reader.specs.Example.{example_text, example_body}
 use Rattle.vcd_reader.proofs.laws.example_dump.Goals as goal

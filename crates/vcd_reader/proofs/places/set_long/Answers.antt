@@ -1,5 +1,4 @@
 use Rattle.vcd_reader.proofs.PlaceLemmas.{place_under-insert}
-use Rattle.std.proofs.Common.{◌≡◌}
 use Rattle.vcd_reader.proofs.places.set_long.Goals as goal
 
 pub returns-clause-set : goal.returns-clause-set

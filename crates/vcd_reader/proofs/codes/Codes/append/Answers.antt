@@ -1,4 +1,4 @@
-use Rattle.std.proofs.Common.{◌≡◌, ◌∙◌, sym, ap, ℕ, List, [], ◌∷◌, ◌++◌, length, None, Some, bytes_eq, cond, Option}
+use Rattle.std.proofs.Common.{◌≡◌, ◌∙◌, sym, ap, ℕ, List, [], ◌∷◌, ◌++◌, Some, bytes_eq, cond, Option}
 use Rattle.vcd_reader.specs.Codes.{Code}
 use Rattle.vcd_reader.specs.CodeViews.{codes_in, with_text}
 use Rattle.vcd_reader.specs.Places.{place_in, place_of}

@@ -1,8 +1,8 @@
-use Rattle.std.proofs.Common.{◌≡◌, ◌∙◌, sym, ap, ℕ, List, Some, None}
+use Rattle.std.proofs.Common.{◌≡◌, ◌∙◌, sym, ap, List, Some, None}
 use Rattle.std.proofs.lemmas.Result.{on_ok_weaker}
 use Rattle.vcd_reader.specs.Codes.{Code, entered}
 use Rattle.vcd_reader.specs.CodeViews.{codes_in, with_text}
-use Rattle.vcd_reader.specs.Places.{place_in, place_of}
+use Rattle.vcd_reader.specs.Places.{place_of}
 use Rattle.vcd_reader.proofs.CodeLemmas.{entered-new, place_of-entered, place_of-within}
 use Rattle.vcd_reader.proofs.codes.Codes.enter.Goals as goal
 

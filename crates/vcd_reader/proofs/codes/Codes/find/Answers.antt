@@ -1,7 +1,6 @@
 use Rattle.std.proofs.Common.{◌≡◌, ◌∙◌, sym, ap, ◌<◌, ◌≤◌, arith, List, length, slice_index_or, None, Some, option_map}
 use Rattle.std.proofs.lemmas.Bool.{ltb-false}
 use Rattle.vcd_reader.specs.CodeViews.{without_text, codes_in}
-use Rattle.vcd_reader.specs.Codes.{code_of}
 use Rattle.vcd_reader.specs.Places.{place_of}
 use Rattle.vcd_reader.specs.declared.codes.Row.{Row}
 use Rattle.vcd_reader.proofs.CodeLemmas.{code_of-none, code_of-row, place_of-within}
