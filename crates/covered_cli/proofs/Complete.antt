@@ -11,21 +11,23 @@ use Rattle.design_model.specs.Design.{no_signal}
 use Rattle.design_model.specs.declared.design.Design.{Design}
 use Rattle.input_module.proofs.SourceLemmas.{IsSource-once}
 use Rattle.input_module.specs.SourceForm.{IsSource}
-use Rattle.input_toggles.specs.Binding.{code_of, stands_in}
+use Rattle.input_toggles.specs.Binding.{AreBound, code_of, stands_in}
 use Rattle.input_toggles.specs.Scored.{IsBound, first_value}
-use Rattle.dump_pieces.proofs.FaultLaws.{dump_excludes, fault_excludes}
-use Rattle.dump_pieces.proofs.Growing.{dump_goes_on}
-use Rattle.dump_pieces.specs.Dump.{Dump, GoesOn, IsDump, SaysBody, steps_of}
-use Rattle.dump_pieces.specs.Reading.{Body}
-use Rattle.dump_pieces.specs.declared.fault.DumpFault.TheVariants.{At}
+use Rattle.vcd_reader.proofs.FaultLaws.{dump_excludes, fault_excludes}
+use Rattle.vcd_reader.proofs.Growing.{dump_goes_on}
+use Rattle.vcd_reader.proofs.OneHeader.{one_header}
+use Rattle.vcd_reader.specs.Dump.{Dump, GoesOn, IsDump, SaysBody, steps_of}
+use Rattle.vcd_reader.specs.Reading.{Body}
+use Rattle.vcd_reader.specs.declared.fault.DumpFault.TheVariants.{At}
 use Rattle.input_toggles.proofs.FirstSteps.{first_stays}
 use Rattle.whole_files.specs.Effects.{CountsUp, IsMissing}
 use Rattle.whole_files.proofs.EffectLemmas.{IsCounted-later}
 use Rattle.whole_files.specs.declared.call.Call.{Call}
 use Rattle.whole_files.specs.declared.call.Call.TheVariants.{OpenRead, Read, OpenWrite, Write, CloseWrite}
 use Rattle.covered_cli.proofs.Causes.{command_or_fault, score_or_databases}
-use Rattle.covered_cli.specs.Complete.{EndsWith, HasBadDump, HasBadSource, HaveTexts, IsCommandWith, IsGoodScore, NoFaults}
-use Rattle.covered_cli.specs.Fault.{IsRefused, NamesFile, Stands, status_of}
+use Rattle.covered_cli.specs.Complete.{EndsWith, HasBadDump, HasBadSource, HasUnboundDump, HaveTexts, IsCommandWith, IsGoodScore, IsOfBinding, NoFaults, RefusesBinding}
+use Rattle.covered_cli.specs.Effects.{WarnsLine}
+use Rattle.covered_cli.specs.Fault.{IsRefused, NamesFile, Stands, line_of, status_of}
 use Rattle.covered_cli.specs.Scoring.{HasNoScore, IsDone, IsDoneBy, IsDoneIn, IsDumpRefusal, IsRefusedDump, IsRefusedSource}
 use Rattle.covered_cli.specs.declared.dump_refusal.DumpRefusal.{DumpRefusal}
 use Rattle.covered_cli.specs.declared.dump_refusal.DumpRefusal.TheVariants as refusal
@@ -53,8 +55,8 @@ module _ (design : Design) (dump : Dump) (top instance text : List ℕ) (is : Is
   has_variable b says signal listed = subst (λ vars. IsSome (code_of vars instance (slice_index_or design.signals signal no_signal))) (same_vars b says) (bound.variables signal no_signal listed)
 
   not_refused : (r : DumpRefusal) → IsDumpRefusal design top instance text r → ⊥
-  not_refused (refusal.At kind byte) (inl found) = fault_excludes text (At kind byte) found is.ends.means is.ends.word is.ends.stands
-  not_refused (refusal.At kind byte) (inr ends) = dump_excludes text is.b (At kind byte) is.ends ends
+  not_refused (refusal.At kind byte) (inl found, binds) = fault_excludes text (At kind byte) found is.ends.means is.ends.word is.ends.stands
+  not_refused (refusal.At kind byte) (inr ends, binds) = dump_excludes text is.b (At kind byte) is.ends ends
   not_refused (refusal.NoInstance path) refused =
       let b = refused.1.0 in
       false≢true (sym (ap (list_any (stands_in instance)) (same_vars b refused.1.1) ∙ refused.1.2) ∙ bound.instance_is)
@@ -118,6 +120,21 @@ module _ (score : ScoreValues) (before : Outside) (source text : List ℕ) (text
       (subst (λ design. IsBound design dump score.instance) (same_design design refused.design refused.source is refused.source_is refused.is_source) bound)
       r refused.refused
 
+  -- where the header is read and binds nothing, the refusal is one of the binding
+  of_binding : (design : Design) (b : Body) → IsSource source score.top design → SaysBody text b → (AreBound b.vars score.instance design.signals → ⊥) → (r : DumpRefusal) → IsRefusedDump score before r → IsOfBinding r
+  of_binding design b is says unbound r refused =
+      go r (subst (λ d. IsDumpRefusal d score.top score.instance text r) (sym (same_design design refused.design refused.source is refused.source_is refused.is_source)) (subst (λ t. IsDumpRefusal refused.design score.top score.instance t r) (sym (same_text refused.text refused.is)) refused.refused))
+    where
+      not_bound : (other : Body) → SaysBody text other → AreBound other.vars score.instance design.signals → ⊥
+      not_bound other said bound = unbound (subst (λ vars. AreBound vars score.instance design.signals) (sym (one_header text other b said says)) bound)
+
+      go : (r : DumpRefusal) → IsDumpRefusal design score.top score.instance text r → IsOfBinding r
+      go (refusal.At kind byte) (first, inl none) = none b says
+      go (refusal.At kind byte) (first, inr binds) = not_bound binds.0 binds.1 binds.2
+      go (refusal.NoInstance path) is = tt
+      go (refusal.InputNotDumped outer name) is = tt
+      go (refusal.NoBaseline outer name) is = let some = is.1.2 in not_bound some.0 some.1 some.2.are_bound
+
   -- what is done has a design
   source_done : (after : Outside) → ((design : Design) → IsSource source score.top design → ⊥) → IsDoneIn score before after → ⊥
   source_done after none done = none done.design (subst (λ text. IsSource text score.top done.design) (sym (same_source done.source done.source_is)) done.is_source)
@@ -142,6 +159,22 @@ module _ (words : List (List ℕ)) (score : ScoreValues) (is_score : IsScore wor
   ends_with expected of_source of_dump fault.Memory stands = inr refl
   ends_with expected of_source of_dump (fault.Databases f) stands = absurd (score_or_databases words score before middle f is_score stands)
 
+-- a dump that does not bind the design is a bad one
+unbound_is_bad : (score : ScoreValues) (before : Outside) → HasUnboundDump score before → HasBadDump score before
+unbound_is_bad score before u = record {
+  source = u.source;
+  text = u.text;
+  design = u.design;
+  texts = u.texts;
+  is_source = u.is_source;
+  refused = λ dump is bound.
+      let same : dump.vars ≡ u.b.vars = is.vars ∙ one_header u.text u.b is.b u.says (inr is.ends) in
+      u.refused (subst (λ vars. AreBound vars score.instance u.design.signals) same (record { instance_is = bound.instance_is; variables = bound.variables }));
+}
+
+bad_command : (words : List (List ℕ)) (before : Outside) → IsCommandWith HasUnboundDump words before → IsCommandWith HasBadDump words before
+bad_command words before u = (u.0, u.1, unbound_is_bad u.0 before u.2)
+
 module _ (words : List (List ℕ)) (before middle after : Outside) (first : CountsUp before middle) (second : CountsUp middle after) (none : NoFaults before after) (f : Fault) (stands : Stands words before middle f) where
   pub good_ends : IsCommandWith IsGoodScore words before → EndsWith Done (status_of f)
   good_ends (score, is, good) =
@@ -164,6 +197,28 @@ module _ (words : List (List ℕ)) (before middle after : Outside) (first : Coun
       (inl (λ r. refl))
       f stands
 
+  pub unbound_ends : IsCommandWith HasUnboundDump words before → WarnsLine (line_of f) before after → RefusesBinding words (status_of f) before after
+  unbound_ends unbound warned = go f stands warned (bad_dump_ends (bad_command words before unbound))
+    where
+      score : ScoreValues
+      score = unbound.0
+
+      u : HasUnboundDump score before
+      u = unbound.2
+
+      go : (f : Fault) → Stands words before middle f → WarnsLine (line_of f) before after → EndsWith dump_status (status_of f) → RefusesBinding words (status_of f) before after
+      go (fault.Dump r) stands warned ends =
+          let refused = subst (λ score. IsRefusedDump score before r) (one_command words stands.0 score stands.1 unbound.1) stands.2 in
+          inl (refl, record { score = score; refusal = r; is_score = unbound.1; refused = refused; of_binding = of_binding score before u.source u.text u.texts u.design u.b u.is_source u.says u.refused r refused; warned = warned })
+      go (fault.Usage usage) stands warned (inl is) = cc
+      go (fault.Usage usage) stands warned (inr is) = inr is
+      go fault.SourceNotYet stands warned (inl is) = cc
+      go fault.SourceNotYet stands warned (inr is) = inr is
+      go (fault.Files call file) stands warned (inl is) = cc
+      go (fault.Files call file) stands warned (inr is) = inr is
+      go fault.Memory stands warned ends = inr refl
+      go (fault.Databases f) stands warned ends = absurd (score_or_databases words score before middle f unbound.1 stands)
+
 module _ (words : List (List ℕ)) (before after : Outside) (done : IsDone words before after) where
   -- what was done is done by the one command that the words are
   done_by : (score : ScoreValues) → IsScore words score → IsDoneIn score before after
@@ -179,3 +234,6 @@ module _ (words : List (List ℕ)) (before after : Outside) (done : IsDone words
 
   pub bad_dump_not_done : IsCommandWith HasBadDump words before → ⊥
   bad_dump_not_done (score, is, bad) = dump_done score before bad.source bad.text bad.texts after bad.design bad.is_source bad.refused (done_by score is)
+
+  pub unbound_not_done : IsCommandWith HasUnboundDump words before → ⊥
+  unbound_not_done unbound = bad_dump_not_done (bad_command words before unbound)

@@ -4,11 +4,17 @@ use Rattle.command_line.specs.CommandWords.{IsScore, ScoreValues}
 use Rattle.cov_host.specs.Outside.{Outside, IsCounted}
 use Rattle.design_model.specs.declared.design.Design.{Design}
 use Rattle.input_module.specs.SourceForm.{IsSource}
+use Rattle.input_toggles.specs.Binding.{AreBound}
 use Rattle.input_toggles.specs.Scored.{IsBound}
-use Rattle.dump_pieces.specs.Dump.{Dump, IsDump}
-use Rattle.covered_cli.specs.Scoring.{HasNoDesign, HasNoScore}
+use Rattle.vcd_reader.specs.Dump.{Dump as SpecDump, IsDump, SaysBody}
+use Rattle.vcd_reader.specs.Reading.{Body}
+use Rattle.covered_cli.specs.DumpRefusal.{refusal_line}
+use Rattle.covered_cli.specs.Effects.{WarnsLine}
+use Rattle.covered_cli.specs.Scoring.{HasNoDesign, HasNoScore, IsRefusedDump}
+use Rattle.covered_cli.specs.declared.dump_refusal.DumpRefusal.{DumpRefusal}
+use Rattle.covered_cli.specs.declared.dump_refusal.DumpRefusal.TheVariants as refusal
 use Rattle.covered_cli.specs.declared.status.Status.{Status}
-use Rattle.covered_cli.specs.declared.status.Status.TheVariants.{Memory}
+use Rattle.covered_cli.specs.declared.status.Status.TheVariants.{Dump, Memory}
 
 -- the host tells the files, and this one has this text
 abbrev pub HasText : Outside → List ℕ → List ℕ → Type 0
@@ -24,7 +30,7 @@ pub record IsGoodScore (score : ScoreValues) (before : Outside) : Type 0 where
   pub source : List ℕ
   pub text : List ℕ
   pub design : Design
-  pub dump : Dump
+  pub dump : SpecDump
   pub texts : HaveTexts score before source text
   pub is_source : IsSource source score.top design
   pub is_dump : IsDump text dump
@@ -46,6 +52,32 @@ pub record HasBadDump (score : ScoreValues) (before : Outside) : Type 0 where
   pub is_source : IsSource source score.top design
   pub refused : HasNoScore design score.instance text
 
+-- the source is of the form, and the header of the dump is read, but the design is not bound to its variables
+pub record HasUnboundDump (score : ScoreValues) (before : Outside) : Type 0 where
+  pub source : List ℕ
+  pub text : List ℕ
+  pub design : Design
+  pub b : Body
+  pub texts : HaveTexts score before source text
+  pub is_source : IsSource source score.top design
+  pub says : SaysBody text b
+  pub refused : AreBound b.vars score.instance design.signals → ⊥
+
+-- the refusal is one of the binding
+abbrev pub IsOfBinding : DumpRefusal → Type 0
+IsOfBinding (refusal.NoInstance path) = Unit {0}
+IsOfBinding (refusal.InputNotDumped outer name) = Unit {0}
+IsOfBinding other = ⊥
+
+-- the words are a command whose dump is refused for its binding, and the line of that was warned
+pub record WarnsBinding (words : List (List ℕ)) (before after : Outside) : Type 0 where
+  pub score : ScoreValues
+  pub refusal : DumpRefusal
+  pub is_score : IsScore words score
+  pub refused : IsRefusedDump score before refusal
+  pub of_binding : IsOfBinding refusal
+  pub warned : WarnsLine (refusal_line refusal) before after
+
 -- the words are a command, of which this holds
 abbrev pub IsCommandWith : (ScoreValues → Outside → Type 0) → List (List ℕ) → Outside → Type 0
 IsCommandWith P words before = (score : ScoreValues) × IsScore words score × P score before
@@ -57,3 +89,7 @@ NoFaults before after = IsCounted before.faults after.faults → ⊥
 -- the status is this one, or memory ran out
 abbrev pub EndsWith : Status → Status → Type 0
 EndsWith expected status = (status ≡ expected) ⊎ (status ≡ Memory)
+
+-- a binding was refused, or memory ran out
+abbrev pub RefusesBinding : List (List ℕ) → Status → Outside → Outside → Type 0
+RefusesBinding words status before after = ((status ≡ Dump) × WarnsBinding words before after) ⊎ (status ≡ Memory)

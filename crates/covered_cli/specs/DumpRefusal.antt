@@ -1,7 +1,7 @@
 -- What is warned of a refused dump.
 use Rattle.std.specs.Prelude.{ℕ, List, ◌++◌, codes, decimal}
-use Rattle.dump_pieces.specs.declared.fault.DumpKind.{DumpKind}
-use Rattle.dump_pieces.specs.declared.fault.DumpKind.TheVariants.{BadHeader, BadChange, UnknownCode, VectorTooLong, TimeBack, Truncated, LongCode, Gap, DeepScope, DumpTooLong, TimeTooLarge, HeaderTooLong}
+use Rattle.vcd_reader.specs.declared.fault.DumpKind.{DumpKind}
+use Rattle.vcd_reader.specs.declared.fault.DumpKind.TheVariants.{BadHeader, BadChange, UnknownCode, VectorTooLong, TimeBack, Truncated, LongCode, Gap, DeepScope, DumpTooLong, TimeTooLarge, HeaderTooLong}
 use Rattle.covered_cli.specs.declared.dump_refusal.DumpRefusal.{DumpRefusal}
 use Rattle.covered_cli.specs.declared.dump_refusal.DumpRefusal.TheVariants.{At, NoInstance, InputNotDumped, NoBaseline}
 

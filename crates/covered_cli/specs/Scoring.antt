@@ -1,5 +1,5 @@
 -- What a `score` command reads and writes, and why it cannot.
-use Rattle.std.specs.Prelude.{◌≡◌, ◌⊎◌, ℕ, false, List, slice_index_or, All}
+use Rattle.std.specs.Prelude.{◌≡◌, ℕ, false, List, slice_index_or, All}
 use Rattle.std.specs.List.{list_any}
 use Rattle.command_line.specs.CommandWords.{IsScore, ScoreValues, score_values}
 use Rattle.command_line.specs.Command.{AreWordsOf, CommandValues, score as of_score, merge as of_merge, report as of_report, command_values}
@@ -12,10 +12,9 @@ use Rattle.design_model.specs.Design.{no_signal}
 use Rattle.database_commands.specs.Merging.{IsMergedIn}
 use Rattle.database_commands.specs.Reporting.{IsReportedIn}
 use Rattle.design_model.specs.declared.design.Design.{Design}
-use Rattle.dump_pieces.specs.Dump.{Dump, IsDump}
-use Rattle.dump_pieces.specs.Text.{EndsWithFault, HasFault}
-use Rattle.dump_pieces.specs.declared.fault.DumpFault.TheVariants.{At}
-use Rattle.dump_score.specs.Faults.{SaysSome}
+use Rattle.vcd_reader.specs.Dump.{Dump, IsDump}
+use Rattle.vcd_reader.specs.declared.fault.DumpFault.TheVariants.{At}
+use Rattle.dump_score.specs.Faults.{IsDumpFault, SaysSome}
 use Rattle.dump_score.specs.Reading.{IsFile}
 use Rattle.input_module.specs.SourceForm.{IsSource}
 use Rattle.input_runs.specs.Reasoned.{IsReasoned}
@@ -69,9 +68,10 @@ pub record IsRefusedSource (score : ScoreValues) (before : Outside) : Type 0 whe
 abbrev pub IsNamed : Design → ℕ → List ℕ → Type 0
 IsNamed design signal name = name ≡ (slice_index_or design.signals signal no_signal).name
 
--- why the text is refused as the dump of a design: its first fault, an instance that is not there, or a signal of the top module
+-- why the text is refused as the dump of a design: its first fault, which is one of its header or stands where the design is
+-- bound, an instance that is not there, or a signal of the top module
 abbrev pub IsDumpRefusal : Design → List ℕ → List ℕ → List ℕ → DumpRefusal → Type 0
-IsDumpRefusal design top instance text (refusal.At kind byte) = HasFault text (At kind byte) ⊎ EndsWithFault text (At kind byte)
+IsDumpRefusal design top instance text (refusal.At kind byte) = IsDumpFault design instance text (At kind byte)
 IsDumpRefusal design top instance text (refusal.NoInstance path) = (path.now ≡ instance) × SaysSome text (λ b. list_any (stands_in instance) b.vars ≡ false)
 IsDumpRefusal design top instance text (refusal.InputNotDumped outer name) =
     (outer.now ≡ top) × ((signal : ℕ) × IsNamed design signal name × SaysSome text (λ b. IsNotDumped b.vars instance design.signals signal))

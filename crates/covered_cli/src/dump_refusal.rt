@@ -6,8 +6,8 @@ ghost use Rattle.covered_cli.specs.Effects.{WarnsLine};
 
 use crate::pieces::warn_pieces;
 use cov_host::{Host, Name};
-use dump_pieces::DumpKind;
 use itoa::Buffer;
+use vcd_reader::DumpKind;
 
 /// Why a dump is refused.
 #[derive(Debug, Drop)]

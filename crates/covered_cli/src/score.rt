@@ -20,11 +20,11 @@ use command_line::ScoreWords;
 use cov_host::{Bytes, Host, Name, NoMemory, Text};
 use coverage_db::{Db, write_db};
 use design_model::Design;
-use dump_pieces::DumpFault;
 use dump_score::{ScoreFault, score_dump};
 use input_module::read_source;
 use input_toggles::{BindFault, NoBaseline};
 use std::alloc::Global;
+use vcd_reader::DumpFault;
 use whole_files::{FileFault, read_file, write_file};
 
 /// The longest source, in bytes.

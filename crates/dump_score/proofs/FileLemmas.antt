@@ -1,13 +1,14 @@
 -- What was read of a file so far.
-use Rattle.std.proofs.Common.{◌≡◌, ◌≢◌, ◌⊎◌, ◌<◌, ℕ, true, List, [], ◌∷◌, ◌++◌, length, take, Option, None, Some, IfSome, refl, sym, ap, subst, ◌∙◌, append_assoc, append-nil, inl, inr, arith}
+use Rattle.std.proofs.Common.{◌≡◌, ◌≢◌, ◌<◌, ℕ, true, List, [], ◌∷◌, ◌++◌, length, take, Option, None, Some, IfSome, refl, sym, ap, subst, ◌∙◌, append_assoc, append-nil, inl, arith}
 use Rattle.std.specs.Prelude.{IsSomeAnd}
-use Rattle.cov_host.specs.Outside.{Files, Outside, IsCounted, IsOpened, IsRead, Told}
-use Rattle.whole_files.specs.Effects.{CountsUp, IsMissing, OnlyReads}
+use Rattle.cov_host.specs.Outside.{Files, Outside, IsOpened, IsRead, Told}
+use Rattle.whole_files.specs.Effects.{CountsUp, OnlyReads}
 use Rattle.whole_files.proofs.EffectLemmas.{IsCounted-earlier, OnlyReads-trans}
-use Rattle.whole_files.specs.declared.call.Call.{Call}
 use Rattle.whole_files.specs.declared.call.Call.TheVariants.{OpenRead, Read, OpenWrite, Write, CloseWrite}
 use Rattle.design_model.specs.declared.design.Design.{Design}
-use Rattle.dump_score.specs.Faults.{IsHeaderFault, IsScoreFault}
+use Rattle.vcd_reader.specs.declared.fault.DumpFault.{DumpFault}
+use Rattle.vcd_reader.specs.declared.fault.DumpFault.TheVariants as dump_fault
+use Rattle.dump_score.specs.Faults.{IsDumpFault, IsFaultOfHeader, IsHeaderFault, IsScoreFault}
 use Rattle.dump_score.specs.Reading.{HasReadFile, IsCallFault, IsFile, IsPieceFault}
 use Rattle.dump_score.specs.declared.fault.ScoreFault.{ScoreFault}
 use Rattle.dump_score.specs.declared.fault.ScoreFault.TheVariants as fault
@@ -97,10 +98,14 @@ body_call_fault name before middle after design instance (fault.Bind f) first se
 body_call_fault name before middle after design instance (fault.Baseline f) first second is = absurd is
 
 -- what refuses a header refuses the dump
+of_header : (design : Design) (instance text : List ℕ) (f : DumpFault) → IsFaultOfHeader text f → IsDumpFault design instance text f
+of_header design instance text dump_fault.NoMemory is = tt
+of_header design instance text (dump_fault.At kind byte) is = (is.0, inl is.1)
+
 pub header_refuses : (name : List ℕ) (before after : Outside) (design : Design) (instance : List ℕ) (f : ScoreFault) → IsHeaderFault name before after f → IsScoreFault name before after design instance f
 header_refuses name before after design instance (fault.Refused call) is = is
 header_refuses name before after design instance fault.NoMemory is = tt
-header_refuses name before after design instance (fault.Dump f) is = is
+header_refuses name before after design instance (fault.Dump f) is = (is.0, is.1, of_header design instance is.0 f is.2)
 header_refuses name before after design instance (fault.Bind f) is = absurd is
 header_refuses name before after design instance (fault.Baseline f) is = absurd is
 

@@ -1,3 +1,4 @@
 pub mod FileLemmas
 pub mod Stepping
 pub mod Opening
+pub mod BindingFirst

@@ -1,35 +1,34 @@
 -- From the header of a dump to its end.
-use Rattle.std.proofs.Common.{◌≡◌, ◌⊎◌, ℕ, zero, suc, ◌+◌, ◌-◌, ◌<◌, ◌≤◌, Bool, true, false, List, [], ◌∷◌, ◌++◌, length, take, drop, Option, None, Some, refl, sym, ap, subst, ◌∙◌, append_assoc, append-nil, inl, inr, arith}
-use Rattle.std.proofs.lemmas.Bool.{cases_Bool}
+use Rattle.std.proofs.Common.{◌≡◌, ◌⊎◌, ℕ, zero, suc, ◌+◌, ◌-◌, ◌<◌, ◌≤◌, Bool, true, false, List, [], ◌∷◌, ◌++◌, length, take, drop, refl, sym, ap, subst, ◌∙◌, append_assoc, append-nil, inl, inr, arith}
 use Rattle.std.proofs.lemmas.List.{length-append, length-take, take_all}
 use Rattle.cov_host.specs.Outside.{Outside}
 use Rattle.design_model.specs.declared.design.Design.{Design}
 use Rattle.coverage_db.specs.declared.db.Db.{Db}
-use Rattle.dump_pieces.proofs.RisingTimes.{times_rise}
-use Rattle.dump_pieces.proofs.TextLemmas.{fault_stays}
+use Rattle.vcd_reader.proofs.RisingTimes.{times_rise}
+use Rattle.vcd_reader.proofs.OneHeader.{none_stays}
+use Rattle.vcd_reader.proofs.TextLemmas.{fault_stays}
+use Rattle.input_toggles.proofs.BoundLemmas.{are_bound}
 use Rattle.input_toggles.proofs.DumpTimes.{steps_rise}
-use Rattle.dump_pieces.specs.Dump.{BeginsAs, SaysBody, steps_of}
-use Rattle.dump_pieces.specs.Pieces.{BodyHasEnded, BodyHasRead, BodyIs, HasRead, IsRead, Splits, body_at_end, header_at_end}
-use Rattle.dump_pieces.specs.Reading.{Body}
-use Rattle.dump_pieces.specs.Standing.{IsFaultOf}
-use Rattle.dump_pieces.specs.Text.{EndsAs, EndsWithFault, HasFault}
-use Rattle.dump_pieces.specs.declared.body.Body.{Body as BodyRow}
-use Rattle.dump_pieces.specs.declared.fault.DumpFault.{DumpFault}
-use Rattle.dump_pieces.specs.declared.fault.DumpFault.TheVariants as dump_fault
-use Rattle.dump_pieces.specs.declared.header.Header.{Header}
-use Rattle.dump_pieces.specs.declared.vars.Var.{Var}
-use Rattle.input_toggles.specs.Binding.{IsBindFault}
-use Rattle.input_toggles.specs.Scored.{HasNoBaseline}
+use Rattle.vcd_reader.specs.Dump.{BeginsAs, SaysBody, steps_of}
+use Rattle.vcd_reader.specs.Pieces.{BodyHasEnded, BodyHasRead, BodyIs, HasRead, Splits, body_at_end, header_at_end}
+use Rattle.vcd_reader.specs.Reading.{Body}
+use Rattle.vcd_reader.specs.Standing.{IsFaultOf}
+use Rattle.vcd_reader.specs.Text.{EndsAs, EndsWithFault, HasFault}
+use Rattle.vcd_reader.specs.declared.body.Body.{Body as BodyRow}
+use Rattle.vcd_reader.specs.declared.fault.DumpFault.{DumpFault}
+use Rattle.vcd_reader.specs.declared.fault.DumpFault.TheVariants as dump_fault
+use Rattle.vcd_reader.specs.declared.header.Header.{Header}
+use Rattle.vcd_reader.specs.declared.vars.Var.{Var}
+use Rattle.input_toggles.specs.Binding.{AreBound, IsBindFault}
 use Rattle.input_toggles.specs.Scores.{IsScoreBy, Scores}
 use Rattle.input_toggles.specs.declared.scorer.Scorer.{Scorer}
 use Rattle.whole_files.specs.Effects.{OnlyReads}
-use Rattle.dump_score.specs.Faults.{IsDumpFault, IsEndFault, IsFileFault, IsFoundFault, IsScoreFault, IsTextFault, SaysSome}
+use Rattle.dump_score.specs.Faults.{Binds, IsDumpFault, IsEndFault, IsFaultOfHeader, IsFileFault, IsFoundFault, IsScoreFault}
 use Rattle.dump_score.specs.Reading.{HasReadFile, IsFile}
-use Rattle.dump_score.specs.Scoring.{CanEnd, HasOpened, HasScored, IsScoreOfFile, IsOpen, IsReading, IsScoring, ScoresOn, behind}
+use Rattle.dump_score.specs.Scoring.{CanEnd, HasOpened, HasScored, IsScoreOfFile, IsOpen, IsReading, IsScoring, behind}
 use Rattle.dump_score.specs.declared.fault.ScoreFault.{ScoreFault}
 use Rattle.dump_score.specs.declared.fault.ScoreFault.TheVariants as fault
 use Rattle.dump_score.specs.declared.header.Opened.{Opened}
-use Rattle.dump_score.specs.declared.header.Span.{Span}
 use Rattle.dump_score.proofs.FileLemmas.{file_of}
 use Rattle.dump_score.proofs.Stepping.{all_of}
 
@@ -89,13 +88,13 @@ header_opened name before now text piece opened h within file at used ends split
     take_none (suc n) = append-nil text
 
 -- a fault of the header
-pub header_fault : (name : List ℕ) (before now : Outside) (text piece : List ℕ) (f : DumpFault) → HasReadFile name before now (text ++ piece) → (length piece ≡ 0 → IsFile before name text) → IsFaultOf text piece f → (whole : List ℕ) × IsFile before name whole × IsDumpFault whole f
-header_fault name before now text [] (dump_fault.At kind byte) file ended is = (text, ended refl, inr is)
+pub header_fault : (name : List ℕ) (before now : Outside) (text piece : List ℕ) (f : DumpFault) → HasReadFile name before now (text ++ piece) → (length piece ≡ 0 → IsFile before name text) → IsFaultOf text piece f → (whole : List ℕ) × IsFile before name whole × IsFaultOfHeader whole f
+header_fault name before now text [] (dump_fault.At kind byte) file ended is = (text, ended refl, (inr is.0, is.1))
 header_fault name before now text [] dump_fault.NoMemory file ended is = (text, ended refl, tt)
 header_fault name before now text (byte ∷ piece) dump_fault.NoMemory file ended is = let whole = file_of name (text ++ byte ∷ piece) before now file in ((text ++ byte ∷ piece) ++ whole.0, whole.1, tt)
 header_fault name before now text (first ∷ piece) (dump_fault.At kind byte) file ended is =
     let whole = file_of name (text ++ first ∷ piece) before now file in
-    ((text ++ first ∷ piece) ++ whole.0, whole.1, inl (fault_stays (text ++ first ∷ piece) whole.0 (dump_fault.At kind byte) is))
+    ((text ++ first ∷ piece) ++ whole.0, whole.1, (inl (fault_stays (text ++ first ∷ piece) whole.0 (dump_fault.At kind byte) is.0), none_stays (text ++ first ∷ piece) whole.0 (dump_fault.At kind byte) is.0 is.1))
 
 begins_more : (text rest : List ℕ) (b : Body) → BeginsAs text b → BeginsAs (text ++ rest) b
 begins_more text rest b begun = record {
@@ -106,33 +105,54 @@ begins_more text rest b begun = record {
   stands = begun.stands;
 }
 
-named_fault : (text : List ℕ) (f : DumpFault) → HasFault text f → IsDumpFault text f
-named_fault text dump_fault.NoMemory is = tt
-named_fault text (dump_fault.At kind byte) is = inl is
+named_fault : (design : Design) (instance text : List ℕ) (f : DumpFault) → HasFault text f → Binds design instance text → IsDumpFault design instance text f
+named_fault design instance text dump_fault.NoMemory is binds = tt
+named_fault design instance text (dump_fault.At kind byte) is binds = (inl is, inr binds)
 
-named_end : (text : List ℕ) (f : DumpFault) → EndsWithFault text f → IsDumpFault text f
-named_end text dump_fault.NoMemory is = tt
-named_end text (dump_fault.At kind byte) is = inr is
+named_end : (design : Design) (instance text : List ℕ) (f : DumpFault) → EndsWithFault text f → Binds design instance text → IsDumpFault design instance text f
+named_end design instance text dump_fault.NoMemory is binds = tt
+named_end design instance text (dump_fault.At kind byte) is binds = (inr is, inr binds)
+
+-- a design that is scored is bound, whatever comes behind
+scoring_binds : (body : BodyRow) (scorer : Scorer) (design : Design) (vars : List Var) (instance text rest : List ℕ) → IsScoring body scorer design vars instance text → Binds design instance (text ++ rest)
+scoring_binds body scorer design vars instance text rest is = (
+  is.b,
+  inl (record { front = text; rest = rest; word = is.stands.stands.word; split = refl; stands = is.stands.stands.stands }),
+  subst (λ vs. AreBound vs instance design.signals) (sym is.vars_are) (are_bound scorer design vars instance is.b.items is.scores),
+)
+
+pub scoring_binds_on : (body : BodyRow) (scorer : Scorer) (design : Design) (vars : List Var) (instance text piece rest : List ℕ) → IsScoring body scorer design vars instance text → Binds design instance ((text ++ piece) ++ rest)
+scoring_binds_on body scorer design vars instance text piece rest is = subst (Binds design instance) (sym (append_assoc text piece rest)) (scoring_binds body scorer design vars instance text (piece ++ rest) is)
+
+pub can_end_binds : (body : BodyRow) (scorer : Scorer) (design : Design) (vars : List Var) (instance text : List ℕ) → CanEnd body scorer design vars instance text → Binds design instance text
+can_end_binds body scorer design vars instance text can = (
+  can.b,
+  elim can.stands [
+    | inl read ↦ inl (record { front = text; rest = []; word = read.stands.word; split = sym (append-nil text); stands = read.stands.stands })
+    | inr ended ↦ inr ended.ended.ends
+  ],
+  subst (λ vs. AreBound vs instance design.signals) (sym can.vars_are) (are_bound scorer design vars instance can.b.items can.scores),
+)
 
 -- a fault that was found stands in the whole file
-pub found_in_file : (name : List ℕ) (before after now : Outside) (design : Design) (instance text : List ℕ) (f : ScoreFault) → HasReadFile name before now text → IsFoundFault design instance text f → IsScoreFault name before after design instance f
-found_in_file name before after now design instance text (fault.Dump f) file is =
+pub found_in_file : (name : List ℕ) (before after now : Outside) (design : Design) (instance text : List ℕ) (f : ScoreFault) → HasReadFile name before now text → ((rest : List ℕ) → Binds design instance (text ++ rest)) → IsFoundFault design instance text f → IsScoreFault name before after design instance f
+found_in_file name before after now design instance text (fault.Dump f) file binds is =
     let whole = file_of name text before now file in
-    (text ++ whole.0, whole.1, named_fault (text ++ whole.0) f (fault_stays text whole.0 f is))
-found_in_file name before after now design instance text (fault.Baseline f) file is =
+    (text ++ whole.0, whole.1, named_fault design instance (text ++ whole.0) f (fault_stays text whole.0 f is) (binds whole.0))
+found_in_file name before after now design instance text (fault.Baseline f) file binds is =
     let whole = file_of name text before now file in
     (text ++ whole.0, whole.1, (is.0, inl (begins_more text whole.0 is.0 is.1), is.2))
-found_in_file name before after now design instance text fault.NoMemory file is = absurd is
-found_in_file name before after now design instance text (fault.Refused call) file is = absurd is
-found_in_file name before after now design instance text (fault.Bind f) file is = absurd is
+found_in_file name before after now design instance text fault.NoMemory file binds is = absurd is
+found_in_file name before after now design instance text (fault.Refused call) file binds is = absurd is
+found_in_file name before after now design instance text (fault.Bind f) file binds is = absurd is
 
 -- so does one at its end
-pub end_in_file : (name : List ℕ) (before after : Outside) (design : Design) (instance text : List ℕ) (f : ScoreFault) → IsFile before name text → IsEndFault design instance text f → IsScoreFault name before after design instance f
-end_in_file name before after design instance text (fault.Dump f) file is = (text, file, named_end text f is)
-end_in_file name before after design instance text (fault.Baseline f) file is = (text, file, (is.0, inr is.1, is.2))
-end_in_file name before after design instance text fault.NoMemory file is = absurd is
-end_in_file name before after design instance text (fault.Refused call) file is = absurd is
-end_in_file name before after design instance text (fault.Bind f) file is = absurd is
+pub end_in_file : (name : List ℕ) (before after : Outside) (design : Design) (instance text : List ℕ) (f : ScoreFault) → IsFile before name text → Binds design instance text → IsEndFault design instance text f → IsScoreFault name before after design instance f
+end_in_file name before after design instance text (fault.Dump f) file binds is = (text, file, named_end design instance text f is binds)
+end_in_file name before after design instance text (fault.Baseline f) file binds is = (text, file, (is.0, inr is.1, is.2))
+end_in_file name before after design instance text fault.NoMemory file binds is = absurd is
+end_in_file name before after design instance text (fault.Refused call) file binds is = absurd is
+end_in_file name before after design instance text (fault.Bind f) file binds is = absurd is
 
 -- where the header ended the text says a body without entries
 header_says : (ends : Bool) (body : BodyRow) (front rest : List ℕ) (b : Body) → (ends ≡ true → rest ≡ []) → BodyIs ends body front b → SaysBody (front ++ rest) b

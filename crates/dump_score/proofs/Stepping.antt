@@ -1,26 +1,25 @@
 -- One step of a body, and what the scorer stands for behind it.
-use Rattle.std.proofs.Common.{◌≡◌, ◌⊎◌, ℕ, ◌+◌, ◌<◌, ◌≤◌, List, [], ◌∷◌, ◌++◌, length, take, drop, Option, None, Some, refl, sym, ap, subst, ◌∙◌, append_assoc, append-nil, inl, inr, arith, length-drop, take-append-drop}
+use Rattle.std.proofs.Common.{◌≡◌, ℕ, ◌+◌, ◌<◌, ◌≤◌, List, [], ◌∷◌, ◌++◌, length, take, drop, None, refl, sym, ap, subst, ◌∙◌, append_assoc, append-nil, arith, take-append-drop}
 use Rattle.std.proofs.Math.Seq.{take-add, take-length}
 use Rattle.design_model.specs.declared.design.Design.{Design}
-use Rattle.dump_pieces.proofs.RisingTimes.{times_rise, times_rise_so_far}
-use Rattle.dump_pieces.specs.Dump.{BeginsAs, SaysBody}
-use Rattle.dump_pieces.specs.Pieces.{BodyHasEnded, BodyHasRead, IsFaultAt, StepsTo}
-use Rattle.dump_pieces.specs.Reading.{Body}
-use Rattle.dump_pieces.specs.Text.{EndsAs, EndsWithFault, HasFault}
-use Rattle.dump_pieces.specs.Times.{Rises}
-use Rattle.dump_pieces.specs.declared.body.Body.{Body as BodyRow}
-use Rattle.dump_pieces.specs.declared.entry.Entry.{Entry}
-use Rattle.dump_pieces.specs.declared.fault.DumpFault.{DumpFault}
+use Rattle.vcd_reader.proofs.RisingTimes.{times_rise, times_rise_so_far}
+use Rattle.vcd_reader.specs.Pieces.{BodyHasRead, IsFaultAt, StepsTo}
+use Rattle.vcd_reader.specs.Reading.{Body}
+use Rattle.vcd_reader.specs.Text.{EndsAs, HasFault}
+use Rattle.vcd_reader.specs.Times.{Rises}
+use Rattle.vcd_reader.specs.declared.body.Body.{Body as BodyRow}
+use Rattle.vcd_reader.specs.declared.entry.Entry.{Entry}
+use Rattle.vcd_reader.specs.declared.fault.DumpFault.{DumpFault}
 use Rattle.std.specs.Prelude.{Result, Ok, Err, OnOk, IfErr}
-use Rattle.dump_pieces.specs.declared.item.Step.{Step}
-use Rattle.dump_pieces.specs.declared.item.Item.{Item}
-use Rattle.dump_pieces.specs.declared.item.Item.TheVariants as item
-use Rattle.dump_pieces.specs.declared.vars.Var.{Var}
+use Rattle.vcd_reader.specs.declared.item.Step.{Step}
+use Rattle.vcd_reader.specs.declared.item.Item.{Item}
+use Rattle.vcd_reader.specs.declared.item.Item.TheVariants as item
+use Rattle.vcd_reader.specs.declared.vars.Var.{Var}
 use Rattle.input_toggles.specs.Scored.{HasNoBaseline}
 use Rattle.input_toggles.specs.Scores.{Scores}
 use Rattle.input_toggles.specs.declared.scorer.Scorer.{Scorer}
 use Rattle.dump_score.specs.Faults.{IsEndFault, IsFoundFault, IsSayingFault}
-use Rattle.dump_score.specs.Scoring.{CanEnd, HasScored, IsReading, IsScoring, entries_of}
+use Rattle.dump_score.specs.Scoring.{HasScored, IsReading, IsScoring, entries_of}
 use Rattle.dump_score.specs.declared.fault.ScoreFault.{ScoreFault}
 use Rattle.dump_score.specs.declared.fault.ScoreFault.TheVariants as fault
 

@@ -2,33 +2,46 @@
 use Rattle.std.specs.Prelude.{◌⊎◌, ℕ, List}
 use Rattle.cov_host.specs.Outside.{Outside}
 use Rattle.design_model.specs.declared.design.Design.{Design}
-use Rattle.dump_pieces.specs.Dump.{BeginsAs, SaysBody}
-use Rattle.dump_pieces.specs.Reading.{Body}
-use Rattle.dump_pieces.specs.Text.{EndsAs, EndsWithFault, HasFault}
-use Rattle.dump_pieces.specs.declared.entry.Entry.{Entry}
-use Rattle.dump_pieces.specs.declared.fault.DumpFault.{DumpFault}
-use Rattle.dump_pieces.specs.declared.fault.DumpFault.TheVariants as dump_fault
-use Rattle.dump_pieces.specs.declared.vars.Var.{Var}
-use Rattle.input_toggles.specs.Binding.{IsBindFault}
+use Rattle.vcd_reader.specs.Dump.{BeginsAs, HasNoBody, SaysBody}
+use Rattle.vcd_reader.specs.Reading.{Body}
+use Rattle.vcd_reader.specs.Text.{EndsAs, EndsWithFault, HasFault}
+use Rattle.vcd_reader.specs.declared.entry.Entry.{Entry}
+use Rattle.vcd_reader.specs.declared.fault.DumpFault.{DumpFault}
+use Rattle.vcd_reader.specs.declared.fault.DumpFault.TheVariants as dump_fault
+use Rattle.vcd_reader.specs.declared.vars.Var.{Var}
+use Rattle.input_toggles.specs.Binding.{AreBound, IsBindFault}
 use Rattle.input_toggles.specs.Scored.{HasNoBaseline}
 use Rattle.dump_score.specs.Reading.{IsCallFault, IsFile}
 use Rattle.dump_score.specs.declared.fault.ScoreFault.{ScoreFault}
 use Rattle.dump_score.specs.declared.fault.ScoreFault.TheVariants as fault
 
--- the fault is the first one of the text, or that of its end, if it is not want of memory
-abbrev pub IsDumpFault : List ℕ → DumpFault → Type 0
-IsDumpFault text dump_fault.NoMemory = Unit {0}
-IsDumpFault text (dump_fault.At kind byte) = HasFault text (dump_fault.At kind byte) ⊎ EndsWithFault text (dump_fault.At kind byte)
-
 -- the text says a body of which this holds
 abbrev pub SaysSome : List ℕ → (Body → Type 0) → Type 0
 SaysSome text P = (b : Body) × SaysBody text b × P b
+
+-- the header of the text is read, and the design, which is the instance, is bound to its variables
+abbrev pub Binds : Design → List ℕ → List ℕ → Type 0
+Binds design instance text = SaysSome text (λ b. AreBound b.vars instance design.signals)
+
+-- the fault is the first one of the text, or that of its end
+abbrev pub IsFirstFault : List ℕ → DumpFault → Type 0
+IsFirstFault text f = HasFault text f ⊎ EndsWithFault text f
+
+-- the fault is one of the header, if it is not want of memory
+abbrev pub IsFaultOfHeader : List ℕ → DumpFault → Type 0
+IsFaultOfHeader text dump_fault.NoMemory = Unit {0}
+IsFaultOfHeader text (dump_fault.At kind byte) = IsFirstFault text (dump_fault.At kind byte) × HasNoBody text
+
+-- the fault is one of the header, or one of the body of a text to which the design is bound, if it is not want of memory
+abbrev pub IsDumpFault : Design → List ℕ → List ℕ → DumpFault → Type 0
+IsDumpFault design instance text dump_fault.NoMemory = Unit {0}
+IsDumpFault design instance text (dump_fault.At kind byte) = IsFirstFault text (dump_fault.At kind byte) × (HasNoBody text ⊎ Binds design instance text)
 
 -- the fault stands in the text of the dump of the design, which is the instance
 abbrev pub IsTextFault : Design → List ℕ → List ℕ → ScoreFault → Type 0
 IsTextFault design instance text fault.NoMemory = Unit {0}
 IsTextFault design instance text (fault.Refused call) = ⊥
-IsTextFault design instance text (fault.Dump f) = IsDumpFault text f
+IsTextFault design instance text (fault.Dump f) = IsDumpFault design instance text f
 IsTextFault design instance text (fault.Bind f) = SaysSome text (λ b. IsBindFault b.vars instance design.signals f)
 IsTextFault design instance text (fault.Baseline f) = SaysSome text (λ b. HasNoBaseline b.vars instance design.signals b.items f.signal)
 
@@ -61,5 +74,5 @@ IsSayingFault vars instance design entries other = ⊥
 
 -- why no header was read from a file
 abbrev pub IsHeaderFault : List ℕ → Outside → Outside → ScoreFault → Type 0
-IsHeaderFault name before after (fault.Dump f) = (text : List ℕ) × IsFile before name text × IsDumpFault text f
+IsHeaderFault name before after (fault.Dump f) = (text : List ℕ) × IsFile before name text × IsFaultOfHeader text f
 IsHeaderFault name before after other = IsCallFault name before after other

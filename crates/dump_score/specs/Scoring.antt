@@ -3,16 +3,16 @@ use Rattle.std.specs.Prelude.{◌≡◌, ◌⊎◌, ◌<◌, ◌≤◌, ℕ, fal
 use Rattle.cov_host.specs.Outside.{Outside}
 use Rattle.coverage_db.specs.declared.db.Db.{Db}
 use Rattle.design_model.specs.declared.design.Design.{Design}
-use Rattle.dump_pieces.specs.Dump.{Dump, IsDump}
-use Rattle.dump_pieces.specs.Pieces.{BodyHasEnded, BodyHasRead, Splits, body_at_end}
-use Rattle.dump_pieces.specs.Reading.{Body}
-use Rattle.dump_pieces.specs.Text.{EndsAs}
-use Rattle.dump_pieces.specs.declared.body.Body.{Body as BodyRow}
-use Rattle.dump_pieces.specs.declared.entry.Entry.{Entry}
-use Rattle.dump_pieces.specs.declared.entry.Entry.TheVariants as entry
-use Rattle.dump_pieces.specs.declared.item.Item.{Item}
-use Rattle.dump_pieces.specs.declared.item.Item.TheVariants as item
-use Rattle.dump_pieces.specs.declared.vars.Var.{Var}
+use Rattle.vcd_reader.specs.Dump.{Dump, IsDump}
+use Rattle.vcd_reader.specs.Pieces.{BodyHasEnded, BodyHasRead, Splits, body_at_end}
+use Rattle.vcd_reader.specs.Reading.{Body}
+use Rattle.vcd_reader.specs.Text.{EndsAs}
+use Rattle.vcd_reader.specs.declared.body.Body.{Body as BodyRow}
+use Rattle.vcd_reader.specs.declared.entry.Entry.{Entry}
+use Rattle.vcd_reader.specs.declared.entry.Entry.TheVariants as entry
+use Rattle.vcd_reader.specs.declared.item.Item.{Item}
+use Rattle.vcd_reader.specs.declared.item.Item.TheVariants as item
+use Rattle.vcd_reader.specs.declared.vars.Var.{Var}
 use Rattle.input_toggles.specs.Scored.{IsToggleTable}
 use Rattle.input_toggles.specs.Scores.{Scores}
 use Rattle.input_toggles.specs.declared.scorer.Scorer.{Scorer}

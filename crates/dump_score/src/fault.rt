@@ -2,10 +2,10 @@ ghost use Rattle.std.specs.Prelude.{◌≡◌};
 ghost use Rattle.dump_score.specs.declared.fault.ScoreFault.TheVariants as score_fault;
 
 use cov_host::NoMemory;
-use dump_pieces::DumpFault;
 use input_toggles::{BindFault, NoBaseline};
 use std::alloc::AllocError;
 use thiserror::Error;
+use vcd_reader::DumpFault;
 use whole_files::Call;
 
 /// Why a dump was not scored.

@@ -8,8 +8,8 @@ ghost use Rattle.dump_score.specs.Scoring.{HasOpened};
 use crate::ScoreFault;
 use crate::pieces::read;
 use cov_host::Host;
-use dump_pieces::{Body, DumpFault, DumpKind, Fed, Header, Vars};
 use std::alloc::Global;
+use vcd_reader::{Body, DumpFault, DumpKind, Fed, Header, Vars};
 
 /// The longest header, in bytes.
 const LONGEST_HEADER: u64 = 67_108_864;

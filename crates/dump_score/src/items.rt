@@ -1,9 +1,9 @@
 ghost use Rattle.std.specs.Prelude.{◌≡◌, ◌<◌, ◌≤◌, ◌++◌, ℕ, true, List, None, length, OnOk, IfErr};
 ghost use Rattle.cov_host.specs.Outside.{Outside};
 ghost use Rattle.design_model.specs.declared.design.Design.{Design as SpecDesign};
-ghost use Rattle.dump_pieces.specs.Times.{Rises};
-ghost use Rattle.dump_pieces.specs.declared.entry.Entry.{Entry};
-ghost use Rattle.dump_pieces.specs.declared.vars.Var.{Var as SpecVar};
+ghost use Rattle.vcd_reader.specs.Times.{Rises};
+ghost use Rattle.vcd_reader.specs.declared.entry.Entry.{Entry};
+ghost use Rattle.vcd_reader.specs.declared.vars.Var.{Var as SpecVar};
 ghost use Rattle.input_toggles.specs.Scores.{Scores};
 ghost use Rattle.whole_files.specs.Effects.{OnlyReads};
 ghost use Rattle.dump_score.specs.Reading.{HasReadFile};
@@ -14,8 +14,8 @@ use crate::ScoreFault;
 use crate::header::Span;
 use crate::pieces::read;
 use cov_host::Host;
-use dump_pieces::{Body, DumpFault, DumpKind, Item};
 use input_toggles::Scorer;
+use vcd_reader::{Body, DumpFault, DumpKind, Item};
 
 /// The longest dump, in bytes.
 const LONGEST_DUMP: u64 = 1_099_511_627_776;

@@ -4,8 +4,10 @@
 mod fault;
 mod header;
 mod items;
+mod laws;
 mod pieces;
 mod score;
 
 pub use fault::ScoreFault;
+pub use laws::binding_goes_first;
 pub use score::score_dump;

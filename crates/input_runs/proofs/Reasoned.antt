@@ -12,7 +12,7 @@ use Rattle.design_model.specs.View.{design_view}
 use Rattle.design_model.specs.declared.design.Design.{Design}
 use Rattle.design_model.specs.declared.point.Point.{Point}
 use Rattle.input_toggles.specs.Scored.{IsScored, Tells}
-use Rattle.dump_pieces.specs.Dump.{Dump}
+use Rattle.vcd_reader.specs.Dump.{Dump}
 use Rattle.input_runs.specs.Reasoned.{GivesReason, IsLeftOpen, AreCertain, IsCertainPoint, IsReasoned, IsReasonedPoint}
 use Rattle.input_runs.specs.Shown.{bound_dump}
 use Rattle.input_runs.proofs.Sound.{scored_address, scored_bound, scored_point}

@@ -5,8 +5,8 @@ use Rattle.std.proofs.lemmas.Bool.{cases_lt}
 use Rattle.std.proofs.lemmas.Bool.Decides.{nat_tests}
 use Rattle.std.proofs.lemmas.List.Elements.{All-nil, All-cons, All-weaker}
 use Rattle.design_model.specs.Shows.{AreRising, IsWindowOf, last_time}
-use Rattle.dump_pieces.specs.Dump.{last_value, times_of, value_at}
-use Rattle.dump_pieces.specs.Dump.{DumpStep}
+use Rattle.vcd_reader.specs.Dump.{last_value, times_of, value_at}
+use Rattle.vcd_reader.specs.Dump.{DumpStep}
 use Rattle.input_toggles.specs.Toggling.{TogglesIn, bit_at, dumped_bit, new_bit, old_bit, time_at}
 use Rattle.input_toggles.proofs.TimeLemmas.{later, listed, none_up_to, rest_rises}
 

@@ -12,8 +12,8 @@ use Rattle.design_model.specs.View.{design_view, process_view}
 use Rattle.design_model.specs.declared.design.Design.{Design}
 use Rattle.input_toggles.specs.Binding.{code_of}
 use Rattle.input_toggles.specs.InputDesign.{IsInputDesign}
-use Rattle.dump_pieces.specs.Dump.{times_of}
-use Rattle.dump_pieces.specs.Dump.{Dump}
+use Rattle.vcd_reader.specs.Dump.{times_of}
+use Rattle.vcd_reader.specs.Dump.{Dump}
 use Rattle.input_runs.specs.Shown.{SomeRunShows, bound_dump, signal_of}
 use Rattle.input_runs.specs.Stimuli.{AreLater, Stimulus, Takes}
 use Rattle.input_runs.proofs.Runs.{takes_all}

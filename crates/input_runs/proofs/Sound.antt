@@ -30,8 +30,8 @@ use Rattle.input_toggles.specs.InputDesign.{IsInput, IsInputDesign}
 use Rattle.input_toggles.specs.Points.{HasIndex, place_of, toggle_address}
 use Rattle.input_toggles.specs.Scored.{IsScored, Tells}
 use Rattle.input_toggles.specs.Toggling.{TogglesIn, bit_at}
-use Rattle.dump_pieces.specs.Dump.{times_of, value_at}
-use Rattle.dump_pieces.specs.Dump.{Dump}
+use Rattle.vcd_reader.specs.Dump.{times_of, value_at}
+use Rattle.vcd_reader.specs.Dump.{Dump}
 use Rattle.input_runs.proofs.ShownTimes.{ChangesAt, changes_from_in, in_from_changes}
 use Rattle.input_runs.specs.Shown.{IsShownBy, bound_dump, code_at, signal_of, value_of_code}
 use Rattle.input_runs.specs.Sound.{IsAddressOf, IsSound, IsSoundPoint, number_of}

@@ -1,13 +1,13 @@
 -- The worked case, computed.
 use Rattle.std.proofs.Common.{ℕ, zero, suc, true, false, List, [], ◌∷◌, Some, None, refl, lit≤, arith}
 use Rattle.std.specs.Prelude.{codes}
-use Rattle.dump_pieces.specs.declared.entry.Entry.{Entry}
+use Rattle.vcd_reader.specs.declared.entry.Entry.{Entry}
 use Rattle.cov_host.specs.Identifier.{is_reserved}
 use Rattle.input_module.specs.SourceForm.{AreDistinct, IsSource}
-use Rattle.dump_pieces.specs.Body.{nothing}
-use Rattle.dump_pieces.specs.Dump.{IsDump}
-use Rattle.dump_pieces.specs.Reading.{Body, body}
-use Rattle.dump_pieces.specs.declared.entry.Entry.TheVariants.{Time, Value}
+use Rattle.vcd_reader.specs.Body.{nothing}
+use Rattle.vcd_reader.specs.Dump.{IsDump}
+use Rattle.vcd_reader.specs.Reading.{Body, body}
+use Rattle.vcd_reader.specs.declared.entry.Entry.TheVariants.{Time, Value}
 use Rattle.four_state.specs.declared.Bit.{Bit}
 use Rattle.four_state.specs.declared.Bit.TheVariants.{Zero, One, X}
 use Rattle.input_runs.specs.Worked.{IsWorkedRun, dump_text, pads, pads_dump, pads_text}

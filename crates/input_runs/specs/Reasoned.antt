@@ -14,7 +14,7 @@ use Rattle.design_model.specs.Shows.{IsWindow}
 use Rattle.design_model.specs.View.{design_view}
 use Rattle.design_model.specs.declared.design.Design.{Design}
 use Rattle.design_model.specs.declared.point.Point.{Point}
-use Rattle.dump_pieces.specs.Dump.{Dump}
+use Rattle.vcd_reader.specs.Dump.{Dump}
 use Rattle.input_runs.specs.Shown.{IsShownBy, bound_dump}
 use Rattle.input_runs.specs.Sound.{IsAddressOf}
 

@@ -10,8 +10,8 @@ use Rattle.design_model.specs.declared.design.Design.{Design}
 use Rattle.design_model.specs.declared.design.Signal.{Signal}
 use Rattle.input_toggles.specs.Binding.{code_of}
 use Rattle.input_toggles.specs.Toggling.{bit_at}
-use Rattle.dump_pieces.specs.Dump.{times_of, value_at}
-use Rattle.dump_pieces.specs.Dump.{Dump}
+use Rattle.vcd_reader.specs.Dump.{times_of, value_at}
+use Rattle.vcd_reader.specs.Dump.{Dump}
 
 -- the signal with this number
 abbrev pub signal_of : Design → ℕ → Signal

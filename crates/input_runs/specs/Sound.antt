@@ -11,7 +11,7 @@ use Rattle.design_model.specs.declared.point.Point.{Point}
 use Rattle.design_model.specs.declared.point.Point.TheVariants.{Toggle as toggle_point}
 use Rattle.input_toggles.specs.Points.{HasIndex, toggle_address}
 use Rattle.input_toggles.specs.Scored.{Tells}
-use Rattle.dump_pieces.specs.Dump.{Dump}
+use Rattle.vcd_reader.specs.Dump.{Dump}
 use Rattle.input_runs.specs.Shown.{IsShownBy, bound_dump, signal_of}
 
 -- the index as a number, 0 without a range

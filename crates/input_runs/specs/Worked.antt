@@ -5,7 +5,7 @@ use Rattle.four_state.specs.declared.Bit.TheVariants.{Zero, One, X}
 use Rattle.design_model.specs.declared.design.Design.{Design}
 use Rattle.design_model.specs.declared.design.Signal.{Signal}
 use Rattle.input_module.specs.SourceForm.{IsSource}
-use Rattle.dump_pieces.specs.Dump.{Change, Dump, IsDump}
+use Rattle.vcd_reader.specs.Dump.{Change, Dump, IsDump}
 use Rattle.input_runs.specs.Shown.{SomeRunShows}
 
 -- one bit

@@ -1,20 +1,20 @@
 -- The signals of a design that are bound, and those that lack a first value.
-use Rattle.std.proofs.Common.{◌≡◌, ℕ, zero, suc, ◌+◌, ◌<◌, ◌≤◌, Bool, true, false, Option, Some, None, IsSome, IsTrue, IfSome, is_some, List, [], ◌∷◌, ◌++◌, length, map, get_or, refl, sym, ap, subst, ◌∙◌, arith}
-use Rattle.std.specs.Prelude.{nat_lt}
+use Rattle.std.proofs.Common.{◌≡◌, ℕ, zero, suc, ◌<◌, ◌≤◌, true, false, Option, Some, None, IsSome, IsTrue, IfSome, is_some, List, [], ◌∷◌, ◌++◌, length, map, get_or, refl, sym, ap, subst, ◌∙◌, arith}
+use Rattle.std.specs.Prelude.{nat_lt, IsSomeAnd, take}
 use Rattle.std.specs.List.{All}
 use Rattle.std.proofs.lemmas.Bool.Decides.{nat_tests}
-use Rattle.std.proofs.lemmas.List.{length-map}
-use Rattle.std.proofs.lemmas.List.Elements.{All-nil, All-cons, All-head, All-tail, All-weaker}
+use Rattle.std.proofs.lemmas.List.{length-map, take-map}
+use Rattle.std.proofs.lemmas.List.Elements.{All-nil, All-cons, All-head, All-tail, All-take, All-weaker}
 use Rattle.design_model.specs.Design.{no_signal}
 use Rattle.design_model.specs.declared.design.Design.{Design}
 use Rattle.design_model.specs.declared.design.Signal.{Signal}
 use Rattle.four_state.specs.Vector.{Vector}
-use Rattle.dump_pieces.specs.Dump.{Dump, steps_of}
-use Rattle.dump_pieces.specs.Times.{last_time}
-use Rattle.dump_pieces.specs.declared.entry.Entry.{Entry}
-use Rattle.dump_pieces.specs.declared.entry.Entry.TheVariants.{Time, Value}
-use Rattle.dump_pieces.specs.declared.vars.Var.{Var}
-use Rattle.input_toggles.specs.Binding.{AreCodes, code_of}
+use Rattle.vcd_reader.specs.Dump.{steps_of}
+use Rattle.vcd_reader.specs.Times.{last_time}
+use Rattle.vcd_reader.specs.declared.entry.Entry.{Entry}
+use Rattle.vcd_reader.specs.declared.entry.Entry.TheVariants.{Time, Value}
+use Rattle.vcd_reader.specs.declared.vars.Var.{Var}
+use Rattle.input_toggles.specs.Binding.{AreBound, AreCodes, code_of}
 use Rattle.input_toggles.specs.Scored.{HasNoBaseline, IsBound, first_value}
 use Rattle.input_toggles.specs.Scores.{LacksValue, Scores}
 use Rattle.input_toggles.specs.Tracked.{Follows, IsTracked, count_of, has_value, value_so_far}
@@ -40,6 +40,17 @@ module _ (of : Signal → Option ℕ) where
       let tail : map Some cs ≡ map of ss = cc in
       All-cons (λ s. IfSome (of s) P) s ss (subst (λ o. IfSome o P) head (All-head P c cs h)) (all_codes P ss cs tail (All-tail P c cs h))
 
+  all_codes_some : (P : ℕ → Type 0) (signals : List Signal) (codes : List ℕ) → map Some codes ≡ map of signals → All P codes → All (λ s. IsSomeAnd (of s) P) signals
+  all_codes_some P [] codes e h = All-nil (λ s. IsSomeAnd (of s) P)
+  all_codes_some P (s ∷ ss) [] e h = absurd (cc)
+  all_codes_some P (s ∷ ss) (c ∷ cs) e h =
+      let head : Some c ≡ of s = cc in
+      let tail : map Some cs ≡ map of ss = cc in
+      All-cons (λ s. IsSomeAnd (of s) P) s ss (subst (λ o. IsSomeAnd o P) head (All-head P c cs h)) (all_codes_some P ss cs tail (All-tail P c cs h))
+
+  first_codes : (count : ℕ) (signals : List Signal) (codes : List ℕ) → map Some codes ≡ map of signals → map Some (take count codes) ≡ map of (take count signals)
+  first_codes count signals codes e = sym (take-map (λ (c : ℕ). Some c) count codes) ∙ ap (take count) e ∙ take-map of count signals
+
   code_at : (signals : List Signal) (codes : List ℕ) (k d : ℕ) (s : Signal) → map Some codes ≡ map of signals → k < length codes → of (get_or signals k s) ≡ Some (get_or codes k d)
   code_at signals [] k d s e l = absurd (omega (arith, l))
   code_at [] (c ∷ cs) k d s e l = absurd (cc)
@@ -61,6 +72,10 @@ bound_design scorer design vars instance entries s = record {
       (s.based (omega (arith, two, count))));
 }
 
+-- the variables of a design that is bound
+pub are_bound : (scorer : Scorer) (design : Design) (vars : List Var) (instance : List ℕ) (entries : List Entry) → Scores scorer design vars instance entries → AreBound vars instance design.signals
+are_bound scorer design vars instance entries s = record { instance_is = s.instance_is; variables = some_codes (code_of vars instance) design.signals scorer.codes.items s.codes_are }
+
 none_of : (o : Option Vector) → is_some o ≡ false → o ≡ None
 none_of None e = refl
 none_of (Some v) e = absurd (cc)
@@ -79,9 +94,16 @@ no_baseline scorer design vars instance entries before time signal first last la
     let two : length (steps_of more) ≡ 2 = count_of_two more (omega (arith, count)) ∙ count in
     let many = as_many vars instance design.signals scorer.codes.items s.codes_are in
     let valueless : value_so_far entries code 1 ≡ None = none_of _ (ap (λ n. is_some (value_so_far entries code n)) (sym one) ∙ sym (has_value_is scorer.tracks entries code s.follows (s.tracked signal 0 lacks.listed)) ∙ lacks.none) in
+    let first_values : All (λ other. IsSome (first_value (steps_of more) other)) (take signal scorer.codes.items) = λ k d l.
+    let other = get_or (take signal scorer.codes.items) k d in
+    let tracked : IsTracked scorer.tracks other = All-take (IsTracked scorer.tracks) signal scorer.codes.items s.tracked k d l in
+    ap is_some (sym (first_value_is more other (omega (arith, two))) ∙ value_later entries before time other 1 there (omega (arith, one))) ∙ ap (λ n. is_some (value_so_far entries other n)) (sym one) ∙ sym (has_value_is scorer.tracks entries other s.follows tracked) ∙ lacks.earlier k d l
+    in
     record {
+      are_bound = are_bound scorer design vars instance entries s;
       second = omega (arith, two);
       listed = omega (arith, lacks.listed, many);
+      earlier = all_codes_some (code_of vars instance) (λ code. IsSome (first_value (steps_of more) code)) (take signal design.signals) (take signal scorer.codes.items) (first_codes (code_of vars instance) signal design.signals scorer.codes.items s.codes_are) first_values;
       code = code;
       bound = code_at (code_of vars instance) design.signals scorer.codes.items signal 0 no_signal s.codes_are lacks.listed;
       none = sym (first_value_is more code (omega (arith, two))) ∙ value_later entries before time code 1 there (omega (arith, one)) ∙ valueless;

@@ -1,11 +1,11 @@
 -- The times of a dump rise.
-use Rattle.std.proofs.Common.{◌≡◌, ℕ, ◌<◌, List, [], ◌∷◌, Option, None, Some, refl, sym, ap, subst, ◌∙◌}
+use Rattle.std.proofs.Common.{◌≡◌, ℕ, List, [], ◌∷◌, Option, None, Some, refl, sym, ap, subst}
 use Rattle.design_model.specs.Shows.{AreRising}
-use Rattle.dump_pieces.proofs.RisingTimes.{times_rise as entries_rise}
-use Rattle.dump_pieces.specs.Dump.{Change, Dump, DumpStep, IsDump, leading, steps_of, timed, times_of, with_leading}
-use Rattle.dump_pieces.specs.Times.{IsLater, Rises}
-use Rattle.dump_pieces.specs.declared.entry.Entry.{Entry}
-use Rattle.dump_pieces.specs.declared.entry.Entry.TheVariants.{Time, Value}
+use Rattle.vcd_reader.proofs.RisingTimes.{times_rise as entries_rise}
+use Rattle.vcd_reader.specs.Dump.{Change, Dump, DumpStep, IsDump, leading, steps_of, timed, times_of, with_leading}
+use Rattle.vcd_reader.specs.Times.{IsLater, Rises}
+use Rattle.vcd_reader.specs.declared.entry.Entry.{Entry}
+use Rattle.vcd_reader.specs.declared.entry.Entry.TheVariants.{Time, Value}
 
 -- the first time is later than this one
 abbrev FirstLater : Option ℕ → List ℕ → Type 0

@@ -1,8 +1,8 @@
 -- The first value stays behind the second time.
-use Rattle.std.proofs.Common.{◌≡◌, ℕ, suc, ◌≤◌, List, [], ◌∷◌, ◌++◌, length, refl, sym, ap, subst, ◌∙◌, arith}
-use Rattle.dump_pieces.specs.Dump.{Change, DumpStep, leading, steps_of, timed, with_leading}
-use Rattle.dump_pieces.specs.declared.entry.Entry.{Entry}
-use Rattle.dump_pieces.specs.declared.entry.Entry.TheVariants.{Time, Value}
+use Rattle.std.proofs.Common.{◌≡◌, ℕ, ◌≤◌, List, [], ◌∷◌, ◌++◌, length, refl, ap, ◌∙◌, arith}
+use Rattle.vcd_reader.specs.Dump.{Change, DumpStep, leading, steps_of, timed, with_leading}
+use Rattle.vcd_reader.specs.declared.entry.Entry.{Entry}
+use Rattle.vcd_reader.specs.declared.entry.Entry.TheVariants.{Time, Value}
 use Rattle.input_toggles.specs.Scored.{first_value}
 
 length-with_leading : (changes : List Change) (steps : List DumpStep) → length (with_leading changes steps) ≡ length steps

@@ -1,14 +1,14 @@
 -- What is followed of all codes stands for what was said, with one entry more.
-use Rattle.std.proofs.Common.{◌≡◌, ◌⊎◌, ℕ, suc, ◌+◌, ◌<◌, ◌≤◌, ◌==◌, Bool, true, false, List, [], ◌∷◌, ◌++◌, length, get_or, Option, Some, None, IfSome, IsSome, is_some, refl, sym, ap, subst, ◌∙◌, inl, inr, arith}
+use Rattle.std.proofs.Common.{◌≡◌, ◌⊎◌, ℕ, suc, ◌+◌, ◌<◌, ◌≤◌, ◌==◌, true, false, List, [], ◌∷◌, ◌++◌, length, get_or, Option, Some, None, IfSome, IsSome, is_some, sym, ap, subst, ◌∙◌, inl, inr, arith}
 use Rattle.std.specs.Prelude.{nat_lt, slice_set}
 use Rattle.std.proofs.lemmas.Bool.{cases_Bool, cases_lt, eqb-true}
 use Rattle.std.proofs.lemmas.List.{get_or-set_other, get_or-set_same, get_or_past}
 use Rattle.std.proofs.lemmas.Bool.Decides.{nat_tests}
 use Rattle.four_state.specs.Vector.{Vector}
-use Rattle.dump_pieces.proofs.RisingTimes.{last_time_append}
-use Rattle.dump_pieces.specs.Times.{IsLater, Rises, last_time}
-use Rattle.dump_pieces.specs.declared.entry.Entry.{Entry}
-use Rattle.dump_pieces.specs.declared.entry.Entry.TheVariants.{Time, Value}
+use Rattle.vcd_reader.proofs.RisingTimes.{last_time_append}
+use Rattle.vcd_reader.specs.Times.{IsLater, Rises, last_time}
+use Rattle.vcd_reader.specs.declared.entry.Entry.{Entry}
+use Rattle.vcd_reader.specs.declared.entry.Entry.TheVariants.{Time, Value}
 use Rattle.input_toggles.specs.Tracked.{Follows, IsMark, IsTrack, IsTracked, count_of, has_value, is_valued, track_of, value_so_far}
 use Rattle.input_toggles.specs.declared.track.Track.{Track}
 use Rattle.input_toggles.specs.declared.tracks.Tracks.{Tracks}

@@ -9,14 +9,14 @@ use Rattle.coverage_db.specs.declared.db.Db.{Db}
 use Rattle.design_model.specs.Shows.{AreRising}
 use Rattle.design_model.specs.declared.design.Design.{Design}
 use Rattle.design_model.specs.declared.design.Signal.{Signal}
-use Rattle.dump_pieces.specs.Dump.{Dump, steps_of, times_of}
-use Rattle.dump_pieces.specs.declared.entry.Entry.{Entry}
-use Rattle.dump_pieces.specs.declared.vars.Var.{Var}
+use Rattle.vcd_reader.specs.Dump.{Dump, steps_of, times_of}
+use Rattle.vcd_reader.specs.declared.entry.Entry.{Entry}
+use Rattle.vcd_reader.specs.declared.vars.Var.{Var}
 use Rattle.input_toggles.specs.Binding.{code_of}
 use Rattle.input_toggles.specs.InputDesign.{IsInput, IsInputDesign}
 use Rattle.input_toggles.specs.PointList.{IsTableOf}
 use Rattle.input_toggles.specs.Scored.{HasHead, IsScored, IsToggleTable, ListsTogglePoints}
-use Rattle.input_toggles.specs.Scores.{AreWatched, HasToggles, IsScoreBy, Scores}
+use Rattle.input_toggles.specs.Scores.{AreWatched, HasToggles, Scores}
 use Rattle.input_toggles.specs.Tracked.{IsTracked}
 use Rattle.input_toggles.specs.Watched.{signals_of}
 use Rattle.input_toggles.specs.declared.scorer.Scorer.{Scorer}

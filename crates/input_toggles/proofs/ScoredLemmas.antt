@@ -9,7 +9,7 @@ use Rattle.coverage_db.specs.declared.address.Address.{Address}
 use Rattle.coverage_db.specs.declared.db.DbPoint.{DbPoint}
 use Rattle.design_model.specs.declared.design.Design.{Design}
 use Rattle.design_model.specs.declared.design.Signal.{Signal}
-use Rattle.dump_pieces.specs.Dump.{Dump}
+use Rattle.vcd_reader.specs.Dump.{Dump}
 use Rattle.input_toggles.specs.Binding.{code_of}
 use Rattle.input_toggles.specs.InputDesign.{IsInput}
 use Rattle.input_toggles.specs.Points.{HasIndex, IsTogglePoint, place_of, toggle_address}

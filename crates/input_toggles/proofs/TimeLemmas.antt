@@ -5,8 +5,8 @@ use Rattle.std.proofs.lemmas.Bool.Decides.{nat_tests}
 use Rattle.std.proofs.lemmas.List.{append-nil}
 use Rattle.std.proofs.lemmas.List.Elements.{All-nil, All-cons, All-head, All-tail, All-weaker}
 use Rattle.design_model.specs.Shows.{AreRising}
-use Rattle.dump_pieces.specs.Dump.{Change, DumpStep, last_value, leading, steps_of, timed, times_of, value_at, with_leading}
-use Rattle.dump_pieces.specs.declared.entry.Entry.{Entry}
+use Rattle.vcd_reader.specs.Dump.{Change, DumpStep, last_value, leading, steps_of, timed, times_of, value_at, with_leading}
+use Rattle.vcd_reader.specs.declared.entry.Entry.{Entry}
 use Rattle.input_toggles.specs.Scored.{first_value}
 use Rattle.input_toggles.specs.Toggling.{TogglesIn, bit_at, time_at}
 use Rattle.input_toggles.specs.Tracked.{ToggledBy, count_of, opened, value_after, value_so_far}

@@ -1,11 +1,11 @@
 -- The variable of a dump that holds the values of a signal.
-use Rattle.std.specs.Prelude.{◌≡◌, ◌<◌, ℕ, nat_lt, Bool, true, false, not, ◌&&◌, ◌||◌, ◌==◌, Option, Some, None, List, [], ◌∷◌, codes, find, length, map, take, slice_index_or}
+use Rattle.std.specs.Prelude.{◌≡◌, ◌<◌, ℕ, nat_lt, Bool, true, false, not, ◌&&◌, ◌||◌, ◌==◌, Option, Some, None, List, [], ◌∷◌, codes, find, length, map, take, slice_index_or, IsSome, All}
 use Rattle.std.specs.List.{list_any}
 use Rattle.std.specs.Option.{option_map}
 use Rattle.std.specs.Str.{bytes_eq}
 use Rattle.design_model.specs.Design.{no_signal}
 use Rattle.design_model.specs.declared.design.Signal.{Signal}
-use Rattle.dump_pieces.specs.declared.vars.Var.{Var}
+use Rattle.vcd_reader.specs.declared.vars.Var.{Var}
 use Rattle.input_toggles.specs.declared.fault.BindFault.{BindFault}
 use Rattle.input_toggles.specs.declared.fault.BindFault.TheVariants as bind_fault
 
@@ -29,6 +29,11 @@ is_below outer path = nat_lt (length outer) (length path) && bytes_eq (take (len
 -- the variable stands in the scope of the instance or below it
 abbrev pub stands_in : List ℕ → Var → Bool
 stands_in instance var = bytes_eq var.scope instance || is_below instance var.scope
+
+-- the instance is there, and each signal has a variable
+pub record AreBound (vars : List Var) (instance : List ℕ) (signals : List Signal) : Type 0 where
+  pub instance_is : list_any (stands_in instance) vars ≡ true
+  pub variables : All (λ signal. IsSome (code_of vars instance signal)) signals
 
 -- these are the codes of the signals, in order
 abbrev pub AreCodes : List Var → List ℕ → List Signal → List ℕ → Type 0

@@ -1,5 +1,5 @@
 -- What a table says of a design of inputs under a dump.
-use Rattle.std.specs.Prelude.{◌≡◌, ◌<◌, ◌≤◌, ◌↔◌, ℕ, Bool, true, Option, Some, None, IsSome, IfSome, List, [], ◌∷◌, length, map, slice_index_or, All, Contains}
+use Rattle.std.specs.Prelude.{◌≡◌, ◌<◌, ◌≤◌, ◌↔◌, ℕ, Bool, true, Option, Some, None, IsSome, IfSome, IsSomeAnd, List, [], ◌∷◌, length, map, take, slice_index_or, All, Contains}
 use Rattle.std.specs.List.{list_any}
 use Rattle.coverage_db.specs.Table.{IsTable}
 use Rattle.coverage_db.specs.declared.address.Address.{Address}
@@ -11,10 +11,10 @@ use Rattle.design_model.specs.Design.{no_signal}
 use Rattle.design_model.specs.declared.design.Design.{Design}
 use Rattle.design_model.specs.declared.design.Signal.{Signal}
 use Rattle.four_state.specs.Vector.{Vector}
-use Rattle.dump_pieces.specs.Dump.{Dump, DumpStep, last_value, steps_of}
-use Rattle.dump_pieces.specs.declared.entry.Entry.{Entry}
-use Rattle.dump_pieces.specs.declared.vars.Var.{Var}
-use Rattle.input_toggles.specs.Binding.{code_of, stands_in}
+use Rattle.vcd_reader.specs.Dump.{Dump, DumpStep, last_value, steps_of}
+use Rattle.vcd_reader.specs.declared.entry.Entry.{Entry}
+use Rattle.vcd_reader.specs.declared.vars.Var.{Var}
+use Rattle.input_toggles.specs.Binding.{AreBound, code_of, stands_in}
 use Rattle.input_toggles.specs.Points.{HasIndex, IsTogglePoint, place_of, toggle_address}
 use Rattle.input_toggles.specs.Toggling.{TogglesIn}
 
@@ -29,10 +29,16 @@ pub record IsBound (design : Design) (dump : Dump) (instance : List ℕ) : Type 
   pub variables : All (λ signal. IsSome (code_of dump.vars instance signal)) design.signals
   pub first_values : 2 ≤ length dump.steps → All (λ signal. IfSome (code_of dump.vars instance signal) (λ code. IsSome (first_value dump.steps code))) design.signals
 
--- there is a second time, and the signal with this number has a variable without a value before it
+-- the signal has a variable with a value before the second time
+abbrev pub HasFirstValue : List Var → List ℕ → List DumpStep → Signal → Type 0
+HasFirstValue vars instance steps signal = IsSomeAnd (code_of vars instance signal) (λ code. IsSome (first_value steps code))
+
+-- the signals are bound, there is a second time, and the signal with this number is the first that has no value before it
 pub record HasNoBaseline (vars : List Var) (instance : List ℕ) (signals : List Signal) (entries : List Entry) (signal : ℕ) : Type 0 where
+  pub are_bound : AreBound vars instance signals
   pub second : 2 ≤ length (steps_of entries)
   pub listed : signal < length signals
+  pub earlier : All (HasFirstValue vars instance (steps_of entries)) (take signal signals)
   pub code : ℕ
   pub bound : code_of vars instance (slice_index_or signals signal no_signal) ≡ Some code
   pub none : first_value (steps_of entries) code ≡ None

@@ -1,13 +1,13 @@
 -- What a scorer stands for: a design under what a dump has said so far.
-use Rattle.std.specs.Prelude.{◌≡◌, ◌-◌, ◌<◌, ◌≤◌, ◌↔◌, ℕ, Bool, true, false, IsTrue, IsSome, List, [], map, length, slice_index_or, All}
+use Rattle.std.specs.Prelude.{◌≡◌, ◌-◌, ◌<◌, ◌≤◌, ◌↔◌, ℕ, Bool, true, false, IsTrue, IsSome, List, [], map, length, take, slice_index_or, All}
 use Rattle.std.specs.List.{list_any}
 use Rattle.coverage_db.specs.declared.db.Db.{Db}
 use Rattle.design_model.specs.Shows.{AreRising}
 use Rattle.design_model.specs.declared.design.Design.{Design}
 use Rattle.design_model.specs.declared.design.Signal.{Signal}
-use Rattle.dump_pieces.specs.Dump.{steps_of, times_of}
-use Rattle.dump_pieces.specs.declared.entry.Entry.{Entry}
-use Rattle.dump_pieces.specs.declared.vars.Var.{Var}
+use Rattle.vcd_reader.specs.Dump.{steps_of, times_of}
+use Rattle.vcd_reader.specs.declared.entry.Entry.{Entry}
+use Rattle.vcd_reader.specs.declared.vars.Var.{Var}
 use Rattle.input_toggles.specs.Binding.{AreCodes, stands_in}
 use Rattle.input_toggles.specs.Scored.{IsToggleTable}
 use Rattle.input_toggles.specs.Toggling.{has_toggle}
@@ -30,9 +30,10 @@ pub record Scores (scorer : Scorer) (design : Design) (vars : List Var) (instanc
   pub tracked : All (IsTracked scorer.tracks) scorer.codes.items
   pub based : 2 ≤ count_of entries → All (λ code. IsSome (value_so_far entries code 1)) scorer.codes.items
 
--- the code of the signal with this number has no value
+-- the code of the signal with this number is the first that has no value
 pub record LacksValue (scorer : Scorer) (signal : ℕ) : Type 0 where
   pub listed : signal < length scorer.codes.items
+  pub earlier : All (λ code. IsTrue (has_value scorer.tracks code)) (take signal scorer.codes.items)
   pub none : has_value scorer.tracks (slice_index_or scorer.codes.items signal 0) ≡ false
 
 -- the toggles are those of the code, whatever was said

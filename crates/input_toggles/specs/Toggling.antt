@@ -4,7 +4,7 @@ use Rattle.four_state.specs.Masks.{is_set}
 use Rattle.four_state.specs.Vector.{Vector, same_bit}
 use Rattle.four_state.specs.declared.bit.Bit.{Bit}
 use Rattle.four_state.specs.declared.bit.Bit.TheVariants.{Zero, One, X}
-use Rattle.dump_pieces.specs.Dump.{DumpStep, times_of, value_at}
+use Rattle.vcd_reader.specs.Dump.{DumpStep, times_of, value_at}
 use Rattle.input_toggles.specs.declared.toggles.Toggles.{Toggles}
 
 -- the bit of a value at a place above the lowest one; x where there is none

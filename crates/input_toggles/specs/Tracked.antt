@@ -1,9 +1,9 @@
 -- What is followed of a code, and what it says of the dump so far.
 use Rattle.std.specs.Prelude.{◌≡◌, ◌+◌, ◌-◌, ◌<◌, ◌≤◌, ◌↔◌, ℕ, nat_lt, Bool, false, is_some, IsTrue, IsSome, IfSome, List, [], ◌∷◌, length, take, flat_map, slice_index_or, Option, None, Some}
 use Rattle.four_state.specs.Vector.{Vector}
-use Rattle.dump_pieces.specs.Dump.{Change, DumpStep, last_value, leading, timed, with_leading}
-use Rattle.dump_pieces.specs.Times.{last_time}
-use Rattle.dump_pieces.specs.declared.entry.Entry.{Entry}
+use Rattle.vcd_reader.specs.Dump.{Change, DumpStep, last_value, leading, timed, with_leading}
+use Rattle.vcd_reader.specs.Times.{last_time}
+use Rattle.vcd_reader.specs.declared.entry.Entry.{Entry}
 use Rattle.input_toggles.specs.Toggling.{bit_at, has_toggle, new_bit, old_bit}
 use Rattle.input_toggles.specs.declared.toggles.Toggles.{Toggles}
 use Rattle.input_toggles.specs.declared.track.Track.{Track}

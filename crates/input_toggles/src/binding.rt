@@ -5,8 +5,8 @@ ghost use Rattle.input_toggles.specs.Binding.{AreCodes, IsBindFault, IsNotDumped
 
 use crate::BindFault;
 use design_model::Signal;
-use dump_pieces::Var;
 use std::alloc::Global;
+use vcd_reader::Var;
 
 /// The kinds of variables that hold no value of a signal (IEEE 1364-2001 clause 18.2.3.8).
 const UNREAD_KINDS: [&str; 5] = ["real", "realtime", "event", "string", "parameter"];

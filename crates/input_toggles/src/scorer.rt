@@ -1,10 +1,10 @@
 ghost use Rattle.std.specs.Prelude.{◌≡◌, ◌++◌, ◌∷◌, [], ℕ, List, None, IfErr, IfOk, OnOk, IsTrue, All, length};
 ghost use Rattle.coverage_db.specs.Table.{is_file_name};
 ghost use Rattle.design_model.specs.declared.design.Design.{Design as SpecDesign};
-ghost use Rattle.dump_pieces.specs.Times.{Rises};
-ghost use Rattle.dump_pieces.specs.declared.entry.Entry.{Entry};
-ghost use Rattle.dump_pieces.specs.declared.entry.Entry.TheVariants as entry;
-ghost use Rattle.dump_pieces.specs.declared.vars.Var.{Var as SpecVar};
+ghost use Rattle.vcd_reader.specs.Times.{Rises};
+ghost use Rattle.vcd_reader.specs.declared.entry.Entry.{Entry};
+ghost use Rattle.vcd_reader.specs.declared.entry.Entry.TheVariants as entry;
+ghost use Rattle.vcd_reader.specs.declared.vars.Var.{Var as SpecVar};
 ghost use Rattle.input_toggles.specs.Binding.{IsBindFault};
 ghost use Rattle.input_toggles.specs.InputDesign.{IsInputDesign};
 ghost use Rattle.input_toggles.specs.Scored.{HasNoBaseline};
@@ -19,9 +19,9 @@ use crate::{BindFault, NoBaseline};
 use cov_host::NoMemory;
 use coverage_db::Db;
 use design_model::{Design, Signal};
-use dump_pieces::Var;
 use four_state::Four;
 use std::alloc::Global;
+use vcd_reader::Var;
 
 /// Scores a dump for a design of inputs alone while the dump is read.
 ///

@@ -1,7 +1,7 @@
 ghost use Rattle.std.specs.Prelude.{◌≡◌, ◌↔◌, ◌++◌, ◌∷◌, ◌-◌, ◌<◌, ◌^◌, [], ℕ, Bool, List, IsTrue, None, Some, IsSome, OnOk, vec_len};
-ghost use Rattle.dump_pieces.specs.Times.{Rises};
-ghost use Rattle.dump_pieces.specs.declared.entry.Entry.{Entry};
-ghost use Rattle.dump_pieces.specs.declared.entry.Entry.TheVariants as entry;
+ghost use Rattle.vcd_reader.specs.Times.{Rises};
+ghost use Rattle.vcd_reader.specs.declared.entry.Entry.{Entry};
+ghost use Rattle.vcd_reader.specs.declared.entry.Entry.TheVariants as entry;
 ghost use Rattle.input_toggles.specs.Toggling.{has_toggle};
 ghost use Rattle.input_toggles.specs.Tracked.{Follows, IsTracked, ToggledBy, count_of, has_value, track_of, value_so_far};
 

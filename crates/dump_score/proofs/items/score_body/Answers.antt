@@ -1,13 +1,12 @@
-use Rattle.std.proofs.Common.{arith}
 use Rattle.std.proofs.lemmas.Result.{err_from_is_err_and}
-use Rattle.dump_score.proofs.Opening.{found_in_file, positive}
+use Rattle.dump_score.proofs.Opening.{found_in_file, positive, scoring_binds_on}
 use Rattle.dump_score.proofs.Stepping.{IfErr-map, OnOk-map}
 use Rattle.dump_score.proofs.items.score_body.Goals as goal
 
 pub returns-in_err-score_piece-clause-fault : goal.returns-in_err-score_piece-clause-fault
 returns-in_err-score_piece-clause-fault g c =
     let fault = err_from_is_err_and c.from_residual.result c.from_residual.ensures.1 in
-    rw (fault.1, fault.2) (λ name before design vars instance o. found_in_file name before (g.H.Host.outside c.args.host.now) (g.H.Host.outside c.args.host.now) design instance _ _ o.file (c.in_err-score_piece.ensures.fault design vars instance o.front (o.goes_on (positive _ c.if-span-eq0.false))))
+    rw (fault.1, fault.2) (λ name before design vars instance o. let is = o.goes_on (positive _ c.if-span-eq0.false) in found_in_file name before (g.H.Host.outside c.args.host.now) (g.H.Host.outside c.args.host.now) design instance _ _ o.file (λ rest. scoring_binds_on c.args.body.now c.args.scorer.now design vars instance o.front _ rest is) (c.in_err-score_piece.ensures.fault design vars instance o.front is))
 
 pub returns-clause-ok : goal.returns-clause-ok
 returns-clause-ok g c =

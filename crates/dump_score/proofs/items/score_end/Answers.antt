@@ -1,6 +1,5 @@
 use Rattle.std.proofs.Common.{ap, inl, inr}
 use Rattle.std.proofs.lemmas.Result.{err_from_is_err_and}
-use Rattle.dump_pieces.specs.declared.item.Item.TheVariants as item
 use Rattle.dump_score.proofs.Stepping.{EndStepped, IfErr-map, OnOk-map, end_again, end_fault, end_stepped, item_in, scored_end}
 use Rattle.dump_score.proofs.items.score_end.Goals as goal
 

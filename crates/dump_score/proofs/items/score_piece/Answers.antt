@@ -1,4 +1,4 @@
-use Rattle.std.proofs.Common.{◌<◌, length, drop, take, ◌++◌, arith, length-drop, subst}
+use Rattle.std.proofs.Common.{◌<◌, length, drop, take, ◌++◌, arith, length-drop}
 use Rattle.std.proofs.lemmas.Result.{err_from_is_err_and}
 use Rattle.dump_score.proofs.Stepping.{Steps, found_in_piece, reading_step, say_found_in_piece, scored_further}
 use Rattle.dump_score.proofs.Opening.{whole_piece}

@@ -1,6 +1,6 @@
 use Rattle.std.proofs.Common.{◌-◌, ◌≤◌, ◌++◌, ℕ, List, length, take}
 use Rattle.design_model.specs.declared.design.Design.{Design}
-use Rattle.dump_pieces.specs.declared.vars.Var.{Var}
+use Rattle.vcd_reader.specs.declared.vars.Var.{Var}
 use Rattle.dump_score.specs.Scoring.{IsReading, IsScoring}
 use Rattle.dump_score.proofs.items.score_piece.Given as goal
 

@@ -1,8 +1,8 @@
-use Rattle.std.proofs.Common.{◌++◌, take, refl, arith}
+use Rattle.std.proofs.Common.{◌++◌, take, arith}
 use Rattle.std.proofs.lemmas.Result.{err_from_is_err_and}
 use Rattle.whole_files.proofs.EffectLemmas.{OnlyReads-refl, OnlyReads-trans}
 use Rattle.dump_score.proofs.FileLemmas.{read_all_of, read_more}
-use Rattle.dump_score.proofs.Opening.{can_end, found_in_file, more_length, not_too_long}
+use Rattle.dump_score.proofs.Opening.{can_end, found_in_file, more_length, not_too_long, scoring_binds_on}
 use Rattle.dump_score.proofs.items.score_rest.Goals as goal
 
 pub loop-at-init : goal.loop-at-init
@@ -24,7 +24,7 @@ returns-in_err-score_piece-clause-fault g c =
     rw (fault.1, fault.2) (λ name before design vars instance text file at is.
     let turn = c.loop-at.invariant.scores name before design vars instance text file at is in
     let more = read_more name turn.0 _ c.in_ok-count.count before _ _ turn.1 c.in_ok-count.ensures.read c.in_ok-count.ensures.effects c.in_ok-count.ensures.reading in
-    found_in_file name before (g.H.Host.outside c.read.new.host) (g.H.Host.outside c.read.new.host) design instance _ _ more (c.in_err-score_piece.ensures.fault design vars instance turn.0 turn.3))
+    found_in_file name before (g.H.Host.outside c.read.new.host) (g.H.Host.outside c.read.new.host) design instance _ _ more (λ rest. scoring_binds_on _ _ design vars instance turn.0 _ rest turn.3) (c.in_err-score_piece.ensures.fault design vars instance turn.0 turn.3))
 
 pub loop-at-preserved : goal.loop-at-preserved
 loop-at-preserved g c = record {

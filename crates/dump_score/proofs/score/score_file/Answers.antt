@@ -1,7 +1,7 @@
 use Rattle.std.proofs.lemmas.Result.{err_from_is_err_and}
 use Rattle.input_toggles.proofs.BoundLemmas.{as_many}
 use Rattle.dump_score.proofs.FileLemmas.{header_refuses, nothing_read}
-use Rattle.dump_score.proofs.Opening.{bind_in_file, end_in_file, opened_bound, opened_reading, scored_file}
+use Rattle.dump_score.proofs.Opening.{bind_in_file, can_end_binds, end_in_file, opened_bound, opened_reading, scored_file}
 use Rattle.dump_score.proofs.score.score_file.Goals as goal
 
 pub returns-in_err-opened-clause-fault : goal.returns-in_err-opened-clause-fault
@@ -89,7 +89,7 @@ returns-in_err-score_end-clause-fault g c =
     let bound = rw c.as_slice.ensures at c.in_ok-scorer.ensures.bound in
     let is = opened_bound name before now piece opened c.in_ok-scorer.scorer design instance o bound in
     let on = c.in_ok-score_body.ensures.ok name before design opened.vars instance is in
-    rw (fault.1, fault.2) (end_in_file name before (g.H.Host.outside c.score_body.new.host) design instance on.0 _ on.1 (c.in_err-score_end.ensures.fault design opened.vars instance on.0 on.2))
+    rw (fault.1, fault.2) (end_in_file name before (g.H.Host.outside c.score_body.new.host) design instance on.0 _ on.1 (can_end_binds _ _ design opened.vars instance on.0 on.2) (c.in_err-score_end.ensures.fault design opened.vars instance on.0 on.2))
 
 pub finish-requires-clause-codes : goal.finish-requires-clause-codes
 finish-requires-clause-codes g c =

@@ -1,4 +1,3 @@
-use Rattle.std.proofs.Common.{arith, get_or}
 use Rattle.std.proofs.lemmas.List.Elements.{All-more, All-weaker}
 use Rattle.input_toggles.specs.Tracked.{IsTracked}
 use Rattle.input_toggles.proofs.scorer.follow.Goals as goal

@@ -1,4 +1,4 @@
-use Rattle.std.proofs.Common.{is_some, refl, sym, ◌∙◌}
+use Rattle.std.proofs.Common.{refl, sym}
 use Rattle.std.proofs.lemmas.Result.{err_from_is_err_and}
 use Rattle.input_toggles.proofs.BoundLemmas.{no_baseline_of, opened_first, opened_later, opened_second}
 use Rattle.input_toggles.proofs.scorer.Scorer.open_step.Goals as goal

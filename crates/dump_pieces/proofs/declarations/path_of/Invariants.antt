@@ -1,6 +1,0 @@
-use Rattle.std.proofs.Common.{◌≡◌}
-use Rattle.dump_pieces.proofs.Paths.{path_to}
-use Rattle.dump_pieces.proofs.declarations.path_of.Given as goal
-
-abbrev pub invariant-loop-depth : goal.invariant-loop-depth
-invariant-loop-depth l = l.path ≡ path_to l.depth l.scopes

@@ -1,6 +1,0 @@
-use Rattle.std.proofs.Common.{refl}
-use Rattle.dump_pieces.proofs.MaskLemmas.{masks_none}
-use Rattle.dump_pieces.proofs.digits.Digits.new.Goals as goal
-
-pub returns : goal.returns
-returns c = record { count = refl; each = refl; masks = λ few. masks_none; goes_on = refl }

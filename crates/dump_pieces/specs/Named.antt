@@ -1,8 +1,0 @@
--- Faults that stand in a text.
-use Rattle.dump_pieces.specs.declared.fault.DumpFault.{DumpFault}
-use Rattle.dump_pieces.specs.declared.fault.DumpFault.TheVariants.{NoMemory, At}
-
--- the fault has a kind and a byte: it is not want of memory
-abbrev pub IsNamed : DumpFault → Type 0
-IsNamed NoMemory = ⊥
-IsNamed (At kind byte) = Unit {0}

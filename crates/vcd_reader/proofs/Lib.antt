@@ -1,0 +1,17 @@
+pub mod PlaceLemmas
+pub mod CodeLemmas
+pub mod DecimalTests
+pub mod Paths
+pub mod MaskLemmas
+pub mod DigitLemmas
+pub mod TimeLemmas
+pub mod WordTests
+pub mod TextLemmas
+pub mod HeaderStanding
+pub mod BodyStanding
+pub mod Splitting
+pub mod FaultLaws
+pub mod FaultNames
+pub mod RisingTimes
+pub mod Growing
+pub mod OneHeader

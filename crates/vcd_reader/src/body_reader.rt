@@ -1,0 +1,212 @@
+ghost use Rattle.std.specs.Prelude.{◌≡◌, ◌<◌, ◌≤◌, ◌++◌, ◌∷◌, [], ℕ, Ok, true, false, List, None, length, OnOk, IfOk, IfErr};
+ghost use Rattle.vcd_reader.specs.Words.{is_white_space as is_space};
+ghost use Rattle.vcd_reader.specs.Reading.{Body as SpecBody, body};
+ghost use Rattle.vcd_reader.specs.Body.{nothing};
+ghost use Rattle.vcd_reader.specs.Text.{Stands, HasFault, EndsWithFault, is_alone, is_lone, is_one_digit};
+ghost use Rattle.vcd_reader.specs.Holding.{IsWord, IsSpelling};
+ghost use Rattle.vcd_reader.specs.Entries.{last_step};
+ghost use Rattle.vcd_reader.specs.declared.fault.DumpFault.TheVariants as dump_fault;
+
+use crate::codes::Codes;
+use crate::element::read_word;
+use crate::entry::Entry;
+use crate::letters::{is_digit, is_white_space};
+use crate::reading::{Begun, Reading};
+use crate::spelling::Spelling;
+use crate::word::Word;
+use crate::{DumpFault, DumpKind, Item, Step};
+
+/// The longest dump, in bytes.
+const LONGEST: u64 = 1_099_511_627_776;
+
+/// Reads the bytes of a body.
+#[derive(Drop)]
+pub(crate) struct BodyReader {
+    pub(crate) codes: Codes,
+    /// How many bytes of the dump were read.
+    pub(crate) at: u64,
+    pub(crate) reading: Reading,
+    /// The word that may go on.
+    pub(crate) word: Word,
+    /// Where that word stands.
+    pub(crate) word_at: u64,
+    /// Whether the input has ended.
+    pub(crate) is_at_end: bool,
+    ghost within: { at ≤ 1099511627776 },
+}
+
+impl BodyReader {
+    ghost use Rattle.vcd_reader.specs.BodyStanding.{BodyStands, BodyEnded, SaysNext, HasStepped, EndsSaying, StepsOn, IsFaultAt};
+
+    /// The body behind a header of so many bytes.
+    pub(crate) fn new(codes: Codes, at: u64, is_at_end: bool) -> Self
+        requires { at ≤ 67108865 }
+        ensures at_end { result.is_at_end ≡ is_at_end }
+        ensures stands { (text : List ℕ) (b : SpecBody) → Stands text (body b) [] → at ≡ length text → codes ≡ b.codes → b.reading ≡ record { last = None; begun = nothing } → is_at_end ≡ false → BodyStands result text b }
+    {
+        BodyReader {
+            codes,
+            at,
+            reading: Reading {
+                last: None,
+                begun: Begun::Nothing,
+            },
+            word: Word::None,
+            word_at: at,
+            is_at_end,
+        }
+    }
+
+    /// What the dump says next.
+    pub(crate) fn step(&mut self, piece: &[u8]) -> Result<Step, DumpFault>
+        ensures ok { IfOk result (λ step. (text : List ℕ) (b : SpecBody) → BodyStands self.old text b → StepsOn step.item step.used self.new text piece.now b) }
+        ensures fault { IfErr result (λ fault. (text : List ℕ) (b : SpecBody) → BodyStands self.old text b → IsFaultAt text piece.now fault) }
+        ensures ended { (text : List ℕ) (b : SpecBody) → BodyEnded self.old text b → (result ≡ Ok (record { item = Item.End; used = length piece.now })) × BodyEnded self.new text b }
+    {
+        if self.is_at_end {
+            Ok(Step {
+                item: Item::End,
+                used: piece.len(),
+            })
+        } else if piece.is_empty() {
+            let says = self.end()?;
+            self.is_at_end = true;
+            Ok(last_step(says))
+        } else {
+            self.read(piece)
+        }
+    }
+
+    /// Reads a piece that is not empty up to what it says next.
+    fn read(&mut self, piece: &[u8]) -> Result<Step, DumpFault>
+        requires { 0 < length piece.now }
+        ensures ok { IfOk result (λ step. (text : List ℕ) (b : SpecBody) → BodyStands self.old text b → HasStepped step.item step.used self.new text piece.now b) }
+        ensures fault { IfErr result (λ fault. (text : List ℕ) (b : SpecBody) → BodyStands self.old text b → HasFault (text ++ piece.now) fault) }
+    {
+        for (place, byte) in piece.iter().enumerate() {
+            if let Some(entry) = self.read_byte(*byte)? {
+                return Ok(Step {
+                    item: entry.item(),
+                    used: place + 1,
+                });
+            }
+        }
+        Ok(Step {
+            item: Item::More,
+            used: piece.len(),
+        })
+    }
+
+    /// Reads a byte, and gives what the word says that ends before it.
+    fn read_byte(&mut self, byte: u8) -> Result<Option<Entry>, DumpFault>
+        ensures ok { IfOk result (λ says. (text : List ℕ) (b : SpecBody) → BodyStands self.old text b → SaysNext says self.new (text ++ byte ∷ []) b) }
+        ensures fault { IfErr result (λ fault. (text : List ℕ) (b : SpecBody) → BodyStands self.old text b → HasFault (text ++ byte ∷ []) fault) }
+    {
+        if is_white_space(byte) {
+            self.read_space()
+        } else {
+            self.push(byte)?;
+            Ok(None)
+        }
+    }
+
+    /// Reads a byte of white space, and gives what the word says that ends before it.
+    fn read_space(&mut self) -> Result<Option<Entry>, DumpFault>
+        ensures ok { IfOk result (λ says. (text : List ℕ) (space : ℕ) (b : SpecBody) → is_space space ≡ true → BodyStands self.old text b → SaysNext says self.new (text ++ space ∷ []) b) }
+        ensures fault { IfErr result (λ fault. (text : List ℕ) (space : ℕ) (b : SpecBody) → is_space space ≡ true → BodyStands self.old text b → HasFault (text ++ space ∷ []) fault) }
+    {
+        let said = read_word(&self.codes, self.reading, &self.word, self.word_at)?;
+        check_room(self.at)?;
+        self.reading = said.reading;
+        self.word = Word::None;
+        self.at += 1;
+        Ok(said.says)
+    }
+
+    /// Reads a byte of a word.
+    fn push(&mut self, byte: u8) -> Result<(), DumpFault>
+        ensures ok { OnOk result ((text : List ℕ) (b : SpecBody) → is_space byte ≡ false → BodyStands self.old text b → BodyStands self.new (text ++ byte ∷ []) b) }
+        ensures fault { IfErr result (λ fault. (text : List ℕ) (b : SpecBody) → is_space byte ≡ false → BodyStands self.old text b → HasFault (text ++ byte ∷ []) fault) }
+    {
+        check_room(self.at)?;
+        let start = self.word.start(self.word_at, self.at);
+        let has_begun = self.reading.has_begun();
+        self.word.push(byte, has_begun);
+        self.word_at = start;
+        self.at += 1;
+        Ok(())
+    }
+
+    /// Ends the input, and gives what the last word says.
+    fn end(&self) -> Result<Option<Entry>, DumpFault>
+        ensures ok { IfOk result (λ says. (text : List ℕ) (b : SpecBody) → BodyStands self.now text b → EndsSaying says text b) }
+        ensures fault { IfErr result (λ fault. (text : List ℕ) (b : SpecBody) → BodyStands self.now text b → EndsWithFault text fault) }
+    {
+        if self.is_alone() {
+            return Err(DumpFault::at(DumpKind::Truncated, self.at));
+        }
+        let said = read_word(&self.codes, self.reading, &self.word, self.word_at)?;
+        if said.reading.has_begun() {
+            return Err(DumpFault::at(DumpKind::Truncated, self.at));
+        }
+        Ok(said.says)
+    }
+
+    /// Whether the word that may go on is the first character of a time or a change, and no more.
+    fn is_alone(&self) -> bool
+        ensures { (text : List ℕ) (b : SpecBody) (stands : BodyStands self.now text b) → result ≡ is_alone (body b) stands.word }
+    {
+        !self.reading.has_begun() && is_lone(&self.word)
+    }
+}
+
+/// A body has room for a byte more.
+fn check_room(at: u64) -> Result<(), DumpFault>
+    ensures room { OnOk result (at < 1099511627776) }
+    ensures fault { IfErr result (λ fault. fault ≡ dump_fault.At DumpKind.DumpTooLong 1099511627776) }
+    ensures no_room { IfErr result (λ fault. 1099511627776 ≤ at) }
+{
+    if at < LONGEST {
+        Ok(())
+    } else {
+        Err(DumpFault::at(DumpKind::DumpTooLong, LONGEST))
+    }
+}
+
+/// Whether the word is the first character of a time or a change, and no more.
+fn is_lone(word: &Word) -> bool
+    ensures { (bytes : List ℕ) → IsWord word.now false bytes → result ≡ is_lone bytes }
+{
+    match word {
+        Word::None => false,
+        Word::Time(digits) => !digits.is_some,
+        Word::Digits(digits) => digits.count == 0,
+        Word::Other(spelling) => is_one_digit(spelling),
+    }
+}
+
+/// Whether the word is a digit of a value, and no more.
+fn is_one_digit(word: &Spelling) -> bool
+    ensures { (bytes : List ℕ) → IsSpelling word.now bytes → result ≡ is_one_digit bytes }
+{
+    match word.bytes() {
+        Some([digit]) => is_digit(*digit),
+        _ => false,
+    }
+}
+
+/// The step at the end of the input, where the last word says this or nothing.
+fn last_step(says: Option<Entry>) -> Step
+    ensures { result ≡ last_step says }
+{
+    match says {
+        Some(entry) => Step {
+            item: entry.item(),
+            used: 0,
+        },
+        None => Step {
+            item: Item::End,
+            used: 0,
+        },
+    }
+}

@@ -1,0 +1,88 @@
+ghost use Rattle.std.specs.Prelude.{◌≡◌};
+ghost use Rattle.vcd_reader.specs.declared.fault.DumpFault.TheVariants as dump_fault;
+
+use cov_host::NoMemory;
+use std::alloc::{AllocError, AllocFailed};
+use thiserror::Error;
+
+/// What is wrong with a dump.
+#[derive(Clone, Copy, Debug, PartialEq, Eq)]
+pub enum DumpKind {
+    /// A word of the header that the grammar does not allow there.
+    BadHeader = 1,
+    /// A word of the body that the grammar does not allow there.
+    BadChange = 2,
+    /// A change of a code that no variable has.
+    UnknownCode = 3,
+    /// More digits than the variable has bits.
+    VectorTooLong = 4,
+    /// A time that is less than the one before.
+    TimeBack = 5,
+    /// The input ends where the grammar goes on.
+    Truncated = 6,
+    /// A code of more than 8 bytes.
+    LongCode = 7,
+    /// The recording of changes stops.
+    Gap = 8,
+    /// A scope inside 64 others.
+    DeepScope = 9,
+    /// A body that passes the greatest length.
+    DumpTooLong = 10,
+    /// A time of 2^63 or more.
+    TimeTooLarge = 11,
+    /// A header that passes the greatest length.
+    HeaderTooLong = 12,
+}
+
+impl DumpKind {
+    ghost use Rattle.vcd_reader.specs.Kinds.{kind_number};
+
+    /// The number of the kind in messages.
+    pub fn number(self) -> u8
+        ensures { result ≡ kind_number self }
+    {
+        self as u8
+    }
+}
+
+/// Why a dump was not read. The byte is the offset in the dump at which the fault stands.
+#[derive(Clone, Copy, Debug, PartialEq, Eq, Error)]
+pub enum DumpFault {
+    #[error("memory ran out")]
+    NoMemory,
+    #[error("{kind:?} at byte {byte}")]
+    At { kind: DumpKind, byte: u64 },
+}
+
+impl DumpFault {
+    /// A fault that stands at this byte.
+    pub(crate) fn at(kind: DumpKind, byte: u64) -> Self
+        ensures { result ≡ dump_fault.At kind byte }
+    {
+        DumpFault::At { kind, byte }
+    }
+}
+
+impl From<NoMemory> for DumpFault {
+    ghost from_gives = { λ _ fault. fault ≡ dump_fault.NoMemory };
+
+    fn from(_: NoMemory) -> Self {
+        DumpFault::NoMemory
+    }
+}
+
+impl From<AllocError> for DumpFault {
+    ghost from_gives = { λ _ fault. fault ≡ dump_fault.NoMemory };
+
+    fn from(_: AllocError) -> Self {
+        DumpFault::NoMemory
+    }
+}
+
+impl<T: Drop> From<AllocFailed<T>> for DumpFault {
+    ghost from_gives = { λ _ fault. fault ≡ dump_fault.NoMemory };
+
+    fn from(_: AllocFailed<T>) -> Self {
+        DumpFault::NoMemory
+    }
+}
