@@ -1,0 +1,12 @@
+pub mod Order
+pub mod First
+pub mod LineNumbers
+pub mod NodeCounts
+pub mod ExampleParts
+pub mod FlipFlopText
+pub mod ControlText
+pub mod HierarchyText
+pub mod LoopText
+pub mod PortText
+pub mod FaultTexts
+pub mod ConstantText
