@@ -10,3 +10,5 @@ pub mod LoopText
 pub mod PortText
 pub mod FaultTexts
 pub mod ConstantText
+pub mod WholeDesigns
+pub mod LongLoop

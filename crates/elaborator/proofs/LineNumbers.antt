@@ -29,7 +29,6 @@ within_turns low high [] f h = tt
 within_turns low high (v ∷ vs) f h = within_append low high (law.lines (f v)) (law.all_lines (turn_stmts vs f)) (h v) (within_turns low high vs f h)
 
 mutual
-  
   pub lines_within : (g : Scope) (s : Statement) (l n : ℕ) → AreWithin l (l + m.lines s) (law.lines (statement g s l n))
   lines_within g (sequential_block p ss) l n = all_within g ss l n
   lines_within g (if_statement p c s other) l n = (

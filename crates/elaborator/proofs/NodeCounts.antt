@@ -1,5 +1,5 @@
 -- How many counted nodes a statement has does not depend on the values of loop variables.
-use Rattle.std.proofs.Common.{◌≡◌, refl, ap, ℕ, not, ◌&&◌, List, [], ◌∷◌}
+use Rattle.std.proofs.Common.{◌≡◌, refl, ap, not, ◌&&◌, List, [], ◌∷◌}
 use Rattle.std.specs.List.{list_any}
 use Rattle.verilog_tree.specs.declared.item.Named.{Named}
 use Rattle.verilog_tree.specs.Tree.{Expr, literal, identifier, bit_select, part_select, indexed_part, unary_operator, binary_operator, conditional, concatenation, replication, sign_cast, parentheses, Exprs, no_exprs, an_expr, Statement, sequential_block, if_statement, case_statement, for_loop, assignment, system_task, null_statement, Statements, no_statements, a_statement, CaseItems, no_items, case_item}

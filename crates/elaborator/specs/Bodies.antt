@@ -1,5 +1,5 @@
 -- Bodies: the flat statement that a statement becomes, and what is met in it (clause 9).
-use Rattle.std.specs.Prelude.{ℕ, ◌+◌, Bool, true, false, not, ◌&&◌, if◌then◌else◌, List, [], ◌∷◌, ◌++◌, map, flat_map, Result, Ok, Err}
+use Rattle.std.specs.Prelude.{ℕ, ◌+◌, Bool, false, not, ◌&&◌, if◌then◌else◌, List, [], ◌∷◌, ◌++◌, map, flat_map, Result, Ok, Err}
 use Rattle.cov_host.specs.declared.place.Place.{Place}
 use Rattle.four_state.specs.Vector.{Vector}
 use Rattle.design_model.specs.Tree.{Terms, no_terms, a_term, Stmt, block, branch, select, turns, set, empty, Stmts, no_stmts, a_stmt, Arms, no_arms, arm}

@@ -8,13 +8,13 @@ use Rattle.design_model.specs.Lawful.{span}
 use Rattle.design_model.specs.Shape.{same_bool}
 use Rattle.design_model.specs.Value.{Range}
 use Rattle.verilog_tree.specs.declared.item.Named.{Named}
-use Rattle.verilog_tree.specs.Tree.{RangeExpr, Param, Declared, ItemForm, port_item, net_item, variable_item, integer_item, parameter_item, instance_item, Module}
+use Rattle.verilog_tree.specs.Tree.{RangeExpr, Param, ItemForm, port_item, net_item, variable_item, integer_item, parameter_item, instance_item, Module}
 use Rattle.elab_const.specs.declared.fault.ConstKind.TheVariants.{TooWide}
 use Rattle.elaborator.specs.declared.fault.DesignLimit.TheVariants.{MemoryWords}
 use Rattle.elaborator.specs.Expressions.{faults, constant_faults, bound_faults}
 use Rattle.elaborator.specs.Fault.{Fault, fault_at, of_constant, limit_fault, fault_if, none, TwiceDeclared, PortMismatch}
 use Rattle.elaborator.specs.Identifiers.{is_among}
-use Rattle.elaborator.specs.Scope.{Scope, Entry, a_constant, a_faulty_one, look_up, with_entry, constant, natural_number, names_faulty, range_width}
+use Rattle.elaborator.specs.Scope.{Scope, Entry, a_constant, a_faulty_one, look_up, constant, natural_number, names_faulty, range_width}
 
 -- the range, once it has no fault
 abbrev pub range_value : Scope → Option RangeExpr → Option Range

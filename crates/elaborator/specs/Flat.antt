@@ -3,14 +3,13 @@ use Rattle.std.specs.Prelude.{ℕ, zero, suc, ◌+◌, ◌==◌, Bool, true, fal
 use Rattle.std.specs.Prelude as std
 use Rattle.std.specs.List.{list_any}
 use Rattle.cov_host.specs.declared.place.Place.{Place}
-use Rattle.design_model.specs.Design.{Design}
 use Rattle.verilog_tree.specs.declared.item.Named.{Named}
 use Rattle.verilog_tree.specs.Tree.{Expr, identifier, One, InstanceItem, Declared, ItemForm, net_item, continuous_item, always_item, instance_item, Item, Module}
 use Rattle.elaborator.specs.declared.fault.DesignLimit.TheVariants.{Instances}
-use Rattle.elaborator.specs.Bodies.{Met, met_fault, met_faults}
-use Rattle.elaborator.specs.Connections.{Joined, as_alias, by_assignment, not_joined, joining, JoinedPort, joined_ports, port_alias, port_faults, given_faults, overrides, override_faults, are_sound_overrides}
+use Rattle.elaborator.specs.Bodies.{met_fault, met_faults}
+use Rattle.elaborator.specs.Connections.{Joined, by_assignment, joining, JoinedPort, joined_ports, port_alias, port_faults, given_faults, overrides, override_faults, are_sound_overrides}
 use Rattle.elaborator.specs.Declarations.{Override}
-use Rattle.elaborator.specs.Fault.{Fault, fault_at, limit_fault, missing_top, NoModule, Recursion}
+use Rattle.elaborator.specs.Fault.{fault_at, limit_fault, missing_top, NoModule, Recursion}
 use Rattle.elaborator.specs.Instances.{Instantiation, Sofar, meet, add_process, opened, Context, context, declared, dotted, is_input}
 use Rattle.elaborator.specs.Numbering.{form_lines, form_nodes, value_nodes}
 use Rattle.elaborator.specs.Processes.{continuous, always, joined_input, joined_output}

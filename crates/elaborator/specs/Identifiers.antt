@@ -1,11 +1,11 @@
 -- The names that stand in expressions, statements and items, and those that items declare.
-use Rattle.std.specs.Prelude.{ℕ, Bool, true, false, List, [], ◌∷◌, ◌++◌, map, flat_map, bytes_eq, Option, Some, None}
+use Rattle.std.specs.Prelude.{ℕ, Bool, List, [], ◌∷◌, ◌++◌, map, flat_map, bytes_eq, Option, Some, None}
 use Rattle.std.specs.List.{list_any}
 use Rattle.cov_host.specs.declared.place.Place.{Place}
 use Rattle.verilog_tree.specs.declared.item.When.{When}
 use Rattle.verilog_tree.specs.declared.item.When.TheVariants as list_of
 use Rattle.verilog_tree.specs.declared.item.Named.{Named}
-use Rattle.verilog_tree.specs.Tree.{Expr, literal, identifier, bit_select, part_select, indexed_part, unary_operator, binary_operator, conditional, concatenation, replication, sign_cast, parentheses, Exprs, no_exprs, an_expr, place_of, Header, Statement, sequential_block, if_statement, case_statement, for_loop, assignment, system_task, null_statement, Statements, no_statements, a_statement, CaseItems, no_items, case_item, Param, Declared, One, ItemForm, port_item, net_item, variable_item, integer_item, parameter_item, continuous_item, always_item, instance_item, Module}
+use Rattle.verilog_tree.specs.Tree.{Expr, literal, identifier, bit_select, part_select, indexed_part, unary_operator, binary_operator, conditional, concatenation, replication, sign_cast, parentheses, Exprs, no_exprs, an_expr, place_of, Header, Statement, sequential_block, if_statement, case_statement, for_loop, assignment, system_task, null_statement, Statements, no_statements, a_statement, CaseItems, no_items, case_item, Param, One, ItemForm, port_item, net_item, variable_item, integer_item, parameter_item, continuous_item, always_item, instance_item, Module}
 
 -- the name x at place p
 abbrev pub named : List ℕ → Place → Named

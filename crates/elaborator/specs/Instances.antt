@@ -13,7 +13,7 @@ use Rattle.verilog_tree.specs.declared.item.Named.{Named}
 use Rattle.verilog_tree.specs.Tree.{Module}
 use Rattle.elaborator.specs.declared.fault.DesignLimit.TheVariants.{Path}
 use Rattle.elaborator.specs.Bodies.{Met, met_signal, met_words, met_instance, met_faults}
-use Rattle.elaborator.specs.Declarations.{Override, Declaration, Sort, a_net, a_variable, words_from, an_integer, a_parameter, some_instance, faulty, constants_from, constants_faults, declarations, all_declarations, twice_faults, listed_twice, direction_faults, item_range_faults, is_net}
+use Rattle.elaborator.specs.Declarations.{Override, Declaration, Sort, a_net, a_variable, words_from, an_integer, some_instance, constants_from, constants_faults, declarations, all_declarations, twice_faults, listed_twice, direction_faults, item_range_faults, is_net}
 use Rattle.elaborator.specs.Fault.{Fault, limit_fault, fault_if}
 use Rattle.elaborator.specs.Identifiers.{params_of, names_of, item_identifiers, item_loops, is_among}
 use Rattle.elaborator.specs.Numbering.{one_if}

@@ -1,5 +1,5 @@
 -- Targets of assignments: the flat target, its faults, and the bits that it may write (clauses 6.1 and 9.2).
-use Rattle.std.specs.Prelude.{ℕ, ◌+◌, ◌-◌, ◌==◌, nat_le, nat_lt, min, max, Bool, true, false, not, ◌&&◌, ◌||◌, if◌then◌else◌, List, [], ◌∷◌, ◌++◌, filter, ℤ, pos, negsuc, Option, Some, None}
+use Rattle.std.specs.Prelude.{ℕ, ◌+◌, ◌-◌, ◌==◌, nat_le, nat_lt, min, max, Bool, true, false, not, ◌||◌, if◌then◌else◌, List, [], ◌∷◌, ◌++◌, filter, ℤ, pos, negsuc, Option, Some, None}
 use Rattle.std.specs.List.{range_with_len}
 use Rattle.four_state.specs.Arithmetic.{low_bits}
 use Rattle.four_state.specs.declared.bit.Bit.TheVariants.{Zero}

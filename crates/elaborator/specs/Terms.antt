@@ -1,15 +1,14 @@
 -- The term that an expression becomes: its form, and the width and sign that each context gives it (clauses 4.4, 4.5).
-use Rattle.std.specs.Prelude.{ℕ, ◌+◌, max, Bool, true, false, if◌then◌else◌, List, [], Option, Some, None}
+use Rattle.std.specs.Prelude.{ℕ, ◌+◌, max, Bool, true, false, if◌then◌else◌, [], Option, Some, None}
 use Rattle.cov_host.specs.declared.place.Place.{Place}
-use Rattle.four_state.specs.Vector.{Vector}
 use Rattle.design_model.specs.Tree as t
 use Rattle.design_model.specs.Tree.{Head, Term, Terms, no_terms, a_term}
-use Rattle.verilog_tree.specs.Tree.{Expr, literal, identifier, bit_select, part_select, indexed_part, unary_operator, binary_operator, conditional, concatenation, replication, sign_cast, parentheses, Exprs, no_exprs, an_expr, place_of}
+use Rattle.verilog_tree.specs.Tree.{Expr, literal, identifier, bit_select, part_select, indexed_part, unary_operator, binary_operator, conditional, concatenation, replication, sign_cast, parentheses, Exprs, no_exprs, an_expr}
 use Rattle.elab_const.specs.declared.width.Shape.{Shape}
 use Rattle.elab_const.specs.Meaning.{shape_as, operand_shape, operand_shapes, operands_of}
 use Rattle.elaborator.specs.Identifiers.{base_name}
 use Rattle.elaborator.specs.Scope.{Scope, Entry, a_constant, a_turn, a_signal, a_memory, look_up, shape, names_thing, is_memory_name}
-use Rattle.elaborator.specs.Numbering.{nodes, all_nodes, condition_nodes, is_counted_condition, one_if}
+use Rattle.elaborator.specs.Numbering.{nodes, condition_nodes, is_counted_condition, one_if}
 
 -- what a term at this place has, in a context of this shape
 abbrev pub head_as : Place → Shape → Option ℕ → Head
