@@ -2,6 +2,8 @@ pub mod Order
 pub mod First
 pub mod LineNumbers
 pub mod NodeCounts
+pub mod ConstantTerms
+pub mod TurnNames
 pub mod ExampleParts
 pub mod FlipFlopText
 pub mod ControlText

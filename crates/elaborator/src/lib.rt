@@ -3,10 +3,10 @@
 
 ghost use Rattle.std.specs.Prelude.{ℕ, ◌≡◌, List, Ok, Err};
 ghost use Rattle.design_model.specs.Design.{Design};
-ghost use Rattle.verilog_tree.specs.Tree.{Module, Statement};
+ghost use Rattle.verilog_tree.specs.Tree.{Expr, Module, Statement};
 ghost use Rattle.elaborator.specs.Fault.{Fault, IsFirst};
 ghost use Rattle.elaborator.specs.Faults.{Stands, answer, faults_of};
-ghost use Rattle.elaborator.specs.Laws.{LineLaw, NodeLaw};
+ghost use Rattle.elaborator.specs.Laws.{ConstantLaw, LineLaw, NodeLaw, TurnLaw};
 ghost use Rattle.elaborator.specs.Scope.{Scope};
 
 mod fault;
@@ -30,4 +30,14 @@ pub fn line_number_law()
 /// a loop.
 pub fn node_count_law()
     ensures { (g h : Scope) → NodeLaw g h }
+{}
+
+/// The term of a constant expression has the value that `elab_const` gives it, in each context, design and state.
+pub fn constant_law()
+    ensures { (g : Scope) (e : Expr) → ConstantLaw g e }
+{}
+
+/// In a turn of a loop the names that have a value are those of the scope, and the variable with the value of the turn.
+pub fn turn_law()
+    ensures { (g : Scope) → TurnLaw g }
 {}
