@@ -14,3 +14,4 @@ pub mod FaultTexts
 pub mod ConstantText
 pub mod WholeDesigns
 pub mod LongLoop
+pub mod IndexTerms

@@ -1,9 +1,11 @@
 -- Targets of assignments: the flat target, its faults, and the bits that it may write (clauses 6.1 and 9.2).
 use Rattle.std.specs.Prelude.{ℕ, ◌+◌, ◌-◌, ◌==◌, nat_le, nat_lt, min, max, Bool, true, false, not, ◌||◌, if◌then◌else◌, List, [], ◌∷◌, ◌++◌, filter, ℤ, pos, negsuc, Option, Some, None}
 use Rattle.std.specs.List.{range_with_len}
+use Rattle.cov_host.specs.declared.place.Place.{Place}
 use Rattle.four_state.specs.Arithmetic.{low_bits}
-use Rattle.four_state.specs.declared.bit.Bit.TheVariants.{Zero}
-use Rattle.four_state.specs.declared.operator.Binary.TheVariants.{Add, Subtract}
+use Rattle.four_state.specs.Vector.{fill}
+use Rattle.four_state.specs.declared.bit.Bit.TheVariants.{X}
+use Rattle.four_state.specs.declared.operator.Binary.TheVariants.{Add, ShiftRight, Subtract}
 use Rattle.design_model.specs.Shape.{same_bool}
 use Rattle.design_model.specs.Tree as t
 use Rattle.design_model.specs.Tree.{Term, no_terms, a_term, Target, all_of, bits_of, word_of, several, Targets, no_targets, a_target}
@@ -11,6 +13,7 @@ use Rattle.design_model.specs.Value.{Range, slide_offset}
 use Rattle.verilog_tree.specs.declared.item.Named.{Named}
 use Rattle.verilog_tree.specs.Tree.{Expr, identifier, bit_select, part_select, indexed_part, concatenation, Exprs, no_exprs, an_expr, place_of}
 use Rattle.elab_const.specs.Meaning.{shape_as}
+use Rattle.elab_const.specs.declared.width.Shape.{Shape}
 use Rattle.elaborator.specs.Expressions.{faults, number_faults, joined_faults, some_offset}
 use Rattle.elaborator.specs.Fault.{Fault, fault_at, none, Undeclared, WrongTarget, WrongUse}
 use Rattle.elaborator.specs.Identifiers.{base_name, identifiers}
@@ -35,19 +38,41 @@ abbrev pub declared_range : Option Entry → Range
 declared_range (Some (a_signal s)) = range_or s.range
 declared_range _ = record { high = 0; low = 0 }
 
--- an expression as a signed term of so many bits; an unsigned one has a 0 bit before it
+-- a number as a term of this shape
+abbrev pub number_term : Place → Shape → ℕ → Term
+number_term p s k = t.number (head_as p s None) (record { bits = low_bits s.width k; signed = s.signed })
+
+-- an expression that is no wider than 127 bits, or its lowest 127 bits
+abbrev pub lowest_bits : Scope → Expr → ℕ → Term
+lowest_bits g e n =
+    if nat_lt (shape g e).width 128 then alone g e n else t.part (head_as (place_of e) (shape_as 127 false) None) (alone g e n) (number_term (place_of e) (shape_as 8 false) 126) (number_term (place_of e) (shape_as 8 false) 0)
+
+-- an unsigned expression as a signed term of so many bits: with a 0 bit before it
+abbrev pub with_sign_bit : Scope → ℕ → Expr → ℕ → Term
+with_sign_bit g w e n =
+    t.sign (head_as (place_of e) (shape_as w true) None) true (t.concat (head_as (place_of e) (shape_as (min 127 (shape g e).width + 1) false) None) (a_term (number_term (place_of e) (shape_as 1 false) 0) (a_term (lowest_bits g e n) no_terms)))
+
+-- an expression as a signed term of so many bits
 abbrev pub signed_term : Scope → ℕ → Expr → ℕ → Term
-signed_term g w e n =
-    if (shape g e).signed then term g e n (shape_as w true) else t.sign (head_as (place_of e) (shape_as w true) None) true (t.concat (head_as (place_of e) (shape_as ((shape g e).width + 1) false) None) (a_term (t.number (head_as (place_of e) (shape_as 1 false) None) (record { bits = Zero ∷ []; signed = false })) (a_term (alone g e n) no_terms)))
+signed_term g w e n = if (shape g e).signed then term g e n (shape_as w true) else with_sign_bit g w e n
 
 -- the bits of an index that is moved: so many that it does not wrap
 abbrev pub moved_width : Scope → Expr → ℕ
 moved_width g e = min 128 (max ((shape g e).width + 1) 8 + 1)
 
+-- an expression as a signed term that is moved up or down
+abbrev pub moved_term : Scope → Bool → ℕ → Expr → ℕ → Term
+moved_term g up by e n =
+    t.binary (head_as (place_of e) (shape_as (moved_width g e) true) None) (if up then Add else Subtract) (signed_term g (moved_width g e) e n) (number_term (place_of e) (shape_as (moved_width g e) true) by)
+
+-- the same where the highest of 128 unsigned bits is 0, and else all x, since no range has such an index
+abbrev pub guarded_term : Scope → Expr → ℕ → Term → Term
+guarded_term g e n moved =
+    t.choice (head_as (place_of e) (shape_as 128 true) None) (t.binary (head_as (place_of e) (shape_as 128 false) None) ShiftRight (alone g e n) (number_term (place_of e) (shape_as 8 false) 127)) (t.number (head_as (place_of e) (shape_as 128 true) None) (record { bits = fill 128 X; signed = true })) moved
+
 -- the index of the lowest bit of x[b +: w] or x[b -: w], wide and signed enough that it does not wrap
 abbrev pub moved_index : Scope → Bool → ℕ → Expr → ℕ → Term
-moved_index g up by e n =
-    t.binary (head_as (place_of e) (shape_as (moved_width g e) true) None) (if up then Add else Subtract) (signed_term g (moved_width g e) e n) (t.number (head_as (place_of e) (shape_as (moved_width g e) true) None) (record { bits = low_bits (moved_width g e) by; signed = true }))
+moved_index g up by e n = if nat_lt (shape g e).width 128 || (shape g e).signed then moved_term g up by e n else guarded_term g e n (moved_term g up by e n)
 
 -- the base itself, where its bit is the lowest
 abbrev pub lowest_index : Scope → Range → Bool → ℕ → Expr → ℕ → Term
