@@ -80,7 +80,8 @@ condition_value : (d : Design) (v : Values Bit) (counted : Bool) (n : ℕ) (c : 
 condition_value d v true n c bs h = value_counted d v n (c (n + 1)) ∙ h (n + 1)
 condition_value d v false n c bs h = h n
 
-named_value : (d : Design) (v : Values Bit) (x : Option Entry) (h : Head) → const.is_constant_entry (value_entry x) ≡ true → value d v (name_term x h) ≡ extend h.width h.signed (entry_bits (value_entry x))
+named_value : (d : Design) (v : Values Bit) (x : Option Entry) (h : Head) → const.is_constant_entry (value_entry x) ≡ true → value d v (name_term x h) ≡ extend h.width
+    h.signed (entry_bits (value_entry x))
 named_value d v None h c = absurd (false≢true c)
 named_value d v (Some (a_constant k)) h c = refl
 named_value d v (Some (a_turn k)) h c = refl
@@ -101,7 +102,8 @@ copies_same : (n k : ℕ) (a b : List Bit) → n ≡ k → a ≡ b → copies n 
 copies_same n k a b e f = rw (e, f) refl
 
 -- where an index is a number from 1 on, it is the number that its bits say
-counted : (known negative : Bool) (n m : ℕ) → is_below_one (index_of (if known then Some (if negative then negsuc m else pos n) else None)) ≡ false → n ≡ count_of (index_of (if known then Some (if negative then negsuc m else pos n) else None))
+counted : (known negative : Bool) (n m : ℕ) → is_below_one (index_of (if known then Some (if negative then negsuc m else pos n) else None)) ≡ false → n ≡ count_of
+    (index_of (if known then Some (if negative then negsuc m else pos n) else None))
 counted true false n m h = refl
 counted true true n m h = absurd (false≢true (sym h))
 counted false b n m h = absurd (false≢true (sym h))
@@ -114,14 +116,16 @@ no_fault true k p e = absurd cc
 no_fault false k p e = refl
 
 -- a count without a fault is a number from 1 on, and has no fault as an expression
-count_sound : (g : Scope) (p : Place) (e : Expr) → const.is_constant (names g) e ≡ true → count_fault (names g) p e (fault_of (names g) e) ≡ None → (fault_of (names g) e ≡ None) × (is_below_one (number_of (names g) e) ≡ false)
+count_sound : (g : Scope) (p : Place) (e : Expr) → const.is_constant (names g) e ≡ true → count_fault (names g) p e (fault_of (names g) e) ≡ None → (fault_of (names g) e
+    ≡ None) × (is_below_one (number_of (names g) e) ≡ false)
 count_sound g p e c h =
     let q = none_in_turn (number_fault (names g) e (fault_of (names g) e)) _ h in
     let r = none_in_turn (const.constant_fault (names g) e (fault_of (names g) e)) _ q.0 in
     (subst (λ b. (if b then fault_of (names g) e else fault_if true NotConstant (place_of e)) ≡ None) c r.0, no_fault _ _ _ q.1)
 
 mutual
-  pub constant_value : (d : Design) (v : Values Bit) (g : Scope) (e : Expr) → const.is_constant (names g) e ≡ true → fault_of (names g) e ≡ None → (n : ℕ) (s : Shape) → value d v (term g e n s) ≡ in_context (meaning (names g) e) s.width s.signed
+  pub constant_value : (d : Design) (v : Values Bit) (g : Scope) (e : Expr) → const.is_constant (names g) e ≡ true → fault_of (names g) e ≡ None → (n : ℕ) (s : Shape) →
+      value d v (term g e n s) ≡ in_context (meaning (names g) e) s.width s.signed
   constant_value d v g (literal p k) c f n s = refl
   constant_value d v g (identifier p x) c f n s = named_value d v (look_up g x) _ c
   constant_value d v g (bit_select p of i) c f n s = absurd (false≢true c)
@@ -134,24 +138,28 @@ mutual
       let shapes : Shape × Shape = operand_shapes (operands_of op) (shape g a) (shape g b) s in
       let k = and_parts (const.is_constant (names g) a) (const.is_constant (names g) b) c in
       let q = neither (fault_of (names g) a) (fault_of (names g) b) f in
-      ap (extend s.width s.signed) (binary_same op _ _ _ _ _ _ (term_signed g a (n + one_if counted) shapes.0) (constant_value d v g a k.0 q.0 (n + one_if counted) shapes.0) (constant_value d v g b k.1 q.1 (n + one_if counted + nodes g a) shapes.1))
+      ap (extend s.width s.signed) (binary_same op _ _ _ _ _ _ (term_signed g a (n + one_if counted) shapes.0) (constant_value d v g a k.0 q.0 (n + one_if counted)
+      shapes.0) (constant_value d v g b k.1 q.1 (n + one_if counted + nodes g a) shapes.1))
   constant_value d v g (conditional p x a b) c f n s =
       let k = and_parts (const.is_constant (names g) x && const.is_constant (names g) a) (const.is_constant (names g) b) c in
       let l = and_parts (const.is_constant (names g) x) (const.is_constant (names g) a) k.0 in
       let q = neither (fault_of (names g) x) _ f in
       let r = neither (fault_of (names g) a) (fault_of (names g) b) q.1 in
-      ap (extend s.width s.signed) (choice_same _ _ _ _ _ _ (condition_value d v (is_counted_condition g x) n (λ m. term g x m (shape g x)) _ (λ m. constant_value d v g x l.0 q.0 m (shape g x))) (constant_value d v g a l.1 r.0 (n + condition_nodes g x) s) (constant_value d v g b k.1 r.1 (n + condition_nodes g x + nodes g a) s))
+      ap (extend s.width s.signed) (choice_same _ _ _ _ _ _ (condition_value d v (is_counted_condition g x) n (λ m. term g x m (shape g x)) _ (λ m. constant_value d v g
+      x l.0 q.0 m (shape g x))) (constant_value d v g a l.1 r.0 (n + condition_nodes g x) s) (constant_value d v g b k.1 r.1 (n + condition_nodes g x + nodes g a) s))
   constant_value d v g (concatenation p es) c f n s =
       ap (extend s.width s.signed) (constant_parts d v g es c (none_in_turn (first_fault (names g) None es) _ f).0 n)
   constant_value d v g (replication p x es) c f n s =
       let k = and_parts (const.is_constant (names g) x) (are_constant (names g) es) c in
       let q = neither (count_fault (names g) p x (fault_of (names g) x)) (first_fault (names g) None es) (none_in_turn _ _ f).0 in
       let r = count_sound g p x k.0 q.0 in
-      ap (extend s.width s.signed) (copies_same _ _ _ _ (ap natural (constant_value d v g x k.0 r.0 n (shape g x)) ∙ number_natural (shape g x).signed _ r.1) (constant_parts d v g es k.1 q.1 (n + nodes g x)))
+      ap (extend s.width s.signed) (copies_same _ _ _ _ (ap natural (constant_value d v g x k.0 r.0 n (shape g x)) ∙ number_natural (shape g x).signed _ r.1)
+      (constant_parts d v g es k.1 q.1 (n + nodes g x)))
   constant_value d v g (sign_cast p signed a) c f n s = ap (extend s.width s.signed) (constant_value d v g a c f n (shape g a))
   constant_value d v g (parentheses p a) c f n s = constant_value d v g a c f n s
 
-  pub constant_parts : (d : Design) (v : Values Bit) (g : Scope) (es : Exprs) → are_constant (names g) es ≡ true → first_fault (names g) None es ≡ None → (n : ℕ) → joined d v (terms g es n) ≡ (parts_of (names g) es).bits
+  pub constant_parts : (d : Design) (v : Values Bit) (g : Scope) (es : Exprs) → are_constant (names g) es ≡ true → first_fault (names g) None es ≡ None → (n : ℕ) →
+      joined d v (terms g es n) ≡ (parts_of (names g) es).bits
   constant_parts d v g no_exprs c f n = refl
   constant_parts d v g (an_expr e es) c f n =
       let k = and_parts (const.is_constant (names g) e) (are_constant (names g) es) c in

@@ -24,10 +24,31 @@ use Rattle.elab_const.specs.Meaning.{shape_as}
 use Rattle.elaborator.specs.Faults.{faults_of}
 use Rattle.elaborator.specs.Flat.{elaborated}
 use Rattle.elaborator.specs.Identifiers.{named}
+use Rattle.elaborator.proofs.TextParts.{declared_as, item_as, module_as, param_as, port_as, range_as, vector_as}
 use Rattle.elaborator.proofs.ExampleParts.{at, known, node_at, process_nodes, process_shapes, an_assign, a_clocked, process_head, keeps_laws}
 
 abbrev pub text : List Module
-text = record { name = (named (codes "ctl") (at 1 8)); params = ([]); ports = ((named (codes "clk") (at 1 18)) ∷ (named (codes "rst") (at 1 29)) ∷ (named (codes "go") (at 1 40)) ∷ (named (codes "st") (at 1 61)) ∷ []); items = (record { place = (at 1 12); form = port_item (record { input = true; reg = false; signed = false; range = None; names = ((named (codes "clk") (at 1 18)) ∷ []) }) } ∷ record { place = (at 1 23); form = port_item (record { input = true; reg = false; signed = false; range = None; names = ((named (codes "rst") (at 1 29)) ∷ []) }) } ∷ record { place = (at 1 34); form = port_item (record { input = true; reg = false; signed = false; range = None; names = ((named (codes "go") (at 1 40)) ∷ []) }) } ∷ record { place = (at 1 44); form = port_item (record { input = false; reg = true; signed = false; range = (Some (record { high = (literal (at 1 56) (known 32 1 true)); low = (literal (at 1 58) (known 32 0 true)); bracket = (at 1 55) })); names = ((named (codes "st") (at 1 61)) ∷ []) }) } ∷ record { place = (at 2 3); form = parameter_item (record { name = (named (codes "IDLE") (at 2 13)); local = false; signed = false; integer = false; range = None; value = (literal (at 2 20) (known 2 0 false)) } ∷ record { name = (named (codes "RUN") (at 2 26)); local = false; signed = false; integer = false; range = None; value = (literal (at 2 32) (known 2 1 false)) } ∷ record { name = (named (codes "DONE") (at 2 38)); local = false; signed = false; integer = false; range = None; value = (literal (at 2 45) (known 2 2 false)) } ∷ []) } ∷ record { place = (at 3 3); form = variable_item (record { signed = false; range = (Some (record { high = (literal (at 3 8) (known 32 1 true)); low = (literal (at 3 10) (known 32 0 true)); bracket = (at 3 7) })); names = (record { name = (named (codes "n") (at 3 13)); value = None; words = None } ∷ []) }) } ∷ record { place = (at 4 3); form = net_item (record { signed = false; range = None; names = (record { name = (named (codes "last") (at 4 8)); value = (Some (binary_operator (at 4 15) binary.Equal (identifier (at 4 15) (codes "n")) (literal (at 4 20) (known 2 1 false)))); words = None } ∷ []) }) } ∷ record { place = (at 5 3); form = always_item (Edges ((Pos, (named (codes "clk") (at 5 20))) ∷ [])) (if_statement (at 6 5) (identifier (at 6 9) (codes "rst")) (sequential_block (at 6 14) (a_statement (assignment (at 6 20) (identifier (at 6 20) (codes "st")) false (identifier (at 6 26) (codes "IDLE"))) (a_statement (assignment (at 6 32) (identifier (at 6 32) (codes "n")) false (literal (at 6 37) (known 32 0 true))) no_statements))) (a_statement (case_statement (at 7 10) kind.Exact (identifier (at 7 16) (codes "st")) (case_item (an_expr (identifier (at 8 7) (codes "IDLE")) no_exprs) (if_statement (at 8 13) (identifier (at 8 17) (codes "go")) (assignment (at 8 21) (identifier (at 8 21) (codes "st")) false (identifier (at 8 27) (codes "RUN"))) no_statements) (case_item (an_expr (identifier (at 9 7) (codes "RUN")) no_exprs) (sequential_block (at 9 12) (a_statement (assignment (at 9 18) (identifier (at 9 18) (codes "n")) false (binary_operator (at 9 23) binary.Add (identifier (at 9 23) (codes "n")) (literal (at 9 27) (known 32 1 true)))) (a_statement (if_statement (at 9 30) (identifier (at 9 34) (codes "last")) (assignment (at 9 40) (identifier (at 9 40) (codes "st")) false (identifier (at 9 46) (codes "DONE"))) no_statements) no_statements))) (case_item no_exprs (assignment (at 10 16) (identifier (at 10 16) (codes "st")) false (identifier (at 10 22) (codes "IDLE"))) no_items)))) no_statements)) } ∷ []) } ∷ []
+text = module_as (named (codes "ctl") (at 1 8)) [] ((named (codes "clk") (at 1 18)) ∷ (named (codes "rst") (at 1 29)) ∷ (named (codes "go") (at 1 40)) ∷
+    (named (codes "st") (at 1 61)) ∷ []) (item_as (at 1 12) (port_item (port_as true false false None ((named (codes "clk") (at 1 18)) ∷ []))) ∷
+    item_as (at 1 23) (port_item (port_as true false false None ((named (codes "rst") (at 1 29)) ∷ []))) ∷
+    item_as (at 1 34) (port_item (port_as true false false None ((named (codes "go") (at 1 40)) ∷ []))) ∷
+    item_as (at 1 44) (port_item (port_as false true false (Some (range_as (literal (at 1 56) (known 32 1 true)) (literal (at 1 58) (known 32 0 true)) (at 1 55)))
+    ((named (codes "st") (at 1 61)) ∷ []))) ∷ item_as (at 2 3) (parameter_item (param_as (named (codes "IDLE") (at 2 13)) false false false None (literal (at 2 20)
+    (known 2 0 false)) ∷ param_as (named (codes "RUN") (at 2 26)) false false false None (literal (at 2 32) (known 2 1 false)) ∷
+    param_as (named (codes "DONE") (at 2 38)) false false false None (literal (at 2 45) (known 2 2 false)) ∷ [])) ∷
+    item_as (at 3 3) (variable_item (vector_as false (Some (range_as (literal (at 3 8) (known 32 1 true)) (literal (at 3 10) (known 32 0 true)) (at 3 7))) (declared_as
+    (named (codes "n") (at 3 13)) None None ∷ []))) ∷ item_as (at 4 3) (net_item (vector_as false None (declared_as (named (codes "last") (at 4 8)) (Some
+    (binary_operator (at 4 15) binary.Equal (identifier (at 4 15) (codes "n")) (literal (at 4 20) (known 2 1 false)))) None ∷ []))) ∷
+    item_as (at 5 3) (always_item (Edges ((Pos, (named (codes "clk") (at 5 20))) ∷
+    [])) (if_statement (at 6 5) (identifier (at 6 9) (codes "rst")) (sequential_block (at 6 14) (a_statement (assignment (at 6 20) (identifier (at 6 20) (codes "st"))
+    false (identifier (at 6 26) (codes "IDLE"))) (a_statement (assignment (at 6 32) (identifier (at 6 32) (codes "n")) false (literal (at 6 37) (known 32 0 true)))
+    no_statements))) (a_statement (case_statement (at 7 10) kind.Exact (identifier (at 7 16) (codes "st")) (case_item (an_expr (identifier (at 8 7) (codes "IDLE"))
+    no_exprs) (if_statement (at 8 13) (identifier (at 8 17) (codes "go")) (assignment (at 8 21) (identifier (at 8 21) (codes "st")) false (identifier (at 8 27) (codes
+    "RUN"))) no_statements) (case_item (an_expr (identifier (at 9 7) (codes "RUN")) no_exprs) (sequential_block (at 9 12) (a_statement (assignment (at 9 18) (identifier
+    (at 9 18) (codes "n")) false (binary_operator (at 9 23) binary.Add (identifier (at 9 23) (codes "n")) (literal (at 9 27) (known 32 1 true)))) (a_statement
+    (if_statement (at 9 30) (identifier (at 9 34) (codes "last")) (assignment (at 9 40) (identifier (at 9 40) (codes "st")) false (identifier (at 9 46) (codes "DONE")))
+    no_statements) no_statements))) (case_item no_exprs (assignment (at 10 16) (identifier (at 10 16) (codes "st")) false (identifier (at 10 22) (codes "IDLE")))
+    no_items)))) no_statements))) ∷ []) ∷ []
 
 no_faults : faults_of text (codes "ctl") ≡ []
 no_faults = refl
@@ -35,25 +56,44 @@ no_faults = refl
 instances : (elaborated text (codes "ctl")).design.instances ≡ (record { path = codes "ctl"; «module» = codes "ctl" } ∷ [])
 instances = refl
 
-signals : (elaborated text (codes "ctl")).design.signals ≡ (record { instance = 0; name = codes "clk"; high = 0; low = 0; ranged = false; width = 1; signed = false; input = true } ∷ record { instance = 0; name = codes "rst"; high = 0; low = 0; ranged = false; width = 1; signed = false; input = true } ∷ record { instance = 0; name = codes "go"; high = 0; low = 0; ranged = false; width = 1; signed = false; input = true } ∷ record { instance = 0; name = codes "st"; high = 1; low = 0; ranged = true; width = 2; signed = false; input = false } ∷ record { instance = 0; name = codes "n"; high = 1; low = 0; ranged = true; width = 2; signed = false; input = false } ∷ record { instance = 0; name = codes "last"; high = 0; low = 0; ranged = false; width = 1; signed = false; input = false } ∷ [])
+signals : (elaborated text (codes "ctl")).design.signals ≡ (record {
+  instance = 0;
+  name = codes "clk";
+  high = 0;
+  low = 0;
+  ranged = false;
+  width = 1;
+  signed = false;
+  input = true;
+} ∷ record { instance = 0; name = codes "rst"; high = 0; low = 0; ranged = false; width = 1; signed = false; input = true } ∷
+    record { instance = 0; name = codes "go"; high = 0; low = 0; ranged = false; width = 1; signed = false; input = true } ∷
+    record { instance = 0; name = codes "st"; high = 1; low = 0; ranged = true; width = 2; signed = false; input = false } ∷
+    record { instance = 0; name = codes "n"; high = 1; low = 0; ranged = true; width = 2; signed = false; input = false } ∷
+    record { instance = 0; name = codes "last"; high = 0; low = 0; ranged = false; width = 1; signed = false; input = false } ∷ [])
 signals = refl
 
 memories : (elaborated text (codes "ctl")).design.memories ≡ ([])
 memories = refl
 
-constants : (elaborated text (codes "ctl")).design.constants ≡ (record { instance = 0; name = codes "IDLE"; value = (known 2 0 false) } ∷ record { instance = 0; name = codes "RUN"; value = (known 2 1 false) } ∷ record { instance = 0; name = codes "DONE"; value = (known 2 2 false) } ∷ [])
+constants : (elaborated text (codes "ctl")).design.constants ≡ (record { instance = 0; name = codes "IDLE"; value = (known 2 0 false) } ∷
+    record { instance = 0; name = codes "RUN"; value = (known 2 1 false) } ∷ record { instance = 0; name = codes "DONE"; value = (known 2 2 false) } ∷ [])
 constants = refl
 
 aliases : (elaborated text (codes "ctl")).design.aliases ≡ ([])
 aliases = refl
 
-line_points : map lines_of (elaborated text (codes "ctl")).design.processes ≡ ([] ∷ (line_at 1 (at 6 5) word.If ∷ line_at 2 (at 6 20) word.Assign ∷ line_at 3 (at 6 32) word.Assign ∷ line_at 4 (at 7 10) word.Case ∷ line_at 5 (at 8 13) word.If ∷ line_at 6 (at 8 21) word.Assign ∷ line_at 7 (at 9 18) word.Assign ∷ line_at 8 (at 9 30) word.If ∷ line_at 9 (at 9 40) word.Assign ∷ line_at 10 (at 10 16) word.Assign ∷ []) ∷ [])
+line_points : map lines_of (elaborated text (codes "ctl")).design.processes ≡ ([] ∷ (line_at 1 (at 6 5) word.If ∷ line_at 2 (at 6 20) word.Assign ∷
+    line_at 3 (at 6 32) word.Assign ∷ line_at 4 (at 7 10) word.Case ∷ line_at 5 (at 8 13) word.If ∷ line_at 6 (at 8 21) word.Assign ∷ line_at 7 (at 9 18) word.Assign ∷
+    line_at 8 (at 9 30) word.If ∷ line_at 9 (at 9 40) word.Assign ∷ line_at 10 (at 10 16) word.Assign ∷ []) ∷ [])
 line_points = refl
 
-counted_nodes : map process_nodes (elaborated text (codes "ctl")).design.processes ≡ ((node_at 1 (at 4 15) ∷ []) ∷ (node_at 2 (at 6 9) ∷ node_at 3 (at 8 17) ∷ node_at 4 (at 9 23) ∷ node_at 5 (at 9 34) ∷ []) ∷ [])
+counted_nodes : map process_nodes (elaborated text (codes "ctl")).design.processes ≡ ((node_at 1 (at 4 15) ∷ []) ∷ (node_at 2 (at 6 9) ∷ node_at 3 (at 8 17) ∷
+    node_at 4 (at 9 23) ∷ node_at 5 (at 9 34) ∷ []) ∷ [])
 counted_nodes = refl
 
-term_shapes : map process_shapes (elaborated text (codes "ctl")).design.processes ≡ ((shape_as 1 false ∷ shape_as 2 false ∷ shape_as 2 false ∷ []) ∷ (shape_as 1 false ∷ shape_as 2 false ∷ shape_as 32 true ∷ shape_as 2 false ∷ shape_as 2 false ∷ shape_as 1 false ∷ shape_as 2 false ∷ shape_as 2 false ∷ shape_as 32 false ∷ shape_as 32 false ∷ shape_as 32 false ∷ shape_as 1 false ∷ shape_as 2 false ∷ shape_as 2 false ∷ []) ∷ [])
+term_shapes : map process_shapes (elaborated text (codes "ctl")).design.processes ≡ ((shape_as 1 false ∷ shape_as 2 false ∷ shape_as 2 false ∷ []) ∷ (shape_as 1 false ∷
+    shape_as 2 false ∷ shape_as 32 true ∷ shape_as 2 false ∷ shape_as 2 false ∷ shape_as 1 false ∷ shape_as 2 false ∷ shape_as 2 false ∷ shape_as 32 false ∷
+    shape_as 32 false ∷ shape_as 32 false ∷ shape_as 1 false ∷ shape_as 2 false ∷ shape_as 2 false ∷ []) ∷ [])
 term_shapes = refl
 
 process_heads : map process_head (elaborated text (codes "ctl")).design.processes ≡ (an_assign 0 true ∷ a_clocked 0 ((Pos, 0) ∷ []) ∷ [])

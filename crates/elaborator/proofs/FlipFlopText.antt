@@ -14,10 +14,17 @@ use Rattle.elab_const.specs.Meaning.{shape_as}
 use Rattle.elaborator.specs.Faults.{faults_of}
 use Rattle.elaborator.specs.Flat.{elaborated}
 use Rattle.elaborator.specs.Identifiers.{named}
+use Rattle.elaborator.proofs.TextParts.{item_as, module_as, port_as}
 use Rattle.elaborator.proofs.ExampleParts.{at, known, node_at, process_nodes, process_shapes, a_clocked, process_head, keeps_laws}
 
 abbrev pub text : List Module
-text = record { name = (named (codes "ff") (at 1 8)); params = ([]); ports = ((named (codes "clk") (at 1 17)) ∷ (named (codes "a") (at 1 28)) ∷ (named (codes "q") (at 1 42)) ∷ []); items = (record { place = (at 1 11); form = port_item (record { input = true; reg = false; signed = false; range = None; names = ((named (codes "clk") (at 1 17)) ∷ []) }) } ∷ record { place = (at 1 22); form = port_item (record { input = true; reg = false; signed = false; range = None; names = ((named (codes "a") (at 1 28)) ∷ []) }) } ∷ record { place = (at 1 31); form = port_item (record { input = false; reg = true; signed = false; range = None; names = ((named (codes "q") (at 1 42)) ∷ []) }) } ∷ record { place = (at 2 3); form = always_item (Edges ((Pos, (named (codes "clk") (at 2 20))) ∷ [])) (if_statement (at 3 5) (identifier (at 3 9) (codes "a")) (assignment (at 3 12) (identifier (at 3 12) (codes "q")) false (literal (at 3 17) (known 32 1 true))) (a_statement (assignment (at 3 25) (identifier (at 3 25) (codes "q")) false (literal (at 3 30) (known 32 0 true))) no_statements)) } ∷ []) } ∷ []
+text = module_as (named (codes "ff") (at 1 8)) [] ((named (codes "clk") (at 1 17)) ∷ (named (codes "a") (at 1 28)) ∷ (named (codes "q") (at 1 42)) ∷
+    []) (item_as (at 1 11) (port_item (port_as true false false None ((named (codes "clk") (at 1 17)) ∷ []))) ∷
+    item_as (at 1 22) (port_item (port_as true false false None ((named (codes "a") (at 1 28)) ∷ []))) ∷
+    item_as (at 1 31) (port_item (port_as false true false None ((named (codes "q") (at 1 42)) ∷ []))) ∷
+    item_as (at 2 3) (always_item (Edges ((Pos, (named (codes "clk") (at 2 20))) ∷
+    [])) (if_statement (at 3 5) (identifier (at 3 9) (codes "a")) (assignment (at 3 12) (identifier (at 3 12) (codes "q")) false (literal (at 3 17) (known 32 1 true)))
+    (a_statement (assignment (at 3 25) (identifier (at 3 25) (codes "q")) false (literal (at 3 30) (known 32 0 true))) no_statements))) ∷ []) ∷ []
 
 no_faults : faults_of text (codes "ff") ≡ []
 no_faults = refl
@@ -25,7 +32,17 @@ no_faults = refl
 instances : (elaborated text (codes "ff")).design.instances ≡ (record { path = codes "ff"; «module» = codes "ff" } ∷ [])
 instances = refl
 
-signals : (elaborated text (codes "ff")).design.signals ≡ (record { instance = 0; name = codes "clk"; high = 0; low = 0; ranged = false; width = 1; signed = false; input = true } ∷ record { instance = 0; name = codes "a"; high = 0; low = 0; ranged = false; width = 1; signed = false; input = true } ∷ record { instance = 0; name = codes "q"; high = 0; low = 0; ranged = false; width = 1; signed = false; input = false } ∷ [])
+signals : (elaborated text (codes "ff")).design.signals ≡ (record {
+  instance = 0;
+  name = codes "clk";
+  high = 0;
+  low = 0;
+  ranged = false;
+  width = 1;
+  signed = false;
+  input = true;
+} ∷ record { instance = 0; name = codes "a"; high = 0; low = 0; ranged = false; width = 1; signed = false; input = true } ∷
+    record { instance = 0; name = codes "q"; high = 0; low = 0; ranged = false; width = 1; signed = false; input = false } ∷ [])
 signals = refl
 
 memories : (elaborated text (codes "ff")).design.memories ≡ ([])

@@ -16,10 +16,24 @@ use Rattle.elab_const.specs.Meaning.{shape_as}
 use Rattle.elaborator.specs.Faults.{faults_of}
 use Rattle.elaborator.specs.Flat.{elaborated}
 use Rattle.elaborator.specs.Identifiers.{named}
+use Rattle.elaborator.proofs.TextParts.{given_as, instance_as, item_as, module_as, one_as, port_as, range_as}
 use Rattle.elaborator.proofs.ExampleParts.{at, known, process_nodes, process_shapes, a_clocked, process_head, keeps_laws}
 
 abbrev pub text : List Module
-text = record { name = (named (codes "top") (at 1 8)); params = ([]); ports = ((named (codes "clk") (at 1 18)) ∷ (named (codes "d") (at 1 35)) ∷ (named (codes "q") (at 1 51)) ∷ []); items = (record { place = (at 1 12); form = port_item (record { input = true; reg = false; signed = false; range = None; names = ((named (codes "clk") (at 1 18)) ∷ []) }) } ∷ record { place = (at 1 23); form = port_item (record { input = true; reg = false; signed = false; range = (Some (record { high = (literal (at 1 30) (known 32 1 true)); low = (literal (at 1 32) (known 32 0 true)); bracket = (at 1 29) })); names = ((named (codes "d") (at 1 35)) ∷ []) }) } ∷ record { place = (at 1 38); form = port_item (record { input = false; reg = false; signed = false; range = (Some (record { high = (literal (at 1 46) (known 32 1 true)); low = (literal (at 1 48) (known 32 0 true)); bracket = (at 1 45) })); names = ((named (codes "q") (at 1 51)) ∷ []) }) } ∷ record { place = (at 2 1); form = instance_item (record { of_module = (named (codes "reg2") (at 2 1)); overrides = ([]); ones = (record { name = (named (codes "u") (at 2 6)); given = (record { name = Some (named (codes "clk") (at 2 9)); value = (Some (identifier (at 2 13) (codes "clk"))) } ∷ record { name = Some (named (codes "d") (at 2 20)); value = (Some (identifier (at 2 22) (codes "d"))) } ∷ record { name = Some (named (codes "q") (at 2 27)); value = (Some (identifier (at 2 29) (codes "q"))) } ∷ []) } ∷ []) }) } ∷ []) } ∷ record { name = (named (codes "reg2") (at 4 8)); params = ([]); ports = ((named (codes "clk") (at 4 19)) ∷ (named (codes "d") (at 4 36)) ∷ (named (codes "q") (at 4 56)) ∷ []); items = (record { place = (at 4 13); form = port_item (record { input = true; reg = false; signed = false; range = None; names = ((named (codes "clk") (at 4 19)) ∷ []) }) } ∷ record { place = (at 4 24); form = port_item (record { input = true; reg = false; signed = false; range = (Some (record { high = (literal (at 4 31) (known 32 1 true)); low = (literal (at 4 33) (known 32 0 true)); bracket = (at 4 30) })); names = ((named (codes "d") (at 4 36)) ∷ []) }) } ∷ record { place = (at 4 39); form = port_item (record { input = false; reg = true; signed = false; range = (Some (record { high = (literal (at 4 51) (known 32 1 true)); low = (literal (at 4 53) (known 32 0 true)); bracket = (at 4 50) })); names = ((named (codes "q") (at 4 56)) ∷ []) }) } ∷ record { place = (at 5 1); form = always_item (Edges ((Pos, (named (codes "clk") (at 5 18))) ∷ [])) (assignment (at 5 23) (identifier (at 5 23) (codes "q")) false (identifier (at 5 28) (codes "d"))) } ∷ []) } ∷ []
+text = module_as (named (codes "top") (at 1 8)) [] ((named (codes "clk") (at 1 18)) ∷ (named (codes "d") (at 1 35)) ∷ (named (codes "q") (at 1 51)) ∷
+    []) (item_as (at 1 12) (port_item (port_as true false false None ((named (codes "clk") (at 1 18)) ∷ []))) ∷
+    item_as (at 1 23) (port_item (port_as true false false (Some (range_as (literal (at 1 30) (known 32 1 true)) (literal (at 1 32) (known 32 0 true)) (at 1 29)))
+    ((named (codes "d") (at 1 35)) ∷ []))) ∷ item_as (at 1 38) (port_item (port_as false false false (Some (range_as (literal (at 1 46) (known 32 1 true)) (literal (at 1
+    48) (known 32 0 true)) (at 1 45))) ((named (codes "q") (at 1 51)) ∷ []))) ∷
+    item_as (at 2 1) (instance_item (instance_as (named (codes "reg2") (at 2 1)) [] (one_as (named (codes "u") (at 2 6)) (given_as (Some (named (codes "clk") (at 2 9)))
+    (Some (identifier (at 2 13) (codes "clk"))) ∷ given_as (Some (named (codes "d") (at 2 20))) (Some (identifier (at 2 22) (codes "d"))) ∷
+    given_as (Some (named (codes "q") (at 2 27))) (Some (identifier (at 2 29) (codes "q"))) ∷ []) ∷ []))) ∷ []) ∷
+    module_as (named (codes "reg2") (at 4 8)) [] ((named (codes "clk") (at 4 19)) ∷ (named (codes "d") (at 4 36)) ∷ (named (codes "q") (at 4 56)) ∷
+    []) (item_as (at 4 13) (port_item (port_as true false false None ((named (codes "clk") (at 4 19)) ∷ []))) ∷
+    item_as (at 4 24) (port_item (port_as true false false (Some (range_as (literal (at 4 31) (known 32 1 true)) (literal (at 4 33) (known 32 0 true)) (at 4 30)))
+    ((named (codes "d") (at 4 36)) ∷ []))) ∷ item_as (at 4 39) (port_item (port_as false true false (Some (range_as (literal (at 4 51) (known 32 1 true)) (literal (at 4
+    53) (known 32 0 true)) (at 4 50))) ((named (codes "q") (at 4 56)) ∷ []))) ∷ item_as (at 5 1) (always_item (Edges ((Pos, (named (codes "clk") (at 5 18))) ∷
+    [])) (assignment (at 5 23) (identifier (at 5 23) (codes "q")) false (identifier (at 5 28) (codes "d")))) ∷ []) ∷ []
 
 no_faults : faults_of text (codes "top") ≡ []
 no_faults = refl
@@ -27,7 +41,17 @@ no_faults = refl
 instances : (elaborated text (codes "top")).design.instances ≡ (record { path = codes "top"; «module» = codes "top" } ∷ record { path = codes "top.u"; «module» = codes "reg2" } ∷ [])
 instances = refl
 
-signals : (elaborated text (codes "top")).design.signals ≡ (record { instance = 0; name = codes "clk"; high = 0; low = 0; ranged = false; width = 1; signed = false; input = true } ∷ record { instance = 0; name = codes "d"; high = 1; low = 0; ranged = true; width = 2; signed = false; input = true } ∷ record { instance = 0; name = codes "q"; high = 1; low = 0; ranged = true; width = 2; signed = false; input = false } ∷ [])
+signals : (elaborated text (codes "top")).design.signals ≡ (record {
+  instance = 0;
+  name = codes "clk";
+  high = 0;
+  low = 0;
+  ranged = false;
+  width = 1;
+  signed = false;
+  input = true;
+} ∷ record { instance = 0; name = codes "d"; high = 1; low = 0; ranged = true; width = 2; signed = false; input = true } ∷
+    record { instance = 0; name = codes "q"; high = 1; low = 0; ranged = true; width = 2; signed = false; input = false } ∷ [])
 signals = refl
 
 memories : (elaborated text (codes "top")).design.memories ≡ ([])
@@ -36,7 +60,8 @@ memories = refl
 constants : (elaborated text (codes "top")).design.constants ≡ ([])
 constants = refl
 
-aliases : (elaborated text (codes "top")).design.aliases ≡ (record { instance = 1; name = codes "clk"; signal = 0 } ∷ record { instance = 1; name = codes "d"; signal = 1 } ∷ record { instance = 1; name = codes "q"; signal = 2 } ∷ [])
+aliases : (elaborated text (codes "top")).design.aliases ≡ (record { instance = 1; name = codes "clk"; signal = 0 } ∷
+    record { instance = 1; name = codes "d"; signal = 1 } ∷ record { instance = 1; name = codes "q"; signal = 2 } ∷ [])
 aliases = refl
 
 line_points : map lines_of (elaborated text (codes "top")).design.processes ≡ ((line_at 1 (at 5 23) word.Assign ∷ []) ∷ [])

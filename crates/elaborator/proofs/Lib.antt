@@ -5,6 +5,7 @@ pub mod NodeCounts
 pub mod ConstantTerms
 pub mod TurnNames
 pub mod ExampleParts
+pub mod TextParts
 pub mod FlipFlopText
 pub mod ControlText
 pub mod HierarchyText

@@ -19,9 +19,12 @@ ff =
     record {
       top = codes "ff";
       instances = record { path = codes "ff"; «module» = codes "ff" } ∷ [];
-      signals = record { instance = 0; name = codes "clk"; high = 0; low = 0; ranged = false; width = 1; signed = false; input = true } ∷ record { instance = 0; name = codes "a"; high = 0; low = 0; ranged = false; width = 1; signed = false; input = true } ∷ record { instance = 0; name = codes "q"; high = 0; low = 0; ranged = false; width = 1; signed = false; input = false } ∷ [];
+      signals = record { instance = 0; name = codes "clk"; high = 0; low = 0; ranged = false; width = 1; signed = false; input = true } ∷
+          record { instance = 0; name = codes "a"; high = 0; low = 0; ranged = false; width = 1; signed = false; input = true } ∷
+          record { instance = 0; name = codes "q"; high = 0; low = 0; ranged = false; width = 1; signed = false; input = false } ∷ [];
       memories = [];
-      processes = clocked 0 ((Pos, 0) ∷ []) (branch (at 3 5) 1 (signal (head 3 9 1 false (Some 1)) 1) (set (at 3 12) 2 false (all_of 2) (number (head 3 17 32 true None) (known 32 1 true))) (a_stmt (set (at 3 25) 3 false (all_of 2) (number (head 3 30 32 true None) (known 32 0 true))) no_stmts)) ∷ [];
+      processes = clocked 0 ((Pos, 0) ∷ []) (branch (at 3 5) 1 (signal (head 3 9 1 false (Some 1)) 1) (set (at 3 12) 2 false (all_of 2) (number (head 3 17 32 true None)
+          (known 32 1 true))) (a_stmt (set (at 3 25) 3 false (all_of 2) (number (head 3 30 32 true None) (known 32 0 true))) no_stmts)) ∷ [];
       constants = [];
       aliases = [];
     }
@@ -35,7 +38,9 @@ top =
     record {
       top = codes "top";
       instances = record { path = codes "top"; «module» = codes "top" } ∷ record { path = codes "top.u"; «module» = codes "reg2" } ∷ [];
-      signals = record { instance = 0; name = codes "clk"; high = 0; low = 0; ranged = false; width = 1; signed = false; input = true } ∷ record { instance = 0; name = codes "d"; high = 1; low = 0; ranged = true; width = 2; signed = false; input = true } ∷ record { instance = 0; name = codes "q"; high = 1; low = 0; ranged = true; width = 2; signed = false; input = false } ∷ [];
+      signals = record { instance = 0; name = codes "clk"; high = 0; low = 0; ranged = false; width = 1; signed = false; input = true } ∷
+          record { instance = 0; name = codes "d"; high = 1; low = 0; ranged = true; width = 2; signed = false; input = true } ∷
+          record { instance = 0; name = codes "q"; high = 1; low = 0; ranged = true; width = 2; signed = false; input = false } ∷ [];
       memories = [];
       processes = clocked 1 ((Pos, 0) ∷ []) (set (at 5 23) 1 false (all_of 2) (signal (head 5 28 2 false None) 1)) ∷ [];
       constants = [];
