@@ -79,17 +79,20 @@ abbrev pub param_entry : Scope → List Override → Param → Entry
 param_entry g os p =
     if none (param_faults g p) && is_sound_vector g p.range && not (names_faulty g p.value) then a_constant (typed_value g p (overridden os p.name.name (constant g p.value))) else a_faulty_one
 
--- the constants of a module in order of text, each seen by those after it; others has the other names of the module
+-- the constants with one more, unless it is one of them; others has the other names of the module
+abbrev pub with_param : Scope → List Override → Scope → Param → Scope
+with_param others os sofar p = if is_none (look_up sofar p.name.name) then sofar ++ (p.name.name, param_entry (sofar ++ others) os p) ∷ [] else sofar
+
+-- the constants of a module in order of text, each seen by those after it
 abbrev pub constants_from : Scope → List Override → Scope → List Param → Scope
 constants_from others os sofar [] = sofar
-constants_from others os sofar (p ∷ ps) =
-    constants_from others os (if is_none (look_up sofar p.name.name) then sofar ++ (p.name.name, param_entry (sofar ++ others) os p) ∷ [] else sofar) ps
+constants_from others os sofar (p ∷ ps) = constants_from others os (with_param others os sofar p) ps
 
 -- the faults of the parameters, each once, in order of text
 abbrev pub constants_faults : Scope → List Override → Scope → List Param → List Fault
 constants_faults others os sofar [] = []
 constants_faults others os sofar (p ∷ ps) =
-    (if is_none (look_up sofar p.name.name) then param_faults (sofar ++ others) p else []) ++ constants_faults others os (if is_none (look_up sofar p.name.name) then sofar ++ (p.name.name, param_entry (sofar ++ others) os p) ∷ [] else sofar) ps
+    (if is_none (look_up sofar p.name.name) then param_faults (sofar ++ others) p else []) ++ constants_faults others os (with_param others os sofar p) ps
 
 -- what a declared name is
 pub data Sort : Type 0 where

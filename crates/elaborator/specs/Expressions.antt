@@ -141,30 +141,42 @@ abbrev pub width_faults : Scope → Place → Expr → List Fault → List Fault
 width_faults g bracket w ws =
     number_faults g w ws ++ (if is_sound_number g w ws then answer_faults (told (size_from bracket (number_of (names g) w))) else [])
 
+-- the bits from a base with this width are in range
+abbrev pub slide_faults : Scope → Selected → Expr → ℕ → Bool → List Fault
+slide_faults g of b width up = range_faults of width (λ r. slide_offset r up width (whole_number g b))
+
 -- x[b +: w] and x[b -: w]; a base that is constant has its bits in range
 abbrev pub indexed_faults : Scope → Selected → Place → Expr → List Fault → Expr → List Fault → Bool → List Fault
 indexed_faults g of bracket b bs w ws up =
-    let width : ℕ = natural_number g w in
-    select_faults of ++ bs ++ width_faults g bracket w ws ++ (if is_sound_constant g b bs && names_constants g w && none (width_faults g bracket w ws) then range_faults of width (λ r. slide_offset r up width (whole_number g b)) else [])
+    let sound : Bool = is_sound_constant g b bs && names_constants g w && none (width_faults g bracket w ws) in
+    select_faults of ++ bs ++ width_faults g bracket w ws ++ (if sound then slide_faults g of b (natural_number g w) up else [])
 
 -- m[i] of a memory
 abbrev pub word_faults : Scope → Option Entry → Named → Expr → List Fault → List Fault
 word_faults g (Some (a_memory m)) x i is = is ++ fault_if (is_sound_constant g i is && not (is_word_of_memory (whole_number g i) m)) (fault_at WrongUse x)
 word_faults g _ x i is = is
 
+-- a bit with a constant index is in range
+abbrev pub index_faults : Scope → Selected → Expr → List Fault → List Fault
+index_faults g of i is = if is_sound_constant g i is then range_faults of 1 (λ r. some_offset r (whole_number g i)) else []
+
 -- x[i], where the first list has the faults of x
 abbrev pub bit_faults : Scope → Expr → List Fault → Expr → List Fault → List Fault
 bit_faults g of before i is =
-    if is_memory_name g of then word_faults g (look_up g (base_name of).name) (base_name of) i is else before ++ select_faults (selected g of) ++ is ++ (if is_sound_constant g i is then range_faults (selected g of) 1 (λ r. some_offset r (whole_number g i)) else [])
+    if is_memory_name g of then word_faults g (look_up g (base_name of).name) (base_name of) i is else before ++ select_faults (selected g of) ++ is ++ index_faults g (selected g of) i is
 
 -- more than 128 bits side by side, where each part is sound
 abbrev pub joined_faults : Bool → ℕ → Place → List Fault
 joined_faults sound width p = if sound then size_faults width p else []
 
--- a count that is no number or less than 1, or more than 128 bits
+-- a count that is less than 1, or makes more than 128 bits
+abbrev pub count_faults : Scope → Place → Expr → Bool → ℕ → List Fault
+count_faults g p n sound width =
+    if is_below_one (number_of (names g) n) then answer_faults (told (count_from p (number_of (names g) n))) else joined_faults sound (natural_number g n * width) p
+
+-- the same, or a count that is no number
 abbrev pub replication_faults : Scope → Place → Expr → List Fault → Bool → ℕ → List Fault
-replication_faults g p n ns sound width =
-    number_faults g n ns ++ (if is_sound_number g n ns then answer_faults (told (count_from p (number_of (names g) n))) ++ (if is_below_one (number_of (names g) n) then [] else joined_faults sound (natural_number g n * width) p) else [])
+replication_faults g p n ns sound width = number_faults g n ns ++ (if is_sound_number g n ns then count_faults g p n sound width else [])
 
 abbrev mutual
   pub faults : Scope → Expr → List Fault

@@ -195,10 +195,14 @@ path_faults p path = fault_if (nat_lt 256 (length path)) (limit_fault Path p)
 abbrev pub dotted : List ℕ → List ℕ → List ℕ
 dotted path x = path ++ 46 ∷ x
 
+-- what is met at a declared name, and whether its path is too long
+abbrev pub named_met : Instantiation → Declaration → Met → List Met
+named_met i d m = m ∷ met_faults (path_faults d.item (dotted i.path d.name.name))
+
 -- what is met at a declared signal or memory
 abbrev pub declared_met : Instantiation → Declaration → List Met
 declared_met i d =
-    if is_own i.aliases i.of_module d then met_signal d.item ∷ met_faults (path_faults d.item (dotted i.path d.name.name)) else (if is_memory d then met_words d.item (span (words_of d).high (words_of d).low) ∷ met_faults (path_faults d.item (dotted i.path d.name.name)) else [])
+    if is_own i.aliases i.of_module d then named_met i d (met_signal d.item) else (if is_memory d then named_met i d (met_words d.item (span (words_of d).high (words_of d).low)) else [])
 
 -- the faults of all ranges of a module
 abbrev pub range_faults : Scope → Module → List Fault

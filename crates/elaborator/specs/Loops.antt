@@ -39,10 +39,13 @@ named_faults g p e = undeclared g e ++ fault_if (names_no_constant g e) (of_cons
 abbrev pub in_some_turn : Header → Scope → Scope
 in_some_turn h g = with_turn (base_name h.name).name (record { bits = X ∷ []; signed = true }) g
 
+-- the faults of what a header loops over
+abbrev pub over_faults : Scope → Header → List Fault
+over_faults g h = if is_over_one_name h then variable_faults (look_up g (base_name h.name).name) h.place (base_name h.name) else of_constant LoopNotConstant h.place ∷ []
+
 -- the faults of the names of a header
 abbrev pub header_faults : Scope → Header → List Fault
-header_faults g h =
-    (if is_over_one_name h then variable_faults (look_up g (base_name h.name).name) h.place (base_name h.name) else of_constant LoopNotConstant h.place ∷ []) ++ named_faults g h.place h.first ++ named_faults (in_some_turn h g) h.place h.test ++ named_faults (in_some_turn h g) h.place h.step
+header_faults g h = over_faults g h ++ named_faults g h.place h.first ++ named_faults (in_some_turn h g) h.place h.test ++ named_faults (in_some_turn h g) h.place h.step
 
 -- a header names something whose declaration has a fault
 abbrev pub header_names_faulty : Scope → Header → Bool

@@ -47,10 +47,14 @@ abbrev pub lowest_bits : Scope → Expr → ℕ → Term
 lowest_bits g e n =
     if nat_lt (shape g e).width 128 then alone g e n else t.part (head_as (place_of e) (shape_as 127 false) None) (alone g e n) (number_term (place_of e) (shape_as 8 false) 126) (number_term (place_of e) (shape_as 8 false) 0)
 
--- an unsigned expression as a signed term of so many bits: with a 0 bit before it
+-- the same with a 0 bit before it
+abbrev pub behind_zero : Scope → Expr → ℕ → Term
+behind_zero g e n =
+    t.concat (head_as (place_of e) (shape_as (min 127 (shape g e).width + 1) false) None) (a_term (number_term (place_of e) (shape_as 1 false) 0) (a_term (lowest_bits g e n) no_terms))
+
+-- an unsigned expression as a signed term of so many bits
 abbrev pub with_sign_bit : Scope → ℕ → Expr → ℕ → Term
-with_sign_bit g w e n =
-    t.sign (head_as (place_of e) (shape_as w true) None) true (t.concat (head_as (place_of e) (shape_as (min 127 (shape g e).width + 1) false) None) (a_term (number_term (place_of e) (shape_as 1 false) 0) (a_term (lowest_bits g e n) no_terms)))
+with_sign_bit g w e n = t.sign (head_as (place_of e) (shape_as w true) None) true (behind_zero g e n)
 
 -- an expression as a signed term of so many bits
 abbrev pub signed_term : Scope → ℕ → Expr → ℕ → Term
@@ -65,10 +69,14 @@ abbrev pub moved_term : Scope → Bool → ℕ → Expr → ℕ → Term
 moved_term g up by e n =
     t.binary (head_as (place_of e) (shape_as (moved_width g e) true) None) (if up then Add else Subtract) (signed_term g (moved_width g e) e n) (number_term (place_of e) (shape_as (moved_width g e) true) by)
 
--- the same where the highest of 128 unsigned bits is 0, and else all x, since no range has such an index
+-- the highest of 128 bits
+abbrev pub highest_bit : Scope → Expr → ℕ → Term
+highest_bit g e n = t.binary (head_as (place_of e) (shape_as 128 false) None) ShiftRight (alone g e n) (number_term (place_of e) (shape_as 8 false) 127)
+
+-- all x where the highest of 128 unsigned bits is 1, since no range has such an index
 abbrev pub guarded_term : Scope → Expr → ℕ → Term → Term
 guarded_term g e n moved =
-    t.choice (head_as (place_of e) (shape_as 128 true) None) (t.binary (head_as (place_of e) (shape_as 128 false) None) ShiftRight (alone g e n) (number_term (place_of e) (shape_as 8 false) 127)) (t.number (head_as (place_of e) (shape_as 128 true) None) (record { bits = fill 128 X; signed = true })) moved
+    t.choice (head_as (place_of e) (shape_as 128 true) None) (highest_bit g e n) (t.number (head_as (place_of e) (shape_as 128 true) None) (record { bits = fill 128 X; signed = true })) moved
 
 -- the index of the lowest bit of x[b +: w] or x[b -: w], wide and signed enough that it does not wrap
 abbrev pub moved_index : Scope → Bool → ℕ → Expr → ℕ → Term
@@ -154,13 +162,21 @@ offsets_from size w None = []
 offsets_from size w (Some (pos k)) = filter (λ i. nat_lt i size) (range_with_len k w)
 offsets_from size w (Some (negsuc k)) = filter (λ i. nat_lt i size) (range_with_len 0 (w - (k + 1)))
 
+-- all bits of a signal
+abbrev pub all_offsets : SignalEntry → List ℕ
+all_offsets s = range_with_len 0 (range_width s.range)
+
+-- so many bits of a signal from this offset, where that is constant, and else all of them
+abbrev pub offsets_if : Bool → SignalEntry → ℕ → Option ℤ → List ℕ
+offsets_if is_constant s w from = if is_constant then offsets_from (range_width s.range) w from else all_offsets s
+
 -- the bits that a target without concatenation may write
 abbrev pub offsets : Scope → Option Entry → Expr → List ℕ
-offsets g (Some (a_signal s)) (bit_select p of i) = if names_constants g i then offsets_from (range_width s.range) 1 (some_offset (declared_range (Some (a_signal s))) (whole_number g i)) else range_with_len 0 (range_width s.range)
-offsets g (Some (a_signal s)) (part_select p of h l b) = offsets_from (range_width s.range) (shape g (part_select p of h l b)).width (some_offset (declared_range (Some (a_signal s))) (whole_number g l))
+offsets g (Some (a_signal s)) (bit_select p of i) = offsets_if (names_constants g i) s 1 (some_offset (range_or s.range) (whole_number g i))
+offsets g (Some (a_signal s)) (part_select p of h l b) = offsets_if true s (shape g (part_select p of h l b)).width (some_offset (range_or s.range) (whole_number g l))
 offsets g (Some (a_signal s)) (indexed_part p of b w up k) =
-    if names_constants g b then offsets_from (range_width s.range) (natural_number g w) (slide_offset (declared_range (Some (a_signal s))) up (natural_number g w) (whole_number g b)) else range_with_len 0 (range_width s.range)
-offsets g (Some (a_signal s)) e = range_with_len 0 (range_width s.range)
+    offsets_if (names_constants g b) s (natural_number g w) (slide_offset (range_or s.range) up (natural_number g w) (whole_number g b))
+offsets g (Some (a_signal s)) e = all_offsets s
 offsets g _ e = 0 ∷ []
 
 -- one target of an assignment, by its name: the signal or memory, its bits, and which process writes it
