@@ -15,12 +15,10 @@ use Rattle.design_model.specs.Tree as t
 use Rattle.design_model.specs.Tree.{Head, Term}
 use Rattle.design_model.specs.Value.{copies, head, joined, value}
 use Rattle.verilog_tree.specs.Tree.{Expr, literal, identifier, bit_select, part_select, indexed_part, unary_operator, binary_operator, conditional, concatenation, replication, sign_cast, parentheses, Exprs, no_exprs, an_expr, place_of}
-use Rattle.elab_const.proofs.AnswerLemmas.{neither, none_in_turn}
-use Rattle.elab_const.proofs.PartLemmas.{sound_parts}
 use Rattle.elab_const.specs.Faults as const
 use Rattle.elab_const.specs.Faults.{fault_of, first_fault, number_fault, count_fault, is_below_one, is_no_number, are_constant}
 use Rattle.elab_const.specs.Meaning.{count_of, entry_bits, in_context, meaning, number_of, operand_shape, operand_shapes, operands_of, parts_of}
-use Rattle.elab_const.specs.Scope.{fault_if}
+use Rattle.elab_const.specs.Scope.{Names, earlier, fault_if, or_else}
 use Rattle.elab_const.specs.declared.fault.ConstKind.{ConstKind}
 use Rattle.elab_const.specs.declared.fault.ConstKind.TheVariants.{NotConstant}
 use Rattle.elab_const.specs.declared.width.Shape.{Shape}
@@ -29,6 +27,29 @@ use Rattle.elaborator.specs.Identifiers.{base_name}
 use Rattle.elaborator.specs.Numbering.{condition_nodes, is_counted_condition, nodes, one_if}
 use Rattle.elaborator.specs.Scope.{Scope, Entry, a_constant, a_turn, a_signal, a_memory, a_loop_variable, an_instance, no_constant, a_faulty_one, is_memory_name, look_up, names, names_thing, shape, value_entry}
 use Rattle.elaborator.specs.Terms.{condition_as, counted_as, name_term, term, terms, word_or_bit}
+
+-- of two faults none is there
+neither : (f h : Option _) → earlier f h ≡ None → (f ≡ None) × (h ≡ None)
+neither None None e = (refl, refl)
+neither None (Some h) e = absurd cc
+neither (Some f) None e = absurd cc
+neither (Some f) (Some h) e = absurd cc
+
+-- nor the first or the second of two in turn
+none_in_turn : (f h : Option _) → or_else f h ≡ None → (f ≡ None) × (h ≡ None)
+none_in_turn None h e = (refl, e)
+none_in_turn (Some f) h e = absurd cc
+
+-- what is found without a fault began without one
+none_found : (g : Names) (o : Option _) (es : Exprs) → first_fault g o es ≡ None → o ≡ None
+none_found g o no_exprs h = h
+none_found g o (an_expr e es) h = (neither o (fault_of g e) (none_found g (earlier o (fault_of g e)) es h)).0
+
+-- of parts without a fault the first has none, nor have the others
+sound_parts : (g : Names) (e : Expr) (es : Exprs) → first_fault g None (an_expr e es) ≡ None → (fault_of g e ≡ None) × (first_fault g None es ≡ None)
+sound_parts g e es h =
+    let first : fault_of g e ≡ None = none_found g (fault_of g e) es h in
+    (first, subst (λ o. first_fault g o es ≡ None) first h)
 
 -- a term with a name has the sign of its context
 name_signed : (x : Option Entry) (h : Head) → (head (name_term x h)).signed ≡ h.signed
