@@ -1,22 +1,21 @@
 -- The term of a constant expression has the value of the expression, in every design and state.
-use Rattle.std.proofs.Common.{◌≡◌, refl, sym, ap, subst, ◌∙◌, ℕ, ◌+◌, ◌&&◌, Bool, true, false, if◌then◌else◌, List, ℤ, pos, negsuc, Option, Some, None}
+use Rattle.std.proofs.Common.{◌≡◌, refl, sym, ap, subst, ◌∙◌, ℕ, ◌+◌, ◌&&◌, Bool, true, false, if◌then◌else◌, List, pos, negsuc, Option, Some, None}
 use Rattle.std.specs.Prelude.{map}
 use Rattle.std.proofs.lemmas.Bool.{and_parts, false≢true}
 use Rattle.event_machine.specs.Cell.{Values}
 use Rattle.four_state.specs.Arithmetic.{natural, not_bit}
-use Rattle.four_state.specs.Operators.{binary_value, choice_value}
+use Rattle.four_state.specs.Operators.{binary_value, choice_value, unary_value}
 use Rattle.four_state.specs.Parts.{index, index_of}
 use Rattle.four_state.specs.Vector.{all_known, extend, is_one, top, truth}
 use Rattle.four_state.specs.declared.bit.Bit.{Bit}
 use Rattle.four_state.specs.declared.operator.Binary.{Binary}
-use Rattle.four_state.specs.Operators.{unary_value}
 use Rattle.design_model.specs.Design.{Design}
 use Rattle.design_model.specs.Tree as t
 use Rattle.design_model.specs.Tree.{Head, Term}
 use Rattle.design_model.specs.Value.{copies, head, joined, value}
 use Rattle.verilog_tree.specs.Tree.{Expr, literal, identifier, bit_select, part_select, indexed_part, unary_operator, binary_operator, conditional, concatenation, replication, sign_cast, parentheses, Exprs, no_exprs, an_expr, place_of}
 use Rattle.elab_const.specs.Faults as const
-use Rattle.elab_const.specs.Faults.{fault_of, first_fault, number_fault, count_fault, is_below_one, is_no_number, are_constant}
+use Rattle.elab_const.specs.Faults.{fault_of, first_fault, number_fault, count_fault, is_below_one, are_constant}
 use Rattle.elab_const.specs.Meaning.{count_of, entry_bits, in_context, meaning, number_of, operand_shape, operand_shapes, operands_of, parts_of}
 use Rattle.elab_const.specs.Scope.{Names, earlier, fault_if, or_else}
 use Rattle.elab_const.specs.declared.fault.ConstKind.{ConstKind}

@@ -1,5 +1,5 @@
 -- Short forms for the modules of the examples.
-use Rattle.std.specs.Prelude.{ℕ, Bool, List, Option}
+use Rattle.std.specs.Prelude.{Bool, List, Option}
 use Rattle.cov_host.specs.declared.place.Place.{Place}
 use Rattle.verilog_tree.specs.declared.item.Named.{Named}
 use Rattle.verilog_tree.specs.Tree.{Declared, Expr, Given, Header, InstanceItem, Item, ItemForm, Module, One, Param, PortItem, RangeExpr, VectorItem}

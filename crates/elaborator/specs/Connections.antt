@@ -1,5 +1,5 @@
 -- Connections of ports and overrides of parameters, and how a port is joined (clauses 12.2 and 12.3).
-use Rattle.std.specs.Prelude.{ℕ, nat_lt, Bool, true, false, not, ◌&&◌, ◌||◌, if◌then◌else◌, List, [], ◌∷◌, ◌++◌, length, map, flat_map, filter, bytes_eq, is_none, is_some, Option, Some, None}
+use Rattle.std.specs.Prelude.{ℕ, nat_lt, Bool, false, not, ◌&&◌, ◌||◌, if◌then◌else◌, List, [], ◌∷◌, ◌++◌, length, map, flat_map, filter, bytes_eq, is_none, is_some, Option, Some, None}
 use Rattle.std.specs.Prelude as std
 use Rattle.std.specs.List.{list_any}
 use Rattle.design_model.specs.Shape.{same_bool}

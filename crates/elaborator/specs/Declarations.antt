@@ -1,5 +1,5 @@
 -- What the items of a module declare: ports, nets, variables, memories, integers and instances, and the values of parameters.
-use Rattle.std.specs.Prelude.{ℕ, ◌+◌, ◌==◌, nat_le, nat_lt, Bool, true, false, not, ◌&&◌, ◌||◌, if◌then◌else◌, List, [], ◌∷◌, ◌++◌, map, flat_map, bytes_eq, is_none, is_some, Option, Some, None}
+use Rattle.std.specs.Prelude.{ℕ, ◌+◌, ◌==◌, nat_lt, Bool, true, false, not, ◌&&◌, ◌||◌, if◌then◌else◌, List, [], ◌∷◌, ◌++◌, map, flat_map, bytes_eq, is_none, is_some, Option, Some, None}
 use Rattle.std.specs.Prelude as std
 use Rattle.std.specs.List.{list_any}
 use Rattle.cov_host.specs.declared.place.Place.{Place}

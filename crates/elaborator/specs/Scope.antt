@@ -1,8 +1,7 @@
 -- The scope that the names of an instance stand in, and what an expression is worth in it (clauses 4.4, 4.5 and 12.7).
-use Rattle.std.specs.Prelude.{ℕ, Bool, true, false, List, ◌∷◌, ℤ, Option, Some, None}
+use Rattle.std.specs.Prelude.{ℕ, Bool, true, false, List, ◌∷◌, bytes_eq, ℤ, Option, Some, None}
 use Rattle.std.specs.List.{list_all, list_any}
 use Rattle.std.specs.Map.{lookup}
-use Rattle.std.specs.Prelude.{bytes_eq}
 use Rattle.four_state.specs.Parts as parts
 use Rattle.four_state.specs.Vector.{Vector}
 use Rattle.design_model.specs.Lawful.{span}
