@@ -1,0 +1,25 @@
+-- What reading gives, step by step: each rule says it of a step where it holds of what is behind.
+use Rattle.std.proofs.Common.{◌≡◌, ℕ, Bool, true, false, if◌then◌else◌, Result, Ok, Err, List, refl}
+use Rattle.verilog_lexer.specs.Tokens.{Lexeme}
+use Rattle.grammar_rules.specs.Rule.{Fault as AnyFault, Outcome, ◌>>=◌}
+use Rattle.verilog_grammar.specs.Language.{verilog}
+use Rattle.verilog_parser.specs.declared.fault.ReadFault.{ReadFault}
+use Rattle.verilog_parser.specs.declared.fault.ReadFault.TheVariants as read_fault
+use Rattle.verilog_parser.specs.Gives.{Gives, Fails}
+
+-- a step that fails
+pub first_fails : {A B : Type 0} (e : ReadFault) (x : Result A (AnyFault verilog)) (k : A → Result B (AnyFault verilog)) → Fails e x → Fails e (x >>= k)
+first_fails read_fault.Memory x k h = tt
+first_fails (read_fault.At f) x k h = rw h refl
+
+-- a step that gives a value, and what is behind fails
+pub later_fails : {A B : Type 0} (e : ReadFault) (x : Result A (AnyFault verilog)) (a : A) (k : A → Result B (AnyFault verilog)) → x ≡ Ok a → Fails e (k a) → Fails e (x >>= k)
+later_fails e x a k h f = rw h f
+
+pub fails_if : {B : Type 0} (e : ReadFault) (t : Bool) (x y : Result B (AnyFault verilog)) → t ≡ true → Fails e x → Fails e (if t then x else y)
+fails_if e t x y h f = rw h f
+
+pub fails_else : {B : Type 0} (e : ReadFault) (t : Bool) (x y : Result B (AnyFault verilog)) → t ≡ false → Fails e y → Fails e (if t then x else y)
+fails_else e t x y h f = rw h f
+
+pub ruleset failing = (first_fails, later_fails, fails_if, fails_else)

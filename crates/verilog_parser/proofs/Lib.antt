@@ -1,0 +1,5 @@
+pub mod Taking
+pub mod Levels
+pub mod PushedDigits
+pub mod Numbers
+pub mod Gives

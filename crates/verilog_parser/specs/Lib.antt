@@ -1,0 +1,6 @@
+pub mod Digits
+pub mod Gives
+pub mod LeftOut
+pub mod Measured
+pub mod Views
+pub mod Cursor

@@ -1,0 +1,26 @@
+//! From tokens to trees. That it accepts exactly the grammar of `verilog_grammar` is what its tests show so far.
+#![tactic(auto)]
+
+mod answer;
+mod cursor;
+mod declaration;
+mod digits;
+mod expr;
+mod fault;
+mod instance;
+mod left_out;
+mod literal;
+mod measured;
+mod module;
+mod operator;
+mod process;
+mod select;
+mod statement;
+
+pub use answer::parse;
+pub use fault::{ParseFault, ParseKind};
+
+#[cfg(test)]
+mod show;
+#[cfg(test)]
+mod tests;
