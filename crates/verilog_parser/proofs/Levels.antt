@@ -1,6 +1,7 @@
 -- Levels from the tightest on.
 use Rattle.std.proofs.Common.{ℕ, ◌-◌, ◌<◌, ◌≤◌, arith}
-use Rattle.verilog_grammar.specs.Language.{Level, rank, looser}
+use Rattle.verilog_grammar.specs.Language.{rank, looser}
+use Rattle.verilog_grammar.specs.declared.level.Level.{Level}
 use Rattle.verilog_grammar.specs.declared.level.Level.TheVariants as level
 
 loosest : (b : Level) → rank b ≤ 10

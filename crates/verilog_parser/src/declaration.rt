@@ -63,6 +63,7 @@ fn present(cursor: &mut Cursor<'_, '_>, kind: Kind) -> Result<bool, ReadFault> {
 }
 
 /// `[high:low]`.
+#[tactic(auto, unfolding(verilog_grammar::specs::Parts::range_rule))]
 pub(crate) fn range(
     alloc: Global,
     cursor: &mut Cursor<'_, '_>,

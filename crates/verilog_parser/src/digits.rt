@@ -1,7 +1,8 @@
 //! Digits that stand for 1, 3 or 4 bits each (IEEE 1364-2001 clause 2.5.1).
 
 ghost use Rattle.std.specs.Prelude.{◌≡◌, ◌-◌, ◌^◌, ◌≤◌, ◌<◌, ◌++◌, Some, None, if◌then◌else◌, slice_index, filter};
-ghost use Rattle.four_state.specs.Vector.{Zero, fill, fit};
+ghost use Rattle.four_state.specs.Vector.{fill, fit};
+ghost use Rattle.four_state.specs.declared.bit.Bit.TheVariants.{Zero};
 ghost use Rattle.four_state.specs.Masks.{bits_of_masks};
 ghost use Rattle.verilog_lexer.specs.Based.{is_strange};
 ghost use Rattle.verilog_grammar.specs.Literal.{strange_bit, digit_value, digit_bits, bits_of_digits};

@@ -9,7 +9,8 @@ ghost use Rattle.verilog_grammar.specs.Language.{verilog, expression as an_expre
 ghost use Rattle.verilog_grammar.specs.Verilog.{grammar, begins};
 ghost use Rattle.verilog_grammar.specs.Parts.{only, before};
 ghost use Rattle.verilog_grammar.specs.Expressions.{exprs_rule};
-ghost use Rattle.verilog_parser.specs.Gives.{Gives, same};
+ghost use Rattle.verilog_parser.specs.Gives.{Gives};
+ghost use Rattle.verilog_parser.specs.Measured.{measured_view};
 ghost use Rattle.verilog_parser.specs.Views.{behind_token};
 
 use crate::cursor::Cursor;
@@ -54,7 +55,7 @@ pub(crate) fn expression(
     cursor: &mut Cursor<'_, '_>,
     depth: u32,
 ) -> Result<Measured, ReadFault>
-    ensures { Gives same (phrase verilog grammar depth an_expression cursor.old) result cursor.new }
+    ensures { Gives measured_view (phrase verilog grammar depth an_expression cursor.old) result cursor.new }
 {
     if depth == 0 {
         return Err(too_deep(cursor));

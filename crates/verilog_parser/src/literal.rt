@@ -4,7 +4,8 @@ ghost use Rattle.grammar_rules.specs.Grammar.{reads};
 ghost use Rattle.verilog_grammar.specs.Language.{verilog};
 ghost use Rattle.verilog_grammar.specs.Verilog.{grammar};
 ghost use Rattle.verilog_grammar.specs.Expressions.{number_rule};
-ghost use Rattle.verilog_parser.specs.Gives.{Gives, same};
+ghost use Rattle.verilog_parser.specs.Gives.{Gives};
+ghost use Rattle.verilog_parser.specs.Measured.{measured_view};
 ghost use Rattle.std.specs.Prelude.{◌≡◌, ◌%◌, ◌^◌, ◌≤◌, slice_index, drop, filter};
 ghost use Rattle.verilog_lexer.specs.Number.{number, with_digit};
 ghost use Rattle.verilog_lexer.specs.Based.{letter_at, digits_at};
@@ -21,7 +22,7 @@ use verilog_grammar::Kind;
 
 /// A number, with its size before it or without.
 pub(crate) fn number(cursor: &mut Cursor<'_, '_>) -> Result<Measured, ReadFault>
-    ensures { Gives same (reads verilog grammar 0 number_rule cursor.old) result cursor.new }
+    ensures { Gives measured_view (reads verilog grammar 0 number_rule cursor.old) result cursor.new }
 {
     if !cursor.sees(Kind::Decimal) {
         let based = cursor.take(Kind::Based)?;

@@ -4,14 +4,12 @@ ghost use Rattle.std.specs.Prelude.{◌≡◌, ◌++◌, ◌∷◌, [], IfOk};
 ghost use Rattle.verilog_tree.specs.Tree as t;
 ghost use Rattle.verilog_tree.specs.Tree.{place_of, exprs_of};
 ghost use Rattle.verilog_tree.specs.View.{expr_view, exprs_view};
-ghost use Rattle.verilog_tree.specs.Depth.{depth, deepest_of, none};
-ghost use Rattle.verilog_parser.specs.Measured.{is_bit_select};
+ghost use Rattle.verilog_tree.specs.Depth.{depth as depth_of, deepest_of, none};
 
 use crate::fault::ReadFault;
 use cov_host::{Name, NoMemory, Place};
 use four_state::{Binary, Four, Unary};
 use std::alloc::Global;
-use std::marker::Model;
 use verilog_tree::{Depth, Expr, ExprForm};
 
 /// An expression and how deep it nests.
@@ -19,25 +17,15 @@ use verilog_tree::{Depth, Expr, ExprForm};
 pub(crate) struct Measured {
     expr: Expr,
     depth: Depth,
-}
-
-impl Model for Measured {
-    ghost use Rattle.std.specs.Prelude.{◌≡◌};
-    ghost use Rattle.verilog_tree.specs.Tree.{Expr};
-    ghost use Rattle.verilog_tree.specs.View.{expr_view};
-    ghost use Rattle.verilog_tree.specs.Depth.{depth};
-
-    ghost Value = { Expr };
-
-    ghost view = { λ m. expr_view m.expr };
-
-    ghost invariant = { λ m. m.depth ≡ depth (expr_view m.expr) };
+    ghost measured: { depth ≡ depth_of (expr_view expr) },
 }
 
 impl Measured {
+    ghost use Rattle.verilog_parser.specs.Measured.{is_bit_select, measured_view, list_view};
+
     /// The expression without its depth.
     pub(crate) fn into_expr(self) -> Expr
-        ensures { expr_view result ≡ self }
+        ensures { result ≡ self.expr }
     {
         let Measured { expr, depth: _ } = self;
         expr
@@ -45,21 +33,21 @@ impl Measured {
 
     /// How deep the expression nests.
     pub(crate) fn depth(&self) -> Depth
-        ensures { result ≡ depth self.now }
+        ensures { result ≡ depth_of (measured_view self.now) }
     {
         self.depth
     }
 
     /// Whether it is a select of one bit.
     pub(crate) fn is_bit(&self) -> bool
-        ensures { result ≡ is_bit_select self.now }
+        ensures { result ≡ is_bit_select (measured_view self.now) }
     {
         matches!(&self.expr.form, ExprForm::Bit { .. })
     }
 
     /// A number.
     pub(crate) fn number(place: Place, value: Four) -> Measured
-        ensures { result ≡ t.literal place value }
+        ensures { measured_view result ≡ t.literal place value }
     {
         Measured {
             expr: Expr::number(place, value),
@@ -69,7 +57,7 @@ impl Measured {
 
     /// A name.
     pub(crate) fn name(place: Place, name: Name) -> Measured
-        ensures { result ≡ t.identifier place name }
+        ensures { measured_view result ≡ t.identifier place name }
     {
         Measured {
             expr: Expr::name(place, name),
@@ -79,7 +67,7 @@ impl Measured {
 
     /// `of[index]`.
     pub(crate) fn bit(alloc: Global, of: Measured, index: Measured) -> Result<Measured, NoMemory>
-        ensures { IfOk result (λ e. e ≡ t.bit_select (place_of of) of index) }
+        ensures { IfOk result (λ e. measured_view e ≡ t.bit_select (place_of (measured_view of)) (measured_view of) (measured_view index)) }
     {
         let depth = of.depth().deeper(index.depth()).under()?;
         Ok(Measured {
@@ -96,7 +84,7 @@ impl Measured {
         low: Measured,
         bracket: Place,
     ) -> Result<Measured, NoMemory>
-        ensures { IfOk result (λ e. e ≡ t.part_select (place_of of) of high low bracket) }
+        ensures { IfOk result (λ e. measured_view e ≡ t.part_select (place_of (measured_view of)) (measured_view of) (measured_view high) (measured_view low) bracket) }
     {
         let depth = of.depth().deeper(high.depth()).deeper(low.depth()).under()?;
         let (of, high, low) = (of.into_expr(), high.into_expr(), low.into_expr());
@@ -115,7 +103,7 @@ impl Measured {
         up: bool,
         bracket: Place,
     ) -> Result<Measured, NoMemory>
-        ensures { IfOk result (λ e. e ≡ t.indexed_part (place_of of) of base width up bracket) }
+        ensures { IfOk result (λ e. measured_view e ≡ t.indexed_part (place_of (measured_view of)) (measured_view of) (measured_view base) (measured_view width) up bracket) }
     {
         let depth = of
             .depth()
@@ -136,7 +124,7 @@ impl Measured {
         op: Unary,
         a: Measured,
     ) -> Result<Measured, NoMemory>
-        ensures { IfOk result (λ e. e ≡ t.unary_operator place op a) }
+        ensures { IfOk result (λ e. measured_view e ≡ t.unary_operator place op (measured_view a)) }
     {
         let depth = a.depth().under()?;
         Ok(Measured {
@@ -152,7 +140,7 @@ impl Measured {
         a: Measured,
         b: Measured,
     ) -> Result<Measured, NoMemory>
-        ensures { IfOk result (λ e. e ≡ t.binary_operator (place_of a) op a b) }
+        ensures { IfOk result (λ e. measured_view e ≡ t.binary_operator (place_of (measured_view a)) op (measured_view a) (measured_view b)) }
     {
         let depth = a.depth().deeper(b.depth()).under()?;
         Ok(Measured {
@@ -168,7 +156,7 @@ impl Measured {
         yes: Measured,
         no: Measured,
     ) -> Result<Measured, NoMemory>
-        ensures { IfOk result (λ e. e ≡ t.conditional (place_of test) test yes no) }
+        ensures { IfOk result (λ e. measured_view e ≡ t.conditional (place_of (measured_view test)) (measured_view test) (measured_view yes) (measured_view no)) }
     {
         let depth = test.depth().deeper(yes.depth()).deeper(no.depth()).under()?;
         let (test, yes, no) = (test.into_expr(), yes.into_expr(), no.into_expr());
@@ -185,7 +173,7 @@ impl Measured {
         signed: bool,
         a: Measured,
     ) -> Result<Measured, NoMemory>
-        ensures { IfOk result (λ e. e ≡ t.sign_cast place signed a) }
+        ensures { IfOk result (λ e. measured_view e ≡ t.sign_cast place signed (measured_view a)) }
     {
         let depth = a.depth().under()?;
         Ok(Measured {
@@ -196,7 +184,7 @@ impl Measured {
 
     /// `(a)`.
     pub(crate) fn paren(alloc: Global, place: Place, a: Measured) -> Result<Measured, NoMemory>
-        ensures { IfOk result (λ e. e ≡ t.parentheses place a) }
+        ensures { IfOk result (λ e. measured_view e ≡ t.parentheses place (measured_view a)) }
     {
         let depth = a.depth().under()?;
         Ok(Measured {
@@ -208,7 +196,7 @@ impl Measured {
     /// A concatenation of all these, of which this is the depth.
     pub(crate) fn concat(place: Place, parts: MeasuredList) -> Result<Measured, NoMemory>
         requires { parts.start ≡ none place }
-        ensures { IfOk result (λ e. e ≡ t.concatenation place (exprs_of parts.exprs)) }
+        ensures { IfOk result (λ e. measured_view e ≡ t.concatenation place (exprs_of (list_view parts).exprs)) }
     {
         let (exprs, deepest) = parts.into_parts();
         Ok(Measured {
@@ -224,8 +212,8 @@ impl Measured {
         count: Measured,
         parts: MeasuredList,
     ) -> Result<Measured, NoMemory>
-        requires { parts.start ≡ depth count }
-        ensures { IfOk result (λ e. e ≡ t.replication place count (exprs_of parts.exprs)) }
+        requires { parts.start ≡ depth_of (measured_view count) }
+        ensures { IfOk result (λ e. measured_view e ≡ t.replication place (measured_view count) (exprs_of (list_view parts).exprs)) }
     {
         let (exprs, deepest) = parts.into_parts();
         let depth = deepest.under()?;
@@ -242,30 +230,19 @@ pub(crate) struct MeasuredList {
     exprs: Vec<Expr>,
     start: Depth,
     deepest: Depth,
-}
-
-impl Model for MeasuredList {
-    ghost use Rattle.std.specs.Prelude.{◌≡◌};
-    ghost use Rattle.verilog_tree.specs.Tree.{exprs_of};
-    ghost use Rattle.verilog_tree.specs.View.{exprs_view};
-    ghost use Rattle.verilog_tree.specs.Depth.{deepest_of};
-    ghost use Rattle.verilog_parser.specs.Measured.{MeasuredExprs};
-
-    ghost Value = { MeasuredExprs };
-
-    ghost view = { λ l. record { exprs = exprs_view l.exprs.items; start = l.start } };
-
-    ghost invariant = { λ l. l.deepest ≡ deepest_of l.start (exprs_of (exprs_view l.exprs.items)) };
+    ghost measured: { deepest ≡ deepest_of start (exprs_of (exprs_view exprs.items)) },
 }
 
 impl MeasuredList {
+    ghost use Rattle.verilog_parser.specs.Measured.{measured_view, list_view};
+
     /// One expression, behind what has this depth.
     pub(crate) fn one(
         alloc: Global,
         start: Depth,
         first: Measured,
     ) -> Result<MeasuredList, ReadFault>
-        ensures { IfOk result (λ l. l ≡ record { exprs = first ∷ []; start = start }) }
+        ensures { IfOk result (λ l. list_view l ≡ record { exprs = measured_view first ∷ []; start = start }) }
     {
         let mut list = MeasuredList {
             exprs: Vec::new(alloc),
@@ -278,7 +255,7 @@ impl MeasuredList {
 
     /// Adds an expression at the end.
     pub(crate) fn push(&mut self, expr: Measured) -> Result<(), ReadFault>
-        ensures { IfOk result (λ _. self.new ≡ record { exprs = self.old.exprs ++ expr ∷ []; start = self.old.start }) }
+        ensures { IfOk result (λ _. list_view self.new ≡ record { exprs = exprs_view self.old.exprs.items ++ measured_view expr ∷ []; start = self.old.start }) }
     {
         let depth = expr.depth();
         self.exprs.push(expr.into_expr())?;
@@ -288,8 +265,8 @@ impl MeasuredList {
 
     /// The expressions and the depth.
     fn into_parts(self) -> (Vec<Expr>, Depth)
-        ensures exprs { exprs_view result.0.items ≡ self.exprs }
-        ensures deepest { result.1 ≡ deepest_of self.start (exprs_of self.exprs) }
+        ensures exprs { result.0 ≡ self.exprs }
+        ensures deepest { result.1 ≡ deepest_of self.start (exprs_of (exprs_view self.exprs.items)) }
     {
         let MeasuredList {
             exprs,
@@ -301,7 +278,7 @@ impl MeasuredList {
 
     /// The expressions.
     pub(crate) fn into_exprs(self) -> Vec<Expr>
-        ensures { exprs_view result.items ≡ self.exprs }
+        ensures { result ≡ self.exprs }
     {
         self.into_parts().0
     }

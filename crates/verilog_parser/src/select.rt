@@ -8,7 +8,8 @@ ghost use Rattle.verilog_grammar.specs.Language.{verilog, target as a_target};
 ghost use Rattle.verilog_grammar.specs.Verilog.{grammar, begins};
 ghost use Rattle.verilog_grammar.specs.Parts.{only};
 ghost use Rattle.verilog_grammar.specs.Expressions.{identifier_of, selects_rule};
-ghost use Rattle.verilog_parser.specs.Gives.{Gives, same};
+ghost use Rattle.verilog_parser.specs.Gives.{Gives};
+ghost use Rattle.verilog_parser.specs.Measured.{measured_view};
 
 use crate::cursor::Cursor;
 use crate::expr::{expression, may_grow};
@@ -37,7 +38,7 @@ pub(crate) fn identifier(
     alloc: Global,
     cursor: &mut Cursor<'_, '_>,
 ) -> Result<Measured, ReadFault>
-    ensures { Gives same (reads verilog grammar 0 (made identifier_of (only k.Identifier)) cursor.old) result cursor.new }
+    ensures { Gives measured_view (reads verilog grammar 0 (made identifier_of (only k.Identifier)) cursor.old) result cursor.new }
 {
     let token = cursor.take(Kind::Identifier)?;
     let name = Name::from_vec(Vec::from_slice(alloc, token.text)?);
@@ -51,7 +52,7 @@ pub(crate) fn selects(
     cursor: &mut Cursor<'_, '_>,
     depth: u32,
 ) -> Result<Measured, ReadFault>
-    ensures { Gives same (reads verilog grammar depth selects_rule cursor.old) result cursor.new }
+    ensures { Gives measured_view (reads verilog grammar depth selects_rule cursor.old) result cursor.new }
 {
     let name = identifier(alloc, cursor)?;
     if !cursor.sees(Kind::OpenBracket) {
@@ -124,7 +125,7 @@ pub(crate) fn target(
     cursor: &mut Cursor<'_, '_>,
     depth: u32,
 ) -> Result<Measured, ReadFault>
-    ensures { Gives same (phrase verilog grammar depth a_target cursor.old) result cursor.new }
+    ensures { Gives measured_view (phrase verilog grammar depth a_target cursor.old) result cursor.new }
 {
     if depth == 0 {
         return Err(if begins_target(cursor) {
