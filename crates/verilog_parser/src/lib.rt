@@ -13,6 +13,8 @@ mod literal;
 mod measured;
 mod module;
 mod operator;
+mod parameter;
+mod port;
 mod process;
 mod select;
 mod statement;

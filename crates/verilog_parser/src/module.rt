@@ -1,140 +1,34 @@
-//! Modules and their headers.
+//! Modules and their items.
 
+ghost use Rattle.std.specs.Prelude.{◌≡◌, ◌==◌, false};
+ghost use Rattle.grammar_rules.specs.Rule.{first, member, next};
 ghost use Rattle.grammar_rules.specs.Grammar.{reads, whole};
-ghost use Rattle.verilog_tree.specs.View.{module_view, modules_view};
+ghost use Rattle.verilog_tree.specs.View.{items_view, module_view, modules_view};
+ghost use Rattle.verilog_grammar.specs.declared.kind.Kind.TheVariants as k;
+ghost use Rattle.verilog_grammar.specs.Kind.{code};
 ghost use Rattle.verilog_grammar.specs.Language.{verilog};
-ghost use Rattle.verilog_grammar.specs.Verilog.{grammar};
-ghost use Rattle.verilog_grammar.specs.Modules.{module_rule};
+ghost use Rattle.verilog_grammar.specs.Verilog.{grammar, begins};
+ghost use Rattle.verilog_grammar.specs.Modules.{item_rule, items_rule, module_rule, source_rule};
 ghost use Rattle.verilog_parser.specs.Gives.{Gives, GivesAll};
+ghost use Rattle.verilog_parser.specs.Views.{one_item_view};
 
 use crate::cursor::Cursor;
-use crate::declaration::{
-    ParamType, PortHead, begins_port, copied, integer_item, name, names, net_item, param_type,
-    parameter_item, port, port_item, valued, variable_item,
-};
+use crate::declaration::{integer_item, name, net_item, variable_item};
 use crate::fault::ReadFault;
 use crate::instance::instance_item;
+use crate::parameter::{header_params, parameter_item};
+use crate::port::{Ports, begins_port, header_ports, port_item};
 use crate::process::{always_item, continuous_items, initial_item};
 use cov_host::Sequence;
 use std::alloc::Global;
 use verilog_grammar::Kind;
-use verilog_tree::{Item, Module, Named, Param};
-
-/// A parameter of a header, whose type is that of the one before it where none stands there.
-fn header_param(
-    alloc: Global,
-    cursor: &mut Cursor<'_, '_>,
-    depth: u32,
-    kind: &mut ParamType,
-) -> Result<Param, ReadFault> {
-    if cursor.sees(Kind::Parameter) {
-        cursor.take(Kind::Parameter)?;
-        *kind = param_type(alloc, cursor, depth)?;
-    }
-    let (name, value) = valued(alloc, cursor, depth)?;
-    kind.param(alloc, false, name, value)
-}
-
-/// The parameters of a header.
-fn header_params(
-    alloc: Global,
-    cursor: &mut Cursor<'_, '_>,
-    depth: u32,
-) -> Result<Vec<Param>, ReadFault> {
-    let mut all = Vec::new(alloc);
-    if !cursor.sees(Kind::Hash) {
-        return Ok(all);
-    }
-    cursor.take(Kind::Hash)?;
-    cursor.take(Kind::OpenParen)?;
-    let mut kind = ParamType::plain();
-    let first = header_param(alloc, cursor, depth, &mut kind)?;
-    all.push(first)?;
-    for _ in 0..cursor.left() {
-        if !cursor.sees(Kind::Comma) {
-            break;
-        }
-        cursor.take(Kind::Comma)?;
-        let next = header_param(alloc, cursor, depth, &mut kind)?;
-        all.push(next)?;
-    }
-    cursor.take(Kind::CloseParen)?;
-    Ok(all)
-}
-
-/// The names of a port list, and the items of the ports that it declares.
-#[derive(Drop)]
-struct Ports {
-    names: Vec<Named>,
-    items: Vec<Item>,
-}
-
-/// Ports, with plain names behind them.
-fn declared_ports(
-    alloc: Global,
-    cursor: &mut Cursor<'_, '_>,
-    depth: u32,
-) -> Result<Ports, ReadFault> {
-    let mut ports = Ports {
-        names: Vec::new(alloc),
-        items: Vec::new(alloc),
-    };
-    let mut head = port(alloc, cursor, depth)?;
-    ports.names.push(copied(alloc, &head.name)?)?;
-    let mut others = Vec::new(alloc);
-    for _ in 0..cursor.left() {
-        if !cursor.sees(Kind::Comma) {
-            break;
-        }
-        cursor.take(Kind::Comma)?;
-        if begins_port(cursor) {
-            let next = port(alloc, cursor, depth)?;
-            ports.names.push(copied(alloc, &next.name)?)?;
-            let done: PortHead = std::mem::replace(&mut head, next);
-            let behind = std::mem::replace(&mut others, Vec::new(alloc));
-            ports.items.push(done.into_item(alloc, behind)?)?;
-        } else {
-            let next = name(alloc, cursor)?;
-            ports.names.push(copied(alloc, &next)?)?;
-            others.push(next)?;
-        }
-    }
-    ports.items.push(head.into_item(alloc, others)?)?;
-    Ok(ports)
-}
-
-/// The port list of a header, which may be left out or empty.
-fn header_ports(
-    alloc: Global,
-    cursor: &mut Cursor<'_, '_>,
-    depth: u32,
-) -> Result<Ports, ReadFault> {
-    if !cursor.sees(Kind::OpenParen) {
-        return Ok(Ports {
-            names: Vec::new(alloc),
-            items: Vec::new(alloc),
-        });
-    }
-    cursor.take(Kind::OpenParen)?;
-    let ports = if cursor.sees(Kind::Identifier) {
-        Ports {
-            names: names(alloc, cursor)?,
-            items: Vec::new(alloc),
-        }
-    } else if begins_port(cursor) {
-        declared_ports(alloc, cursor, depth)?
-    } else {
-        Ports {
-            names: Vec::new(alloc),
-            items: Vec::new(alloc),
-        }
-    };
-    cursor.take(Kind::CloseParen)?;
-    Ok(ports)
-}
+use verilog_tree::{Item, Module};
 
 /// Whether the next token begins an item.
-fn begins_item(cursor: &Cursor<'_, '_>) -> bool {
+#[tactic(auto, unfolding(verilog_grammar::specs::Modules::item_rule, verilog_grammar::specs::Modules::port_item_rule, verilog_grammar::specs::Modules::port_rule, verilog_grammar::specs::Modules::direction_rule, verilog_grammar::specs::Modules::net_item_rule, verilog_grammar::specs::Modules::variable_item_rule, verilog_grammar::specs::Modules::integer_item_rule, verilog_grammar::specs::Modules::parameter_item_rule, verilog_grammar::specs::Modules::continuous_item_rule, verilog_grammar::specs::Modules::always_item_rule, verilog_grammar::specs::Modules::initial_item_rule, verilog_grammar::specs::Modules::instance_item_rule))]
+fn begins_item(cursor: &Cursor<'_, '_>) -> bool
+    ensures { result ≡ member (next verilog cursor.now) (first verilog begins item_rule) }
+{
     begins_port(cursor)
         || cursor.sees(Kind::Wire)
         || cursor.sees(Kind::Reg)
@@ -148,7 +42,11 @@ fn begins_item(cursor: &Cursor<'_, '_>) -> bool {
 }
 
 /// An item that is one in the tree too.
-fn single_item(alloc: Global, cursor: &mut Cursor<'_, '_>, depth: u32) -> Result<Item, ReadFault> {
+#[tactic(auto, unfolding(verilog_grammar::specs::Modules::item_rule, verilog_grammar::specs::Modules::port_item_rule, verilog_grammar::specs::Modules::port_rule, verilog_grammar::specs::Modules::direction_rule, verilog_grammar::specs::Modules::net_item_rule, verilog_grammar::specs::Modules::variable_item_rule, verilog_grammar::specs::Modules::integer_item_rule, verilog_grammar::specs::Modules::parameter_item_rule, verilog_grammar::specs::Modules::continuous_item_rule, verilog_grammar::specs::Modules::always_item_rule, verilog_grammar::specs::Modules::initial_item_rule))]
+fn single_item(alloc: Global, cursor: &mut Cursor<'_, '_>, depth: u32) -> Result<Item, ReadFault>
+    requires { (next verilog cursor.old == code k.Assign) ≡ false }
+    ensures { Gives one_item_view (reads verilog grammar depth item_rule cursor.old) result cursor.new }
+{
     if begins_port(cursor) {
         port_item(alloc, cursor, depth)
     } else if cursor.sees(Kind::Wire) {
@@ -157,23 +55,21 @@ fn single_item(alloc: Global, cursor: &mut Cursor<'_, '_>, depth: u32) -> Result
         variable_item(alloc, cursor, depth)
     } else if cursor.sees(Kind::Integer) {
         integer_item(alloc, cursor, depth)
+    } else if cursor.sees(Kind::Parameter) || cursor.sees(Kind::Localparam) {
+        parameter_item(alloc, cursor, depth)
     } else if cursor.sees(Kind::Always) {
         always_item(alloc, cursor, depth)
     } else if cursor.sees(Kind::Initial) {
         initial_item(alloc, cursor, depth)
-    } else if cursor.sees(Kind::Identifier) {
-        instance_item(alloc, cursor, depth)
     } else {
-        parameter_item(alloc, cursor, depth)
+        instance_item(alloc, cursor, depth)
     }
 }
 
 /// The items that the next item of the text gives.
-fn item(
-    alloc: Global,
-    cursor: &mut Cursor<'_, '_>,
-    depth: u32,
-) -> Result<Vec<Item>, ReadFault> {
+fn item(alloc: Global, cursor: &mut Cursor<'_, '_>, depth: u32) -> Result<Vec<Item>, ReadFault>
+    ensures { Gives (λ v. items_view v.items) (reads verilog grammar depth item_rule cursor.old) result cursor.new }
+{
     if cursor.sees(Kind::Assign) {
         return continuous_items(alloc, cursor, depth);
     }
@@ -183,31 +79,57 @@ fn item(
     Ok(items)
 }
 
+/// The items of a module.
+fn items(alloc: Global, cursor: &mut Cursor<'_, '_>, depth: u32) -> Result<Vec<Item>, ReadFault>
+    ensures { Gives (λ v. items_view v.items) (reads verilog grammar depth items_rule cursor.old) result cursor.new }
+{
+    let mut all = Vec::new(alloc);
+    'more: while begins_item(cursor) {
+        let mut next = item(alloc, cursor, depth)?;
+        all.append(&mut next)?;
+    }
+    Ok(all)
+}
+
+#[tactic(auto, unfolding(verilog_grammar::specs::Modules::module_rule))]
 fn module(alloc: Global, cursor: &mut Cursor<'_, '_>, depth: u32) -> Result<Module, ReadFault>
     ensures { Gives module_view (reads verilog grammar depth module_rule cursor.old) result cursor.new }
 {
     cursor.take(Kind::Module)?;
     let name = name(alloc, cursor)?;
     let params = header_params(alloc, cursor, depth)?;
-    let Ports { names, mut items } = header_ports(alloc, cursor, depth)?;
+    let Ports { names, items: mut all } = header_ports(alloc, cursor, depth)?;
     cursor.take(Kind::Semicolon)?;
-    for _ in 0..cursor.left() {
-        if !begins_item(cursor) {
-            break;
-        }
-        let mut next = item(alloc, cursor, depth)?;
-        items.append(&mut next)?;
-    }
+    let mut others = items(alloc, cursor, depth)?;
     cursor.take(Kind::Endmodule)?;
+    all.append(&mut others)?;
     Ok(Module {
         name,
         params: Sequence::from_vec(params),
         ports: Sequence::from_vec(names),
-        items: Sequence::from_vec(items),
+        items: Sequence::from_vec(all),
     })
 }
 
+/// Modules, as far as they go.
+#[tactic(auto, unfolding(verilog_grammar::specs::Modules::source_rule, verilog_grammar::specs::Modules::module_rule))]
+fn each_module(
+    alloc: Global,
+    cursor: &mut Cursor<'_, '_>,
+    depth: u32,
+) -> Result<Vec<Module>, ReadFault>
+    ensures { Gives (λ ms. modules_view ms.items) (reads verilog grammar depth source_rule cursor.old) result cursor.new }
+{
+    let mut all = Vec::new(alloc);
+    'more: while cursor.sees(Kind::Module) {
+        let next = module(alloc, cursor, depth)?;
+        all.push(next)?;
+    }
+    Ok(all)
+}
+
 /// All modules, up to the end of the tokens.
+#[tactic(auto, unfolding(grammar_rules::specs::Grammar::whole))]
 pub(crate) fn modules(
     alloc: Global,
     cursor: &mut Cursor<'_, '_>,
@@ -215,14 +137,7 @@ pub(crate) fn modules(
 ) -> Result<Vec<Module>, ReadFault>
     ensures { GivesAll (λ ms. modules_view ms.items) (whole verilog grammar depth cursor.old) result }
 {
-    let mut all = Vec::new(alloc);
-    for _ in 0..cursor.left() {
-        if !cursor.sees(Kind::Module) {
-            break;
-        }
-        let next = module(alloc, cursor, depth)?;
-        all.push(next)?;
-    }
+    let all = each_module(alloc, cursor, depth)?;
     if cursor.left() != 0 {
         return Err(cursor.refuse());
     }
