@@ -3,3 +3,5 @@ pub mod Levels
 pub mod PushedDigits
 pub mod Numbers
 pub mod Gives
+pub mod Grown
+pub mod LevelRules
