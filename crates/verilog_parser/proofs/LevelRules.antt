@@ -1,5 +1,5 @@
 -- The rules of levels: each is that of the next tighter one and what it grows to.
-use Rattle.std.proofs.Common.{◌≡◌, ℕ, zero, suc, ◌+◌, ◌-◌, ◌<◌, ◌≤◌, false, List, Ok, Err, refl, sym, ap, subst, ◌∙◌, arith}
+use Rattle.std.proofs.Common.{◌≡◌, ℕ, zero, suc, ◌+◌, ◌-◌, ◌<◌, ◌≤◌, true, false, List, Ok, Err, refl, sym, ap, subst, ◌∙◌, arith}
 use Rattle.verilog_lexer.specs.Tokens.{Lexeme}
 use Rattle.verilog_tree.specs.Tree.{Expr}
 use Rattle.grammar_rules.specs.Rule.{member, nullable, first, Fault as AnyFault, Outcome, ◌>>=◌}
@@ -94,18 +94,10 @@ rank_up level.BitwiseOr h = refl
 rank_up level.LogicalAnd h = refl
 rank_up level.LogicalOr h = absurd (omega arith)
 
-level_at : ℕ → Level
-level_at 0 = level.Unary
-level_at 1 = level.Product
-level_at 2 = level.Sum
-level_at 3 = level.Shift
-level_at 4 = level.Relation
-level_at 5 = level.Equality
-level_at 6 = level.BitwiseAnd
-level_at 7 = level.BitwiseXor
-level_at 8 = level.BitwiseOr
-level_at 9 = level.LogicalAnd
-level_at _ = level.LogicalOr
+-- so many levels from the tightest
+abbrev level_at : ℕ → Level
+level_at zero = level.Unary
+level_at (suc n) = looser (level_at n)
 
 level_at-rank : (a : Level) → level_at (rank a) ≡ a
 level_at-rank level.Unary = refl
@@ -124,13 +116,13 @@ level_at-rank level.LogicalOr = refl
 pub same_rank : (a b : Level) → rank a ≡ rank b → a ≡ b
 same_rank a b e = sym (level_at-rank a) ∙ ap level_at e ∙ level_at-rank b
 
-pub no_tighter : (a b : Level) → rank a < rank b → rank (looser a) ≤ rank b
-no_tighter a b h = let k : rank a < 10 = omega (arith, h, loosest b) in rw (rank_up a k) (omega arith)
+pub no_tighter : (a b l : Level) → b ≡ looser a → rank a < rank l → rank b ≤ rank l
+no_tighter a b l e h = let k : rank a < 10 = omega (arith, h, loosest l) in rw (e, rank_up a k) (omega arith)
 
 -- what is read of a level, and what it grows to
-pub level_read : (d : ℕ) (a b : Level) (i m : List Lexeme) (v : Expr) → rank a < rank b → reads verilog grammar d (level_rule a) i ≡ Ok (v, m)
-    → reads verilog grammar d (level_rule (looser a)) i ≡ grows d (growing_where true anything) binary_of (operation_rule (looser a) (tighter (looser a))) v m
-level_read d a b i m v h e = let k : rank a < 10 = omega (arith, h, loosest b) in level_up d a i k ∙ ap (grown_by d (looser a)) e
+pub level_read : (d : ℕ) (a b l : Level) (i m : List Lexeme) (v : Expr) → b ≡ looser a → rank a < rank l → reads verilog grammar d (level_rule a) i ≡ Ok (v, m)
+    → reads verilog grammar d (level_rule b) i ≡ grows d (growing_where true anything) binary_of (operation_rule b (tighter b)) v m
+level_read d a b l i m v e h x = let k : rank a < 10 = omega (arith, h, loosest l) in rw e (level_up d a i k ∙ ap (grown_by d (looser a)) x)
 
 fails_up : (d : ℕ) (n : ℕ) (a b : Level) (i : List Lexeme) (f : AnyFault verilog) → rank b ≡ rank a + n → reads verilog grammar d (level_rule a) i ≡ Err f → reads verilog grammar d (level_rule b) i ≡ Err f
 fails_up d zero a b i f n e = let k : rank a ≡ rank b = omega arith in subst (λ (l : Level). reads verilog grammar d (level_rule l) i ≡ Err f) (same_rank a b k) e

@@ -5,3 +5,7 @@ pub mod Numbers
 pub mod Gives
 pub mod Grown
 pub mod LevelRules
+pub mod Others
+pub mod Choices
+pub mod Selects
+pub mod Operators

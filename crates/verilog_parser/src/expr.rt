@@ -12,7 +12,7 @@ ghost use Rattle.verilog_grammar.specs.Verilog.{grammar, begins};
 ghost use Rattle.verilog_grammar.specs.Parts.{only, any_of, before, after};
 ghost use Rattle.verilog_grammar.specs.Expressions.{exprs_rule, cast_rule, braced_rule, prim_rule, unary_rule, operation_rule, branches_rule, growing_where, anything, is_no_choice, binary_of as binary_of_parts, choice_of, is_signed_cast as is_signed};
 ghost use Rattle.verilog_parser.specs.Gives.{Gives, Fails};
-ghost use Rattle.verilog_parser.specs.Grows.{grows};
+ghost use Rattle.verilog_parser.specs.Grows.{grows, grows_once};
 ghost use Rattle.verilog_parser.specs.Others.{others_view};
 ghost use Rattle.verilog_parser.specs.declared.fault.ReadFault.TheVariants as read_fault;
 ghost use Rattle.verilog_parser.specs.declared.fault.Wrong.TheVariants as wrong;
@@ -70,24 +70,23 @@ pub(crate) fn expression(
         return Err(too_deep(cursor));
     }
     let test = operand(alloc, cursor, depth, Level::LogicalOr)?;
-    with_branches(alloc, cursor, depth - 1, test)
+    if !cursor.sees(Kind::Question) {
+        return Ok(test);
+    }
+    choice(alloc, cursor, depth - 1, test)
 }
 
-/// A test with its branches, if there are some.
+/// A test with its branches.
 #[cycle(expr)]
 #[tactic(auto, unfolding(verilog_grammar::specs::Expressions::branches_rule))]
-fn with_branches(
+fn choice(
     alloc: Global,
     cursor: &mut Cursor<'_, '_>,
     depth: u32,
     test: Measured,
 ) -> Result<Measured, ReadFault>
-    requires { is_no_choice (measured_view test) ≡ true }
-    ensures { Gives measured_view (grows depth (growing_where false is_no_choice) choice_of branches_rule (measured_view test) cursor.old) result cursor.new }
+    ensures { Gives measured_view (grows_once depth (growing_where false is_no_choice) choice_of branches_rule (measured_view test) cursor.old) result cursor.new }
 {
-    if !cursor.sees(Kind::Question) {
-        return Ok(test);
-    }
     may_grow(cursor, &test, depth)?;
     cursor.take(Kind::Question)?;
     let yes = expression(alloc, cursor, depth)?;
@@ -149,13 +148,28 @@ fn grown(
 {
     let mut left = left;
     'more: while sees_operator(cursor, level) {
-        may_grow(cursor, &left, depth)?;
-        let op = binary_of(cursor.kind());
-        take_operator(cursor, level)?;
-        let right = operand(alloc, cursor, depth, level.tighter())?;
-        left = Measured::binary(alloc, op, left, right)?;
+        left = operation(alloc, cursor, depth, level, left)?;
     }
     Ok(left)
+}
+
+/// What stands before an operator of a level, with the operand behind it.
+#[cycle(expr)]
+#[tactic(auto, unfolding(verilog_grammar::specs::Expressions::operation_rule))]
+fn operation(
+    alloc: Global,
+    cursor: &mut Cursor<'_, '_>,
+    depth: u32,
+    level: Level,
+    left: Measured,
+) -> Result<Measured, ReadFault>
+    ensures { Gives measured_view (grows_once depth (growing_where true anything) binary_of_parts (operation_rule level (tighter level)) (measured_view left) cursor.old) result cursor.new }
+{
+    may_grow(cursor, &left, depth)?;
+    let op = binary_of(cursor.kind());
+    take_operator(cursor, level)?;
+    let right = operand(alloc, cursor, depth, level.tighter())?;
+    Ok(Measured::binary(alloc, op, left, right)?)
 }
 
 /// An operand, with any number of operators before it.

@@ -16,14 +16,17 @@ use Rattle.verilog_parser.proofs.+expr.Given as goal
 abbrev pub decreases-expr::expression : goal.decreases-expr::expression
 decreases-expr::expression l = l.depth * 10 + 1
 
-abbrev pub decreases-expr::with_branches : goal.decreases-expr::with_branches
-decreases-expr::with_branches l = l.depth * 10 + 8
+abbrev pub decreases-expr::choice : goal.decreases-expr::choice
+decreases-expr::choice l = l.depth * 10 + 8
 
 abbrev pub decreases-expr::operand : goal.decreases-expr::operand
 decreases-expr::operand l = l.depth * 10
 
 abbrev pub decreases-expr::grown : goal.decreases-expr::grown
 decreases-expr::grown l = l.depth * 10 + 8
+
+abbrev pub decreases-expr::operation : goal.decreases-expr::operation
+decreases-expr::operation l = l.depth * 10 + 7
 
 abbrev pub decreases-expr::unary : goal.decreases-expr::unary
 decreases-expr::unary l = l.depth * 10 + 9
