@@ -9,7 +9,7 @@ ghost use Rattle.verilog_grammar.specs.Language.{verilog, expression as an_expre
 ghost use Rattle.verilog_grammar.specs.Verilog.{grammar, begins};
 ghost use Rattle.verilog_grammar.specs.Parts.{only, before, after};
 ghost use Rattle.verilog_grammar.specs.Expressions.{identifier_of, selects_rule, select_rule, growing_where, is_selected_once, selected as selected_of, target_name_rule, targets_rule, concat_of};
-ghost use Rattle.verilog_parser.specs.Gives.{Gives};
+ghost use Rattle.verilog_parser.specs.Gives.{Gives, Fails};
 ghost use Rattle.verilog_parser.specs.Grows.{grows_once};
 ghost use Rattle.verilog_parser.specs.Others.{others_view};
 ghost use Rattle.verilog_parser.specs.Measured.{measured_view};
@@ -103,6 +103,7 @@ fn bound(
 
 /// The left side of an assignment that is nested no deeper than `depth`.
 #[cycle(left_side)]
+#[tactic(auto, using(grammar_rules::proofs::Language::phrase_down), unfolding(verilog_grammar::specs::Expressions::target_rule, verilog_grammar::specs::Expressions::target_name_rule))]
 pub(crate) fn target(
     alloc: Global,
     cursor: &mut Cursor<'_, '_>,
@@ -111,11 +112,7 @@ pub(crate) fn target(
     ensures { Gives measured_view (phrase verilog grammar depth a_target cursor.old) result cursor.new }
 {
     if depth == 0 {
-        return Err(if begins_target(cursor) {
-            cursor.deep()
-        } else {
-            cursor.refuse()
-        });
+        return Err(too_deep(cursor));
     }
     if cursor.sees(Kind::Identifier) {
         target_name(alloc, cursor, depth - 1)
@@ -131,7 +128,20 @@ pub(crate) fn begins_target(cursor: &Cursor<'_, '_>) -> bool
     cursor.sees(Kind::Identifier) || cursor.sees(Kind::OpenBrace)
 }
 
+/// The fault where a left side would be nested too deep.
+#[tactic(auto, using(crate::proofs::Gives::refused_at))]
+fn too_deep(cursor: &Cursor<'_, '_>) -> ReadFault
+    ensures { Fails result (phrase verilog grammar 0 a_target cursor.now) }
+{
+    if begins_target(cursor) {
+        cursor.deep()
+    } else {
+        cursor.refuse()
+    }
+}
+
 /// A name with at most one select, or with an index and one select.
+#[tactic(auto, unfolding(verilog_grammar::specs::Expressions::target_name_rule))]
 fn target_name(
     alloc: Global,
     cursor: &mut Cursor<'_, '_>,
@@ -152,6 +162,7 @@ fn target_name(
 
 /// Left sides in braces.
 #[cycle(left_side)]
+#[tactic(auto, unfolding(verilog_grammar::specs::Expressions::targets_rule))]
 fn targets(alloc: Global, cursor: &mut Cursor<'_, '_>, depth: u32) -> Result<Measured, ReadFault>
     ensures { Gives measured_view (reads verilog grammar depth (made concat_of (both (only k.OpenBrace) (before targets_rule k.CloseBrace))) cursor.old) result cursor.new }
 {
