@@ -36,7 +36,8 @@ pub too_deep_at : (p : Phrase) (i : List Lexeme) → member (next verilog i) (be
 unfolding phrase
 too_deep_at p i h = rw h (deep_is p i)
 
-pub refused_at : (p : Phrase) (i : List Lexeme) → member (next verilog i) (begins p) ≡ false → Fails (read_fault.At (record { wrong = wrong.Unexpected; left = length i })) (phrase verilog grammar 0 p i)
+pub refused_at : (p : Phrase) (i : List Lexeme) → member (next verilog i) (begins p) ≡ false
+    → Fails (read_fault.At (record { wrong = wrong.Unexpected; left = length i })) (phrase verilog grammar 0 p i)
 unfolding phrase
 refused_at p i h = rw h refl
 

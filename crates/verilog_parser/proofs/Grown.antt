@@ -55,7 +55,8 @@ module _ {A B : Type 0} (d : ℕ) (w : Growth verilog A) (f : A → B → A) (h 
       → grows d w f h a i ≡ total → grows d w f h b m ≡ total
   more a b i m total t k e q = sym (goes_on a i t k ∙ ap (λ (o : Outcome verilog A). o >>= λ y. grows d w f h y.0 y.1) e) ∙ q
 
-  pub more_fails : (a : A) (i : List Lexeme) (total : Outcome verilog A) (e : ReadFault) → member (next verilog i) (first verilog begins h) ≡ true → w.may a ≡ true → Fails e (grows_once d w f h a i)
+  pub more_fails : (a : A) (i : List Lexeme) (total : Outcome verilog A) (e : ReadFault) → member (next verilog i) (first verilog begins h) ≡ true → w.may a ≡ true
+      → Fails e (grows_once d w f h a i)
       → grows d w f h a i ≡ total → Fails e total
   more_fails a i total e t k x q = subst (λ (o : Outcome verilog A). Fails e o) (sym (goes_on a i t k) ∙ q) (first_fails e (grows_once d w f h a i) (λ y. grows d w f h y.0 y.1) x)
 

@@ -12,8 +12,8 @@ use Rattle.verilog_grammar.specs.Kind.{code, next_kind}
 use Rattle.verilog_grammar.specs.Language.{verilog, tighter, expression, operand}
 use Rattle.verilog_grammar.specs.Verilog.{grammar, begins}
 use Rattle.verilog_grammar.specs.Parts.{only, any_of, before}
-use Rattle.verilog_grammar.specs.Expressions.{operators, operation_rule, growing_where, anything, binary_of, unary_of_kind, binary_of_kind, unary_rule, cast_rule, is_signed_cast}
-use Rattle.verilog_parser.specs.Grows.{grows_once}
+use Rattle.verilog_grammar.specs.Expressions.{operators, operation_rule, unary_of_kind, binary_of_kind, unary_rule, cast_rule, is_signed_cast}
+use Rattle.verilog_parser.specs.Grows.{by_operator}
 use Rattle.verilog_parser.proofs.Taking.{kind_taken, operator_taken}
 
 pub unary_read : (d : ℕ) (i m o : List Lexeme) (t : Lexeme) (e : Expr) → member (next verilog i) (first verilog begins (operators level.Unary)) ≡ true
@@ -24,7 +24,7 @@ unary_read d i m o t e s h l = rw (operator_taken level.Unary i t m h) (rw (s, h
 
 pub operation_read : (d : ℕ) (l : Level) (a : Expr) (i m o : List Lexeme) (t : Lexeme) (e : Expr) → nat_le (depth a).height d ≡ true
     → reads verilog grammar 0 (operators l) i ≡ Ok (t, m) → phrase verilog grammar d (operand (tighter l)) m ≡ Ok (e, o)
-    → grows_once d (growing_where true anything) binary_of (operation_rule l (tighter l)) a i ≡ Ok (binary_operator (place_of a) (binary_of_kind (next_kind i)) a e, o)
+    → by_operator d l a i ≡ Ok (binary_operator (place_of a) (binary_of_kind (next_kind i)) a e, o)
 unfolding operation_rule
 operation_read d l a i m o t e s h p = rw (operator_taken l i t m h) (rw (s, operators_read d l i, h, p) refl)
   where
@@ -42,6 +42,7 @@ operation_read d l a i m o t e s h p = rw (operator_taken l i t m h) (rw (s, ope
     operators_read d level.LogicalOr i = refl
 
 pub cast_read : (d : ℕ) (i m o : List Lexeme) (t bracket : Lexeme) (e : Expr) → reads verilog grammar 0 (any_of k.SignedCast (k.UnsignedCast ∷ [])) i ≡ Ok (t, m)
-    → reads verilog grammar d (both (only k.OpenParen) (before (nest expression) k.CloseParen)) m ≡ Ok ((bracket, e), o) → reads verilog grammar d cast_rule i ≡ Ok (sign_cast t.place (is_signed_cast (next_kind i)) e, o)
+    → reads verilog grammar d (both (only k.OpenParen) (before (nest expression) k.CloseParen)) m ≡ Ok ((bracket, e), o)
+    → reads verilog grammar d cast_rule i ≡ Ok (sign_cast t.place (is_signed_cast (next_kind i)) e, o)
 unfolding cast_rule
 cast_read d i m o t bracket e h l = rw (kind_taken (code k.SignedCast ∷ code k.UnsignedCast ∷ []) i t m h) (rw (h, l) refl)

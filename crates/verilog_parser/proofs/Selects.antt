@@ -13,11 +13,12 @@ use Rattle.verilog_grammar.specs.Kind.{code}
 use Rattle.verilog_grammar.specs.Language.{verilog}
 use Rattle.verilog_grammar.specs.Parts.{Phrased, only}
 use Rattle.verilog_grammar.specs.Verilog.{grammar}
-use Rattle.verilog_grammar.specs.Expressions.{Select, SelectEnd, closed, low_end, up_end, down_end, select_rule, select_end_rule, selected, selected_by, is_identifier, identifier_of, growing_where, is_selected_once, may_be_indexed}
+use Rattle.verilog_grammar.specs.Expressions.{Select, SelectEnd, closed, low_end, up_end, down_end, select_rule, selected, selected_by}
+use Rattle.verilog_grammar.specs.Expressions.{is_identifier, identifier_of, growing_where, is_selected_once, may_be_indexed}
 use Rattle.verilog_parser.specs.Measured.{is_bit_select}
 use Rattle.verilog_parser.specs.declared.fault.ReadFault.{ReadFault}
 use Rattle.verilog_parser.specs.Gives.{Fails}
-use Rattle.verilog_parser.specs.Grows.{grows, grows_once}
+use Rattle.verilog_parser.specs.Grows.{grows, by_select}
 use Rattle.verilog_parser.proofs.Grown.{stays, stays_so, goes_on}
 use Rattle.verilog_parser.proofs.Gives.{first_fails}
 
@@ -91,7 +92,8 @@ indexed x s h = indexed_so x s.0 s.1.0 s.1.1 ∙ ap (λ (b : Bool). if is_bit_se
 
 pub indexed_twice : (x : Expr) (r s : Select) → may_be_indexed (selected (selected x r) s) ≡ false
 indexed_twice x r s =
-    indexed_so (selected x r) s.0 s.1.0 s.1.1 ∙ ap (λ (b : Bool). if is_bit_select (selected (selected x r) s) then b else false) (no_name x r.0 r.1.0 r.1.1) ∙ never (is_bit_select (selected (selected x r) s))
+    indexed_so (selected x r) s.0 s.1.0 s.1.1 ∙ ap (λ (b : Bool). if is_bit_select (selected (selected x r) s) then b else false) (no_name x r.0 r.1.0 r.1.1)
+    ∙ never (is_bit_select (selected (selected x r) s))
 
 -- ---- what is read
 
@@ -104,24 +106,20 @@ named i v m e =
     let a = bind_ok (reads verilog grammar 0 (only k.Identifier) i) (λ x. Ok (identifier_of x.0, x.1)) (v, m) e in
     subst (λ (x : Expr). is_identifier x ≡ true) (done_value {F = AnyFault verilog} (identifier_of a.0.0) v a.0.1 m a.2) refl
 
--- a name or an expression with one more select
-abbrev pub with_select : ℕ → Expr → List Lexeme → Outcome verilog Expr
-with_select d a i = grows_once d (growing_where true is_selected_once) selected select_rule a i
-
 selected_if : (a : Expr) (b : Bool) (o : Outcome verilog Select) (f : AnyFault verilog) (v : Expr) (m : List Lexeme)
     → ◌≡◌ {A = Outcome verilog Expr} (if b then (o >>= λ y. Ok (selected a y.0, y.1)) else Err f) (Ok (v, m)) → (s : Select) × (selected a s ≡ v)
 selected_if a true (Ok y) f v m e = (y.0, done_value {F = AnyFault verilog} (selected a y.0) v y.1 m e)
 selected_if a true (Err g) f v m e = absurd cc
 selected_if a false o f v m e = absurd cc
 
-pub select_found : (d : ℕ) (a : Expr) (i : List Lexeme) (v : Expr) (m : List Lexeme) → with_select d a i ≡ Ok (v, m) → (s : Select) × (selected a s ≡ v)
+pub select_found : (d : ℕ) (a : Expr) (i : List Lexeme) (v : Expr) (m : List Lexeme) → by_select d a i ≡ Ok (v, m) → (s : Select) × (selected a s ≡ v)
 select_found d a i v m e = selected_if a (nat_le (depth a).height d) (reads verilog grammar d select_rule i) _ v m e
 
 -- a select of a name, with one more select behind it
-pub once_read : (d : ℕ) (i m o : List Lexeme) (v x : Expr) → reads verilog grammar 0 name_is i ≡ Ok (v, m) → with_select d v m ≡ Ok (x, o) → is_selected_once x ≡ true
+pub once_read : (d : ℕ) (i m o : List Lexeme) (v x : Expr) → reads verilog grammar 0 name_is i ≡ Ok (v, m) → by_select d v m ≡ Ok (x, o) → is_selected_once x ≡ true
 once_read d i m o v x e h = let s = select_found d v m x o h in subst (λ (y : Expr). is_selected_once y ≡ true) s.1 (once v s.0 (named i v m e))
 
-pub indexed_read : (d : ℕ) (i m o : List Lexeme) (v x : Expr) → reads verilog grammar 0 name_is i ≡ Ok (v, m) → with_select d v m ≡ Ok (x, o) → may_be_indexed x ≡ is_bit_select x
+pub indexed_read : (d : ℕ) (i m o : List Lexeme) (v x : Expr) → reads verilog grammar 0 name_is i ≡ Ok (v, m) → by_select d v m ≡ Ok (x, o) → may_be_indexed x ≡ is_bit_select x
 indexed_read d i m o v x e h = let s = select_found d v m x o h in subst (λ (y : Expr). may_be_indexed y ≡ is_bit_select y) s.1 (indexed v s.0 (named i v m e))
 
 -- a name that grows by selects as long as it may, which it may once, and after two selects may not
@@ -132,26 +130,31 @@ module _ (d : ℕ) (may : Expr → Bool) (starts : (x : Expr) → is_identifier 
   abbrev grown : Outcome verilog Expr → Outcome verilog Expr
   grown o = o >>= λ x. grows d (growing_where true may) selected select_rule x.0 x.1
 
-  pub name_alone : (i : List Lexeme) (v : Expr) (m : List Lexeme) → reads verilog grammar 0 name_is i ≡ Ok (v, m) → (next verilog m == code k.OpenBracket) ≡ false → reads verilog grammar d rule i ≡ Ok (v, m)
+  pub name_alone : (i : List Lexeme) (v : Expr) (m : List Lexeme) → reads verilog grammar 0 name_is i ≡ Ok (v, m)
+      → (next verilog m == code k.OpenBracket) ≡ false → reads verilog grammar d rule i ≡ Ok (v, m)
   unfolding select_rule
   name_alone i v m e t = ap grown e ∙ stays d (growing_where true may) selected select_rule refl refl v m t
 
-  pub name_selected : (i : List Lexeme) (v : Expr) (m : List Lexeme) → reads verilog grammar 0 name_is i ≡ Ok (v, m) → (next verilog m == code k.OpenBracket) ≡ true
-      → reads verilog grammar d rule i ≡ grown (with_select d v m)
+  pub name_selected : (i : List Lexeme) (v : Expr) (m : List Lexeme) → reads verilog grammar 0 name_is i ≡ Ok (v, m)
+      → (next verilog m == code k.OpenBracket) ≡ true
+      → reads verilog grammar d rule i ≡ grown (by_select d v m)
   unfolding select_rule
   name_selected i v m e t = ap grown e ∙ goes_on d (growing_where true may) selected select_rule refl refl v m t (starts v (named i v m e))
 
-  pub name_fails : (i : List Lexeme) (v : Expr) (m : List Lexeme) (f : ReadFault) → reads verilog grammar 0 name_is i ≡ Ok (v, m) → (next verilog m == code k.OpenBracket) ≡ true
-      → Fails f (with_select d v m) → Fails f (reads verilog grammar d rule i)
-  name_fails i v m f e t h = rw (name_selected i v m e t) (first_fails f (with_select d v m) _ h)
+  pub name_fails : (i : List Lexeme) (v : Expr) (m : List Lexeme) (f : ReadFault) → reads verilog grammar 0 name_is i ≡ Ok (v, m)
+      → (next verilog m == code k.OpenBracket) ≡ true
+      → Fails f (by_select d v m) → Fails f (reads verilog grammar d rule i)
+  name_fails i v m f e t h = rw (name_selected i v m e t) (first_fails f (by_select d v m) _ h)
 
-  pub once_alone : (i : List Lexeme) (v : Expr) (m : List Lexeme) (x : Expr) (o : List Lexeme) → reads verilog grammar 0 name_is i ≡ Ok (v, m) → (next verilog m == code k.OpenBracket) ≡ true
-      → with_select d v m ≡ Ok (x, o) → (next verilog o == code k.OpenBracket) ≡ false → reads verilog grammar d rule i ≡ Ok (x, o)
+  pub once_alone : (i : List Lexeme) (v : Expr) (m : List Lexeme) (x : Expr) (o : List Lexeme) → reads verilog grammar 0 name_is i ≡ Ok (v, m)
+      → (next verilog m == code k.OpenBracket) ≡ true → by_select d v m ≡ Ok (x, o)
+      → (next verilog o == code k.OpenBracket) ≡ false → reads verilog grammar d rule i ≡ Ok (x, o)
   unfolding select_rule
   once_alone i v m x o e t h n = name_selected i v m e t ∙ ap grown h ∙ stays d (growing_where true may) selected select_rule refl refl x o n
 
-  pub once_final : (i : List Lexeme) (v : Expr) (m : List Lexeme) (x : Expr) (o : List Lexeme) → reads verilog grammar 0 name_is i ≡ Ok (v, m) → (next verilog m == code k.OpenBracket) ≡ true
-      → with_select d v m ≡ Ok (x, o) → may x ≡ false → reads verilog grammar d rule i ≡ Ok (x, o)
+  pub once_final : (i : List Lexeme) (v : Expr) (m : List Lexeme) (x : Expr) (o : List Lexeme) → reads verilog grammar 0 name_is i ≡ Ok (v, m)
+      → (next verilog m == code k.OpenBracket) ≡ true → by_select d v m ≡ Ok (x, o)
+      → may x ≡ false → reads verilog grammar d rule i ≡ Ok (x, o)
   unfolding select_rule
   once_final i v m x o e t h n = name_selected i v m e t ∙ ap grown h ∙ stays_so d (growing_where true may) selected select_rule refl refl x o n
 
@@ -163,10 +166,12 @@ module _ (d : ℕ) (may : Expr → Bool) (starts : (x : Expr) → is_identifier 
   no_third x r true (Err g) f = refl
   no_third x r false o f = refl
 
-  pub twice_selected : (i : List Lexeme) (v : Expr) (m : List Lexeme) (x : Expr) (o : List Lexeme) → reads verilog grammar 0 name_is i ≡ Ok (v, m) → (next verilog m == code k.OpenBracket) ≡ true
-      → with_select d v m ≡ Ok (x, o) → (next verilog o == code k.OpenBracket) ≡ true → may x ≡ true → reads verilog grammar d rule i ≡ with_select d x o
+  pub twice_selected : (i : List Lexeme) (v : Expr) (m : List Lexeme) (x : Expr) (o : List Lexeme) → reads verilog grammar 0 name_is i ≡ Ok (v, m)
+      → (next verilog m == code k.OpenBracket) ≡ true → by_select d v m ≡ Ok (x, o)
+      → (next verilog o == code k.OpenBracket) ≡ true → may x ≡ true → reads verilog grammar d rule i ≡ by_select d x o
   unfolding select_rule
   twice_selected i v m x o e t h n a =
       let s = select_found d v m x o h in
       name_selected i v m e t ∙ ap grown h ∙ goes_on d (growing_where true may) selected select_rule refl refl x o n a
-      ∙ subst (λ (y : Expr). grown (with_select d y o) ≡ with_select d y o) s.1 (no_third v s.0 (nat_le (depth (selected v s.0)).height d) (reads verilog grammar d select_rule o) _)
+      ∙ subst (λ (y : Expr). grown (by_select d y o) ≡ by_select d y o) s.1
+        (no_third v s.0 (nat_le (depth (selected v s.0)).height d) (reads verilog grammar d select_rule o) _)

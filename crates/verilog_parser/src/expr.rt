@@ -7,12 +7,12 @@ ghost use Rattle.verilog_tree.specs.View.{exprs_view};
 ghost use Rattle.verilog_tree.specs.Depth.{depth as depth_of};
 ghost use Rattle.verilog_lexer.specs.TokenView.{lexeme};
 ghost use Rattle.verilog_grammar.specs.declared.kind.Kind.TheVariants as k;
-ghost use Rattle.verilog_grammar.specs.Language.{verilog, tighter, expression as an_expression, operand as an_operand};
+ghost use Rattle.verilog_grammar.specs.Language.{verilog, expression as an_expression, operand as an_operand};
 ghost use Rattle.verilog_grammar.specs.Verilog.{grammar, begins};
 ghost use Rattle.verilog_grammar.specs.Parts.{only, any_of, before, after};
-ghost use Rattle.verilog_grammar.specs.Expressions.{exprs_rule, cast_rule, braced_rule, prim_rule, unary_rule, operation_rule, branches_rule, growing_where, anything, is_no_choice, binary_of as binary_of_parts, choice_of, is_signed_cast as is_signed};
+ghost use Rattle.verilog_grammar.specs.Expressions.{exprs_rule, cast_rule, braced_rule, prim_rule, unary_rule, is_signed_cast as is_signed};
 ghost use Rattle.verilog_parser.specs.Gives.{Gives, Fails};
-ghost use Rattle.verilog_parser.specs.Grows.{grows, grows_once};
+ghost use Rattle.verilog_parser.specs.Grows.{by_operators, by_operator, by_branches};
 ghost use Rattle.verilog_parser.specs.Others.{others_view};
 ghost use Rattle.verilog_parser.specs.declared.fault.ReadFault.TheVariants as read_fault;
 ghost use Rattle.verilog_parser.specs.declared.fault.Wrong.TheVariants as wrong;
@@ -85,7 +85,7 @@ fn choice(
     depth: u32,
     test: Measured,
 ) -> Result<Measured, ReadFault>
-    ensures { Gives measured_view (grows_once depth (growing_where false is_no_choice) choice_of branches_rule (measured_view test) cursor.old) result cursor.new }
+    ensures { Gives measured_view (by_branches depth (measured_view test) cursor.old) result cursor.new }
 {
     may_grow(cursor, &test, depth)?;
     cursor.take(Kind::Question)?;
@@ -144,7 +144,7 @@ fn grown(
     level: Level,
     left: Measured,
 ) -> Result<Measured, ReadFault>
-    ensures { Gives measured_view (grows depth (growing_where true anything) binary_of_parts (operation_rule level (tighter level)) (measured_view left) cursor.old) result cursor.new }
+    ensures { Gives measured_view (by_operators depth level (measured_view left) cursor.old) result cursor.new }
 {
     let mut left = left;
     'more: while sees_operator(cursor, level) {
@@ -163,7 +163,7 @@ fn operation(
     level: Level,
     left: Measured,
 ) -> Result<Measured, ReadFault>
-    ensures { Gives measured_view (grows_once depth (growing_where true anything) binary_of_parts (operation_rule level (tighter level)) (measured_view left) cursor.old) result cursor.new }
+    ensures { Gives measured_view (by_operator depth level (measured_view left) cursor.old) result cursor.new }
 {
     may_grow(cursor, &left, depth)?;
     let op = binary_of(cursor.kind());

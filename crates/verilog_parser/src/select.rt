@@ -1,6 +1,6 @@
 //! Names with selects, and the left sides of assignments.
 
-ghost use Rattle.std.specs.Prelude.{◌≡◌, true, ◌∷◌, IfOk};
+ghost use Rattle.std.specs.Prelude.{◌≡◌, ◌∷◌, IfOk};
 ghost use Rattle.grammar_rules.specs.Rule.{next, member, many, made, both, nest};
 ghost use Rattle.grammar_rules.specs.Grammar.{reads, phrase};
 ghost use Rattle.verilog_tree.specs.View.{exprs_view};
@@ -8,9 +8,9 @@ ghost use Rattle.verilog_grammar.specs.declared.kind.Kind.TheVariants as k;
 ghost use Rattle.verilog_grammar.specs.Language.{verilog, expression as an_expression, target as a_target};
 ghost use Rattle.verilog_grammar.specs.Verilog.{grammar, begins};
 ghost use Rattle.verilog_grammar.specs.Parts.{only, before, after};
-ghost use Rattle.verilog_grammar.specs.Expressions.{identifier_of, selects_rule, select_rule, growing_where, is_selected_once, selected as selected_of, target_name_rule, targets_rule, concat_of};
+ghost use Rattle.verilog_grammar.specs.Expressions.{identifier_of, selects_rule, target_name_rule, targets_rule, concat_of};
 ghost use Rattle.verilog_parser.specs.Gives.{Gives, Fails};
-ghost use Rattle.verilog_parser.specs.Grows.{grows_once};
+ghost use Rattle.verilog_parser.specs.Grows.{by_select};
 ghost use Rattle.verilog_parser.specs.Others.{others_view};
 ghost use Rattle.verilog_parser.specs.Measured.{measured_view};
 
@@ -65,7 +65,7 @@ fn selected(
     depth: u32,
     of: Measured,
 ) -> Result<Measured, ReadFault>
-    ensures { Gives measured_view (grows_once depth (growing_where true is_selected_once) selected_of select_rule (measured_view of) cursor.old) result cursor.new }
+    ensures { Gives measured_view (by_select depth (measured_view of) cursor.old) result cursor.new }
 {
     may_grow(cursor, &of, depth)?;
     let bracket = cursor.take(Kind::OpenBracket)?.place;

@@ -1,14 +1,14 @@
 -- Calls of one depth go down the list of functions; the others go one deeper.
-use Rattle.std.proofs.Common.{◌≡◌, ◌≤◌, ◌+◌, ◌*◌, ◌-◌, ◌++◌, ◌∷◌, length, true, Ok}
+use Rattle.std.proofs.Common.{◌≡◌, ◌≤◌, ◌+◌, ◌*◌, ◌-◌, ◌++◌, ◌∷◌, length, Ok}
 use Rattle.verilog_tree.specs.View.{exprs_view}
 use Rattle.grammar_rules.specs.Rule.{going, many, nest}
 use Rattle.grammar_rules.specs.Grammar.{reads}
 use Rattle.verilog_grammar.specs.declared.kind.Kind.TheVariants as k
-use Rattle.verilog_grammar.specs.Language.{verilog, rank, tighter, expression as an_expression}
+use Rattle.verilog_grammar.specs.Language.{verilog, rank, expression as an_expression}
 use Rattle.verilog_grammar.specs.Verilog.{grammar}
 use Rattle.verilog_grammar.specs.Parts.{after}
-use Rattle.verilog_grammar.specs.Expressions.{level_rule, operation_rule, growing_where, anything, binary_of}
-use Rattle.verilog_parser.specs.Grows.{grows}
+use Rattle.verilog_grammar.specs.Expressions.{level_rule}
+use Rattle.verilog_parser.specs.Grows.{by_operators}
 use Rattle.verilog_parser.specs.Measured.{measured_view}
 use Rattle.verilog_parser.specs.Others.{others_view}
 use Rattle.verilog_parser.proofs.+expr.Given as goal
@@ -66,9 +66,7 @@ abbrev pub decreases-expr::operand-levels : goal.decreases-expr::operand-levels
 decreases-expr::operand-levels l = rank l.level - rank l.at
 
 abbrev pub invariant-expr::grown-more : goal.invariant-expr::grown-more
-invariant-expr::grown-more l =
-    grows l.depth (growing_where true anything) binary_of (operation_rule l.level (tighter l.level)) (measured_view l.left) l.cursor
-    ≡ grows l.depth (growing_where true anything) binary_of (operation_rule l.level (tighter l.level)) (measured_view l.fn.left) l.fn.cursor
+invariant-expr::grown-more l = by_operators l.depth l.level (measured_view l.left) l.cursor ≡ by_operators l.depth l.level (measured_view l.fn.left) l.fn.cursor
 
 abbrev pub decreases-expr::grown-more : goal.decreases-expr::grown-more
 decreases-expr::grown-more l = length l.cursor
@@ -76,7 +74,9 @@ decreases-expr::grown-more l = length l.cursor
 -- the others so far with those that are still read are those that are read in all
 abbrev pub invariant-expr::with_others-more : goal.invariant-expr::with_others-more
 invariant-expr::with_others-more l = record {
-  others : going ◌++◌ (others_view l.all) (reads verilog grammar l.depth (many (after k.Comma (nest an_expression))) l.cursor) ≡ reads verilog grammar l.depth (many (after k.Comma (nest an_expression))) l.fn.cursor;
+  others :
+      going ◌++◌ (others_view l.all) (reads verilog grammar l.depth (many (after k.Comma (nest an_expression))) l.cursor)
+      ≡ reads verilog grammar l.depth (many (after k.Comma (nest an_expression))) l.fn.cursor;
   exprs : exprs_view l.all.exprs.items ≡ measured_view l.fn.first ∷ others_view l.all;
   start : l.all.start ≡ l.fn.start;
 }

@@ -24,11 +24,12 @@ with_targets-more-init t c =
 
 pub with_targets-more-preserved : goal.with_targets-more-preserved
 with_targets-more-preserved t c =
-    let behind = one_behind c.more.all c.push.new.self (measured_view c.args.first) (measured_view c.in_ok-next.next) c.args.start c.more.invariant.exprs c.more.invariant.start c.in_ok-push.ensures in
+    let next = measured_view c.in_ok-next.next in
+    let behind = one_behind c.more.all c.push.new.self (measured_view c.args.first) next c.args.start c.more.invariant.exprs c.more.invariant.start c.in_ok-push.ensures in
     record {
       others =
-          others_more c.args.depth (after k.Comma (nest a_target)) refl refl (others_view c.more.all) (others_view c.push.new.self) (measured_view c.in_ok-next.next) c.more.cursor c.target.new.cursor _
-          (one_else c.more.all c.push.new.self (measured_view c.args.first) (measured_view c.in_ok-next.next) c.more.invariant.exprs c.in_ok-push.ensures) (sym c.sees.ensures ∙ c.more-test.true)
+          others_more c.args.depth (after k.Comma (nest a_target)) refl refl (others_view c.more.all) (others_view c.push.new.self) next c.more.cursor c.target.new.cursor _
+          (one_else c.more.all c.push.new.self (measured_view c.args.first) next c.more.invariant.exprs c.in_ok-push.ensures) (sym c.sees.ensures ∙ c.more-test.true)
           (item_read c.args.depth k.Comma a_target c.more.cursor _ c.target.new.cursor _ _ c.in_ok-take.ensures c.in_ok-next.ensures) c.more.invariant.others;
       exprs = behind.exprs;
       start = behind.start;
@@ -46,11 +47,13 @@ with_targets-returns-clause-others t c =
 pub with_targets-returns-in_err-take-clause-others : goal.with_targets-returns-in_err-take-clause-others
 with_targets-returns-in_err-take-clause-others t c =
     let p = err_from_is_err_and c.from_residual-in_err-take.result c.from_residual-in_err-take.ensures.1 in
-    rw (p.1, p.2) (others_fail c.args.depth (after k.Comma (nest a_target)) refl refl (others_view c.more.all) c.more.cursor _ c.in_err-take.field-0.0 (sym c.sees.ensures ∙ c.more-test.true)
+    rw (p.1, p.2)
+    (others_fail c.args.depth (after k.Comma (nest a_target)) refl refl (others_view c.more.all) c.more.cursor _ c.in_err-take.field-0.0 (sym c.sees.ensures ∙ c.more-test.true)
     (no_token c.args.depth k.Comma a_target c.more.cursor c.in_err-take.field-0.0 c.in_err-take.ensures) c.more.invariant.others)
 
 pub with_targets-returns-in_err-next-clause-others : goal.with_targets-returns-in_err-next-clause-others
 with_targets-returns-in_err-next-clause-others t c =
     let p = err_from_is_err_and c.from_residual-in_err-next.result c.from_residual-in_err-next.ensures.1 in
-    rw (p.1, p.2) (others_fail c.args.depth (after k.Comma (nest a_target)) refl refl (others_view c.more.all) c.more.cursor _ c.in_err-next.field-0.0 (sym c.sees.ensures ∙ c.more-test.true)
+    rw (p.1, p.2)
+    (others_fail c.args.depth (after k.Comma (nest a_target)) refl refl (others_view c.more.all) c.more.cursor _ c.in_err-next.field-0.0 (sym c.sees.ensures ∙ c.more-test.true)
     (no_phrase c.args.depth k.Comma a_target c.more.cursor _ _ c.in_err-next.field-0.0 c.in_ok-take.ensures c.in_err-next.ensures) c.more.invariant.others)

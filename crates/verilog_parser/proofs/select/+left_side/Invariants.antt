@@ -23,7 +23,9 @@ decreases-with_targets l = l.depth * 3 + 1
 -- the others so far with those that are still read are those that are read in all
 abbrev pub invariant-with_targets-more : goal.invariant-with_targets-more
 invariant-with_targets-more l = record {
-  others : going ◌++◌ (others_view l.all) (reads verilog grammar l.depth (many (after k.Comma (nest a_target))) l.cursor) ≡ reads verilog grammar l.depth (many (after k.Comma (nest a_target))) l.fn.cursor;
+  others :
+      going ◌++◌ (others_view l.all) (reads verilog grammar l.depth (many (after k.Comma (nest a_target))) l.cursor)
+      ≡ reads verilog grammar l.depth (many (after k.Comma (nest a_target))) l.fn.cursor;
   exprs : exprs_view l.all.exprs.items ≡ measured_view l.fn.first ∷ others_view l.all;
   start : l.all.start ≡ l.fn.start;
 }
