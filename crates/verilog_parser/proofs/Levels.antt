@@ -4,7 +4,7 @@ use Rattle.verilog_grammar.specs.Language.{rank, looser}
 use Rattle.verilog_grammar.specs.declared.level.Level.{Level}
 use Rattle.verilog_grammar.specs.declared.level.Level.TheVariants as level
 
-loosest : (b : Level) → rank b ≤ 10
+pub loosest : (b : Level) → rank b ≤ 10
 loosest level.Unary = omega arith
 loosest level.Product = omega arith
 loosest level.Sum = omega arith

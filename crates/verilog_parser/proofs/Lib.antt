@@ -4,3 +4,9 @@ pub mod Listed
 pub mod PushedDigits
 pub mod Numbers
 pub mod Gives
+pub mod Grown
+pub mod LevelRules
+pub mod Others
+pub mod Choices
+pub mod Selects
+pub mod Operators

@@ -6,3 +6,5 @@ pub mod LeftOut
 pub mod Measured
 pub mod Views
 pub mod Cursor
+pub mod Grows
+pub mod Others

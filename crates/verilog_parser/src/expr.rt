@@ -1,15 +1,21 @@
 //! Expressions.
 
-ghost use Rattle.std.specs.Prelude.{◌≡◌};
-ghost use Rattle.grammar_rules.specs.Rule.{next, member, both, nest};
+ghost use Rattle.std.specs.Prelude.{◌≡◌, nat_le, true, false, [], ◌∷◌, length, IfOk, IfErr};
+ghost use Rattle.grammar_rules.specs.Rule.{next, member, many, both, nest};
 ghost use Rattle.grammar_rules.specs.Grammar.{reads, phrase};
 ghost use Rattle.verilog_tree.specs.View.{exprs_view};
+ghost use Rattle.verilog_tree.specs.Depth.{depth as depth_of};
+ghost use Rattle.verilog_lexer.specs.TokenView.{lexeme};
 ghost use Rattle.verilog_grammar.specs.declared.kind.Kind.TheVariants as k;
 ghost use Rattle.verilog_grammar.specs.Language.{verilog, expression as an_expression, operand as an_operand};
 ghost use Rattle.verilog_grammar.specs.Verilog.{grammar, begins};
-ghost use Rattle.verilog_grammar.specs.Parts.{only, before};
-ghost use Rattle.verilog_grammar.specs.Expressions.{exprs_rule};
-ghost use Rattle.verilog_parser.specs.Gives.{Gives};
+ghost use Rattle.verilog_grammar.specs.Parts.{only, any_of, before, after};
+ghost use Rattle.verilog_grammar.specs.Expressions.{exprs_rule, cast_rule, braced_rule, prim_rule, unary_rule, is_signed_cast as is_signed};
+ghost use Rattle.verilog_parser.specs.Gives.{Gives, Fails};
+ghost use Rattle.verilog_parser.specs.Grows.{by_operators, by_operator, by_branches};
+ghost use Rattle.verilog_parser.specs.Others.{others_view};
+ghost use Rattle.verilog_parser.specs.declared.fault.ReadFault.TheVariants as read_fault;
+ghost use Rattle.verilog_parser.specs.declared.fault.Wrong.TheVariants as wrong;
 ghost use Rattle.verilog_parser.specs.Measured.{measured_view};
 ghost use Rattle.verilog_parser.specs.Views.{behind_token};
 
@@ -19,7 +25,6 @@ use crate::literal::number;
 use crate::measured::{Measured, MeasuredList};
 use crate::operator::{binary_of, rank, sees_operator, take_operator, unary_of};
 use crate::select::selects;
-use cov_host::Place;
 use std::alloc::Global;
 use verilog_grammar::{Kind, Level};
 use verilog_lexer::Token;
@@ -40,7 +45,10 @@ pub(crate) fn begins_expression(cursor: &Cursor<'_, '_>) -> bool
 }
 
 /// The fault where an expression would be nested too deep.
-fn too_deep(cursor: &Cursor<'_, '_>) -> ReadFault {
+#[tactic(auto, using(crate::proofs::Gives::refused_at))]
+fn too_deep(cursor: &Cursor<'_, '_>) -> ReadFault
+    ensures { Fails result (phrase verilog grammar 0 an_expression cursor.now) }
+{
     if begins_expression(cursor) {
         cursor.deep()
     } else {
@@ -50,6 +58,7 @@ fn too_deep(cursor: &Cursor<'_, '_>) -> ReadFault {
 
 /// An expression that is nested no deeper than `depth`: `test ? yes : no`, or what binds tighter.
 #[cycle(expr)]
+#[tactic(auto, using(grammar_rules::proofs::Language::phrase_down), unfolding(verilog_grammar::specs::Expressions::expr_rule))]
 pub(crate) fn expression(
     alloc: Global,
     cursor: &mut Cursor<'_, '_>,
@@ -60,25 +69,42 @@ pub(crate) fn expression(
     if depth == 0 {
         return Err(too_deep(cursor));
     }
-    let inside = depth - 1;
     let test = operand(alloc, cursor, depth, Level::LogicalOr)?;
     if !cursor.sees(Kind::Question) {
         return Ok(test);
     }
-    may_grow(cursor, &test, inside)?;
+    choice(alloc, cursor, depth - 1, test)
+}
+
+/// A test with its branches.
+#[cycle(expr)]
+#[tactic(auto, unfolding(verilog_grammar::specs::Expressions::branches_rule))]
+fn choice(
+    alloc: Global,
+    cursor: &mut Cursor<'_, '_>,
+    depth: u32,
+    test: Measured,
+) -> Result<Measured, ReadFault>
+    ensures { Gives measured_view (by_branches depth (measured_view test) cursor.old) result cursor.new }
+{
+    may_grow(cursor, &test, depth)?;
     cursor.take(Kind::Question)?;
-    let yes = expression(alloc, cursor, inside)?;
+    let yes = expression(alloc, cursor, depth)?;
     cursor.take(Kind::Colon)?;
-    let no = expression(alloc, cursor, inside)?;
+    let no = expression(alloc, cursor, depth)?;
     Ok(Measured::choice(alloc, test, yes, no)?)
 }
 
-/// What stands before the next token is too high to become a part of a greater expression.
+/// A fault where what stands before the next token is too high to become a part of a greater expression.
 pub(crate) fn may_grow(
     cursor: &Cursor<'_, '_>,
     before: &Measured,
     depth: u32,
-) -> Result<(), ReadFault> {
+) -> Result<(), ReadFault>
+    ensures fits { IfOk result (λ _. nat_le (depth_of (measured_view before.now)).height depth ≡ true) }
+    ensures high { IfErr result (λ _. nat_le (depth_of (measured_view before.now)).height depth ≡ false) }
+    ensures deepest { IfErr result (λ e. e ≡ read_fault.At (record { wrong = wrong.TooDeep (depth_of (measured_view before.now)).place; left = length cursor.now })) }
+{
     let deepest = before.depth();
     if deepest.height > depth as u64 {
         return Err(cursor.too_deep(deepest.place));
@@ -94,7 +120,9 @@ fn operand(
     cursor: &mut Cursor<'_, '_>,
     depth: u32,
     level: Level,
-) -> Result<Measured, ReadFault> {
+) -> Result<Measured, ReadFault>
+    ensures { Gives measured_view (phrase verilog grammar depth (an_operand level) cursor.old) result cursor.new }
+{
     if depth == 0 {
         return Err(too_deep(cursor));
     }
@@ -115,24 +143,41 @@ fn grown(
     depth: u32,
     level: Level,
     left: Measured,
-) -> Result<Measured, ReadFault> {
+) -> Result<Measured, ReadFault>
+    ensures { Gives measured_view (by_operators depth level (measured_view left) cursor.old) result cursor.new }
+{
     let mut left = left;
-    for _ in 0..cursor.left() {
-        if !sees_operator(cursor, level) {
-            break;
-        }
-        may_grow(cursor, &left, depth)?;
-        let op = binary_of(cursor.kind());
-        take_operator(cursor, level)?;
-        let right = operand(alloc, cursor, depth, level.tighter())?;
-        left = Measured::binary(alloc, op, left, right)?;
+    'more: while sees_operator(cursor, level) {
+        left = operation(alloc, cursor, depth, level, left)?;
     }
     Ok(left)
 }
 
+/// What stands before an operator of a level, with the operand behind it.
+#[cycle(expr)]
+#[tactic(auto, unfolding(verilog_grammar::specs::Expressions::operation_rule))]
+fn operation(
+    alloc: Global,
+    cursor: &mut Cursor<'_, '_>,
+    depth: u32,
+    level: Level,
+    left: Measured,
+) -> Result<Measured, ReadFault>
+    ensures { Gives measured_view (by_operator depth level (measured_view left) cursor.old) result cursor.new }
+{
+    may_grow(cursor, &left, depth)?;
+    let op = binary_of(cursor.kind());
+    take_operator(cursor, level)?;
+    let right = operand(alloc, cursor, depth, level.tighter())?;
+    Ok(Measured::binary(alloc, op, left, right)?)
+}
+
 /// An operand, with any number of operators before it.
 #[cycle(expr)]
-fn unary(alloc: Global, cursor: &mut Cursor<'_, '_>, depth: u32) -> Result<Measured, ReadFault> {
+#[tactic(auto, unfolding(verilog_grammar::specs::Expressions::unary_rule))]
+fn unary(alloc: Global, cursor: &mut Cursor<'_, '_>, depth: u32) -> Result<Measured, ReadFault>
+    ensures { Gives measured_view (reads verilog grammar depth unary_rule cursor.old) result cursor.new }
+{
     if !sees_operator(cursor, Level::Unary) {
         return prim(alloc, cursor, depth);
     }
@@ -144,7 +189,10 @@ fn unary(alloc: Global, cursor: &mut Cursor<'_, '_>, depth: u32) -> Result<Measu
 
 /// What binds tightest.
 #[cycle(expr)]
-fn prim(alloc: Global, cursor: &mut Cursor<'_, '_>, depth: u32) -> Result<Measured, ReadFault> {
+#[tactic(auto, unfolding(verilog_grammar::specs::Expressions::prim_rule, verilog_grammar::specs::Expressions::number_rule, verilog_grammar::specs::Expressions::selects_rule, verilog_grammar::specs::Expressions::paren_rule, verilog_grammar::specs::Expressions::braced_rule, verilog_grammar::specs::Expressions::cast_rule))]
+fn prim(alloc: Global, cursor: &mut Cursor<'_, '_>, depth: u32) -> Result<Measured, ReadFault>
+    ensures { Gives measured_view (reads verilog grammar depth prim_rule cursor.old) result cursor.new }
+{
     if cursor.sees(Kind::Decimal) || cursor.sees(Kind::Based) {
         number(cursor)
     } else if cursor.sees(Kind::Identifier) {
@@ -176,54 +224,69 @@ pub(crate) fn in_parentheses<'a>(
 
 /// `$signed` or `$unsigned` of an expression.
 #[cycle(expr)]
-fn cast(alloc: Global, cursor: &mut Cursor<'_, '_>, depth: u32) -> Result<Measured, ReadFault> {
-    let signed = cursor.sees(Kind::SignedCast);
+#[tactic(auto, unfolding(verilog_grammar::specs::Expressions::cast_rule))]
+fn cast(alloc: Global, cursor: &mut Cursor<'_, '_>, depth: u32) -> Result<Measured, ReadFault>
+    ensures { Gives measured_view (reads verilog grammar depth cast_rule cursor.old) result cursor.new }
+{
+    let signed = is_signed_cast(cursor.kind());
     let word = take_cast(cursor)?;
     let (_, inner) = in_parentheses(alloc, cursor, depth)?;
-    Ok(Measured::sign(alloc, word, signed, inner)?)
+    Ok(Measured::sign(alloc, word.place, signed, inner)?)
 }
 
-/// The place of a `$signed` or `$unsigned`.
-fn take_cast(cursor: &mut Cursor<'_, '_>) -> Result<Place, ReadFault> {
+fn is_signed_cast(kind: Kind) -> bool
+    ensures { result ≡ is_signed kind }
+{
+    matches!(kind, Kind::SignedCast)
+}
+
+/// Takes a `$signed` or `$unsigned`.
+#[tactic(auto, unfolding(grammar_rules::specs::Rule::take_one))]
+fn take_cast<'a>(cursor: &mut Cursor<'_, 'a>) -> Result<Token<'a>, ReadFault>
+    ensures { Gives lexeme (reads verilog grammar 0 (any_of k.SignedCast (k.UnsignedCast ∷ [])) cursor.old) result cursor.new }
+{
     if !cursor.sees(Kind::SignedCast) && !cursor.sees(Kind::UnsignedCast) {
         return Err(cursor.refuse());
     }
-    Ok(cursor.take_next()?.place)
+    cursor.take_next()
 }
 
 /// A concatenation, or one that is repeated.
 #[cycle(expr)]
-fn braced(alloc: Global, cursor: &mut Cursor<'_, '_>, depth: u32) -> Result<Measured, ReadFault> {
+#[tactic(auto, unfolding(verilog_grammar::specs::Expressions::braced_rule, verilog_grammar::specs::Expressions::brace_end_rule, verilog_grammar::specs::Expressions::exprs_rule))]
+fn braced(alloc: Global, cursor: &mut Cursor<'_, '_>, depth: u32) -> Result<Measured, ReadFault>
+    ensures { Gives measured_view (reads verilog grammar depth braced_rule cursor.old) result cursor.new }
+{
     let open = cursor.take(Kind::OpenBrace)?;
     let head = expression(alloc, cursor, depth)?;
     if !cursor.sees(Kind::OpenBrace) {
-        let first = MeasuredList::one(alloc, Depth::none(open.place), head)?;
-        let parts = with_others(alloc, cursor, depth, first)?;
+        let parts = with_others(alloc, cursor, depth, Depth::none(open.place), head)?;
         cursor.take(Kind::CloseBrace)?;
         return Ok(Measured::concat(open.place, parts)?);
     }
     cursor.take(Kind::OpenBrace)?;
     let first = expression(alloc, cursor, depth)?;
-    let first = MeasuredList::one(alloc, head.depth(), first)?;
-    let parts = with_others(alloc, cursor, depth, first)?;
+    let parts = with_others(alloc, cursor, depth, head.depth(), first)?;
     cursor.take(Kind::CloseBrace)?;
     cursor.take(Kind::CloseBrace)?;
     Ok(Measured::repeat(alloc, open.place, head, parts)?)
 }
 
-/// The expressions with those that follow behind commas.
+/// An expression with those that follow it behind commas. It stands behind what has the depth `start`.
 #[cycle(expr)]
 fn with_others(
     alloc: Global,
     cursor: &mut Cursor<'_, '_>,
     depth: u32,
-    before: MeasuredList,
-) -> Result<MeasuredList, ReadFault> {
-    let mut all = before;
-    for _ in 0..cursor.left() {
-        if !cursor.sees(Kind::Comma) {
-            break;
-        }
+    start: Depth,
+    first: Measured,
+) -> Result<MeasuredList, ReadFault>
+    ensures others { Gives others_view (reads verilog grammar depth (many (after k.Comma (nest an_expression))) cursor.old) result cursor.new }
+    ensures exprs { IfOk result (λ l. exprs_view l.exprs.items ≡ measured_view first ∷ others_view l) }
+    ensures start { IfOk result (λ l. l.start ≡ start) }
+{
+    let mut all = MeasuredList::one(alloc, start, first)?;
+    'more: while cursor.sees(Kind::Comma) {
         cursor.take(Kind::Comma)?;
         let next = expression(alloc, cursor, depth)?;
         all.push(next)?;
@@ -232,6 +295,7 @@ fn with_others(
 }
 
 /// One expression or more, with commas between.
+#[tactic(auto, unfolding(verilog_grammar::specs::Expressions::exprs_rule))]
 pub(crate) fn expressions(
     alloc: Global,
     cursor: &mut Cursor<'_, '_>,
@@ -240,7 +304,6 @@ pub(crate) fn expressions(
     ensures { Gives (λ v. exprs_view v.items) (reads verilog grammar depth exprs_rule cursor.old) result cursor.new }
 {
     let first = expression(alloc, cursor, depth)?;
-    let place = first.depth().place;
-    let first = MeasuredList::one(alloc, Depth::none(place), first)?;
-    Ok(with_others(alloc, cursor, depth, first)?.into_exprs())
+    let start = Depth::none(first.depth().place);
+    Ok(with_others(alloc, cursor, depth, start, first)?.into_exprs())
 }

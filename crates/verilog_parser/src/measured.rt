@@ -6,7 +6,6 @@ ghost use Rattle.verilog_tree.specs.Tree.{place_of, exprs_of};
 ghost use Rattle.verilog_tree.specs.View.{expr_view, exprs_view};
 ghost use Rattle.verilog_tree.specs.Depth.{depth as depth_of, deepest_of, none};
 
-use crate::fault::ReadFault;
 use cov_host::{Name, NoMemory, Place};
 use four_state::{Binary, Four, Unary};
 use std::alloc::Global;
@@ -241,7 +240,7 @@ impl MeasuredList {
         alloc: Global,
         start: Depth,
         first: Measured,
-    ) -> Result<MeasuredList, ReadFault>
+    ) -> Result<MeasuredList, NoMemory>
         ensures { IfOk result (λ l. list_view l ≡ record { exprs = measured_view first ∷ []; start = start }) }
     {
         let mut list = MeasuredList {
@@ -254,7 +253,7 @@ impl MeasuredList {
     }
 
     /// Adds an expression at the end.
-    pub(crate) fn push(&mut self, expr: Measured) -> Result<(), ReadFault>
+    pub(crate) fn push(&mut self, expr: Measured) -> Result<(), NoMemory>
         ensures { IfOk result (λ _. list_view self.new ≡ record { exprs = exprs_view self.old.exprs.items ++ measured_view expr ∷ []; start = self.old.start }) }
     {
         let depth = expr.depth();
