@@ -3,3 +3,6 @@ pub mod Levels
 pub mod PushedDigits
 pub mod Numbers
 pub mod Gives
+pub mod Statements
+pub mod Repeated
+pub mod Processes

@@ -4,3 +4,5 @@ pub mod LeftOut
 pub mod Measured
 pub mod Views
 pub mod Cursor
+pub mod Statements
+pub mod Processes
