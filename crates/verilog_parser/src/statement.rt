@@ -21,7 +21,7 @@ use crate::cursor::Cursor;
 use crate::expr::{begins_expression, expression, expressions, in_parentheses};
 use crate::fault::ReadFault;
 use crate::select::{begins_target, target};
-use cov_host::Place;
+use cov_host::{NoMemory, Place};
 use four_state::CaseKind;
 use std::alloc::Global;
 use verilog_grammar::{Body, Kind};
@@ -61,7 +61,7 @@ pub(crate) fn begins_statement(cursor: &Cursor<'_, '_>, body: Body) -> bool
 
 /// A statement that is nested no deeper than `depth`.
 #[cycle(statement)]
-#[tactic(auto, unfolding(grammar_rules::specs::Grammar::phrase))]
+#[tactic(auto, using(grammar_rules::proofs::Language::phrase_down), unfolding(grammar_rules::specs::Grammar::phrase))]
 pub(crate) fn statement(
     alloc: Global,
     cursor: &mut Cursor<'_, '_>,
@@ -230,7 +230,7 @@ fn case(
 }
 
 /// An arm and the arms behind it.
-fn with_front(first: Arm, mut others: Vec<Arm>) -> Result<Vec<Arm>, ReadFault>
+fn with_front(first: Arm, mut others: Vec<Arm>) -> Result<Vec<Arm>, NoMemory>
     ensures { IfOk result (λ v. arms_view v.items ≡ arm_view first ∷ arms_view others.items) }
 {
     others.insert(0, first)?;
@@ -250,7 +250,7 @@ fn arms(
 {
     if cursor.sees(Kind::Default) {
         let (default, others) = default_arms(alloc, cursor, depth, body)?;
-        return with_front(default, others);
+        return Ok(with_front(default, others)?);
     }
     let first = label_arm(alloc, cursor, depth, body)?;
     let others = label_arms(alloc, cursor, depth, body)?;
@@ -446,6 +446,7 @@ fn empty(cursor: &mut Cursor<'_, '_>) -> Result<Statement, ReadFault>
 }
 
 /// What stands behind the word of a system task, which has this place. Its arguments are read and dropped.
+#[tactic(auto, unfolding(verilog_grammar::specs::Statements::arguments_rule, verilog_grammar::specs::Statements::argument_rule))]
 fn task(
     alloc: Global,
     cursor: &mut Cursor<'_, '_>,

@@ -14,18 +14,18 @@ use Rattle.verilog_parser.proofs.statement.+statement.Goals as goal
 
 pub statements-more-preserved : goal.statements-more-preserved
 statements-more-preserved t c =
-    list_pushed verilog grammar tables passes statement_view _ (nest (statement c.args.body)) _ _ _ _ _ _ refl refl c.in_ok-push.ensures.items (sym c.begins_statement.ensures ∙ c.more-test.true) c.in_ok-next.ensures c.more.invariant
+    list_pushed verilog grammar tables passes statement_view _ (nest (statement c.args.body)) _ _ _ _ _ _ refl (passes.no_end (statement c.args.body)) c.in_ok-push.ensures.items (sym c.begins_statement.ensures ∙ c.more-test.true) c.in_ok-next.ensures c.more.invariant
 
 pub statements-more-smaller : goal.statements-more-smaller
 statements-more-smaller t c = falls verilog grammar tables passes _ (nest (statement c.args.body)) refl _ _ _ c.in_ok-next.ensures
 
 pub statements-returns : goal.statements-returns
-statements-returns t c = list_ends verilog grammar tables passes statement_view _ (nest (statement c.args.body)) _ _ _ refl refl (sym c.begins_statement.ensures ∙ c.more-test.false) c.more.invariant
+statements-returns t c = list_ends verilog grammar tables passes statement_view _ (nest (statement c.args.body)) _ _ _ refl (passes.no_end (statement c.args.body)) (sym c.begins_statement.ensures ∙ c.more-test.false) c.more.invariant
 
 pub statements-returns-in_err-next : goal.statements-returns-in_err-next
 statements-returns-in_err-next t c =
     let p = err_from_is_err_and c.from_residual.result c.from_residual.ensures.1 in
-    rw (p.1, p.2) (turn_fails ◌++◌ _ (nest (statement c.args.body)) refl refl (statements_view c.more.all.items) _ _ _ (sym c.begins_statement.ensures ∙ c.more-test.true) c.in_err-next.ensures c.more.invariant)
+    rw (p.1, p.2) (turn_fails ◌++◌ _ (nest (statement c.args.body)) refl (passes.no_end (statement c.args.body)) (statements_view c.more.all.items) _ _ _ (sym c.begins_statement.ensures ∙ c.more-test.true) c.in_err-next.ensures c.more.invariant)
 
 pub label_arms-more-preserved : goal.label_arms-more-preserved
 unfolding label_arm_rule exprs_rule
