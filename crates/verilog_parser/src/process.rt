@@ -27,6 +27,7 @@ use verilog_lexer::Token;
 use verilog_tree::{Expr, Item, ItemForm, Named, Statement, When};
 
 /// An item for each assignment behind an `assign`.
+#[tactic(auto, unfolding(verilog_grammar::specs::Modules::continuous_item_rule))]
 pub(crate) fn continuous_items(
     alloc: Global,
     cursor: &mut Cursor<'_, '_>,

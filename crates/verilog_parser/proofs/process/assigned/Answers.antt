@@ -18,12 +18,12 @@ use Rattle.verilog_parser.proofs.process.assigned.Goals as goal
 pub more-init : goal.more-init
 more-init c =
     begun (push_made (continuous_item_of c.args.place)) (map (continuous_item_of c.args.place)) _ set_rule (after k.Comma set_rule) _ _ _ _
-    (made_first item_view (continuous_item_of c.args.place) _ _ _ c.in_ok-push.ensures.items c.continuous.ensures) c.in_ok-first.ensures
+    (made_first item_view (continuous_item_of c.args.place) _ _ _ _ c.new-items.ensures.items c.in_ok-push.ensures.items c.continuous.ensures) c.in_ok-first.ensures
 
 pub more-preserved : goal.more-preserved
 more-preserved c =
     one_more verilog grammar tables passes (push_made (continuous_item_of c.args.place)) _ (after k.Comma set_rule) refl refl _ _ _ _ _ _
-    (made_pushed item_view (continuous_item_of c.args.place) _ _ _ _ c.in_ok-push-2.ensures.items c.continuous-2.ensures) (sym c.sees.ensures ∙ c.more-test.true) c.in_ok-next.ensures c.more.invariant
+    (made_pushed item_view (continuous_item_of c.args.place) _ _ _ _ c.in_ok-push-2.ensures.items c.continuous-in-more.ensures) (sym c.sees.ensures ∙ c.more-test.true) c.in_ok-next.ensures c.more.invariant
 
 pub more-smaller : goal.more-smaller
 more-smaller c = falls verilog grammar tables passes _ (after k.Comma set_rule) refl _ _ _ c.in_ok-next.ensures
