@@ -44,9 +44,9 @@ regroup_list a (Ok y) = refl
 regroup_list a (Err x) = refl
 
 -- the same of a list
-pub list_begun : {A : Type 0} (d : ℕ) (g h : Phrased A) (ys : List A) (a : A) (i m : List Lexeme) → ys ≡ a ∷ [] → reads verilog grammar d g i ≡ Ok (a, m)
+pub list_begun : {A : Type 0} (d : ℕ) (g h : Phrased A) (xs ys : List A) (a : A) (i m : List Lexeme) → xs ≡ [] → ys ≡ xs ++ a ∷ [] → reads verilog grammar d g i ≡ Ok (a, m)
     → going ◌++◌ ys (reads verilog grammar d (many h) m) ≡ reads verilog grammar d (made with_front (both g (many h))) i
-list_begun d g h ys a i m y e = rw (y, e) (regroup_list a (reads verilog grammar d (many h) m))
+list_begun d g h xs ys a i m n y e = rw (y, n, e) (regroup_list a (reads verilog grammar d (many h) m))
 
 -- a loop that pushes what it reads, where that is its own view
 pub plain_pushed : {A : Type 0} (d : ℕ) (g : Phrased A) (xs ys : List A) (x : A) (i m : List Lexeme) (total : Outcome verilog (List A)) → nullable g ≡ false → member 0 (first verilog begins g) ≡ false

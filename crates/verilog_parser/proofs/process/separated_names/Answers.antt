@@ -11,7 +11,7 @@ use Rattle.verilog_parser.proofs.Repeated.{list_begun, plain_pushed, plain_ends,
 use Rattle.verilog_parser.proofs.process.separated_names.Goals as goal
 
 pub more-init : goal.more-init
-more-init c = list_begun 0 name_rule (next_rule name_rule) _ _ _ _ c.in_ok-push.ensures.items c.in_ok-first.ensures
+more-init c = list_begun 0 name_rule (next_rule name_rule) _ _ _ _ _ c.new-all.ensures.items c.in_ok-push.ensures.items c.in_ok-first.ensures
 
 pub more-preserved : goal.more-preserved
 more-preserved c = plain_pushed 0 (next_rule name_rule) _ _ _ _ _ _ refl refl c.in_ok-push-2.ensures.items (sym c.sees_separator.ensures ∙ c.more-test.true) c.in_ok-next.ensures c.more.invariant
