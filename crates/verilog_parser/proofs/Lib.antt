@@ -10,3 +10,6 @@ pub mod Others
 pub mod Choices
 pub mod Selects
 pub mod Operators
+pub mod Statements
+pub mod Repeated
+pub mod Processes

@@ -8,3 +8,5 @@ pub mod Views
 pub mod Cursor
 pub mod Grows
 pub mod Others
+pub mod Statements
+pub mod Processes

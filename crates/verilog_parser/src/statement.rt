@@ -1,27 +1,37 @@
 //! Statements.
 
-ghost use Rattle.std.specs.Prelude.{◌≡◌};
-ghost use Rattle.grammar_rules.specs.Rule.{next, member};
+ghost use Rattle.std.specs.Prelude.{◌≡◌, ◌∷◌, IfOk};
+ghost use Rattle.grammar_rules.specs.Rule.{next, member, take_one};
 ghost use Rattle.grammar_rules.specs.Grammar.{reads, phrase};
-ghost use Rattle.verilog_tree.specs.View.{statement_view};
+ghost use Rattle.verilog_lexer.specs.TokenView.{lexeme};
+ghost use Rattle.verilog_tree.specs.View.{expr_view, statement_view, statements_view, arm_view, arms_view};
+ghost use Rattle.verilog_grammar.specs.Kind.{kind_of};
+ghost use Rattle.verilog_grammar.specs.declared.kind.Kind.TheVariants as k;
 ghost use Rattle.verilog_grammar.specs.Language.{verilog, statement as a_statement};
 ghost use Rattle.verilog_grammar.specs.Verilog.{grammar, begins};
-ghost use Rattle.verilog_grammar.specs.Statements.{set_rule};
-ghost use Rattle.verilog_parser.specs.Gives.{Gives};
+ghost use Rattle.verilog_grammar.specs.Parts.{after, in_parentheses as in_parentheses_rule, an_expression};
+ghost use Rattle.verilog_grammar.specs.Statements.{case_kind as kind_of_case, statement_rule, statements_rule, block_rule, if_rule, case_rule, arms_rule};
+ghost use Rattle.verilog_grammar.specs.Statements.{label_arm_rule, label_arms_rule, default_arm_rule, default_arms_rule, set_rule, header_rule, for_rule};
+ghost use Rattle.verilog_grammar.specs.Statements.{sign_rule, assignment_rule, argument_rule, arguments_rule, task_or_null_rule, null_rule};
+ghost use Rattle.verilog_parser.specs.Gives.{Gives, Fails, same};
+ghost use Rattle.verilog_parser.specs.Statements.{case_words, task_words, argument_words, default_arms_view, header_view, no_value, task_end_rule};
 ghost use Rattle.verilog_parser.specs.Views.{set_view};
 
 use crate::cursor::Cursor;
 use crate::expr::{begins_expression, expression, expressions, in_parentheses};
 use crate::fault::ReadFault;
 use crate::select::{begins_target, target};
-use cov_host::Place;
+use cov_host::{NoMemory, Place};
 use four_state::CaseKind;
 use std::alloc::Global;
 use verilog_grammar::{Body, Kind};
+use verilog_lexer::Token;
 use verilog_tree::{Arm, Expr, Statement};
 
 /// Whether the next token is a system task that a body may have.
-fn sees_task(cursor: &Cursor<'_, '_>, body: Body) -> bool {
+fn sees_task(cursor: &Cursor<'_, '_>, body: Body) -> bool
+    ensures { result ≡ member (next verilog cursor.now) (task_words body) }
+{
     match body {
         Body::Combinational => false,
         Body::Clocked => cursor.sees(Kind::Task),
@@ -30,7 +40,9 @@ fn sees_task(cursor: &Cursor<'_, '_>, body: Body) -> bool {
 }
 
 /// Whether the next token is one of the words of a case.
-fn sees_case(cursor: &Cursor<'_, '_>) -> bool {
+fn sees_case(cursor: &Cursor<'_, '_>) -> bool
+    ensures { result ≡ member (next verilog cursor.now) case_words }
+{
     cursor.sees(Kind::Case) || cursor.sees(Kind::Casez) || cursor.sees(Kind::Casex)
 }
 
@@ -49,6 +61,7 @@ pub(crate) fn begins_statement(cursor: &Cursor<'_, '_>, body: Body) -> bool
 
 /// A statement that is nested no deeper than `depth`.
 #[cycle(statement)]
+#[tactic(auto, using(grammar_rules::proofs::Language::phrase_down), unfolding(grammar_rules::specs::Grammar::phrase))]
 pub(crate) fn statement(
     alloc: Global,
     cursor: &mut Cursor<'_, '_>,
@@ -60,7 +73,32 @@ pub(crate) fn statement(
     if depth == 0 {
         return Err(too_deep(cursor, body));
     }
-    let depth = depth - 1;
+    form(alloc, cursor, depth - 1, body)
+}
+
+/// The fault where a statement would be nested too deep.
+#[tactic(auto, unfolding(grammar_rules::specs::Grammar::phrase))]
+fn too_deep(cursor: &Cursor<'_, '_>, body: Body) -> ReadFault
+    ensures { Fails result (phrase verilog grammar 0 (a_statement body) cursor.now) }
+{
+    if begins_statement(cursor, body) {
+        cursor.deep()
+    } else {
+        cursor.refuse()
+    }
+}
+
+/// A statement whose parts are nested no deeper than `depth`.
+#[cycle(statement)]
+#[tactic(auto, unfolding(verilog_grammar::specs::Statements::statement_rule, verilog_grammar::specs::Statements::block_rule, verilog_grammar::specs::Statements::if_rule, verilog_grammar::specs::Statements::case_rule, verilog_grammar::specs::Statements::for_rule, verilog_grammar::specs::Statements::assignment_rule))]
+fn form(
+    alloc: Global,
+    cursor: &mut Cursor<'_, '_>,
+    depth: u32,
+    body: Body,
+) -> Result<Statement, ReadFault>
+    ensures { Gives statement_view (reads verilog grammar depth (statement_rule body) cursor.old) result cursor.new }
+{
     if cursor.sees(Kind::Begin) {
         block(alloc, cursor, depth, body)
     } else if cursor.sees(Kind::If) {
@@ -71,56 +109,49 @@ pub(crate) fn statement(
         for_loop(alloc, cursor, depth, body)
     } else if begins_target(cursor) {
         assignment(alloc, cursor, depth, body)
-    } else if sees_task(cursor, body) {
-        task(alloc, cursor, depth)
     } else {
-        empty(cursor)
+        task_or_empty(alloc, cursor, depth, body)
     }
 }
 
-/// The fault where a statement would be nested too deep.
-fn too_deep(cursor: &Cursor<'_, '_>, body: Body) -> ReadFault {
-    if begins_statement(cursor, body) {
-        cursor.deep()
-    } else {
-        cursor.refuse()
-    }
-}
-
-/// A semicolon alone.
-fn empty(cursor: &mut Cursor<'_, '_>) -> Result<Statement, ReadFault> {
-    let semicolon = cursor.take(Kind::Semicolon)?;
-    Ok(Statement::empty(semicolon.place))
-}
-
-/// The place of a `begin`, with the name of its block or without.
-fn block_begin(cursor: &mut Cursor<'_, '_>) -> Result<Place, ReadFault> {
-    let begin = cursor.take(Kind::Begin)?;
-    if cursor.sees(Kind::Colon) {
-        cursor.take(Kind::Colon)?;
-        cursor.take(Kind::Identifier)?;
-    }
-    Ok(begin.place)
-}
-
+/// Statements between `begin` and `end`, with the name of the block or without.
 #[cycle(statement)]
+#[tactic(auto, unfolding(verilog_grammar::specs::Statements::block_rule))]
 fn block(
     alloc: Global,
     cursor: &mut Cursor<'_, '_>,
     depth: u32,
     body: Body,
-) -> Result<Statement, ReadFault> {
-    let begin = block_begin(cursor)?;
-    let mut parts = Vec::new(alloc);
-    for _ in 0..cursor.left() {
-        if !begins_statement(cursor, body) {
-            break;
-        }
-        let next = statement(alloc, cursor, depth, body)?;
-        parts.push(next)?;
+) -> Result<Statement, ReadFault>
+    ensures { Gives statement_view (reads verilog grammar depth (block_rule body) cursor.old) result cursor.new }
+{
+    let begin = cursor.take(Kind::Begin)?;
+    if cursor.sees(Kind::Colon) {
+        cursor.take(Kind::Colon)?;
+        cursor.take(Kind::Identifier)?;
     }
+    let parts = statements(alloc, cursor, depth, body)?;
     cursor.take(Kind::End)?;
-    Ok(Statement::block(begin, parts))
+    Ok(Statement::block(begin.place, parts))
+}
+
+/// Any number of statements.
+#[cycle(statement)]
+#[tactic(auto, unfolding(verilog_grammar::specs::Statements::statements_rule))]
+fn statements(
+    alloc: Global,
+    cursor: &mut Cursor<'_, '_>,
+    depth: u32,
+    body: Body,
+) -> Result<Vec<Statement>, ReadFault>
+    ensures { Gives (λ v. statements_view v.items) (reads verilog grammar depth (statements_rule body) cursor.old) result cursor.new }
+{
+    let mut all = Vec::new(alloc);
+    'more: while begins_statement(cursor, body) {
+        let next = statement(alloc, cursor, depth, body)?;
+        all.push(next)?;
+    }
+    Ok(all)
 }
 
 /// An expression in parentheses that are no part of it.
@@ -128,18 +159,23 @@ fn condition(
     alloc: Global,
     cursor: &mut Cursor<'_, '_>,
     depth: u32,
-) -> Result<Expr, ReadFault> {
+) -> Result<Expr, ReadFault>
+    ensures { Gives expr_view (reads verilog grammar depth (in_parentheses_rule an_expression) cursor.old) result cursor.new }
+{
     let (_, inner) = in_parentheses(alloc, cursor, depth)?;
     Ok(inner.into_expr())
 }
 
 #[cycle(statement)]
+#[tactic(auto, unfolding(verilog_grammar::specs::Statements::if_rule))]
 fn choice(
     alloc: Global,
     cursor: &mut Cursor<'_, '_>,
     depth: u32,
     body: Body,
-) -> Result<Statement, ReadFault> {
+) -> Result<Statement, ReadFault>
+    ensures { Gives statement_view (reads verilog grammar depth (if_rule body) cursor.old) result cursor.new }
+{
     let word = cursor.take(Kind::If)?;
     let test = condition(alloc, cursor, depth)?;
     let yes = statement(alloc, cursor, depth, body)?;
@@ -152,7 +188,9 @@ fn choice(
 }
 
 /// How the labels match, by the word of a case.
-fn case_kind(kind: Kind) -> CaseKind {
+fn case_kind(kind: Kind) -> CaseKind
+    ensures { result ≡ kind_of_case kind }
+{
     match kind {
         Kind::Casez => CaseKind::AnyZ,
         Kind::Casex => CaseKind::AnyXZ,
@@ -160,70 +198,116 @@ fn case_kind(kind: Kind) -> CaseKind {
     }
 }
 
+/// The word of a case, and how the labels match.
+#[tactic(auto, using(crate::proofs::Statements::any_taken, crate::proofs::Statements::any_refused))]
+fn case_word<'a>(cursor: &mut Cursor<'_, 'a>) -> Result<(Token<'a>, CaseKind), ReadFault>
+    ensures reads { Gives (λ p. lexeme p.0) (take_one verilog case_words cursor.old) result cursor.new }
+    ensures kind { IfOk result (λ p. p.1 ≡ kind_of_case (kind_of (lexeme p.0))) }
+{
+    if !sees_case(cursor) {
+        return Err(cursor.refuse());
+    }
+    let kind = case_kind(cursor.kind());
+    let word = cursor.take_next()?;
+    Ok((word, kind))
+}
+
 #[cycle(statement)]
+#[tactic(auto, unfolding(verilog_grammar::specs::Statements::case_rule))]
 fn case(
     alloc: Global,
     cursor: &mut Cursor<'_, '_>,
     depth: u32,
     body: Body,
-) -> Result<Statement, ReadFault> {
-    let kind = case_kind(cursor.kind());
-    let word = cursor.take_next()?;
+) -> Result<Statement, ReadFault>
+    ensures { Gives statement_view (reads verilog grammar depth (case_rule body) cursor.old) result cursor.new }
+{
+    let (word, kind) = case_word(cursor)?;
     let on = condition(alloc, cursor, depth)?;
     let found = arms(alloc, cursor, depth, body)?;
     cursor.take(Kind::Endcase)?;
     Ok(Statement::case(word.place, kind, on, found))
 }
 
+/// An arm and the arms behind it.
+fn with_front(first: Arm, mut others: Vec<Arm>) -> Result<Vec<Arm>, NoMemory>
+    ensures { IfOk result (λ v. arms_view v.items ≡ arm_view first ∷ arms_view others.items) }
+{
+    others.insert(0, first)?;
+    Ok(others)
+}
+
 /// The arms of a case, of which at most one is the default.
 #[cycle(statement)]
+#[tactic(auto, unfolding(verilog_grammar::specs::Statements::arms_rule, verilog_grammar::specs::Statements::default_arms_rule, verilog_grammar::specs::Statements::default_arm_rule))]
 fn arms(
     alloc: Global,
     cursor: &mut Cursor<'_, '_>,
     depth: u32,
     body: Body,
-) -> Result<Vec<Arm>, ReadFault> {
-    let mut all = Vec::new(alloc);
-    if !cursor.sees(Kind::Default) {
-        let first = label_arm(alloc, cursor, depth, body)?;
-        all.push(first)?;
-        label_arms(alloc, cursor, depth, body, &mut all)?;
-        if !cursor.sees(Kind::Default) {
-            return Ok(all);
-        }
+) -> Result<Vec<Arm>, ReadFault>
+    ensures { Gives (λ v. arms_view v.items) (reads verilog grammar depth (arms_rule body) cursor.old) result cursor.new }
+{
+    if cursor.sees(Kind::Default) {
+        let (default, others) = default_arms(alloc, cursor, depth, body)?;
+        return Ok(with_front(default, others)?);
     }
-    let default = default_arm(alloc, cursor, depth, body)?;
-    all.push(default)?;
-    label_arms(alloc, cursor, depth, body, &mut all)?;
+    let first = label_arm(alloc, cursor, depth, body)?;
+    let others = label_arms(alloc, cursor, depth, body)?;
+    let mut all = with_front(first, others)?;
+    if cursor.sees(Kind::Default) {
+        let (default, others) = default_arms(alloc, cursor, depth, body)?;
+        let mut last = with_front(default, others)?;
+        all.append(&mut last)?;
+    }
     Ok(all)
 }
 
-/// Adds the arms with labels that follow.
+/// The default, and the arms with labels behind it.
 #[cycle(statement)]
+#[tactic(auto, unfolding(verilog_grammar::specs::Statements::default_arms_rule))]
+fn default_arms(
+    alloc: Global,
+    cursor: &mut Cursor<'_, '_>,
+    depth: u32,
+    body: Body,
+) -> Result<(Arm, Vec<Arm>), ReadFault>
+    ensures { Gives default_arms_view (reads verilog grammar depth (default_arms_rule body) cursor.old) result cursor.new }
+{
+    let default = default_arm(alloc, cursor, depth, body)?;
+    let others = label_arms(alloc, cursor, depth, body)?;
+    Ok((default, others))
+}
+
+/// Any number of arms with labels.
+#[cycle(statement)]
+#[tactic(auto, unfolding(verilog_grammar::specs::Statements::label_arms_rule))]
 fn label_arms(
     alloc: Global,
     cursor: &mut Cursor<'_, '_>,
     depth: u32,
     body: Body,
-    all: &mut Vec<Arm>,
-) -> Result<(), ReadFault> {
-    for _ in 0..cursor.left() {
-        if !begins_expression(cursor) {
-            break;
-        }
+) -> Result<Vec<Arm>, ReadFault>
+    ensures { Gives (λ v. arms_view v.items) (reads verilog grammar depth (label_arms_rule body) cursor.old) result cursor.new }
+{
+    let mut all = Vec::new(alloc);
+    'more: while begins_expression(cursor) {
         let next = label_arm(alloc, cursor, depth, body)?;
         all.push(next)?;
     }
-    Ok(())
+    Ok(all)
 }
 
 #[cycle(statement)]
+#[tactic(auto, unfolding(verilog_grammar::specs::Statements::label_arm_rule))]
 fn label_arm(
     alloc: Global,
     cursor: &mut Cursor<'_, '_>,
     depth: u32,
     body: Body,
-) -> Result<Arm, ReadFault> {
+) -> Result<Arm, ReadFault>
+    ensures { Gives arm_view (reads verilog grammar depth (label_arm_rule body) cursor.old) result cursor.new }
+{
     let labels = expressions(alloc, cursor, depth)?;
     cursor.take(Kind::Colon)?;
     let body = statement(alloc, cursor, depth, body)?;
@@ -231,12 +315,15 @@ fn label_arm(
 }
 
 #[cycle(statement)]
+#[tactic(auto, unfolding(verilog_grammar::specs::Statements::default_arm_rule))]
 fn default_arm(
     alloc: Global,
     cursor: &mut Cursor<'_, '_>,
     depth: u32,
     body: Body,
-) -> Result<Arm, ReadFault> {
+) -> Result<Arm, ReadFault>
+    ensures { Gives arm_view (reads verilog grammar depth (default_arm_rule body) cursor.old) result cursor.new }
+{
     cursor.take(Kind::Default)?;
     if cursor.sees(Kind::Colon) {
         cursor.take(Kind::Colon)?;
@@ -246,6 +333,7 @@ fn default_arm(
 }
 
 /// A left side, an equals sign and an expression.
+#[tactic(auto, unfolding(verilog_grammar::specs::Statements::set_rule))]
 pub(crate) fn set(
     alloc: Global,
     cursor: &mut Cursor<'_, '_>,
@@ -267,7 +355,14 @@ struct LoopHeader {
     turn: (Expr, Expr),
 }
 
-fn for_header(alloc: Global, cursor: &mut Cursor<'_, '_>, depth: u32) -> Result<LoopHeader, ReadFault> {
+#[tactic(auto, unfolding(verilog_grammar::specs::Statements::header_rule))]
+fn for_header(
+    alloc: Global,
+    cursor: &mut Cursor<'_, '_>,
+    depth: u32,
+) -> Result<LoopHeader, ReadFault>
+    ensures { Gives header_view (reads verilog grammar depth header_rule cursor.old) result cursor.new }
+{
     cursor.take(Kind::OpenParen)?;
     let start = set(alloc, cursor, depth)?;
     cursor.take(Kind::Semicolon)?;
@@ -279,12 +374,15 @@ fn for_header(alloc: Global, cursor: &mut Cursor<'_, '_>, depth: u32) -> Result<
 }
 
 #[cycle(statement)]
+#[tactic(auto, unfolding(verilog_grammar::specs::Statements::for_rule))]
 fn for_loop(
     alloc: Global,
     cursor: &mut Cursor<'_, '_>,
     depth: u32,
     body: Body,
-) -> Result<Statement, ReadFault> {
+) -> Result<Statement, ReadFault>
+    ensures { Gives statement_view (reads verilog grammar depth (for_rule body) cursor.old) result cursor.new }
+{
     let word = cursor.take(Kind::For)?;
     let LoopHeader { start, test, turn } = for_header(alloc, cursor, depth)?;
     let body = statement(alloc, cursor, depth, body)?;
@@ -292,21 +390,30 @@ fn for_loop(
 }
 
 /// The sign of an assignment, and whether it is blocking. Under `*` or names it is.
-fn sign(cursor: &mut Cursor<'_, '_>, body: Body) -> Result<bool, ReadFault> {
-    if body != Body::Combinational && cursor.sees(Kind::LessOrEqual) {
-        cursor.take(Kind::LessOrEqual)?;
-        return Ok(false);
+fn sign(cursor: &mut Cursor<'_, '_>, body: Body) -> Result<bool, ReadFault>
+    ensures { Gives same (reads verilog grammar 0 (sign_rule body) cursor.old) result cursor.new }
+{
+    match body {
+        Body::Clocked | Body::Initial if !cursor.sees(Kind::Equals) => {
+            cursor.take(Kind::LessOrEqual)?;
+            Ok(false)
+        }
+        _ => {
+            cursor.take(Kind::Equals)?;
+            Ok(true)
+        }
     }
-    cursor.take(Kind::Equals)?;
-    Ok(true)
 }
 
+#[tactic(auto, using(crate::proofs::Statements::place_is), unfolding(verilog_grammar::specs::Statements::assignment_rule))]
 fn assignment(
     alloc: Global,
     cursor: &mut Cursor<'_, '_>,
     depth: u32,
     body: Body,
-) -> Result<Statement, ReadFault> {
+) -> Result<Statement, ReadFault>
+    ensures { Gives statement_view (reads verilog grammar depth (assignment_rule body) cursor.old) result cursor.new }
+{
     let left = target(alloc, cursor, depth)?.into_expr();
     let blocking = sign(cursor, body)?;
     let right = expression(alloc, cursor, depth)?.into_expr();
@@ -314,34 +421,82 @@ fn assignment(
     Ok(Statement::set(left.place, left, blocking, right))
 }
 
-/// A system task. Its arguments are read and dropped.
-fn task(alloc: Global, cursor: &mut Cursor<'_, '_>, depth: u32) -> Result<Statement, ReadFault> {
+/// A system task that a body may have, or a semicolon alone.
+fn task_or_empty(
+    alloc: Global,
+    cursor: &mut Cursor<'_, '_>,
+    depth: u32,
+    body: Body,
+) -> Result<Statement, ReadFault>
+    ensures { Gives statement_view (reads verilog grammar depth (task_or_null_rule body) cursor.old) result cursor.new }
+{
+    if !sees_task(cursor, body) {
+        return empty(cursor);
+    }
     let word = cursor.take_next()?;
+    task(alloc, cursor, depth, word.place)
+}
+
+/// A semicolon alone.
+fn empty(cursor: &mut Cursor<'_, '_>) -> Result<Statement, ReadFault>
+    ensures { Gives statement_view (reads verilog grammar 0 null_rule cursor.old) result cursor.new }
+{
+    let semicolon = cursor.take(Kind::Semicolon)?;
+    Ok(Statement::empty(semicolon.place))
+}
+
+/// What stands behind the word of a system task, which has this place. Its arguments are read and dropped.
+#[tactic(auto, unfolding(verilog_grammar::specs::Statements::arguments_rule, verilog_grammar::specs::Statements::argument_rule))]
+fn task(
+    alloc: Global,
+    cursor: &mut Cursor<'_, '_>,
+    depth: u32,
+    place: Place,
+) -> Result<Statement, ReadFault>
+    ensures { Gives statement_view (reads verilog grammar depth (task_end_rule place) cursor.old) result cursor.new }
+{
     if cursor.sees(Kind::OpenParen) {
         cursor.take(Kind::OpenParen)?;
-        if !cursor.sees(Kind::CloseParen) {
+        if begins_argument(cursor) {
             arguments(alloc, cursor, depth)?;
         }
         cursor.take(Kind::CloseParen)?;
     }
     cursor.take(Kind::Semicolon)?;
-    Ok(Statement::task(word.place))
+    Ok(Statement::task(place))
 }
 
-fn arguments(alloc: Global, cursor: &mut Cursor<'_, '_>, depth: u32) -> Result<(), ReadFault> {
+/// Whether the next token begins an expression or is a string.
+fn begins_argument(cursor: &Cursor<'_, '_>) -> bool
+    ensures { result ≡ member (next verilog cursor.now) argument_words }
+{
+    begins_expression(cursor) || cursor.sees(Kind::Quoted)
+}
+
+#[tactic(auto, unfolding(verilog_grammar::specs::Statements::arguments_rule))]
+fn arguments(alloc: Global, cursor: &mut Cursor<'_, '_>, depth: u32) -> Result<(), ReadFault>
+    ensures { Gives no_value (reads verilog grammar depth arguments_rule cursor.old) result cursor.new }
+{
     argument(alloc, cursor, depth)?;
-    for _ in 0..cursor.left() {
-        if !cursor.sees(Kind::Comma) {
-            break;
-        }
-        cursor.take(Kind::Comma)?;
-        argument(alloc, cursor, depth)?;
+    'more: while cursor.sees(Kind::Comma) {
+        next_argument(alloc, cursor, depth)?;
     }
     Ok(())
 }
 
+/// A comma and an argument.
+fn next_argument(alloc: Global, cursor: &mut Cursor<'_, '_>, depth: u32) -> Result<(), ReadFault>
+    ensures { Gives no_value (reads verilog grammar depth (after k.Comma argument_rule) cursor.old) result cursor.new }
+{
+    cursor.take(Kind::Comma)?;
+    argument(alloc, cursor, depth)
+}
+
 /// An expression or a string.
-fn argument(alloc: Global, cursor: &mut Cursor<'_, '_>, depth: u32) -> Result<(), ReadFault> {
+#[tactic(auto, unfolding(verilog_grammar::specs::Statements::argument_rule))]
+fn argument(alloc: Global, cursor: &mut Cursor<'_, '_>, depth: u32) -> Result<(), ReadFault>
+    ensures { Gives no_value (reads verilog grammar depth argument_rule cursor.old) result cursor.new }
+{
     if begins_expression(cursor) {
         expression(alloc, cursor, depth)?;
     } else {
