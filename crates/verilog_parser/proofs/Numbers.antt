@@ -1,7 +1,8 @@
 -- Numbers of digits that are cut to 128 bits or to a size.
 use Rattle.std.proofs.Common.{◌≡◌, ℕ, ◌+◌, ◌-◌, ◌*◌, ◌%◌, ◌^◌, ◌<◌, ◌≤◌, ◌==◌, nat_le, Bool, true, false, if◌then◌else◌, List, [], ◌∷◌, length, get_or, drop, refl, ap, sym, arith, ◌∙◌}
 use Rattle.std.proofs.lemmas.Bool.Decides.{nat_tests}
-use Rattle.std.proofs.Math.Nat.{add-mod, mul-mod, mod-mod}
+use Rattle.std.proofs.Math.Nat.{add-mod, mod-mod}
+use Rattle.std.proofs.lemmas.Nat.{mul-mod}
 use Rattle.verilog_lexer.specs.Number.{number, with_digit}
 use Rattle.verilog_lexer.proofs.Numbers.{number-drop}
 use Rattle.verilog_parser.specs.Digits.{capped}
