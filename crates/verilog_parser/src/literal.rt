@@ -21,6 +21,7 @@ use four_state::{Bit, Four};
 use verilog_grammar::Kind;
 
 /// A number, with its size before it or without.
+#[tactic(auto, unfolding(verilog_grammar::specs::Expressions::number_rule))]
 pub(crate) fn number(cursor: &mut Cursor<'_, '_>) -> Result<Measured, ReadFault>
     ensures { Gives measured_view (reads verilog grammar 0 number_rule cursor.old) result cursor.new }
 {
