@@ -3,3 +3,4 @@ pub mod Levels
 pub mod PushedDigits
 pub mod Numbers
 pub mod Gives
+pub mod Deepest
