@@ -1,6 +1,6 @@
 use crate::show::Shown;
 use crate::{ParseFault, ParseKind, parse};
-use cov_host::Bytes;
+use cov_host::{Bytes, Name};
 use std::alloc::Global;
 use std::process::Abort;
 use std::test::Fail;
@@ -236,19 +236,22 @@ fn fault(alloc: Global, text: &[u8]) -> Result<(Option<ParseKind>, u32, u32), Fa
 }
 
 /// The detail of a fault.
-fn detail(alloc: Global, text: &[u8]) -> Result<Vec<u8>, Fail> {
+fn detail(alloc: Global, text: &[u8]) -> Result<Option<Name>, Fail> {
     let sources = one_root(alloc, text)?;
     let defines = Defines::new(alloc);
     let tokens = lex(alloc, &sources, &defines)?;
-    Ok(match parse(alloc, &tokens) {
-        Err(
-            ParseFault::At {
-                detail: Some(name),
-                ..
-            },
-        ) => name.as_slice().to_vec(alloc)?,
-        _ => Vec::new(alloc),
-    })
+    match parse(alloc, &tokens) {
+        Err(ParseFault::At { detail, .. }) => Ok(detail),
+        _ => Ok(None),
+    }
+}
+
+/// Whether the detail is this form, or is missing where the form is empty.
+fn is_form(detail: &Option<Name>, form: &str) -> bool {
+    match detail {
+        Some(name) => name.as_slice() == form.as_bytes(),
+        None => form.is_empty(),
+    }
 }
 
 fn assert_refusal(rt: &impl Abort, alloc: Global, refusal: &Refusal) -> Result<(), Fail> {
@@ -262,7 +265,7 @@ fn assert_refusal(rt: &impl Abort, alloc: Global, refusal: &Refusal) -> Result<(
     );
     let detail = detail(alloc, refusal.source.as_bytes())?;
     assert!(rt;
-        detail.as_slice() == refusal.detail.as_bytes(),
+        is_form(&detail, refusal.detail),
         "{}",
         refusal.source
     );
