@@ -124,4 +124,5 @@ pub pushed_skip : (n : ℕ) (bs : List Bit) (ds : List ℕ) (i : ℕ) → i < le
 pushed_skip n bs ds i h e = ap (pushed n bs) (skipped ds i h e)
 
 pub ruleset firsts = (skipped, kept)
+
 pub ruleset pushes = (pushed_next, pushed_skip)

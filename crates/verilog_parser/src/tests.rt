@@ -264,11 +264,7 @@ fn assert_refusal(rt: &impl Abort, alloc: Global, refusal: &Refusal) -> Result<(
         refusal.source
     );
     let detail = detail(alloc, refusal.source.as_bytes())?;
-    assert!(rt;
-        is_form(&detail, refusal.detail),
-        "{}",
-        refusal.source
-    );
+    assert!(rt; is_form(&detail, refusal.detail), "{}", refusal.source);
     Ok(())
 }
 

@@ -15,6 +15,6 @@ returns-in-None c =
     let digits = c.args.digits.now in
     let n = number 0 digits in
     let known : is_strange (slice_index (filter is_digit digits) 0) ≡ false =
-        ap is_strange (sym c.first_digit.ensures) ∙ is_plain (is_strange c.first_digit.result) (strange_bit c.first_digit.result) c.in-None.ensures in
+    ap is_strange (sym c.first_digit.ensures) ∙ is_plain (is_strange c.first_digit.result) (strange_bit c.first_digit.result) c.in-None.ensures in
     rw (c.make.ensures.value, c.decimal_number.ensures, c.low_mask.ensures, known)
     (ap (λ bs. record { bits = bs; signed = c.args.signed }) (cut_by_mask w (n % 2 ^ 128) ∙ low_bits-mod w n c.requires.high ∙ ap (low_bits w) (sym (number_of_digits 0 digits))))
