@@ -1,4 +1,4 @@
-use Rattle.std.proofs.Common.{◌≤◌, ◌^◌, arith}
+use Rattle.std.proofs.Common.{arith}
 use Rattle.verilog_parser.proofs.PushedDigits.{shifted}
 use Rattle.verilog_parser.proofs.digits.with_digit.Goals as goal
 

@@ -1,5 +1,4 @@
 use Rattle.std.proofs.Common.{true, ap, ◌%◌, ◌^◌, ◌∙◌, arith}
-use Rattle.four_state.specs.Arithmetic.{low_bits}
 use Rattle.four_state.proofs.NumberLaws.{cut_by_mask, low_bits-mod}
 use Rattle.verilog_lexer.specs.Number.{number}
 use Rattle.verilog_parser.proofs.literal.decimal_value.Goals as goal
