@@ -13,3 +13,4 @@ pub mod Operators
 pub mod Statements
 pub mod Repeated
 pub mod Processes
+pub mod Deepest

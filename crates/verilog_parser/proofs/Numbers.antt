@@ -1,10 +1,12 @@
 -- Numbers of digits that are cut to 128 bits or to a size.
-use Rattle.std.proofs.Common.{◌≡◌, ℕ, ◌+◌, ◌-◌, ◌*◌, ◌%◌, ◌^◌, ◌<◌, ◌≤◌, ◌==◌, nat_le, Bool, true, false, if◌then◌else◌, List, [], ◌∷◌, length, get_or, drop, refl, ap, sym, arith, ◌∙◌}
+use Rattle.std.proofs.Common.{◌≡◌, ℕ, ◌+◌, ◌-◌, ◌*◌, ◌%◌, ◌^◌, ◌<◌, ◌≤◌, ◌==◌, nat_le, Bool, true, false, not, if◌then◌else◌, List, [], ◌∷◌, length, get_or, drop, filter, refl, ap, sym, arith, ◌∙◌}
 use Rattle.std.proofs.lemmas.Bool.Decides.{nat_tests}
-use Rattle.std.proofs.Math.Nat.{add-mod, mul-mod, mod-mod}
+use Rattle.std.proofs.lemmas.List.{drop-drop, drop_all}
+use Rattle.std.proofs.Math.Nat.{add-mod, mod-mod, mod-eq_of_lt}
+use Rattle.std.proofs.lemmas.Nat.{mul-mod}
 use Rattle.verilog_lexer.specs.Number.{number, with_digit}
 use Rattle.verilog_lexer.proofs.Numbers.{number-drop}
-use Rattle.verilog_parser.specs.Digits.{capped}
+use Rattle.verilog_parser.specs.Digits.{is_digit, capped}
 
 same_digit : (m v w d : ℕ) → v % m ≡ w % m → (v * 10 + d) % m ≡ (w * 10 + d) % m
 same_digit m v w d e =
@@ -23,7 +25,23 @@ pub number_next : (v w : ℕ) (ds : List ℕ) (i : ℕ) → i < length ds → w 
 number_next v w ds i h e =
     ap (λ n. n % 2 ^ 128) (number-drop v ds i h) ∙ number_cut (2 ^ 128) (with_digit v (get_or ds i 0)) w (drop (i + 1) ds) (sym (mod-mod (with_digit v (get_or ds i 0)) (2 ^ 128)) ∙ ap (λ n. n % 2 ^ 128) (sym e))
 
-pub ruleset numbers = (number_next)
+-- without digits behind it a number is itself
+pub number_end : (v : ℕ) (ds : List ℕ) (i : ℕ) → length ds ≤ i → v < 2 ^ 128 → number v (drop i ds) % 2 ^ 128 ≡ v
+number_end v ds i h small = rw (drop_all i ds h) (mod-eq_of_lt small)
+
+pub ruleset numbers = (number_next, number_end)
+
+passed_over : (v b : ℕ) (ds : List ℕ) (t : Bool) → (b == 95) ≡ t → ((w : ℕ) → number w (filter is_digit ds) ≡ number w ds)
+    → number v (if not t then b ∷ filter is_digit ds else filter is_digit ds) ≡ number (if t then v else v * 10 + (b - 48)) ds
+passed_over v b ds true e h = h v
+passed_over v b ds false e h = ap (λ t. number (if t then v else v * 10 + (b - 48)) (filter is_digit ds)) e ∙ h (v * 10 + (b - 48))
+
+-- an underscore adds nothing
+pub number_of_digits : (v : ℕ) (ds : List ℕ) → number v (filter is_digit ds) ≡ number v ds
+number_of_digits v [] = refl
+number_of_digits v (d ∷ ds) = passed_over v d ds (d == 95) refl (λ w. number_of_digits w ds)
+
+pub ruleset tails = (drop-drop)
 
 -- ---- sizes
 

@@ -1,9 +1,11 @@
 -- Digits as bits: each one pushes those before it up.
-use Rattle.std.proofs.Common.{◌≡◌, ℕ, zero, suc, ◌+◌, ◌-◌, ◌*◌, ◌%◌, ◌^◌, ◌<◌, ◌≤◌, nat_lt, Bool, true, false, not, ◌||◌, ◌&&◌, ◌==◌, if◌then◌else◌, List, [], ◌∷◌, ◌++◌, length, replicate, reverse, filter, flat_map, drop, drop-cons, add-one, slice_index, get_or, bit_and, bit_or, append_assoc, refl, ap, sym, arith, ◌∙◌}
+use Rattle.std.proofs.Common.{◌≡◌, ℕ, zero, suc, ◌+◌, ◌-◌, ◌*◌, ◌%◌, ◌^◌, ◌<◌, ◌≤◌, nat_lt, Bool, true, false, ◌||◌, ◌&&◌, if◌then◌else◌, None, Some, List, [], ◌∷◌, ◌++◌, length, reverse, filter, flat_map, drop, drop-cons, add-one, get_or, bit_and, bit_or, append_assoc, refl, ap, sym, arith, ◌∙◌}
 use Rattle.std.proofs.lemmas.Bool.{ltb-true, ltb-false}
 use Rattle.std.proofs.lemmas.List.{append-nil, get_or_append_left, get_or-append_right}
 use Rattle.std.proofs.lemmas.Grind.{flat_map-append, reverse_onto}
-use Rattle.four_state.specs.Vector.{Bit, Zero, X, fill, fit}
+use Rattle.four_state.specs.declared.bit.Bit.{Bit}
+use Rattle.four_state.specs.declared.bit.Bit.TheVariants.{Zero, X}
+use Rattle.four_state.specs.Vector.{fill, fit}
 use Rattle.four_state.specs.Masks.{bits_of_masks, bit_in_masks, is_set}
 use Rattle.four_state.specs.Stored.{width_of_bits}
 use Rattle.four_state.proofs.Places.{is_set-or, is_set-and, is_set-ones, is_set-mod, is_set-above, is_set-shl_below, is_set-shl_from}
@@ -61,22 +63,27 @@ module _ (n a b p q : ℕ) (small : n ≤ 128) (ones : p < 2 ^ n) (strange : q <
       rw (is_set-shl_below a n i h, is_set-shl_below b n i h) (sym (get_or_append_left (bits_of_masks n p q) (bits_of_masks 128 a b) Zero i k ∙ get_or-bits_of_masks n p q i Zero h))
   shifted_at i false l e =
       let h : n ≤ i = ltb-false i n e in
-      rw (is_set-shl_from a n i h, is_set-shl_from b n i h, is_set-above p n i ones h, is_set-above q n i strange h, or_false)
+      rw (is_set-shl_from a n i h, is_set-shl_from b n i h, is_set-above p n i ones h, is_set-above q n i strange h, or_false (is_set a (i - n)), or_false (is_set b (i - n)))
       (sym (get_or-append_right (bits_of_masks n p q) (bits_of_masks 128 a b) n i Zero (width_of_bits n p q) h ∙ get_or-bits_of_masks 128 a b (i - n) Zero (omega arith)))
 
   -- masks that are pushed up by others
   pub shifted : bits_of_masks 128 (bit_or (a * 2 ^ n % 2 ^ 128) p) (bit_or (b * 2 ^ n % 2 ^ 128) q) ≡ fit 128 Zero (bits_of_masks n p q ++ bits_of_masks 128 a b)
   shifted =
       bits_are 128 _ _ (fit 128 Zero (bits_of_masks n p q ++ bits_of_masks 128 a b)) (sym (length-fit 128 Zero _)) (λ i l.
-      rw (is_set-or, is_set-mod (a * 2 ^ n) 128 i l, is_set-mod (b * 2 ^ n) 128 i l) (shifted_at i (nat_lt i n) l refl ∙ sym (get_or-fit 128 i Zero _ l)))
+      rw (is_set-or (a * 2 ^ n % 2 ^ 128) p i, is_set-or (b * 2 ^ n % 2 ^ 128) q i, is_set-mod (a * 2 ^ n) 128 i l, is_set-mod (b * 2 ^ n) 128 i l) (shifted_at i (nat_lt i n) l refl ∙ sym (get_or-fit 128 i Zero _ l)))
 
 -- masks that are cut to a width
 pub cut_masks : (w a b : ℕ) → w ≤ 128 → bits_of_masks w (bit_and a (2 ^ w - 1)) (bit_and b (2 ^ w - 1)) ≡ fit w Zero (bits_of_masks 128 a b)
 cut_masks w a b small =
     bits_are w _ _ (fit w Zero (bits_of_masks 128 a b)) (sym (length-fit w Zero _)) (λ i l.
-    rw (is_set-and, is_set-ones w i l, and_true) (sym (get_or-fit w i Zero _ l ∙ get_or-bits_of_masks 128 a b i Zero (omega arith))))
+    rw (is_set-and a _ i, is_set-and b _ i, is_set-ones w i l, and_true (is_set a i), and_true (is_set b i)) (sym (get_or-fit w i Zero _ l ∙ get_or-bits_of_masks 128 a b i Zero (omega arith))))
 
 -- ---- digits
+
+-- a digit that stands for no x and no z
+pub is_plain : (strange : Bool) (b : Bit) → None ≡ (if strange then Some b else None) → strange ≡ false
+is_plain true b e = cc
+is_plain false b e = refl
 
 -- 128 bits with those of digits that are pushed in below
 abbrev pub pushed : (n : ℕ) → List Bit → List ℕ → List Bit
@@ -117,4 +124,5 @@ pub pushed_skip : (n : ℕ) (bs : List Bit) (ds : List ℕ) (i : ℕ) → i < le
 pushed_skip n bs ds i h e = ap (pushed n bs) (skipped ds i h e)
 
 pub ruleset firsts = (skipped, kept)
+
 pub ruleset pushes = (pushed_next, pushed_skip)

@@ -1,9 +1,14 @@
 //! The forms that the language leaves out, by the tokens that begin them.
 
+ghost use Rattle.std.specs.Prelude.{◌≡◌, option_copied};
+ghost use Rattle.verilog_parser.specs.LeftOut.{form_of, gate_or_net};
+
 use verilog_grammar::Kind;
 
 /// The form that a token begins with which no rule goes on, if it is in the table.
-pub(crate) fn form_of(kind: Kind) -> Option<&'static str> {
+pub(crate) fn form_of(kind: Kind) -> Option<&'static str>
+    ensures { option_copied result ≡ form_of kind }
+{
     match kind {
         Kind::Hash => Some("delay"),
         Kind::At => Some("event-control"),
@@ -36,7 +41,9 @@ pub(crate) fn form_of(kind: Kind) -> Option<&'static str> {
 }
 
 /// The gates and the types of nets.
-fn gate_or_net(kind: Kind) -> Option<&'static str> {
+fn gate_or_net(kind: Kind) -> Option<&'static str>
+    ensures { option_copied result ≡ gate_or_net kind }
+{
     match kind {
         Kind::AndWord
         | Kind::OrWord

@@ -9,7 +9,7 @@ ghost use Rattle.verilog_parser.specs.Measured.{measured_view};
 ghost use Rattle.std.specs.Prelude.{◌≡◌, ◌%◌, ◌^◌, ◌≤◌, slice_index, drop, filter};
 ghost use Rattle.verilog_lexer.specs.Number.{number, with_digit};
 ghost use Rattle.verilog_lexer.specs.Based.{letter_at, digits_at};
-ghost use Rattle.verilog_lexer.specs.Run.{is_white};
+ghost use Rattle.verilog_lexer.specs.Run.{is_white, run};
 ghost use Rattle.verilog_grammar.specs.Literal.{decimal_vector, width_of, bits_of_decimal, based_vector};
 ghost use Rattle.verilog_parser.specs.Digits.{is_digit, capped};
 
@@ -21,6 +21,7 @@ use four_state::{Bit, Four};
 use verilog_grammar::Kind;
 
 /// A number, with its size before it or without.
+#[tactic(auto, unfolding(verilog_grammar::specs::Expressions::number_rule))]
 pub(crate) fn number(cursor: &mut Cursor<'_, '_>) -> Result<Measured, ReadFault>
     ensures { Gives measured_view (reads verilog grammar 0 number_rule cursor.old) result cursor.new }
 {
@@ -120,14 +121,27 @@ fn letter_at(text: &[u8]) -> usize
     }
 }
 
+/// What stands behind so many bytes.
+fn tail(text: &[u8], start: usize) -> &[u8]
+    ensures { result.now ≡ drop start text.now }
+{
+    text.get(start..).unwrap_or(&[])
+}
+
+/// How many bytes of white space stand at the front.
+fn white_length(text: &[u8]) -> usize
+    ensures { result ≡ run is_white text.now }
+{
+    text.iter().take_while(|byte| is_white(**byte)).count()
+}
+
 /// The digits behind the letter of the base and white space.
-#[tactic(auto, unfolding(verilog_lexer::specs::Based::digits_at))]
+#[tactic(auto, using(crate::proofs::Numbers::tails), unfolding(verilog_lexer::specs::Based::digits_at))]
 fn digits(text: &[u8]) -> &[u8]
     ensures { result.now ≡ drop (digits_at text.now) text.now }
 {
-    let behind = text.get(letter_at(text) + 1..).unwrap_or(&[]);
-    let white = behind.iter().take_while(|byte| is_white(**byte)).count();
-    behind.get(white..).unwrap_or(&[])
+    let behind = tail(text, letter_at(text) + 1);
+    tail(behind, white_length(behind))
 }
 
 /// Whether the byte is white space (IEEE 1364-2001 clause 2.2).

@@ -1,8 +1,14 @@
 //! Operators by the kinds of their tokens.
 
 ghost use Rattle.std.specs.Prelude.{◌≡◌};
-ghost use Rattle.verilog_grammar.specs.Expressions.{unary_of_kind, binary_of_kind};
-ghost use Rattle.verilog_grammar.specs.Language.{rank};
+ghost use Rattle.verilog_lexer.specs.TokenView.{lexeme};
+ghost use Rattle.grammar_rules.specs.Rule.{next, member, first};
+ghost use Rattle.grammar_rules.specs.Grammar.{reads};
+ghost use Rattle.verilog_grammar.specs.Expressions.{unary_of_kind, binary_of_kind, operators};
+ghost use Rattle.verilog_grammar.specs.Language.{verilog, rank};
+ghost use Rattle.verilog_grammar.specs.Verilog.{grammar, begins};
+ghost use Rattle.verilog_grammar.specs.declared.level.Level.TheVariants as level_is;
+ghost use Rattle.verilog_parser.specs.Gives.{Gives};
 
 use crate::cursor::Cursor;
 use crate::fault::ReadFault;
@@ -81,7 +87,9 @@ pub(crate) fn rank(level: Level) -> u8
 }
 
 /// Whether an operator of a level is next.
-pub(crate) fn sees_operator(cursor: &Cursor<'_, '_>, level: Level) -> bool {
+pub(crate) fn sees_operator(cursor: &Cursor<'_, '_>, level: Level) -> bool
+    ensures { result ≡ member (next verilog cursor.now) (first verilog begins (operators level)) }
+{
     match level {
         Level::Unary => sees_unary(cursor),
         Level::Product => {
@@ -92,16 +100,16 @@ pub(crate) fn sees_operator(cursor: &Cursor<'_, '_>, level: Level) -> bool {
         Level::Relation => sees_relation(cursor),
         Level::Equality => sees_equality(cursor),
         Level::BitwiseAnd => cursor.sees(Kind::And),
-        Level::BitwiseXor => {
-            cursor.sees(Kind::Xor) || cursor.sees(Kind::TildeXor) || cursor.sees(Kind::XorTilde)
-        }
+        Level::BitwiseXor => sees_xor(cursor),
         Level::BitwiseOr => cursor.sees(Kind::Or),
         Level::LogicalAnd => cursor.sees(Kind::AndAnd),
         Level::LogicalOr => cursor.sees(Kind::OrOr),
     }
 }
 
-fn sees_unary(cursor: &Cursor<'_, '_>) -> bool {
+fn sees_unary(cursor: &Cursor<'_, '_>) -> bool
+    ensures { result ≡ member (next verilog cursor.now) (first verilog begins (operators level_is.Unary)) }
+{
     cursor.sees(Kind::Plus)
         || cursor.sees(Kind::Minus)
         || cursor.sees(Kind::Not)
@@ -115,32 +123,47 @@ fn sees_unary(cursor: &Cursor<'_, '_>) -> bool {
         || cursor.sees(Kind::XorTilde)
 }
 
-fn sees_shift(cursor: &Cursor<'_, '_>) -> bool {
+fn sees_shift(cursor: &Cursor<'_, '_>) -> bool
+    ensures { result ≡ member (next verilog cursor.now) (first verilog begins (operators level_is.Shift)) }
+{
     cursor.sees(Kind::ShiftLeft)
         || cursor.sees(Kind::ShiftRight)
         || cursor.sees(Kind::ArithmeticShiftLeft)
         || cursor.sees(Kind::ArithmeticShiftRight)
 }
 
-fn sees_relation(cursor: &Cursor<'_, '_>) -> bool {
+fn sees_relation(cursor: &Cursor<'_, '_>) -> bool
+    ensures { result ≡ member (next verilog cursor.now) (first verilog begins (operators level_is.Relation)) }
+{
     cursor.sees(Kind::Less)
         || cursor.sees(Kind::LessOrEqual)
         || cursor.sees(Kind::Greater)
         || cursor.sees(Kind::GreaterOrEqual)
 }
 
-fn sees_equality(cursor: &Cursor<'_, '_>) -> bool {
+fn sees_equality(cursor: &Cursor<'_, '_>) -> bool
+    ensures { result ≡ member (next verilog cursor.now) (first verilog begins (operators level_is.Equality)) }
+{
     cursor.sees(Kind::EqualEqual)
         || cursor.sees(Kind::NotEqual)
         || cursor.sees(Kind::CaseEqual)
         || cursor.sees(Kind::CaseNotEqual)
 }
 
+fn sees_xor(cursor: &Cursor<'_, '_>) -> bool
+    ensures { result ≡ member (next verilog cursor.now) (first verilog begins (operators level_is.BitwiseXor)) }
+{
+    cursor.sees(Kind::Xor) || cursor.sees(Kind::TildeXor) || cursor.sees(Kind::XorTilde)
+}
+
 /// Takes an operator of a level.
+#[tactic(auto, unfolding(grammar_rules::specs::Rule::take_one))]
 pub(crate) fn take_operator<'a>(
     cursor: &mut Cursor<'_, 'a>,
     level: Level,
-) -> Result<Token<'a>, ReadFault> {
+) -> Result<Token<'a>, ReadFault>
+    ensures { Gives lexeme (reads verilog grammar 0 (operators level) cursor.old) result cursor.new }
+{
     if !sees_operator(cursor, level) {
         return Err(cursor.refuse());
     }

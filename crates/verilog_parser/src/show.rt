@@ -8,29 +8,17 @@ use verilog_tree::{
     StatementForm, When,
 };
 
-/// The powers of ten, the greatest first.
-#[rattlefmt::skip]
-const POWERS: [u128; 39] = [
-    100000000000000000000000000000000000000, 10000000000000000000000000000000000000,
-    1000000000000000000000000000000000000, 100000000000000000000000000000000000, 10000000000000000000000000000000000,
-    1000000000000000000000000000000000, 100000000000000000000000000000000, 10000000000000000000000000000000,
-    1000000000000000000000000000000, 100000000000000000000000000000, 10000000000000000000000000000,
-    1000000000000000000000000000, 100000000000000000000000000, 10000000000000000000000000, 1000000000000000000000000,
-    100000000000000000000000, 10000000000000000000000, 1000000000000000000000, 100000000000000000000,
-    10000000000000000000, 1000000000000000000, 100000000000000000, 10000000000000000, 1000000000000000,
-    100000000000000, 10000000000000, 1000000000000, 100000000000, 10000000000, 1000000000, 100000000, 10000000,
-    1000000, 100000, 10000, 1000, 100, 10, 1,
-];
-
 /// A text that grows.
 #[derive(Drop)]
 pub(crate) struct Shown {
+    alloc: Global,
     pub(crate) bytes: Vec<u8>,
 }
 
 impl Shown {
     pub(crate) fn new(alloc: Global) -> Shown {
         Shown {
+            alloc,
             bytes: Vec::new(alloc),
         }
     }
@@ -41,13 +29,8 @@ impl Shown {
     }
 
     fn number(&mut self, value: u128) -> Result<(), AllocError> {
-        for power in &POWERS {
-            if value >= *power || *power == 1 {
-                let digit = value.checked_div(*power).unwrap_or(0) % 10;
-                self.bytes.push(b'0' + digit as u8)?;
-            }
-        }
-        Ok(())
+        let digits = format!(in self.alloc; "{value}")?;
+        self.put(digits.as_str())
     }
 
     fn named(&mut self, named: &Named) -> Result<(), AllocError> {
@@ -71,15 +54,9 @@ impl Shown {
         if value.is_known() {
             return self.number(value.ones());
         }
-        let mut place = value.width();
-        while place > 0 {
-            place -= 1;
-            self.put(match value.bit(place) {
-                Bit::Zero => "0",
-                Bit::One => "1",
-                Bit::X => "x",
-                Bit::Z => "z",
-            })?;
+        let width = value.width();
+        for above in 0..width {
+            self.put(bit_text(value.bit(width - 1 - above)))?;
         }
         Ok(())
     }
@@ -387,6 +364,15 @@ impl Shown {
             self.item(item)?;
         }
         self.put("\n")
+    }
+}
+
+fn bit_text(bit: Bit) -> &'static str {
+    match bit {
+        Bit::Zero => "0",
+        Bit::One => "1",
+        Bit::X => "x",
+        Bit::Z => "z",
     }
 }
 
