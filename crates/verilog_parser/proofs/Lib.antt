@@ -1,6 +1,7 @@
 pub mod Taking
 pub mod Levels
 pub mod Listed
+pub mod Items
 pub mod PushedDigits
 pub mod Numbers
 pub mod Gives

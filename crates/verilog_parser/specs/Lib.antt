@@ -5,6 +5,7 @@ pub mod Instances
 pub mod LeftOut
 pub mod Measured
 pub mod Views
+pub mod Parses
 pub mod Cursor
 pub mod Grows
 pub mod Others
