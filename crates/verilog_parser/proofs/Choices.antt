@@ -1,24 +1,23 @@
 -- Tests with their branches.
-use Rattle.std.proofs.Common.{◌≡◌, ℕ, Bool, true, false, nat_le, List, Ok, Err, refl, sym, ap, ◌∙◌}
+use Rattle.std.proofs.Common.{◌≡◌, ℕ, Bool, true, false, nat_le, List, Ok, Err, refl, ap, ◌∙◌}
 use Rattle.std.specs.Prelude.{◌==◌, if◌then◌else◌}
 use Rattle.verilog_lexer.specs.Tokens.{Lexeme}
 use Rattle.verilog_tree.specs.Tree.{Expr}
 use Rattle.verilog_tree.specs.Depth.{depth}
-use Rattle.grammar_rules.specs.Rule.{next, fault_at, too_deep, Fault as AnyFault, Outcome, ◌>>=◌}
+use Rattle.grammar_rules.specs.Rule.{next, fault_at, too_deep, Outcome, ◌>>=◌}
 use Rattle.grammar_rules.specs.Grammar.{reads, Nests}
 use Rattle.grammar_rules.proofs.Sound.{sound}
 use Rattle.grammar_rules.proofs.Language.{phrase_sound}
 use Rattle.grammar_rules.proofs.Holds.{Holds, holds}
 use Rattle.verilog_grammar.specs.declared.kind.Kind.TheVariants as k
 use Rattle.verilog_grammar.specs.Kind.{code}
-use Rattle.verilog_grammar.specs.Language.{verilog, Phrase, Value}
+use Rattle.verilog_grammar.specs.Language.{verilog, Phrase, expression, Value}
 use Rattle.verilog_grammar.specs.Parts.{Phrased}
 use Rattle.verilog_grammar.specs.Verilog.{grammar, begins}
 use Rattle.verilog_grammar.specs.Expressions.{is_no_choice, choice_of, growing_where, branches_rule, expr_rule}
 use Rattle.verilog_grammar.specs.Expressions.{logical_or_rule, logical_and_rule, bitwise_or_rule, bitwise_xor_rule, bitwise_and_rule, equality_rule, relation_rule, shift_rule, sum_rule, product_rule}
-use Rattle.verilog_grammar.specs.Expressions.{operation_rule, unary_rule, prim_rule, number_rule, selects_rule, select_rule, select_end_rule, paren_rule, braced_rule, brace_end_rule, exprs_rule, cast_rule}
-use Rattle.verilog_parser.specs.declared.fault.ReadFault.{ReadFault}
-use Rattle.verilog_parser.specs.Gives.{Fails}
+use Rattle.verilog_grammar.specs.Expressions.{operation_rule, unary_rule, prim_rule, number_rule, selects_rule, select_rule, select_end_rule}
+use Rattle.verilog_grammar.specs.Expressions.{paren_rule, braced_rule, brace_end_rule, exprs_rule, cast_rule}
 use Rattle.verilog_parser.specs.Grows.{grows, by_branches}
 use Rattle.verilog_parser.proofs.Grown.{stays, stays_so, goes_on}
 
@@ -48,11 +47,13 @@ module _ (d : ℕ) where
   unfolding unary_rule
   unary_shown = (λ t e h. refl, prim_shown)
 
+  -- an operator and its operand
+  grown_shown : (a : Expr) → is_no_choice a ≡ true → nat_le (depth a).height d ≡ true → (t : Lexeme) (e : Expr) → any expression e → true ≡ true
+  grown_shown a q fit t e h = refl
+
   tighter_shown : Shown logical_or_rule
   unfolding logical_or_rule logical_and_rule bitwise_or_rule bitwise_xor_rule bitwise_and_rule equality_rule relation_rule shift_rule sum_rule product_rule operation_rule
-  tighter_shown =
-      ((((((((((unary_shown, λ a q fit t e h. refl), λ a q fit t e h. refl), λ a q fit t e h. refl), λ a q fit t e h. refl), λ a q fit t e h. refl),
-      λ a q fit t e h. refl), λ a q fit t e h. refl), λ a q fit t e h. refl), λ a q fit t e h. refl), λ a q fit t e h. refl)
+  tighter_shown = ((((((((((unary_shown, grown_shown), grown_shown), grown_shown), grown_shown), grown_shown), grown_shown), grown_shown), grown_shown), grown_shown), grown_shown)
 
   pub no_choice : (i : List Lexeme) (v : Expr) (o : List Lexeme) → reads verilog grammar d logical_or_rule i ≡ Ok (v, o) → is_no_choice v ≡ true
   no_choice i v o e =

@@ -1,7 +1,7 @@
 -- What reading gives, step by step: each rule says it of a step where it holds of what is behind.
-use Rattle.std.proofs.Common.{◌≡◌, ℕ, Bool, true, false, if◌then◌else◌, Result, Ok, Err, List, [], ◌∷◌, length, refl}
+use Rattle.std.proofs.Common.{◌≡◌, Bool, true, false, if◌then◌else◌, Result, Ok, List, [], ◌∷◌, length, refl}
 use Rattle.verilog_lexer.specs.Tokens.{Lexeme}
-use Rattle.grammar_rules.specs.Rule.{Fault as AnyFault, Outcome, next, member, deep, refuse, ◌>>=◌}
+use Rattle.grammar_rules.specs.Rule.{Fault as AnyFault, next, member, deep, ◌>>=◌}
 use Rattle.grammar_rules.specs.Grammar.{phrase}
 use Rattle.verilog_grammar.specs.Language.{verilog, Phrase, Value}
 use Rattle.verilog_grammar.specs.Verilog.{grammar, begins}
@@ -9,7 +9,7 @@ use Rattle.verilog_parser.specs.declared.fault.ReadFault.{ReadFault}
 use Rattle.verilog_parser.specs.declared.fault.ReadFault.TheVariants as read_fault
 use Rattle.verilog_parser.specs.declared.fault.Wrong.TheVariants as wrong
 use Rattle.verilog_parser.specs.Cursor.{deep_fault}
-use Rattle.verilog_parser.specs.Gives.{Gives, Fails}
+use Rattle.verilog_parser.specs.Gives.{Fails}
 
 -- a step that fails
 pub first_fails : {A B : Type 0} (e : ReadFault) (x : Result A (AnyFault verilog)) (k : A → Result B (AnyFault verilog)) → Fails e x → Fails e (x >>= k)

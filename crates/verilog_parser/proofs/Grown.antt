@@ -1,12 +1,12 @@
 -- What grows, one part after the other.
-use Rattle.std.proofs.Common.{◌≡◌, ℕ, ◌<◌, Bool, true, false, cond, if◌then◌else◌, nat_le, List, [], ◌∷◌, length, Ok, Err, refl, sym, ap, subst, ◌∙◌}
+use Rattle.std.proofs.Common.{◌≡◌, ℕ, ◌<◌, Bool, true, false, cond, if◌then◌else◌, nat_le, List, length, Ok, Err, refl, sym, ap, subst, ◌∙◌}
 use Rattle.std.specs.Prelude.{◌&&◌}
 use Rattle.verilog_lexer.specs.Tokens.{Lexeme}
 use Rattle.grammar_rules.specs.Rule.{Rule, Growth, next, member, nullable, first, fault_at, too_deep, Fault as AnyFault, Outcome, ◌>>=◌}
 use Rattle.grammar_rules.specs.Grammar.{reads}
 use Rattle.grammar_rules.proofs.Loops.{grows_step}
 use Rattle.grammar_rules.proofs.Language.{falls}
-use Rattle.grammar_rules.proofs.Steps.{ok_is, done_rest}
+use Rattle.grammar_rules.proofs.Steps.{done_rest}
 use Rattle.verilog_grammar.specs.Language.{verilog}
 use Rattle.verilog_grammar.specs.Verilog.{grammar, begins}
 use Rattle.verilog_grammar.proofs.Verilog.{tables, passes}

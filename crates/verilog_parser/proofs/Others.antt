@@ -5,13 +5,13 @@ use Rattle.verilog_lexer.specs.Tokens.{Lexeme}
 use Rattle.verilog_tree.specs.Tree.{Expr}
 use Rattle.verilog_tree.specs.View.{exprs_view}
 use Rattle.verilog_tree.specs.declared.depth.Depth.{Depth}
-use Rattle.grammar_rules.specs.Rule.{Rule, many, nest, take_one, next, member, first, nullable, going, Fault as AnyFault, Outcome}
+use Rattle.grammar_rules.specs.Rule.{Rule, many, nest, take_one, next, member, first, nullable, going, Outcome}
 use Rattle.grammar_rules.specs.Grammar.{reads, phrase}
 use Rattle.grammar_rules.proofs.Loops.{one_more, no_more, fails}
 use Rattle.verilog_grammar.specs.declared.kind.Kind.{Kind}
 use Rattle.verilog_grammar.specs.Kind.{code}
 use Rattle.verilog_grammar.specs.Language.{verilog, Phrase, Value}
-use Rattle.verilog_grammar.specs.Parts.{only, after}
+use Rattle.verilog_grammar.specs.Parts.{after}
 use Rattle.verilog_grammar.specs.Verilog.{grammar, begins}
 use Rattle.verilog_grammar.proofs.Verilog.{tables, passes}
 use Rattle.verilog_parser.specs.declared.fault.ReadFault.{ReadFault}
@@ -20,7 +20,6 @@ use Rattle.verilog_parser.specs.declared.measured.MeasuredList.{MeasuredList}
 use Rattle.verilog_parser.specs.Gives.{Fails, fault_view}
 use Rattle.verilog_parser.specs.Measured.{MeasuredExprs, list_view}
 use Rattle.verilog_parser.specs.Others.{others_view}
-use Rattle.verilog_parser.proofs.Gives.{first_fails, later_fails}
 
 -- ---- the list
 

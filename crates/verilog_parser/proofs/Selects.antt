@@ -1,13 +1,12 @@
 -- Names with selects.
-use Rattle.std.proofs.Common.{◌≡◌, ℕ, Bool, true, false, nat_le, List, Ok, Err, refl, sym, ap, subst, ◌∙◌}
+use Rattle.std.proofs.Common.{◌≡◌, ℕ, Bool, true, false, nat_le, List, Ok, Err, refl, ap, subst, ◌∙◌}
 use Rattle.std.specs.Prelude.{◌==◌, if◌then◌else◌}
-use Rattle.cov_host.specs.declared.place.Place.{Place}
 use Rattle.verilog_lexer.specs.Tokens.{Lexeme}
 use Rattle.verilog_tree.specs.Tree.{Expr, literal, identifier, bit_select, part_select, indexed_part, unary_operator, binary_operator, conditional, concatenation, replication, sign_cast, parentheses}
 use Rattle.verilog_tree.specs.Depth.{depth}
-use Rattle.grammar_rules.specs.Rule.{grow, made, next, fault_at, too_deep, Fault as AnyFault, Outcome, ◌>>=◌}
+use Rattle.grammar_rules.specs.Rule.{grow, made, next, Fault as AnyFault, Outcome, ◌>>=◌}
 use Rattle.grammar_rules.specs.Grammar.{reads}
-use Rattle.grammar_rules.proofs.Steps.{bind_ok, ok_is, done_value}
+use Rattle.grammar_rules.proofs.Steps.{bind_ok, done_value}
 use Rattle.verilog_grammar.specs.declared.kind.Kind.TheVariants as k
 use Rattle.verilog_grammar.specs.Kind.{code}
 use Rattle.verilog_grammar.specs.Language.{verilog}
@@ -174,4 +173,4 @@ module _ (d : ℕ) (may : Expr → Bool) (starts : (x : Expr) → is_identifier 
       let s = select_found d v m x o h in
       name_selected i v m e t ∙ ap grown h ∙ goes_on d (growing_where true may) selected select_rule refl refl x o n a
       ∙ subst (λ (y : Expr). grown (by_select d y o) ≡ by_select d y o) s.1
-        (no_third v s.0 (nat_le (depth (selected v s.0)).height d) (reads verilog grammar d select_rule o) _)
+      (no_third v s.0 (nat_le (depth (selected v s.0)).height d) (reads verilog grammar d select_rule o) _)

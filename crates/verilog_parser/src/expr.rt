@@ -189,7 +189,7 @@ fn unary(alloc: Global, cursor: &mut Cursor<'_, '_>, depth: u32) -> Result<Measu
 
 /// What binds tightest.
 #[cycle(expr)]
-#[tactic(auto, unfolding(verilog_grammar::specs::Expressions::prim_rule, verilog_grammar::specs::Expressions::number_rule, verilog_grammar::specs::Expressions::selects_rule, verilog_grammar::specs::Expressions::paren_rule, verilog_grammar::specs::Expressions::braced_rule, verilog_grammar::specs::Expressions::cast_rule))]
+#[tactic(auto, unfolding(verilog_grammar::specs::Expressions::prim_rule, verilog_grammar::specs::Expressions::number_rule, verilog_grammar::specs::Expressions::selects_rule, verilog_grammar::specs::Expressions::paren_rule, verilog_grammar::specs::Expressions::braced_rule))]
 fn prim(alloc: Global, cursor: &mut Cursor<'_, '_>, depth: u32) -> Result<Measured, ReadFault>
     ensures { Gives measured_view (reads verilog grammar depth prim_rule cursor.old) result cursor.new }
 {

@@ -24,10 +24,7 @@ use verilog_grammar::Kind;
 use verilog_tree::Depth;
 
 /// A name.
-pub(crate) fn identifier(
-    alloc: Global,
-    cursor: &mut Cursor<'_, '_>,
-) -> Result<Measured, ReadFault>
+pub(crate) fn identifier(alloc: Global, cursor: &mut Cursor<'_, '_>) -> Result<Measured, ReadFault>
     ensures { Gives measured_view (reads verilog grammar 0 (made identifier_of (only k.Identifier)) cursor.old) result cursor.new }
 {
     let token = cursor.take(Kind::Identifier)?;

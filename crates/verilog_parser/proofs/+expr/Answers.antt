@@ -25,13 +25,13 @@ expr::expression-returns-then-not-sees t c =
     let q : 0 < c.args.depth = omega arith in
     phrase_down verilog grammar c.args.depth expression c.args.cursor.now q
     ∙ expr_alone (c.args.depth - 1) c.args.cursor.now (measured_view c.in_ok-test.test) c.operand.new.cursor
-      (sym (phrase_down verilog grammar c.args.depth (operand level.LogicalOr) c.args.cursor.now q) ∙ c.in_ok-test.ensures) (sym c.sees.ensures ∙ c.if-not-sees.true)
+    (sym (phrase_down verilog grammar c.args.depth (operand level.LogicalOr) c.args.cursor.now q) ∙ c.in_ok-test.ensures) (sym c.sees.ensures ∙ c.if-not-sees.true)
 
 pub expr::expression-returns : goal.expr::expression-returns
 expr::expression-returns t c =
     let q : 0 < c.args.depth = omega arith in
     let test = expr_chosen (c.args.depth - 1) c.args.cursor.now (measured_view c.in_ok-test.test) c.operand.new.cursor
-        (sym (phrase_down verilog grammar c.args.depth (operand level.LogicalOr) c.args.cursor.now q) ∙ c.in_ok-test.ensures) (sym c.sees.ensures ∙ c.if-not-sees.false) in
+    (sym (phrase_down verilog grammar c.args.depth (operand level.LogicalOr) c.args.cursor.now q) ∙ c.in_ok-test.ensures) (sym c.sees.ensures ∙ c.if-not-sees.false) in
     rw (phrase_down verilog grammar c.args.depth expression c.args.cursor.now q ∙ test) c.choice.ensures
 
 pub expr::operand-returns-then-depth-eq0 : goal.expr::operand-returns-then-depth-eq0
@@ -70,7 +70,7 @@ expr::operand-returns t c =
     let h : rank c.levels.at ≡ rank c.args.level = omega (arith, c.rank.ensures, c.rank-in-levels.ensures, c.levels-test.false, c.levels.invariant.tight) in
     phrase_down verilog grammar c.args.depth (operand c.args.level) c.args.cursor.now q
     ∙ subst (λ (l : Level). reads verilog grammar (c.args.depth - 1) (level_rule l) c.args.cursor.now ≡ Ok (measured_view c.levels.left, c.levels.cursor))
-      (same_rank c.levels.at c.args.level h) c.levels.invariant.read
+    (same_rank c.levels.at c.args.level h) c.levels.invariant.read
 
 pub expr::grown-returns : goal.expr::grown-returns
 expr::grown-returns t c =
@@ -80,7 +80,8 @@ pub expr::grown-returns-in_err-left : goal.expr::grown-returns-in_err-left
 expr::grown-returns-in_err-left t c =
     let p = err_from_is_err_and c.from_residual.result c.from_residual.ensures.1 in
     rw (p.1, p.2)
-    (operators_fail c.args.depth c.args.level (measured_view c.more.left) c.more.cursor _ c.in_err-left.field-0.0 (sym c.sees_operator.ensures ∙ c.more-test.true) c.in_err-left.ensures c.more.invariant)
+    (operators_fail c.args.depth c.args.level (measured_view c.more.left) c.more.cursor _ c.in_err-left.field-0.0
+    (sym c.sees_operator.ensures ∙ c.more-test.true) c.in_err-left.ensures c.more.invariant)
 
 pub expr::grown-more-preserved : goal.expr::grown-more-preserved
 expr::grown-more-preserved t c =
@@ -156,7 +157,8 @@ expr::with_others-returns-in_err-next-clause-others t c =
 pub select::selects-returns-then-not-sees : goal.select::selects-returns-then-not-sees
 unfolding selects_rule
 select::selects-returns-then-not-sees t c =
-    name_alone c.args.depth is_selected_once name_once twice c.args.cursor.now (measured_view c.in_ok-name.name) c.identifier.new.cursor c.in_ok-name.ensures (sym c.sees.ensures ∙ c.if-not-sees.true)
+    name_alone c.args.depth is_selected_once name_once twice c.args.cursor.now (measured_view c.in_ok-name.name) c.identifier.new.cursor
+    c.in_ok-name.ensures (sym c.sees.ensures ∙ c.if-not-sees.true)
 
 pub select::selects-returns-in_err-part : goal.select::selects-returns-in_err-part
 unfolding selects_rule

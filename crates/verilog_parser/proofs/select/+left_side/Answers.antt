@@ -1,7 +1,6 @@
 use Rattle.std.proofs.Common.{refl, sym, ◌∙◌}
 use Rattle.std.proofs.lemmas.Result.{err_from_is_err_and}
 use Rattle.grammar_rules.specs.Rule.{nest}
-use Rattle.grammar_rules.specs.Grammar.{phrase}
 use Rattle.grammar_rules.proofs.Language.{falls}
 use Rattle.verilog_grammar.specs.declared.kind.Kind.TheVariants as k
 use Rattle.verilog_grammar.specs.Language.{verilog, target as a_target}

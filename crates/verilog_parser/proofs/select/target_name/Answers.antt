@@ -9,7 +9,8 @@ use Rattle.verilog_parser.proofs.select.target_name.Goals.{then-not-is_bit-via-t
 pub returns-then-not-sees : goal.returns-then-not-sees
 unfolding target_name_rule
 returns-then-not-sees c =
-    name_alone c.args.depth may_be_indexed name_indexed indexed_twice c.args.cursor.now (measured_view c.in_ok-name.name) c.identifier.new.cursor c.in_ok-name.ensures (sym c.sees.ensures ∙ c.if-not-sees.true)
+    name_alone c.args.depth may_be_indexed name_indexed indexed_twice c.args.cursor.now (measured_view c.in_ok-name.name) c.identifier.new.cursor
+    c.in_ok-name.ensures (sym c.sees.ensures ∙ c.if-not-sees.true)
 
 pub returns-in_err-part : goal.returns-in_err-part
 unfolding target_name_rule
