@@ -155,11 +155,7 @@ fn statements(
 }
 
 /// An expression in parentheses that are no part of it.
-fn condition(
-    alloc: Global,
-    cursor: &mut Cursor<'_, '_>,
-    depth: u32,
-) -> Result<Expr, ReadFault>
+fn condition(alloc: Global, cursor: &mut Cursor<'_, '_>, depth: u32) -> Result<Expr, ReadFault>
     ensures { Gives expr_view (reads verilog grammar depth (in_parentheses_rule an_expression) cursor.old) result cursor.new }
 {
     let (_, inner) = in_parentheses(alloc, cursor, depth)?;
