@@ -2,6 +2,7 @@ pub mod Taking
 pub mod Levels
 pub mod Listed
 pub mod Items
+pub mod Refusals
 pub mod PushedDigits
 pub mod Numbers
 pub mod Gives

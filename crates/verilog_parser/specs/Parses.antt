@@ -46,6 +46,13 @@ StandsIn tokens (fault.At EarlyEnd None None) = EndsEarly verilog grammar tokens
 StandsIn tokens (fault.At TooDeep (Some place) None) = NestTooDeep tokens × IsTooDeepAt tokens place
 StandsIn tokens (fault.At kind place detail) = ⊥
 
+-- the fault of this token, with which no rule goes on
+abbrev pub IsRefusalOf : Lexeme → ParseFault → Type 0
+IsRefusalOf token fault.NoMemory = Unit {0}
+IsRefusalOf token (fault.At Unexpected (Some place) None) = (token.place ≡ place) × (form_of (kind_of token) ≡ None)
+IsRefusalOf token (fault.At LeftOut (Some place) (Some form)) = (token.place ≡ place) × (form_of (kind_of token) ≡ Some form)
+IsRefusalOf token (fault.At kind place detail) = ⊥
+
 -- the answer is these modules, if it is not want of memory
 abbrev pub IsAnswer : List t.Module → Result (List Module) ParseFault → Type 0
 IsAnswer modules (Ok found) = modules_view found ≡ modules

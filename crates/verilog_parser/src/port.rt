@@ -78,7 +78,7 @@ fn read_direction(cursor: &mut Cursor<'_, '_>) -> Result<Direction, ReadFault>
     })
 }
 
-#[tactic(auto, unfolding(verilog_grammar::specs::Modules::port_rule))]
+#[tactic(auto, unfolding(verilog_grammar::specs::Modules::port_rule, verilog_grammar::specs::Modules::direction_rule))]
 fn port(alloc: Global, cursor: &mut Cursor<'_, '_>, depth: u32) -> Result<PortHead, ReadFault>
     ensures { Gives head_view (reads verilog grammar depth port_rule cursor.old) result cursor.new }
 {
