@@ -89,6 +89,10 @@ item_fails fin d g s (read_fault.At f) t i m total sees c e h =
 pub viewed : {X A : Type 0} (view : X → A) (xs ys : List X) (x : X) → ys ≡ xs ++ x ∷ [] → map view ys ≡ map view xs ++ view x ∷ []
 viewed view xs ys x e = rw e (map_push view xs x)
 
+-- the view of a list that has one
+pub viewed_first : {X A : Type 0} (view : X → A) (xs ys : List X) (x : X) → xs ≡ [] → ys ≡ xs ++ x ∷ [] → map view ys ≡ view x ∷ []
+viewed_first view xs ys x n e = rw (e, n) refl
+
 pub list_begun : {A : Type 0} (d : ℕ) (g : Phrased A) (ys : List A) (a : A) (i m : List Lexeme) → ys ≡ a ∷ [] → reads verilog grammar d g i ≡ Ok (a, m)
     → going ◌++◌ ys (reads verilog grammar d (behind g) m) ≡ reads verilog grammar d (listed g) i
 list_begun d g ys a i m y e = rw (y, e) (join_listed a (reads verilog grammar d (behind g) m))
@@ -116,6 +120,10 @@ view_appended view xs ys zs e = rw (e, map-append view xs zs) refl
 -- two views of one list that are pushed together
 pub both_pushed : {X A B : Type 0} (f : X → A) (h : B → A) (v : X → B) (xs ys : List X) (x : X) → ys ≡ xs ++ x ∷ [] → map f xs ≡ map h (map v xs) → f x ≡ h (v x) → map f ys ≡ map h (map v ys)
 both_pushed f h v xs ys x e k l = rw (e, map_push f xs x, map_push v xs x, map_push h (map v xs) (v x), k, l) refl
+
+-- two views of a list without parts
+pub both_none : {X A B : Type 0} (f : X → A) (h : B → A) (v : X → B) (xs : List X) → xs ≡ [] → map f xs ≡ map h (map v xs)
+both_none f h v xs e = rw e refl
 
 -- a repetition whose next part fails
 pub many_fails : {S A B : Type 0} (fin : S → List A → B) (d : ℕ) (g : Phrased A) → nullable g ≡ false → member 0 (first verilog begins g) ≡ false

@@ -2,11 +2,11 @@ use Rattle.std.proofs.Common.{◌++◌, sym, ◌∙◌}
 use Rattle.std.proofs.lemmas.Result.{err_from_is_err_and}
 use Rattle.verilog_tree.specs.View.{declared_view}
 use Rattle.verilog_grammar.specs.Modules.{variable_rule}
-use Rattle.verilog_parser.proofs.Listed.{viewed, list_begun, list_more, list_done, behind_falls, comma_fails, item_fails}
+use Rattle.verilog_parser.proofs.Listed.{viewed, viewed_first, list_begun, list_more, list_done, behind_falls, comma_fails, item_fails}
 use Rattle.verilog_parser.proofs.declaration.variables.Goals as goal
 
 pub more-init : goal.more-init
-more-init c = list_begun _ variable_rule _ _ _ _ (viewed declared_view _ _ _ c.in_ok-push.ensures.items) c.in_ok-first.ensures
+more-init c = list_begun _ variable_rule _ _ _ _ (viewed_first declared_view _ _ _ c.new-all.ensures.items c.in_ok-push.ensures.items) c.in_ok-first.ensures
 
 pub more-preserved : goal.more-preserved
 more-preserved c =

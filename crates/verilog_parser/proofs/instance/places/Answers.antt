@@ -4,13 +4,13 @@ use Rattle.verilog_tree.specs.View.{expr_option_view, given_view}
 use Rattle.verilog_tree.specs.declared.item.Given.{Given}
 use Rattle.verilog_grammar.specs.Parts.{an_expression, optional}
 use Rattle.verilog_grammar.specs.Modules.{connected_by_place}
-use Rattle.verilog_parser.proofs.Listed.{viewed, both_pushed, list_begun, list_more, list_done, behind_falls, comma_fails, item_fails}
+use Rattle.verilog_parser.proofs.Listed.{viewed, viewed_first, both_pushed, both_none, list_begun, list_more, list_done, behind_falls, comma_fails, item_fails}
 use Rattle.verilog_parser.proofs.instance.places.Goals as goal
 
 pub more-init : goal.more-init
 more-init c = record {
-  read = list_begun _ (optional an_expression) _ _ _ _ (viewed (λ (g : Given). expr_option_view g.value) _ _ _ c.in_ok-push.ensures.items) c.in_ok-first.ensures.read;
-  unnamed = both_pushed given_view connected_by_place (λ (g : Given). expr_option_view g.value) _ _ _ c.in_ok-push.ensures.items refl c.in_ok-first.ensures.unnamed;
+  read = list_begun _ (optional an_expression) _ _ _ _ (viewed_first (λ (g : Given). expr_option_view g.value) _ _ _ c.new-all.ensures.items c.in_ok-push.ensures.items) c.in_ok-first.ensures.read;
+  unnamed = both_pushed given_view connected_by_place (λ (g : Given). expr_option_view g.value) _ _ _ c.in_ok-push.ensures.items (both_none given_view connected_by_place (λ (g : Given). expr_option_view g.value) _ c.new-all.ensures.items) c.in_ok-first.ensures.unnamed;
 }
 
 pub more-preserved : goal.more-preserved
