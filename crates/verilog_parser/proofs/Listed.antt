@@ -93,6 +93,10 @@ viewed view xs ys x e = rw e (map_push view xs x)
 pub viewed_first : {X A : Type 0} (view : X → A) (xs ys : List X) (x : X) → xs ≡ [] → ys ≡ xs ++ x ∷ [] → map view ys ≡ view x ∷ []
 viewed_first view xs ys x n e = rw (e, n) refl
 
+-- the view of a list with one more, which is seen as this
+pub viewed_as : {X A : Type 0} (view : X → A) (xs ys : List X) (x : X) (a : A) → ys ≡ xs ++ x ∷ [] → view x ≡ a → map view ys ≡ map view xs ++ a ∷ []
+viewed_as view xs ys x a e v = rw (e, map_push view xs x, v) refl
+
 pub list_begun : {A : Type 0} (d : ℕ) (g : Phrased A) (ys : List A) (a : A) (i m : List Lexeme) → ys ≡ a ∷ [] → reads verilog grammar d g i ≡ Ok (a, m)
     → going ◌++◌ ys (reads verilog grammar d (behind g) m) ≡ reads verilog grammar d (listed g) i
 list_begun d g ys a i m y e = rw (y, e) (join_listed a (reads verilog grammar d (behind g) m))

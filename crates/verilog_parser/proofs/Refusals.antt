@@ -1,7 +1,11 @@
 -- What the answer of reading says of all tokens.
-use Rattle.std.proofs.Common.{◌≡◌, ℕ, zero, suc, ◌-◌, ◌<◌, ◌≤◌, List, [], ◌∷◌, length, drop, map, Option, Some, None, Result, Ok, Err, refl, sym, ◌∙◌, arith}
+use Rattle.std.proofs.Common.{◌≡◌, ℕ, zero, suc, ◌-◌, ◌<◌, ◌≤◌, nat_lt, Bool, true, false, List, [], ◌∷◌, length, get_or, drop, drop-cons, Option, Some, None, Result, Ok, Err, refl, sym, ap, ◌∙◌, arith}
+use Rattle.std.proofs.lemmas.Bool.{ltb-true, ltb-false}
+use Rattle.std.proofs.lemmas.List.{length-map, drop-map}
 use Rattle.cov_host.specs.declared.place.Place.{Place}
 use Rattle.verilog_lexer.specs.Tokens.{Lexeme}
+use Rattle.verilog_lexer.specs.TokenView.{lexeme, lexemes}
+use Rattle.verilog_lexer.specs.declared.token.Token.{Token}
 use Rattle.verilog_tree.specs.Tree as t
 use Rattle.verilog_tree.specs.View.{modules_view}
 use Rattle.verilog_tree.specs.declared.module.Module.{Module}
@@ -12,6 +16,10 @@ use Rattle.verilog_grammar.specs.Language.{verilog}
 use Rattle.verilog_grammar.specs.Verilog.{grammar}
 use Rattle.verilog_grammar.proofs.Verilog.{verilog_exact}
 use Rattle.verilog_parser.specs.Parses.{AreModules, IsRefused, IsRefusalOf, NestTooDeep, IsTooDeepAt, StandsIn}
+use Rattle.verilog_parser.specs.Gives.{wrong_view, fault_view}
+use Rattle.verilog_parser.specs.declared.fault.Fault.{Fault}
+use Rattle.verilog_parser.specs.declared.fault.Wrong.{Wrong}
+use Rattle.verilog_parser.specs.declared.fault.Wrong.TheVariants as wrong
 use Rattle.verilog_parser.specs.declared.fault.ParseFault.{ParseFault}
 use Rattle.verilog_parser.specs.declared.fault.ParseFault.TheVariants as fault
 use Rattle.verilog_parser.specs.declared.fault.ParseKind.TheVariants.{Unexpected, EarlyEnd, TooDeep, LeftOut}
@@ -76,3 +84,17 @@ pub refused : (tokens : List Lexeme) (left : ℕ) (token : Lexeme) (others : Lis
     → Read tokens ≡ Err (record { kind = unexpected; left = left }) → drop (length tokens - left) tokens ≡ token ∷ others → IsRefusalOf token f → StandsIn tokens f
 refused tokens left token others f e d r =
     refused_by tokens (length tokens - left) token others f d (unexpected_there tokens left e (drop_in_range (length tokens - left) tokens token others d)) r
+
+pub at_unexpected : (tokens : List Lexeme) (f : Fault) → f.wrong ≡ wrong.Unexpected → Read tokens ≡ Err (fault_view f) → Read tokens ≡ Err (record { kind = unexpected; left = f.left })
+at_unexpected tokens f e h = h ∙ ap (λ (w : Wrong). Err (record { kind = wrong_view w; left = f.left })) e
+
+-- no token stands there
+pub not_there : (tokens : List Token) (at left : ℕ) → at ≡ length tokens - left → false ≡ nat_lt at (length tokens) → length (lexemes tokens) ≤ length (lexemes tokens) - left
+not_there tokens at left e h = let past = ltb-false at (length tokens) (sym h) in rw (length-map tokens lexeme) (omega (arith, e, past))
+
+-- the token that stands there, and those behind it
+pub token_there : (tokens : List Token) (at left : ℕ) (t d : Token) → at ≡ length tokens - left → true ≡ nat_lt at (length tokens) → t ≡ get_or tokens at d
+    → drop (length (lexemes tokens) - left) (lexemes tokens) ≡ lexeme t ∷ lexemes (drop (suc at) tokens)
+token_there tokens at left t d e h k =
+    ap (λ n. drop (n - left) (lexemes tokens)) (length-map tokens lexeme) ∙ ap (λ n. drop n (lexemes tokens)) (sym e) ∙ drop-map lexeme at tokens
+    ∙ ap lexemes (drop-cons tokens at d (ltb-true at (length tokens) (sym h))) ∙ ap (λ (u : Token). lexeme u ∷ lexemes (drop (suc at) tokens)) (sym k)

@@ -1,11 +1,15 @@
 -- What ports, types and shapes of declarations stand for.
-use Rattle.std.specs.Prelude.{List, map, ◌++◌, Option}
+use Rattle.std.specs.Prelude.{ℕ, List, [], ◌∷◌, map, ◌++◌, Option}
+use Rattle.verilog_grammar.specs.Kind.{code}
 use Rattle.std.specs.Option.{option_map}
 use Rattle.verilog_tree.specs.Tree as t
 use Rattle.verilog_tree.specs.View.{range_option_view, expr_view, items_view, params_view}
 use Rattle.verilog_tree.specs.declared.item.Named.{Named}
 use Rattle.verilog_tree.specs.declared.item.Param.{Param}
 use Rattle.verilog_tree.specs.declared.expr.Expr.{Expr}
+use Rattle.grammar_rules.specs.Rule.{empty, either, made}
+use Rattle.verilog_grammar.specs.declared.kind.Kind.TheVariants as k
+use Rattle.verilog_grammar.specs.Parts.{Phrased, only}
 use Rattle.verilog_grammar.specs.Modules as g
 use Rattle.verilog_parser.specs.declared.declaration.Shape.{Shape}
 use Rattle.verilog_parser.specs.declared.port.Direction.{Direction}
@@ -38,6 +42,14 @@ ports_view p = (p.names.items, items_view p.items.items)
 -- the ports so far and those of the entries that follow
 abbrev pub with_entries : OpenPorts → List g.Entry → g.Ports
 with_entries p es = (p.names.items ++ map g.entry_name es, items_view p.items.items ++ g.port_items (head_view p.head) p.others.items es)
+
+-- the words of parameters
+abbrev pub parameter_words : List ℕ
+parameter_words = code k.Parameter ∷ code k.Localparam ∷ []
+
+-- [ "signed" | "integer" ]
+abbrev pub type_word_rule : Phrased g.Word
+type_word_rule = either (made g.signed_word (only k.Signed)) (either (made g.integer_word (only k.Integer)) (made g.no_word empty))
 
 abbrev pub type_view : ParamType → g.ParamType
 type_view k = record { signed = k.signed; integer = k.integer; range = range_option_view k.range }

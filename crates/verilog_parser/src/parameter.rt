@@ -1,24 +1,27 @@
 //! Parameters.
 
 ghost use Rattle.std.specs.Prelude.{◌≡◌, List, [], ◌∷◌, map, IfOk};
-ghost use Rattle.grammar_rules.specs.Rule.{made};
+ghost use Rattle.grammar_rules.specs.Rule.{made, take_one};
+ghost use Rattle.verilog_lexer.specs.TokenView.{lexeme};
+ghost use Rattle.verilog_grammar.specs.Kind.{kind_of};
 ghost use Rattle.grammar_rules.specs.Grammar.{reads};
 ghost use Rattle.verilog_tree.specs.View.{param_view, params_view, expr_view};
 ghost use Rattle.verilog_grammar.specs.declared.kind.Kind.TheVariants as k;
 ghost use Rattle.verilog_grammar.specs.Language.{verilog};
 ghost use Rattle.verilog_grammar.specs.Verilog.{grammar};
 ghost use Rattle.verilog_grammar.specs.Parts.{listed, optional, after};
-ghost use Rattle.verilog_grammar.specs.Modules.{HeaderParam as AnyHeaderParam, type_rule, valued_rule, param_of, plain_type, header_param_rule, header_params as header_params_from, header_params_rule, parameter_item_rule};
-ghost use Rattle.verilog_parser.specs.Gives.{Gives};
+ghost use Rattle.verilog_grammar.specs.Modules.{HeaderParam as AnyHeaderParam, is_local as is_local_word, type_rule, valued_rule, param_of, plain_type, header_param_rule, header_params as header_params_from, header_params_rule, parameter_item_rule};
+ghost use Rattle.verilog_parser.specs.Gives.{Gives, same};
 ghost use Rattle.verilog_parser.specs.Views.{one_item_view};
-ghost use Rattle.verilog_parser.specs.Declarations.{type_view, type_option_view, valued_view, header_param_view, param_valueds, with_params};
+ghost use Rattle.verilog_parser.specs.Declarations.{type_word_rule, parameter_words, type_view, type_option_view, valued_view, header_param_view, param_valueds, with_params};
 
 use crate::cursor::Cursor;
-use crate::declaration::{name, optional_range, present, value};
+use crate::declaration::{name, optional_range, value};
 use crate::fault::ReadFault;
 use cov_host::{NoMemory, Sequence};
 use std::alloc::Global;
 use verilog_grammar::Kind;
+use verilog_lexer::Token;
 use verilog_tree::{Expr, Item, ItemForm, Named, Param, Range};
 
 /// Whether `signed` or `integer` stands there, and the range.
@@ -66,6 +69,21 @@ impl ParamType {
     }
 }
 
+/// Whether `signed` or `integer` stands there.
+fn type_word(cursor: &mut Cursor<'_, '_>) -> Result<(bool, bool), ReadFault>
+    ensures { Gives same (reads verilog grammar 0 type_word_rule cursor.old) result cursor.new }
+{
+    if cursor.sees(Kind::Signed) {
+        cursor.take(Kind::Signed)?;
+        return Ok((true, false));
+    }
+    if cursor.sees(Kind::Integer) {
+        cursor.take(Kind::Integer)?;
+        return Ok((false, true));
+    }
+    Ok((false, false))
+}
+
 #[tactic(auto, unfolding(verilog_grammar::specs::Modules::type_rule))]
 fn param_type(
     alloc: Global,
@@ -74,19 +92,10 @@ fn param_type(
 ) -> Result<ParamType, ReadFault>
     ensures { Gives type_view (reads verilog grammar depth type_rule cursor.old) result cursor.new }
 {
-    if cursor.sees(Kind::Signed) {
-        cursor.take(Kind::Signed)?;
-        let range = optional_range(alloc, cursor, depth)?;
-        return Ok(ParamType {
-            signed: true,
-            integer: false,
-            range,
-        });
-    }
-    let integer = present(cursor, Kind::Integer)?;
+    let (signed, integer) = type_word(cursor)?;
     let range = optional_range(alloc, cursor, depth)?;
     Ok(ParamType {
-        signed: false,
+        signed,
         integer,
         range,
     })
@@ -128,6 +137,27 @@ fn params(
     Ok(all)
 }
 
+/// Whether the word of parameters says that they are local.
+fn is_local(kind: Kind) -> bool
+    ensures { result ≡ is_local_word kind }
+{
+    matches!(kind, Kind::Localparam)
+}
+
+/// The word of parameters, and whether it says that they are local.
+#[tactic(auto, using(crate::proofs::Statements::any_taken, crate::proofs::Statements::any_refused))]
+fn parameter_word<'a>(cursor: &mut Cursor<'_, 'a>) -> Result<(Token<'a>, bool), ReadFault>
+    ensures reads { Gives (λ p. lexeme p.0) (take_one verilog parameter_words cursor.old) result cursor.new }
+    ensures local { IfOk result (λ p. p.1 ≡ is_local_word (kind_of (lexeme p.0))) }
+{
+    if !cursor.sees(Kind::Parameter) && !cursor.sees(Kind::Localparam) {
+        return Err(cursor.refuse());
+    }
+    let local = is_local(cursor.kind());
+    let word = cursor.take_next()?;
+    Ok((word, local))
+}
+
 #[tactic(auto, unfolding(verilog_grammar::specs::Modules::parameter_item_rule))]
 pub(crate) fn parameter_item(
     alloc: Global,
@@ -136,11 +166,7 @@ pub(crate) fn parameter_item(
 ) -> Result<Item, ReadFault>
     ensures { Gives one_item_view (reads verilog grammar depth parameter_item_rule cursor.old) result cursor.new }
 {
-    let local = cursor.sees(Kind::Localparam);
-    if !local && !cursor.sees(Kind::Parameter) {
-        return Err(cursor.refuse());
-    }
-    let word = cursor.take_next()?;
+    let (word, local) = parameter_word(cursor)?;
     let kind = param_type(alloc, cursor, depth)?;
     let params = params(alloc, cursor, depth, local, &kind)?;
     cursor.take(Kind::Semicolon)?;

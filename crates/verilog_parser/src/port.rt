@@ -232,6 +232,7 @@ impl OpenPorts {
 }
 
 /// Ports, with plain names behind them.
+#[tactic(auto, unfolding(verilog_grammar::specs::Modules::entries_rule))]
 fn declared_ports(
     alloc: Global,
     cursor: &mut Cursor<'_, '_>,
