@@ -9,7 +9,7 @@ use Rattle.verilog_parser.proofs.instance.places.Goals as goal
 
 pub more-init : goal.more-init
 more-init c = record {
-  read = list_begun _ (optional an_expression) _ _ _ _ (viewed_first (λ (g : Given). expr_option_view g.value) _ _ _ c.new-all.ensures.items c.in_ok-push.ensures.items) c.in_ok-first.ensures.read;
+  read = list_begun c.args.depth (optional an_expression) _ _ c.args.cursor.now _ (viewed_first (λ (g : Given). expr_option_view g.value) _ _ _ c.new-all.ensures.items c.in_ok-push.ensures.items) c.in_ok-first.ensures.read;
   unnamed = both_pushed given_view connected_by_place (λ (g : Given). expr_option_view g.value) _ _ _ c.in_ok-push.ensures.items (both_none given_view connected_by_place (λ (g : Given). expr_option_view g.value) _ c.new-all.ensures.items) c.in_ok-first.ensures.unnamed;
 }
 
