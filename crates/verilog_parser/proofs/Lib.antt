@@ -3,6 +3,7 @@ pub mod Levels
 pub mod Listed
 pub mod Items
 pub mod Refusals
+pub mod Places
 pub mod PushedDigits
 pub mod Numbers
 pub mod Gives

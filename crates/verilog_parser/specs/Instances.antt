@@ -1,5 +1,5 @@
 -- The parts of instances, and what they stand for.
-use Rattle.std.specs.Prelude.{List, map, Option}
+use Rattle.std.specs.Prelude.{Bool, true, false, List, [], ◌∷◌, map, Option, None}
 use Rattle.grammar_rules.specs.Rule.{both, made}
 use Rattle.verilog_tree.specs.Tree as t
 use Rattle.verilog_tree.specs.View.{expr_option_view}
@@ -22,3 +22,8 @@ connection_by_name_rule = made connected_by_name (both (after k.Dot name_rule) (
 -- what is connected, without the names
 abbrev pub given_values : List Given → List (Option t.Expr)
 given_values gs = map (λ g. expr_option_view g.value) gs
+
+-- one connection without value
+abbrev pub is_lone_empty : List (Option t.Expr) → Bool
+is_lone_empty (None ∷ []) = true
+is_lone_empty es = false

@@ -11,7 +11,7 @@ ghost use Rattle.verilog_grammar.specs.Parts.{an_expression, after, in_parenthes
 ghost use Rattle.verilog_grammar.specs.Modules.{overrides_rule, no_overrides, connected_by_place, connections_by_place as connections_by_place_of, connections_rule, one_rule, instance_item_rule};
 ghost use Rattle.verilog_parser.specs.Gives.{Gives};
 ghost use Rattle.verilog_parser.specs.Views.{one_item_view};
-ghost use Rattle.verilog_parser.specs.Instances.{override_by_name_rule, override_by_place_rule, connection_by_name_rule, given_values};
+ghost use Rattle.verilog_parser.specs.Instances.{override_by_name_rule, override_by_place_rule, connection_by_name_rule, given_values, is_lone_empty as is_lone_empty_list};
 
 use crate::cursor::Cursor;
 use crate::declaration::name;
@@ -209,6 +209,7 @@ fn places(alloc: Global, cursor: &mut Cursor<'_, '_>, depth: u32) -> Result<Vec<
 }
 
 /// Connections by position with commas between.
+#[tactic(auto, using(crate::proofs::Places::lone))]
 fn connections_by_place(
     alloc: Global,
     cursor: &mut Cursor<'_, '_>,
@@ -217,9 +218,20 @@ fn connections_by_place(
     ensures { Gives (λ v. givens_view v.items) (reads verilog grammar depth (made connections_by_place_of (listed (optional an_expression))) cursor.old) result cursor.new }
 {
     let all = places(alloc, cursor, depth)?;
-    match all.as_slice() {
-        [Given { value: None, .. }] => Ok(Vec::new(alloc)),
-        _ => Ok(all),
+    if is_lone_empty(all.as_slice()) {
+        return Ok(Vec::new(alloc));
+    }
+    Ok(all)
+}
+
+/// Whether it is one connection without value.
+#[tactic(auto, using(crate::proofs::Places::lone_there, crate::proofs::Places::many_not, crate::proofs::Places::none_not))]
+fn is_lone_empty(all: &[Given]) -> bool
+    ensures { result ≡ is_lone_empty_list (given_values all.now) }
+{
+    match all.first() {
+        Some(first) => all.len() == 1 && first.value.is_none(),
+        None => false,
     }
 }
 

@@ -67,6 +67,7 @@ fn single_item(alloc: Global, cursor: &mut Cursor<'_, '_>, depth: u32) -> Result
 }
 
 /// The items that the next item of the text gives.
+#[tactic(auto, unfolding(verilog_grammar::specs::Modules::item_rule, verilog_grammar::specs::Modules::port_item_rule, verilog_grammar::specs::Modules::port_rule, verilog_grammar::specs::Modules::direction_rule, verilog_grammar::specs::Modules::net_item_rule, verilog_grammar::specs::Modules::variable_item_rule, verilog_grammar::specs::Modules::integer_item_rule, verilog_grammar::specs::Modules::parameter_item_rule, verilog_grammar::specs::Modules::continuous_item_rule, verilog_grammar::specs::Modules::always_item_rule, verilog_grammar::specs::Modules::initial_item_rule))]
 fn item(alloc: Global, cursor: &mut Cursor<'_, '_>, depth: u32) -> Result<Vec<Item>, ReadFault>
     ensures { Gives (λ v. items_view v.items) (reads verilog grammar depth item_rule cursor.old) result cursor.new }
 {

@@ -25,5 +25,5 @@ returns c = list_ends verilog grammar tables passes module_view _ module_rule _ 
 pub returns-in_err-next : goal.returns-in_err-next
 unfolding module_rule
 returns-in_err-next c =
-    let p = err_from_is_err_and c.from_residual-in_err-next.result c.from_residual-in_err-next.ensures.1 in
+    let p = err_from_is_err_and c.from_residual.result c.from_residual.ensures.1 in
     rw (p.1, p.2) (many_fails ◌++◌ _ module_rule refl refl _ _ _ _ (sym c.sees.ensures ∙ c.more-test.true) c.in_err-next.ensures c.more.invariant)

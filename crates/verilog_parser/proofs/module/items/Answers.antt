@@ -16,5 +16,5 @@ returns c = items_done _ _ _ _ (sym c.begins_item.ensures ∙ c.more-test.false)
 
 pub returns-in_err-next : goal.returns-in_err-next
 returns-in_err-next c =
-    let p = err_from_is_err_and c.from_residual-in_err-next.result c.from_residual-in_err-next.ensures.1 in
+    let p = err_from_is_err_and c.from_residual.result c.from_residual.ensures.1 in
     rw (p.1, p.2) (items_fail _ _ _ _ _ (sym c.begins_item.ensures ∙ c.more-test.true) c.in_err-next.ensures c.more.invariant)
