@@ -1,0 +1,5 @@
+pub mod MissingNames
+pub mod Printable
+pub mod Contents
+pub mod RootLists
+pub mod OneList
