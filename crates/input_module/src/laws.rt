@@ -9,7 +9,7 @@ pub fn one_design()
         → IsSource texts top other → design ≡ other }
 {}
 
-/// The texts of a module of a range that rises and a port without one, and the design that they stand for.
+/// The texts of a module with a range that rises and a port without a range, and the design that they stand for.
 pub fn worked_example()
     ensures { IsWorkedExample }
 {}
