@@ -11,7 +11,7 @@ use design_model::{Design, Instance, Signal};
 use std::alloc::Global;
 use verilog_lexer::Tokens;
 
-/// The most tokens of a source.
+/// The most tokens.
 const MOST_TOKENS: usize = 4_194_304;
 
 /// The design of tokens that are one module `top` with inputs alone (IEEE 1364-2001, 12.1 and 12.3):
