@@ -33,6 +33,7 @@ join_items xs (Err f) e = refl
 
 pub items_begun : (d : ℕ) (xs : List Item) (i : List Lexeme) → xs ≡ []
     → going with_items xs (reads verilog grammar d (many item_rule) i) ≡ reads verilog grammar d items_rule i
+unfolding items_rule
 items_begun d xs i e = join_items xs (reads verilog grammar d (many item_rule) i) e
 
 pub items_more : (d : ℕ) (xs ys v : List Item) (i m : List Lexeme) (total : Outcome verilog (List Item))
