@@ -1,9 +1,9 @@
 -- A loop over the items of a module.
-use Rattle.std.proofs.Common.{◌≡◌, ℕ, true, false, List, [], ◌∷◌, ◌++◌, append_assoc, length, ◌<◌, Ok, Err, refl, sym}
+use Rattle.std.proofs.Common.{◌≡◌, ℕ, true, false, List, [], ◌++◌, append_assoc, length, ◌<◌, Ok, Err, refl, sym}
 use Rattle.std.proofs.lemmas.List.{append-nil}
 use Rattle.verilog_lexer.specs.Tokens.{Lexeme}
 use Rattle.verilog_tree.specs.Tree.{Item}
-use Rattle.grammar_rules.specs.Rule.{many, going, next, member, nullable, first, Fault, Outcome, ◌>>=◌}
+use Rattle.grammar_rules.specs.Rule.{many, going, next, member, nullable, first, Outcome, ◌>>=◌}
 use Rattle.grammar_rules.specs.Grammar.{reads}
 use Rattle.grammar_rules.proofs.Language.{falls}
 use Rattle.grammar_rules.proofs.Loops.{one_more, no_more, fails}
