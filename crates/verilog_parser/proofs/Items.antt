@@ -1,9 +1,9 @@
 -- A loop over the items of a module.
-use Rattle.std.proofs.Common.{◌≡◌, ℕ, true, false, List, [], ◌∷◌, ◌++◌, append_assoc, length, ◌<◌, Ok, Err, refl, sym}
+use Rattle.std.proofs.Common.{◌≡◌, ℕ, true, false, List, [], ◌++◌, append_assoc, length, ◌<◌, Ok, Err, refl, sym}
 use Rattle.std.proofs.lemmas.List.{append-nil}
 use Rattle.verilog_lexer.specs.Tokens.{Lexeme}
 use Rattle.verilog_tree.specs.Tree.{Item}
-use Rattle.grammar_rules.specs.Rule.{many, going, next, member, nullable, first, Fault, Outcome, ◌>>=◌}
+use Rattle.grammar_rules.specs.Rule.{many, going, next, member, nullable, first, Outcome, ◌>>=◌}
 use Rattle.grammar_rules.specs.Grammar.{reads}
 use Rattle.grammar_rules.proofs.Language.{falls}
 use Rattle.grammar_rules.proofs.Loops.{one_more, no_more, fails}
@@ -33,6 +33,7 @@ join_items xs (Err f) e = refl
 
 pub items_begun : (d : ℕ) (xs : List Item) (i : List Lexeme) → xs ≡ []
     → going with_items xs (reads verilog grammar d (many item_rule) i) ≡ reads verilog grammar d items_rule i
+unfolding items_rule
 items_begun d xs i e = join_items xs (reads verilog grammar d (many item_rule) i) e
 
 pub items_more : (d : ℕ) (xs ys v : List Item) (i m : List Lexeme) (total : Outcome verilog (List Item))

@@ -1,5 +1,5 @@
 -- Levels from the tightest on.
-use Rattle.std.proofs.Common.{ℕ, ◌-◌, ◌<◌, ◌≤◌, arith}
+use Rattle.std.proofs.Common.{◌-◌, ◌<◌, ◌≤◌, arith}
 use Rattle.verilog_grammar.specs.Language.{rank, looser}
 use Rattle.verilog_grammar.specs.declared.level.Level.{Level}
 use Rattle.verilog_grammar.specs.declared.level.Level.TheVariants as level

@@ -1,5 +1,5 @@
 -- Loops over what stands behind commas.
-use Rattle.std.proofs.Common.{◌≡◌, ℕ, true, false, List, [], ◌∷◌, ◌++◌, map, append_assoc, length, ◌<◌, Result, Ok, Err, refl, sym, ap, ◌∙◌}
+use Rattle.std.proofs.Common.{◌≡◌, ℕ, true, false, List, [], ◌∷◌, ◌++◌, map, append_assoc, length, ◌<◌, Ok, Err, refl, sym, ap}
 use Rattle.std.proofs.lemmas.List.{map-append, map_push, append-nil}
 use Rattle.std.specs.Prelude.{◌==◌}
 use Rattle.verilog_lexer.specs.Tokens.{Lexeme}

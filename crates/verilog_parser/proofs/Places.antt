@@ -1,5 +1,5 @@
 -- What stands between the parentheses of an instance by position.
-use Rattle.std.proofs.Common.{◌≡◌, ◌≢◌, ℕ, ◌+◌, if◌then◌else◌, true, false, List, [], ◌∷◌, length, get_or, Option, Some, None, refl, arith}
+use Rattle.std.proofs.Common.{◌≡◌, ◌≢◌, if◌then◌else◌, false, List, [], ◌∷◌, length, get_or, Option, Some, None, refl, arith}
 use Rattle.std.specs.Prelude.{is_none}
 use Rattle.verilog_tree.specs.Tree as t
 use Rattle.verilog_tree.specs.View.{expr_option_view}

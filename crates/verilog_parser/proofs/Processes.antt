@@ -2,8 +2,7 @@
 use Rattle.std.proofs.Common.{◌≡◌, ℕ, List, [], ◌∷◌, ◌++◌, map, append_assoc, Ok, Err, refl, sym, ◌∙◌}
 use Rattle.std.proofs.lemmas.List.{map_push}
 use Rattle.verilog_lexer.specs.Tokens.{Lexeme}
-use Rattle.verilog_tree.specs.Tree.{Expr, Item}
-use Rattle.grammar_rules.specs.Rule.{made, both, many, take_one, Outcome, ◌>>=◌}
+use Rattle.grammar_rules.specs.Rule.{made, take_one, Outcome, ◌>>=◌}
 use Rattle.grammar_rules.specs.Grammar.{reads}
 use Rattle.verilog_grammar.specs.Kind.{code}
 use Rattle.verilog_grammar.specs.declared.kind.Kind.{Kind}

@@ -1,5 +1,5 @@
 -- What the answer of reading says of all tokens.
-use Rattle.std.proofs.Common.{◌≡◌, ℕ, zero, suc, ◌-◌, ◌<◌, ◌≤◌, nat_lt, Bool, true, false, List, [], ◌∷◌, length, get_or, drop, drop-cons, Option, Some, None, Result, Ok, Err, refl, sym, ap, ◌∙◌, arith}
+use Rattle.std.proofs.Common.{◌≡◌, ℕ, zero, suc, ◌-◌, ◌<◌, ◌≤◌, nat_lt, true, false, List, [], ◌∷◌, length, get_or, drop, drop-cons, Some, None, Result, Ok, Err, sym, ap, ◌∙◌, arith}
 use Rattle.std.proofs.lemmas.Bool.{ltb-true, ltb-false}
 use Rattle.std.proofs.lemmas.List.{length-map, drop-map}
 use Rattle.cov_host.specs.declared.place.Place.{Place}
@@ -7,15 +7,13 @@ use Rattle.verilog_lexer.specs.Tokens.{Lexeme}
 use Rattle.verilog_lexer.specs.TokenView.{lexeme, lexemes}
 use Rattle.verilog_lexer.specs.declared.token.Token.{Token}
 use Rattle.verilog_tree.specs.Tree as t
-use Rattle.verilog_tree.specs.View.{modules_view}
-use Rattle.verilog_tree.specs.declared.module.Module.{Module}
 use Rattle.grammar_rules.specs.Rule.{unexpected, too_deep, Fault as AnyFault}
-use Rattle.grammar_rules.specs.Grammar.{IsSpelled, IsUnexpected, EndsEarly, whole}
+use Rattle.grammar_rules.specs.Grammar.{IsUnexpected, EndsEarly, whole}
 use Rattle.grammar_rules.specs.Laws.{Stands}
 use Rattle.verilog_grammar.specs.Language.{verilog}
 use Rattle.verilog_grammar.specs.Verilog.{grammar}
 use Rattle.verilog_grammar.proofs.Verilog.{verilog_exact}
-use Rattle.verilog_parser.specs.Parses.{AreModules, IsRefused, IsRefusalOf, NestTooDeep, IsTooDeepAt, StandsIn}
+use Rattle.verilog_parser.specs.Parses.{AreModules, IsRefusalOf, NestTooDeep, IsTooDeepAt, StandsIn}
 use Rattle.verilog_parser.specs.Gives.{wrong_view, fault_view}
 use Rattle.verilog_parser.specs.declared.fault.Fault.{Fault}
 use Rattle.verilog_parser.specs.declared.fault.Wrong.{Wrong}

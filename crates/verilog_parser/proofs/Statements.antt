@@ -1,5 +1,5 @@
 -- What the words of statements read.
-use Rattle.std.proofs.Common.{rules, arith, ◌≡◌, ℕ, true, false, List, [], ◌∷◌, Result, Ok, Err, refl}
+use Rattle.std.proofs.Common.{rules, arith, ◌≡◌, ℕ, true, false, List, [], ◌∷◌, Ok, Err, refl}
 use Rattle.cov_host.specs.declared.place.Place.{Place}
 use Rattle.verilog_lexer.specs.Tokens.{Lexeme}
 use Rattle.verilog_tree.specs.Tree as t
@@ -7,7 +7,7 @@ use Rattle.verilog_tree.specs.View.{expr_view, expr_form_step}
 use Rattle.verilog_tree.specs.declared.expr.Expr.{Expr}
 use Rattle.verilog_tree.specs.declared.expr.ExprForm.TheOpen.{ExprForm-F}
 use Rattle.verilog_tree.specs.declared.expr.ExprForm.TheFolds.{fold_out-Expr, fold_out-ExprForm}
-use Rattle.grammar_rules.specs.Rule.{next, member, take_one, refuse, made, both, Outcome, ◌>>=◌}
+use Rattle.grammar_rules.specs.Rule.{next, member, take_one, refuse, made, both, Outcome}
 use Rattle.grammar_rules.specs.Grammar.{reads}
 use Rattle.verilog_grammar.specs.Kind.{next_kind, kind_of}
 use Rattle.verilog_grammar.specs.declared.body.Body.{Body}

@@ -99,7 +99,10 @@ fn module(alloc: Global, cursor: &mut Cursor<'_, '_>, depth: u32) -> Result<Modu
     cursor.take(Kind::Module)?;
     let name = name(alloc, cursor)?;
     let params = header_params(alloc, cursor, depth)?;
-    let Ports { names, items: mut all } = header_ports(alloc, cursor, depth)?;
+    let Ports {
+        names,
+        items: mut all,
+    } = header_ports(alloc, cursor, depth)?;
     cursor.take(Kind::Semicolon)?;
     let mut others = items(alloc, cursor, depth)?;
     cursor.take(Kind::Endmodule)?;

@@ -45,13 +45,7 @@ impl ParamType {
     }
 
     /// The parameter with this type.
-    fn param(
-        &self,
-        alloc: Global,
-        local: bool,
-        name: Named,
-        value: Expr,
-    ) -> Result<Param, NoMemory>
+    fn param(&self, alloc: Global, local: bool, name: Named, value: Expr) -> Result<Param, NoMemory>
         ensures { IfOk result (λ p. param_view p ≡ param_of local (type_view self.now) (name, expr_view value)) }
     {
         let range = match &self.range {
@@ -235,7 +229,10 @@ impl TypedParams {
     fn with(self, alloc: Global, param: HeaderParam) -> Result<TypedParams, NoMemory>
         ensures { IfOk result (λ t. (ps : List AnyHeaderParam) → with_params self (header_param_view param ∷ ps) ≡ with_params t ps) }
     {
-        let TypedParams { mut all, kind: before } = self;
+        let TypedParams {
+            mut all,
+            kind: before,
+        } = self;
         let HeaderParam { kind, name, value } = param;
         let kind = kind.unwrap_or(before);
         all.push(kind.param(alloc, false, name, value)?)?;

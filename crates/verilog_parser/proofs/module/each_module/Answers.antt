@@ -5,7 +5,7 @@ use Rattle.grammar_rules.proofs.Language.{falls}
 use Rattle.grammar_rules.proofs.Loops.{list_pushed, list_ends}
 use Rattle.verilog_grammar.specs.Language.{verilog}
 use Rattle.verilog_grammar.specs.Verilog.{grammar}
-use Rattle.verilog_grammar.specs.Modules.{module_rule, source_rule}
+use Rattle.verilog_grammar.specs.Modules.{module_rule}
 use Rattle.verilog_grammar.proofs.Verilog.{tables, passes}
 use Rattle.verilog_parser.proofs.Listed.{many_fails}
 use Rattle.verilog_parser.proofs.module.each_module.Goals as goal

@@ -10,11 +10,11 @@ use Rattle.verilog_parser.proofs.parameter.params.Goals as goal
 pub more-preserved : goal.more-preserved
 more-preserved c = record {
   read =
-    list_more _ valued_rule _ _ _ _ _ _ _ _ (viewed_as param_valued _ _ _ _ c.in_ok-push-2.ensures.items (ap (λ (p : t.Param). (p.name, p.value)) c.in_ok-param-2.ensures))
-    (sym c.sees.ensures ∙ c.more-test.true) c.in_ok-take.ensures c.in_ok-next.ensures c.more.invariant.read;
+      list_more _ valued_rule _ _ _ _ _ _ _ _ (viewed_as param_valued _ _ _ _ c.in_ok-push-2.ensures.items (ap (λ (p : t.Param). (p.name, p.value)) c.in_ok-param-2.ensures))
+      (sym c.sees.ensures ∙ c.more-test.true) c.in_ok-take.ensures c.in_ok-next.ensures c.more.invariant.read;
   typed =
-    both_pushed param_view (param_of c.args.local (type_view c.args.kind.now)) param_valued _ _ _ c.in_ok-push-2.ensures.items c.more.invariant.typed
-    (c.in_ok-param-2.ensures ∙ ap (λ v. param_of c.args.local (type_view c.args.kind.now) v) (sym (ap (λ (p : t.Param). (p.name, p.value)) c.in_ok-param-2.ensures)));
+      both_pushed param_view (param_of c.args.local (type_view c.args.kind.now)) param_valued _ _ _ c.in_ok-push-2.ensures.items c.more.invariant.typed
+      (c.in_ok-param-2.ensures ∙ ap (λ v. param_of c.args.local (type_view c.args.kind.now) v) (sym (ap (λ (p : t.Param). (p.name, p.value)) c.in_ok-param-2.ensures)));
 }
 
 pub more-smaller : goal.more-smaller

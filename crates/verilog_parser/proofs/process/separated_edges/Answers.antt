@@ -3,7 +3,6 @@ use Rattle.std.proofs.lemmas.Result.{err_from_is_err_and}
 use Rattle.grammar_rules.proofs.Language.{falls}
 use Rattle.verilog_grammar.specs.Language.{verilog}
 use Rattle.verilog_grammar.specs.Verilog.{grammar}
-use Rattle.verilog_grammar.specs.Parts.{name_rule}
 use Rattle.verilog_grammar.specs.Modules.{edge_rule}
 use Rattle.verilog_grammar.proofs.Verilog.{tables, passes}
 use Rattle.verilog_parser.specs.Processes.{next_rule}

@@ -3,7 +3,6 @@ use Rattle.grammar_rules.specs.Rule.{going, many}
 use Rattle.grammar_rules.specs.Grammar.{reads}
 use Rattle.verilog_grammar.specs.Language.{verilog}
 use Rattle.verilog_grammar.specs.Verilog.{grammar}
-use Rattle.verilog_grammar.specs.Parts.{name_rule}
 use Rattle.verilog_grammar.specs.Modules.{separated, edge_rule}
 use Rattle.verilog_parser.specs.Processes.{next_rule}
 use Rattle.verilog_parser.proofs.process.separated_edges.Given as goal

@@ -4,7 +4,6 @@ use Rattle.grammar_rules.proofs.Language.{falls}
 use Rattle.verilog_grammar.specs.Language.{verilog}
 use Rattle.verilog_grammar.specs.Verilog.{grammar}
 use Rattle.verilog_grammar.specs.Parts.{name_rule}
-use Rattle.verilog_grammar.specs.Modules.{edge_rule}
 use Rattle.verilog_grammar.proofs.Verilog.{tables, passes}
 use Rattle.verilog_parser.specs.Processes.{next_rule}
 use Rattle.verilog_parser.proofs.Repeated.{list_begun, plain_pushed, plain_ends, turn_fails}
