@@ -3,9 +3,11 @@ use Rattle.std.proofs.Common.{◌≡◌, ◌⊎◌, ℕ, ◌+◌, ◌<◌, ◌�
 use Rattle.std.specs.Prelude.{IfSome, IsSomeAnd, MatchOption, ◌==◌}
 use Rattle.std.proofs.lemmas.Bool.{cases_lt}
 use Rattle.std.proofs.lemmas.Bool.Decides.{nat_tests}
+use Rattle.std.proofs.lemmas.List.{length-append}
+use Rattle.std.proofs.lemmas.List.Sums.{sum_by-append}
 use Rattle.cov_host.specs.Outside.{Files, Outside, IsCounted, KeepsFiles, SameFiles, Told}
 use Rattle.cov_host.specs.declared.place.Place.{Place}
-use Rattle.verilog_lexer.specs.Sources.{SourceText, refusal_of, total_length}
+use Rattle.verilog_lexer.specs.Sources.{AreWithinLimits, SourceText, refusal_of, total_length}
 use Rattle.verilog_lexer.specs.declared.fault.LexFault.{LexFault}
 use Rattle.verilog_lexer.specs.declared.fault.LexFault.TheVariants as lex_fault
 use Rattle.verilog_lexer.specs.declared.fault.LexKind.{LexKind}
@@ -98,6 +100,25 @@ pub no_fit : (before : Outside) (path name bytes : List ℕ) (old : List SourceT
 no_fit before path name bytes old kind place detail read refused =
     let t = text_of path bytes before read in
     (t.text, t.is, sym (same_refusal old name bytes t.text t.content) ∙ no_place old name (length bytes) kind place detail refused)
+
+fits_within : (sources : List SourceText) (source : SourceText) → AreWithinLimits sources → refusal_of sources source.name (length source.bytes) ≡ None → AreWithinLimits (sources ++ source ∷ [])
+fits_within sources source within none = go (nat_lt 67108864 (total_length sources + length source.bytes)) (length sources == 256) refl refl none
+  where
+    go : (long many : Bool) → nat_lt 67108864 (total_length sources + length source.bytes) ≡ long → (length sources == 256) ≡ many
+        → (if long then Some (lex_fault.At SourcesTooLong None (Some source.name)) else if many then Some (lex_fault.At TooManySources None (Some source.name)) else None) ≡ None → AreWithinLimits (sources ++ source ∷ [])
+    go true many is other none = absurd cc
+    go false true is other none = absurd cc
+    go false false is other none =
+        let count : length sources ≤ 256 = within.count in
+        record {
+          count = rw (length-append sources (source ∷ [])) (grind (arith, nat_tests, other, count));
+          bytes = rw (sum_by-append (λ s. length s.bytes) sources (source ∷ [])) (grind (arith, nat_tests, is));
+        }
+
+-- with a file that joins, the sources stay within the limits
+pub joins_within : (before : Outside) (path name : List ℕ) (root : Bool) (old new : List SourceText) → AreWithinLimits old → Joins before path name root old new → AreWithinLimits new
+joins_within before path name root old new within j =
+    subst AreWithinLimits (sym j.joined) (fits_within old (record { name = name; bytes = j.text; root = root }) within j.fits)
 
 -- ---- what holds later held before, where files were only read
 

@@ -1,5 +1,6 @@
 ghost use Rattle.std.specs.Prelude.{IfOk, IfErr, map};
 ghost use Rattle.whole_files.specs.Effects.{OnlyReads};
+ghost use Rattle.verilog_lexer.specs.Sources.{AreWithinLimits};
 ghost use Rattle.source_files.specs.Files.{AreRoots};
 ghost use Rattle.source_files.specs.Joining.{IsRootFault};
 
@@ -16,6 +17,7 @@ pub fn read_roots<'a, H: Host>(
     files: &[&'a str],
 ) -> Result<Sources, RootFault<'a>>
     ensures roots { IfOk result (AreRoots (H.outside host.old) (map (λ file. file.now) files.now)) }
+    ensures within { IfOk result AreWithinLimits }
     ensures fault { IfErr result (IsRootFault (H.outside host.old) (H.outside host.new) (map (λ file. file.now) files.now)) }
     ensures effects { OnlyReads (H.outside host.old) (H.outside host.new) }
 {

@@ -1,7 +1,7 @@
 use Rattle.std.proofs.Common.{◌+◌, map, drop, take, sym, subst}
 use Rattle.whole_files.proofs.EffectLemmas.{OnlyReads-trans}
 use Rattle.source_files.specs.Files.{AreRoots}
-use Rattle.source_files.proofs.Contents.{join_fault_earlier, joins_earlier}
+use Rattle.source_files.proofs.Contents.{join_fault_earlier, joins_earlier, joins_within}
 use Rattle.source_files.proofs.RootLists.{names_around, names_push, root_joins}
 use Rattle.source_files.proofs.roots.read_roots.Goals as goal
 
@@ -23,5 +23,6 @@ files-preserved g c =
     record {
       roots = subst (λ names. AreRoots (g.H.Host.outside c.args.host.now) names c.join.new.sources) (sym (names_push c.args.files.now c.files.file-index _ c.files-test.true))
           (root_joins _ _ _ _ _ turn.roots (joins_earlier _ _ _ _ _ _ _ turn.effects c.in-Ok.ensures.joined));
+      within = joins_within _ _ _ _ _ _ turn.within c.in-Ok.ensures.joined;
       effects = OnlyReads-trans _ _ _ turn.effects c.in-Ok.ensures.effects;
     }
