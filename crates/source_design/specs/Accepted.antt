@@ -1,6 +1,5 @@
 -- Which sources are accepted, and the design that accepted sources stand for.
-use Rattle.std.specs.Prelude.{◌≡◌, ℕ, List, map, Ok}
-use Rattle.cov_host.specs.Outside.{Outside}
+use Rattle.std.specs.Prelude.{◌≡◌, ℕ, List, Ok}
 use Rattle.design_model.specs.declared.design.Design.{Design}
 use Rattle.verilog_lexer.specs.Defines.{DefineText}
 use Rattle.verilog_lexer.specs.Reading.{tokens_of}
@@ -8,7 +7,8 @@ use Rattle.verilog_lexer.specs.Sources.{SourceText}
 use Rattle.verilog_lexer.specs.Tokens.{Lexeme}
 use Rattle.verilog_tree.specs.Tree as t
 use Rattle.verilog_parser.specs.Parses.{AreModules}
-use Rattle.input_module.specs.SourceForm.{IsSource, texts_of}
+use Rattle.input_module.specs.SourceForm.{IsSource}
+use Rattle.input_module.specs.Texts.{texts_of}
 
 -- the sources have these tokens, and these spell modules within the depth
 pub record AreAccepted (sources : List SourceText) (defines : List DefineText) (tokens : List Lexeme) : Type 0 where

@@ -10,7 +10,8 @@ use Rattle.verilog_lexer.specs.Tokens.{Lexeme}
 use Rattle.verilog_lexer.specs.declared.fault.LexFault.TheVariants as lex_fault
 use Rattle.verilog_parser.specs.Parses.{StandsIn}
 use Rattle.verilog_parser.specs.declared.fault.ParseFault.TheVariants as parse_fault
-use Rattle.input_module.specs.SourceForm.{IsSource, texts_of}
+use Rattle.input_module.specs.SourceForm.{IsSource}
+use Rattle.input_module.specs.Texts.{texts_of}
 use Rattle.source_design.specs.Accepted.{AreAccepted}
 use Rattle.source_design.specs.declared.fault.SourceKind.{SourceKind}
 use Rattle.source_design.specs.declared.fault.SourceKind.TheVariants as kind

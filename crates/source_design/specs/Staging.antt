@@ -4,10 +4,13 @@ use Rattle.cov_host.specs.declared.place.Place.{Place}
 use Rattle.verilog_lexer.specs.Sources.{SourceText}
 use Rattle.verilog_lexer.specs.declared.fault.LexFault.{LexFault}
 use Rattle.verilog_lexer.specs.declared.fault.LexFault.TheVariants as lex_fault
+use Rattle.verilog_lexer.specs.declared.fault.LexKind.{LexKind}
 use Rattle.verilog_lexer.specs.declared.fault.LexKind.TheVariants.{IncludeMissing}
 use Rattle.verilog_parser.specs.declared.fault.ParseFault.{ParseFault}
 use Rattle.verilog_parser.specs.declared.fault.ParseFault.TheVariants as parse_fault
 use Rattle.source_files.specs.Files.{Lacks}
+use Rattle.source_files.specs.declared.fault.JoinFault.{JoinFault}
+use Rattle.source_files.specs.declared.fault.JoinFault.TheVariants as join_fault
 use Rattle.source_design.specs.Accepted.{StandFor}
 use Rattle.source_design.specs.Refusals.{AreOfNoForm, AreRefused, spot_of}
 use Rattle.source_design.specs.Words.{SourceValues}
@@ -50,3 +53,14 @@ IsLexFault sources (lex_fault.At k place detail) f = IsRefusal sources (kind.Lex
 abbrev pub IsParseFault : List SourceText → ParseFault → SourceFault → Type 0
 IsParseFault sources parse_fault.NoMemory f = f ≡ fault.NoMemory
 IsParseFault sources (parse_fault.At k place detail) f = IsRefusal sources (kind.Parse k) place detail f
+
+-- the refusal of a file that does not fit
+abbrev pub IsFull : LexKind → Option (List ℕ) → SourceFault → Type 0
+IsFull k detail f = f ≡ fault.Refused (record { kind = kind.Lex k; detail = detail; spot = None })
+
+-- the fault of a file of the words that does not join
+abbrev pub IsFileFault : List ℕ → JoinFault → SourceFault → Type 0
+IsFileFault file join_fault.NoMemory f = f ≡ fault.NoMemory
+IsFileFault file (join_fault.Refused call) (fault.File other named) = (call ≡ other) × (named.now ≡ file)
+IsFileFault file (join_fault.Refused call) f = ⊥
+IsFileFault file (join_fault.Full k detail) f = IsFull k detail f

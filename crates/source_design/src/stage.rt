@@ -1,5 +1,6 @@
-ghost use Rattle.std.specs.Prelude.{IfOk, IfErr};
-ghost use Rattle.source_design.specs.Staging.{IsFound, IsStageFault};
+ghost use Rattle.std.specs.Prelude.{◌≡◌, IfErr, IfOk};
+ghost use Rattle.source_design.specs.Refusals.{spot_of};
+ghost use Rattle.source_design.specs.Staging.{IsFound, IsLackingFrom, IsLexFault, IsParseFault, IsRefusal, IsStageFault};
 ghost use Rattle.source_design.specs.Words.{source_values};
 
 use crate::fault::{SourceFault, SourceKind, SourceRefusal, SourceSpot};
@@ -63,13 +64,7 @@ fn lex_answer<'a>(
             kind,
             place,
             detail,
-        } => Err(refused(
-            alloc,
-            sources,
-            SourceKind::Lex(kind),
-            place,
-            detail,
-        )),
+        } => Err(refused(alloc, sources, SourceKind::Lex(kind), place, detail)),
     }
 }
 
