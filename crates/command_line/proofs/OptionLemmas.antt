@@ -3,7 +3,7 @@ use Rattle.std.proofs.Common.{◌≡◌, true, false, refl, arith}
 use Rattle.std.proofs.lemmas.Bool.{false≢true}
 use Rattle.std.proofs.lemmas.Slice.Eq.{bytes_eq-Decides}
 use Rattle.command_line.specs.declared.score_option.ScoreOption.{ScoreOption}
-use Rattle.command_line.specs.declared.score_option.ScoreOption.TheVariants.{Top, Instance, Source, Dump, Output}
+use Rattle.command_line.specs.declared.score_option.ScoreOption.TheVariants.{Top, Instance, Source, Define, Folder, Dump, Output}
 use Rattle.command_line.specs.ScoreOption.{option_text, is_same}
 
 -- options that are written alike are one
@@ -11,6 +11,8 @@ pub same_option : (a b : ScoreOption) → is_same a b ≡ true → a ≡ b
 same_option Top Top h = refl
 same_option Instance Instance h = refl
 same_option Source Source h = refl
+same_option Define Define h = refl
+same_option Folder Folder h = refl
 same_option Dump Dump h = refl
 same_option Output Output h = refl
 same_option a b h = absurd (false≢true h)
@@ -20,6 +22,8 @@ pub is_same-self : (option : ScoreOption) → is_same option option ≡ true
 is_same-self Top = refl
 is_same-self Instance = refl
 is_same-self Source = refl
+is_same-self Define = refl
+is_same-self Folder = refl
 is_same-self Dump = refl
 is_same-self Output = refl
 
