@@ -1,5 +1,5 @@
 -- What words come to, as a function of them: a command, or the text of a fault.
-use Rattle.std.proofs.Common.{◌≡◌, ◌∙◌, ◌⊎◌, ◌==◌, ℕ, cond, true, false, sym, ap, refl, inl, inr, List, [], ◌∷◌, ◌++◌, length, Option, Some, None, Result, Ok, Err, codes}
+use Rattle.std.proofs.Common.{◌≡◌, ◌∙◌, ◌⊎◌, ◌==◌, ℕ, cond, false, sym, ap, refl, inl, inr, List, [], ◌∷◌, ◌++◌, length, Some, None, Result, Ok, Err, codes}
 use Rattle.std.specs.Str.{bytes_eq}
 use Rattle.std.proofs.lemmas.Bool.{false_from_ne_true}
 use Rattle.std.proofs.lemmas.Slice.Eq.{bytes_eq-Decides}
@@ -8,9 +8,9 @@ use Rattle.command_line.specs.declared.database_command.DatabaseCommand.TheVaria
 use Rattle.command_line.specs.declared.database_option.DatabaseOption.TheVariants.{Output}
 use Rattle.command_line.specs.declared.score_option.ScoreOption.TheVariants.{Source}
 use Rattle.command_line.specs.declared.usage_fault.UsageFault.{UsageFault}
-use Rattle.command_line.specs.declared.usage_fault.UsageFault.TheVariants.{NoCommand, UnknownCommand, UnknownWord, GivenTwice, NeedsValue, BadValue, Missing}
+use Rattle.command_line.specs.declared.usage_fault.UsageFault.TheVariants.{NoCommand, UnknownCommand}
 use Rattle.command_line.specs.Command.{AreWordsOf, CommandValues, score, merge, report}
-use Rattle.command_line.specs.CommandWords.{is_absent, values_in, AreValues, GivenOption, IsScore, ScoreValues}
+use Rattle.command_line.specs.CommandWords.{is_absent, AreValues, GivenOption, IsScore, ScoreValues}
 use Rattle.command_line.specs.DatabaseFault.{missing_of, HasDatabaseFault}
 use Rattle.command_line.specs.DatabaseWords.{AreMergeValues, AreReportValues, Item, IsMerge, IsReport, IsUpTo, MergeValues, ReportValues, command_text, files_in, value_in as item_value}
 use Rattle.command_line.specs.UsageFault.{usage_text, HasScoreFault, HasUsageFault}

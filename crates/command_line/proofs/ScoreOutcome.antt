@@ -1,5 +1,5 @@
 -- What words come to, as a function of them: so they come to one thing only.
-use Rattle.std.proofs.Common.{◌≡◌, ◌∙◌, ℕ, cond, true, false, ap, refl, List, [], ◌∷◌, ◌++◌, append_assoc, Option, Some, None, Result, Ok, Err, codes}
+use Rattle.std.proofs.Common.{◌≡◌, ◌∙◌, ℕ, cond, false, ap, refl, List, [], ◌∷◌, ◌++◌, append_assoc, Option, Some, None, Result, Ok, Err, codes}
 use Rattle.std.specs.List.{find}
 use Rattle.std.specs.Str.{bytes_eq}
 use Rattle.std.proofs.lemmas.Bool.{false_from_ne_true}
@@ -11,7 +11,7 @@ use Rattle.command_line.specs.declared.usage_fault.UsageFault.{UsageFault}
 use Rattle.command_line.specs.declared.usage_fault.UsageFault.TheVariants.{NoCommand, UnknownCommand, UnknownWord, GivenTwice, NeedsValue, BadValue, Missing}
 use Rattle.command_line.specs.ScoreOption.{option_text, accepts}
 use Rattle.command_line.specs.CommandWords.{GivenOption, spelled, is_absent, may_follow, AreGiven}
-use Rattle.command_line.specs.UsageFault.{usage_text, first_missing, IsNoOption, FaultAfter, HasUsageFault}
+use Rattle.command_line.specs.UsageFault.{usage_text, first_missing, IsNoOption, FaultAfter}
 use Rattle.command_line.proofs.GivenLemmas.{form-at, may_follow-at}
 
 -- what words come to: options with their values, or the text of a fault
