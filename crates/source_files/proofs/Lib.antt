@@ -3,3 +3,4 @@ pub mod Printable
 pub mod Contents
 pub mod RootLists
 pub mod OneList
+pub mod Growing
