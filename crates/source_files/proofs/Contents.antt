@@ -1,24 +1,23 @@
 -- What was read of a file, and when a file is there.
-use Rattle.std.proofs.Common.{◌≡◌, ◌⊎◌, ℕ, ◌+◌, ◌<◌, ◌≤◌, nat_lt, Bool, true, false, if◌then◌else◌, List, [], ◌∷◌, ◌++◌, length, Option, None, Some, refl, sym, ap, subst, ◌∙◌, inl, inr, arith}
+use Rattle.std.proofs.Common.{◌≡◌, ℕ, ◌+◌, ◌≤◌, nat_lt, Bool, true, false, if◌then◌else◌, List, [], ◌∷◌, ◌++◌, length, Option, None, Some, refl, sym, ap, subst, ◌∙◌, inl, inr, arith}
 use Rattle.std.specs.Prelude.{IfSome, IsSomeAnd, MatchOption, ◌==◌}
 use Rattle.std.proofs.lemmas.Bool.{cases_lt}
 use Rattle.std.proofs.lemmas.Bool.Decides.{nat_tests}
 use Rattle.std.proofs.lemmas.List.{length-append}
 use Rattle.std.proofs.lemmas.List.Sums.{sum_by-append}
-use Rattle.cov_host.specs.Outside.{Files, Outside, IsCounted, KeepsFiles, SameFiles, Told}
+use Rattle.cov_host.specs.Outside.{Files, Outside, IsCounted, SameFiles, Told}
 use Rattle.cov_host.specs.declared.place.Place.{Place}
 use Rattle.verilog_lexer.specs.Sources.{AreWithinLimits, SourceText, refusal_of, total_length}
-use Rattle.verilog_lexer.specs.declared.fault.LexFault.{LexFault}
 use Rattle.verilog_lexer.specs.declared.fault.LexFault.TheVariants as lex_fault
 use Rattle.verilog_lexer.specs.declared.fault.LexKind.{LexKind}
 use Rattle.verilog_lexer.specs.declared.fault.LexKind.TheVariants.{SourcesTooLong, TooManySources}
-use Rattle.whole_files.specs.Effects.{CountsUp, IsMissing, OnlyReads}
+use Rattle.whole_files.specs.Effects.{OnlyReads}
 use Rattle.whole_files.specs.Files.{IsContent}
 use Rattle.whole_files.specs.declared.call.Call.{Call}
 use Rattle.whole_files.specs.declared.call.Call.TheVariants.{OpenRead, Read, OpenWrite, Write, CloseWrite}
 use Rattle.whole_files.proofs.EffectLemmas.{IsCounted-earlier}
 use Rattle.source_files.specs.Files.{IsFile}
-use Rattle.source_files.specs.Joining.{DoesNotFit, IsJoinFault, IsRefusedCall, Joins}
+use Rattle.source_files.specs.Joining.{IsJoinFault, IsRefusedCall, Joins}
 use Rattle.source_files.specs.declared.fault.JoinFault.{JoinFault}
 use Rattle.source_files.specs.declared.fault.JoinFault.TheVariants as join_fault
 

@@ -1,21 +1,21 @@
 -- The name of an included file that sources lack.
-use Rattle.std.proofs.Common.{◌≡◌, ℕ, zero, suc, ◌+◌, ◌-◌, Bool, true, false, if◌then◌else◌, List, [], ◌∷◌, ◌++◌, length, drop, take, Option, None, Some, Ok, Err, refl, subst}
+use Rattle.std.proofs.Common.{◌≡◌, ℕ, zero, suc, ◌+◌, ◌-◌, Bool, true, false, if◌then◌else◌, List, [], ◌∷◌, drop, take, Option, None, Some, Ok, Err, refl, subst}
 use Rattle.std.specs.Prelude.{IsTrue, codes, not, slice_get, slice_index, ◌==◌, ◌&&◌, is_none}
 use Rattle.std.specs.Char.{is_ascii_digit}
 use Rattle.std.specs.Str.{bytes_eq}
 use Rattle.cov_host.specs.Identifier.{begins_name}
 use Rattle.cov_host.specs.declared.place.Place.{Place}
-use Rattle.verilog_lexer.specs.Answer.{Answer, ◌>>=◌, fault_at}
+use Rattle.verilog_lexer.specs.Answer.{Answer, ◌>>=◌}
 use Rattle.verilog_lexer.specs.Based.{base_of, letter_at}
-use Rattle.verilog_lexer.specs.Conditions.{after_test, closing, going_on, innermost, is_left_out, named, outer, with_next, with_opened}
+use Rattle.verilog_lexer.specs.Conditions.{after_test, closing, going_on, innermost, is_left_out, named}
 use Rattle.verilog_lexer.specs.Defines.{DefineText}
 use Rattle.verilog_lexer.specs.Directive.{directive_of, is_passed_over, is_refused}
-use Rattle.verilog_lexer.specs.Piece.{Piece, Test, blank, token, define, undefine, condition, inclusion, expansion, fault, if_defined, if_undefined, else_if_defined, otherwise, end_of_condition, accent_piece, based_as, based_piece, comment_piece, condition_piece, define_piece, directive_word, file_piece, include_piece, is_file_name, left_out_accent, left_out_piece, left_out_quote, left_out_slash, mark_piece, operator_piece, or_piece, other_piece, parenthesis_piece, piece_length, quoted_piece, read_piece, slash_piece, system_piece, token_of, up_to, word_piece}
-use Rattle.verilog_lexer.specs.Reading.{Entry, Inner, Opened, Reading, Step, beginning, ended, entered, expanded, file, front_piece, included, inner_at, is_continuation, macro_text, meaning, opened, opened_file, read_roots, read_source, root_passage, scan, tokens_of}
+use Rattle.verilog_lexer.specs.Piece.{Piece, Test, blank, token, define, undefine, condition, inclusion, expansion, fault, if_defined, if_undefined, else_if_defined, otherwise, end_of_condition, accent_piece, based_as, based_piece, comment_piece, condition_piece, define_piece, directive_word, file_piece, include_piece, is_file_name, left_out_accent, left_out_piece, left_out_quote, left_out_slash, mark_piece, operator_piece, or_piece, other_piece, parenthesis_piece, piece_length, quoted_piece, read_piece, slash_piece, system_piece, up_to, word_piece}
+use Rattle.verilog_lexer.specs.Reading.{Entry, Inner, Reading, Step, beginning, ended, entered, expanded, file, front_piece, included, inner_at, is_continuation, macro_text, meaning, opened, opened_file, read_roots, read_source, root_passage, scan, tokens_of}
 use Rattle.verilog_lexer.specs.Run.{is_blank, is_white, is_within_line, run, through_pair, through_quote}
 use Rattle.verilog_lexer.specs.Sources.{SourceText, include_place}
 use Rattle.verilog_lexer.specs.Spot.{after}
-use Rattle.verilog_lexer.specs.Tokens.{Lexeme, bad_number, is_too_long, room_for_one, short_enough, sound_number, with_token}
+use Rattle.verilog_lexer.specs.Tokens.{Lexeme, bad_number, room_for_one, short_enough, sound_number, with_token}
 use Rattle.verilog_lexer.specs.declared.fault.LexFault.TheVariants as lex_fault
 use Rattle.verilog_lexer.specs.declared.fault.LexKind.{LexKind}
 use Rattle.verilog_lexer.specs.declared.fault.LexKind.TheVariants.{BadByte, IncludeMissing, OpenComment, UnknownDirective}

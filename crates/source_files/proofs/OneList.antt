@@ -1,5 +1,5 @@
 -- The files that words name have one list of sources.
-use Rattle.std.proofs.Common.{◌≡◌, ℕ, ◌≤◌, Bool, true, List, [], ◌∷◌, ◌++◌, Option, None, Some, Err, refl, sym, ap, subst, ◌∙◌}
+use Rattle.std.proofs.Common.{◌≡◌, ℕ, Bool, List, [], ◌∷◌, ◌++◌, Option, None, Some, Err, refl, sym, subst, ◌∙◌}
 use Rattle.std.specs.Prelude.{IfSome, IsSome}
 use Rattle.cov_host.specs.Outside.{Files, Outside}
 use Rattle.cov_host.specs.declared.place.Place.{Place}
@@ -10,7 +10,7 @@ use Rattle.verilog_lexer.specs.Sources.{SourceText}
 use Rattle.verilog_lexer.specs.Tokens.{Lexeme}
 use Rattle.verilog_lexer.specs.declared.fault.LexFault.TheVariants as lex_fault
 use Rattle.verilog_lexer.specs.declared.fault.LexKind.TheVariants.{IncludeMissing}
-use Rattle.source_files.specs.Files.{AreLacking, AreRoots, AreSources, Grow, IsFile, IsRoot, Lacks, end, included, more, path_of}
+use Rattle.source_files.specs.Files.{AreRoots, AreSources, Grow, IsFile, IsRoot, Lacks, end, included, more, path_of}
 
 one_text_at : (told : Option Files) (path a b : List ℕ) → IsSome told → IfSome told (λ files. files path ≡ Some a) → IfSome told (λ files. files path ≡ Some b) → a ≡ b
 one_text_at None path a b some is other = absurd cc

@@ -1,5 +1,5 @@
 -- Lists of roots.
-use Rattle.std.proofs.Common.{◌≡◌, ℕ, zero, suc, ◌+◌, ◌<◌, true, List, [], ◌∷◌, ◌++◌, length, map, take, drop, slice_index_or, refl, ap, subst, sym, ◌∙◌, arith}
+use Rattle.std.proofs.Common.{◌≡◌, ℕ, zero, suc, ◌+◌, ◌<◌, true, List, [], ◌∷◌, ◌++◌, length, map, take, drop, slice_index_or, refl, ap, subst, sym, arith}
 use Rattle.std.specs.Borrow.{Bor}
 use native.Mathlib.Numerals.{unary_clauses}
 use Rattle.cov_host.specs.Outside.{Outside}

@@ -1,5 +1,5 @@
 -- The files of a design: those that the words name, and those that they include.
-use Rattle.std.specs.Prelude.{◌≡◌, ℕ, Bool, true, false, List, [], ◌∷◌, ◌++◌, codes, Option, None, Some, Err, IfSome, length}
+use Rattle.std.specs.Prelude.{◌≡◌, ℕ, true, false, List, [], ◌∷◌, ◌++◌, codes, Option, None, Some, Err, IfSome}
 use Rattle.cov_host.specs.Outside.{Outside}
 use Rattle.cov_host.specs.declared.place.Place.{Place}
 use Rattle.verilog_lexer.specs.Defines.{DefineText}

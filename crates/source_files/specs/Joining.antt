@@ -1,5 +1,5 @@
 -- How a file joins the sources, and why it does not.
-use Rattle.std.specs.Prelude.{◌≡◌, ◌⊎◌, ℕ, Bool, List, [], ◌∷◌, ◌++◌, length, Option, None, Some}
+use Rattle.std.specs.Prelude.{◌≡◌, ◌⊎◌, ℕ, Bool, List, [], ◌∷◌, ◌++◌, length, None, Some}
 use Rattle.cov_host.specs.Outside.{Outside, IsCounted}
 use Rattle.verilog_lexer.specs.Sources.{SourceText, refusal_of}
 use Rattle.verilog_lexer.specs.declared.fault.LexFault.TheVariants as lex_fault
