@@ -61,7 +61,7 @@ fn main(rt: HostRuntime) -> Result<()> {
         modules.as_slice().len(),
         length as u64 / lexed,
         length as u64 / parsed,
-        length as u64 / (lexed + parsed)
+        length as u64 / lexed.saturating_add(parsed).max(1)
     )?;
     Ok(())
 }
