@@ -1,5 +1,5 @@
 -- Why sources are refused, whose files are all there.
-use Rattle.std.specs.Prelude.{◌≡◌, ℕ, List, Option, None, Some, Ok, Err}
+use Rattle.std.specs.Prelude.{◌≡◌, ◌≢◌, ℕ, List, Option, None, Some, Ok, Err}
 use Rattle.std.specs.Option.{option_map}
 use Rattle.cov_host.specs.declared.place.Place.{Place}
 use Rattle.design_model.specs.declared.design.Design.{Design}
@@ -8,6 +8,7 @@ use Rattle.verilog_lexer.specs.Reading.{tokens_of}
 use Rattle.verilog_lexer.specs.Sources.{SourceText, name_of}
 use Rattle.verilog_lexer.specs.Tokens.{Lexeme}
 use Rattle.verilog_lexer.specs.declared.fault.LexFault.TheVariants as lex_fault
+use Rattle.verilog_lexer.specs.declared.fault.LexKind.TheVariants.{IncludeMissing}
 use Rattle.verilog_parser.specs.Parses.{StandsIn}
 use Rattle.verilog_parser.specs.declared.fault.ParseFault.TheVariants as parse_fault
 use Rattle.input_module.specs.SourceForm.{IsSource}
@@ -28,10 +29,11 @@ abbrev pub IsFoundAt : List SourceText → List DefineText → SourceKind → Op
 IsFoundAt sources defines (kind.Lex k) place detail = tokens_of sources defines ≡ Err (lex_fault.At k place detail)
 IsFoundAt sources defines (kind.Parse k) place detail = (tokens : List Lexeme) × (tokens_of sources defines ≡ Ok tokens) × StandsIn tokens (parse_fault.At k place detail)
 
--- a fault of the lexer or of the parser stands in the sources, at the place that the refusal tells
+-- a fault of the lexer, other than a missing file, or of the parser stands in the sources, at the place that the refusal tells
 pub record AreRefused (sources : List SourceText) (defines : List DefineText) (refusal : SourceRefusal) : Type 0 where
   pub place : Option Place
   pub found : IsFoundAt sources defines refusal.kind place refusal.detail
+  pub no_file : refusal.kind ≢ kind.Lex IncludeMissing
   pub spot : refusal.spot ≡ spot_of sources place
 
 -- the sources are accepted, but are no module of inputs alone

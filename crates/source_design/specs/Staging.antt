@@ -41,13 +41,18 @@ IsRefusal sources kind place detail other = ⊥
 
 -- the file that a fault of the lexer says to be lacking
 abbrev pub IsLackingFrom : LexFault → Found → Type 0
-IsLackingFrom (lex_fault.At IncludeMissing place (Some name)) (found.Lacking other) = name ≡ other
+IsLackingFrom (lex_fault.At IncludeMissing (Some place) (Some name)) (found.Lacking other) = name ≡ other
 IsLackingFrom fault found = ⊥
 
--- the refusal of a fault of the lexer
+-- a fault with this kind, place and detail says no file to be lacking
+abbrev pub LacksNoFile : LexKind → Option Place → Option (List ℕ) → Type 0
+LacksNoFile IncludeMissing (Some place) (Some name) = ⊥
+LacksNoFile k place detail = Unit {0}
+
+-- the refusal of a fault of the lexer that says no file to be lacking
 abbrev pub IsLexFault : List SourceText → LexFault → SourceFault → Type 0
 IsLexFault sources lex_fault.NoMemory f = f ≡ fault.NoMemory
-IsLexFault sources (lex_fault.At k place detail) f = IsRefusal sources (kind.Lex k) place detail f
+IsLexFault sources (lex_fault.At k place detail) f = LacksNoFile k place detail × IsRefusal sources (kind.Lex k) place detail f
 
 -- the refusal of a fault of the parser
 abbrev pub IsParseFault : List SourceText → ParseFault → SourceFault → Type 0

@@ -17,9 +17,6 @@ use source_files::{JoinFault, RootFault, include_path, join_include, read_roots}
 use std::alloc::Global;
 use verilog_lexer::{LexKind, Sources};
 
-/// The most sources.
-const MOST_SOURCES: u32 = 256;
-
 /// A design, and the names of the sources that it was read from: the files of the words, then the included files in the
 /// order of their first use.
 #[derive(Debug, Drop)]
@@ -111,11 +108,10 @@ fn names_of(alloc: Global, sources: &Sources) -> Result<Sequence<Name>, NoMemory
     ensures { IfOk result (λ names. names ≡ map (λ source. source.name) sources.now) }
 {
     let mut names = Sequence::new(alloc);
-    'each: for number in 1..=MOST_SOURCES {
-        let Some(name) = sources.name(number) else {
-            break;
-        };
+    let mut count = 0;
+    'each: while let Some(name) = sources.name(count + 1) {
         names.push(Name::from_vec(name.as_bytes().to_vec(alloc)?))?;
+        count += 1;
     }
     Ok(names)
 }

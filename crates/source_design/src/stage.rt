@@ -57,8 +57,8 @@ fn lex_answer<'a>(
         LexFault::NoMemory => Err(SourceFault::NoMemory),
         LexFault::At {
             kind: LexKind::IncludeMissing,
+            place: Some(_),
             detail: Some(name),
-            ..
         } => Ok(Found::Lacking(name)),
         LexFault::At {
             kind,

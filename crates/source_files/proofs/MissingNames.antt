@@ -22,17 +22,18 @@ use Rattle.verilog_lexer.specs.declared.fault.LexKind.TheVariants.{BadByte, Incl
 use Rattle.verilog_lexer.specs.declared.token.TokenKind.{TokenKind}
 use Rattle.source_files.specs.Files.{Lacks}
 
--- a fault of a missing file has the name of a file as its detail
-abbrev TellsFile : LexKind → Option (List ℕ) → Type 0
-TellsFile IncludeMissing (Some name) = IsTrue (is_file_name name)
-TellsFile IncludeMissing None = ⊥
-TellsFile other detail = Unit {0}
+-- a fault of a missing file has a place, and the name of a file as its detail
+abbrev pub TellsFile : LexKind → Option Place → Option (List ℕ) → Type 0
+TellsFile IncludeMissing (Some place) (Some name) = IsTrue (is_file_name name)
+TellsFile IncludeMissing (Some place) None = ⊥
+TellsFile IncludeMissing None detail = ⊥
+TellsFile other place detail = Unit {0}
 
 -- an answer has what holds of its value, or a fault that tells a file
 Fine : {A : Type 0} → (A → Type 0) → Answer A → Type 0
 Fine P (Ok value) = P value
 Fine P (Err lex_fault.NoMemory) = Unit {0}
-Fine P (Err (lex_fault.At kind place detail)) = TellsFile kind detail
+Fine P (Err (lex_fault.At kind place detail)) = TellsFile kind place detail
 
 abbrev Any : {A : Type 0} → A → Type 0
 Any value = Unit {0}
@@ -41,7 +42,7 @@ ok_fine : {A : Type 0} (P : A → Type 0) (value : A) → P value → Fine P (Ok
 unfolding Fine
 ok_fine P value holds = holds
 
-at_fine : {A : Type 0} (P : A → Type 0) (kind : LexKind) (place : Option Place) (detail : Option (List ℕ)) → TellsFile kind detail → Fine P (Err (lex_fault.At kind place detail))
+at_fine : {A : Type 0} (P : A → Type 0) (kind : LexKind) (place : Option Place) (detail : Option (List ℕ)) → TellsFile kind place detail → Fine P (Err (lex_fault.At kind place detail))
 unfolding Fine
 at_fine P kind place detail tells = tells
 
@@ -59,7 +60,7 @@ if_fine P false a b first second = second
 
 GoodPiece : Piece → Type 0
 GoodPiece (inclusion name n) = IsTrue (is_file_name name)
-GoodPiece (fault kind before) = TellsFile kind None
+GoodPiece (fault kind before) = TellsFile kind None None
 GoodPiece other = Unit {0}
 
 abbrev GoodOption : Option Piece → Type 0
@@ -279,6 +280,10 @@ expanded_fine : (place : Place) (name : List ℕ) (found : Option (List ℕ)) (r
 expanded_fine place name None reading = at_fine GoodStep _ _ _ tt
 expanded_fine place name (Some text) reading = ok_fine GoodStep _ tt
 
+tells_at : (kind : LexKind) (place : Place) → TellsFile kind None None → TellsFile kind (Some place) None
+tells_at IncludeMissing place tells = absurd tells
+tells_at other place tells = tells
+
 meaning_fine : (spot : _) (text : List ℕ) (piece : Piece) (reading : Reading) → GoodPiece piece → Fine GoodStep (meaning spot text piece reading)
 unfolding GoodPiece
 meaning_fine spot text (blank n) reading good = ok_fine GoodStep _ tt
@@ -288,7 +293,7 @@ meaning_fine spot text (undefine name n) reading good = then_fine Any GoodStep (
 meaning_fine spot text (condition test n) reading good = then_fine Any GoodStep (after_test spot.place reading.macros test reading.conditions) _ (after_test_fine spot.place reading.macros test reading.conditions) (λ v p. ok_fine GoodStep _ tt)
 meaning_fine spot text (inclusion name n) reading good = ok_fine GoodStep _ good
 meaning_fine spot text (expansion name n) reading good = expanded_fine spot.place name (reading.macros name) reading
-meaning_fine spot text (fault kind before) reading good = at_fine GoodStep kind _ None good
+meaning_fine spot text (fault kind before) reading good = at_fine GoodStep kind _ None (tells_at kind _ good)
 
 -- ---- texts
 
@@ -314,7 +319,7 @@ scan_fine inner fine (byte ∷ others) ending zero spot reading =
     scan_fine inner fine others ending (piece_length piece - 1) (after spot byte) next))
 
 opened_file_fine : (spot : _) (name : List ℕ) (place : ℕ) (found : Option SourceText) (reading : Reading) → IsTrue (is_file_name name) → Fine Any (opened_file spot name place found reading)
-opened_file_fine spot name place None reading good = at_fine Any IncludeMissing _ (Some name) good
+opened_file_fine spot name place None reading good = at_fine Any IncludeMissing (Some spot.place) (Some name) good
 opened_file_fine spot name place (Some source) reading good = ok_fine Any _ tt
 
 included_fine : (sources : List SourceText) (spot : _) (name : List ℕ) (found : Option ℕ) (reading : Reading) → IsTrue (is_file_name name) → Fine Any (included sources spot name found reading)
@@ -350,7 +355,7 @@ pub missing_name : (sources : List SourceText) (defines : List DefineText) (name
 unfolding Fine
 missing_name sources defines name lacks = subst (Fine Any) lacks.1 (tokens_fine sources defines)
 
--- a missing file has a name
-pub missing_has_name : (sources : List SourceText) (defines : List DefineText) (place : Option Place) → tokens_of sources defines ≡ Err (lex_fault.At IncludeMissing place None) → ⊥
+-- a fault of a missing file has a place and a name
+pub missing_tells : (sources : List SourceText) (defines : List DefineText) (place : Option Place) (detail : Option (List ℕ)) → tokens_of sources defines ≡ Err (lex_fault.At IncludeMissing place detail) → TellsFile IncludeMissing place detail
 unfolding Fine
-missing_has_name sources defines place is = subst (Fine Any) is (tokens_fine sources defines)
+missing_tells sources defines place detail is = subst (Fine Any) is (tokens_fine sources defines)
