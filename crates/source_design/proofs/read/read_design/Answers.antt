@@ -34,7 +34,7 @@ returns-in_err-join_lacking-in-Lacking-clause-fault g c =
     let lacks = subst (Lacks c.lacking.sources words.defines) (sym c.as_slice.ensures) (rw c.in-Lacking.is at c.in_ok-design.ensures.found) in
     let p = err_from_is_err_and c.from_residual-in_err-join_lacking-in-Lacking.result c.from_residual-in_err-join_lacking-in-Lacking.ensures.1 in
     rw (p.1, p.2) (include_fault words (g.H.Host.outside c.args.host.now) (g.H.Host.outside c.lacking.host) (g.H.Host.outside c.join_lacking.new.host) c.lacking.sources c.as_slice.result.now c.lacking.invariant.effects
-      c.in_err-join_lacking-in-Lacking.ensures.effects c.lacking.invariant.begun lacks _ c.in_err-join_lacking-in-Lacking.ensures.fault)
+    c.in_err-join_lacking-in-Lacking.ensures.effects c.lacking.invariant.begun lacks _ c.in_err-join_lacking-in-Lacking.ensures.fault)
 
 pub lacking-preserved : goal.lacking-preserved
 lacking-preserved g c =
