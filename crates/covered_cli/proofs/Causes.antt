@@ -1,6 +1,6 @@
 -- Why a call of the program ends with its status.
-use Rattle.std.proofs.Common.{◌≡◌, ◌⊎◌, ℕ, List, [], ◌∷◌, ◌++◌, Option, None, Some, Ok, Err, sym, ap, subst, refl, ◌∙◌, inl, inr}
-use Rattle.std.specs.Prelude.{Contains, MatchOption, Result, IfErr, OnOk, ◌↔◌}
+use Rattle.std.proofs.Common.{◌≡◌, ℕ, List, Option, None, Some, Ok, Err, sym, ap, refl, ◌∙◌, inl, inr}
+use Rattle.std.specs.Prelude.{Result, IfErr, OnOk, ◌↔◌}
 use Rattle.command_line.specs.Command.{AreWordsOf, CommandValues, IsCommand, score, merge, report, command_values}
 use Rattle.command_line.specs.CommandWords.{IsScore, ScoreValues, score_values}
 use Rattle.command_line.specs.DatabaseWords.{IsMerge, IsReport, MergeValues, ReportValues, merge_values, report_values}

@@ -1,5 +1,5 @@
 -- Why a command ends as it does, where commands over databases are among them.
-use Rattle.std.proofs.Common.{◌≡◌, ◌⊎◌, ℕ, ◌≤◌, List, [], ◌∷◌, ◌++◌, Option, None, Some, refl, sym, ap, subst, ◌∙◌, inl, inr, arith}
+use Rattle.std.proofs.Common.{◌≡◌, ◌⊎◌, ℕ, ◌≤◌, List, [], ◌∷◌, Option, None, Some, refl, sym, ap, subst, inl, inr, arith}
 use Rattle.std.proofs.lemmas.List.Elements.{Contains-append_right}
 use Rattle.std.specs.Global.{Global}
 use Rattle.std.specs.Prelude.{Contains, MatchOption}
@@ -8,8 +8,7 @@ use Rattle.command_line.specs.CommandWords.{IsScore, ScoreValues}
 use Rattle.command_line.specs.DatabaseWords.{IsMerge, IsReport, MergeValues, ReportValues}
 use Rattle.command_line.proofs.OneCommand.{one_merge, one_of_all, one_report}
 use Rattle.cov_host.specs.Outside.{Files as HostFiles, IsCounted, Outside}
-use Rattle.database_commands.specs.Complete.{IsGoodMerge, IsGoodReport}
-use Rattle.database_commands.specs.Faults.{ComesTo, IsMergeFault, IsNoTable, IsReading, IsRefused as IsRefusedFile, IsWriting, inputs_of}
+use Rattle.database_commands.specs.Faults.{ComesTo, IsMergeFault, IsNoTable, IsReading, IsRefused as IsRefusedFile, inputs_of}
 use Rattle.database_commands.specs.Reporting.{IsReportFault}
 use Rattle.database_commands.specs.declared.fault.CommandFault.{CommandFault}
 use Rattle.database_commands.specs.declared.fault.CommandFault.TheVariants as database
@@ -19,7 +18,7 @@ use Rattle.whole_files.specs.declared.call.Call.{Call}
 use Rattle.whole_files.specs.declared.call.Call.TheVariants.{OpenRead, Read, OpenWrite, Write, CloseWrite}
 use Rattle.whole_files.proofs.EffectLemmas.{IsCounted-later}
 use Rattle.covered_cli.specs.Complete.{EndsWith, NoFaults}
-use Rattle.covered_cli.specs.Covered.{HasDatabaseCause, HasEarlyStatus, HasFilesCause, HasGoodDatabases, HasNoTable, IsIncluded, IsInput, MissesFile}
+use Rattle.covered_cli.specs.Covered.{HasDatabaseCause, HasEarlyStatus, HasFilesCause, HasGoodDatabases, IsIncluded, IsInput}
 use Rattle.covered_cli.specs.Databases.{database_status}
 use Rattle.covered_cli.specs.Fault.{IsEarly, IsRefused, NamesFile, Stands, StandsInDatabases, status_of}
 use Rattle.source_files.specs.Joining.{IsRefusedCall}

@@ -1,8 +1,8 @@
 -- From what was read to what a score says.
-use Rattle.std.proofs.Common.{◌≡◌, ◌⊎◌, ℕ, ◌≤◌, List, Option, None, Some, Ok, Err, refl, sym, subst, ◌∙◌, inl, inr, arith}
-use Rattle.std.specs.Prelude.{IfErr, IfSome, IsSomeAnd, MatchOption, Result, OnOk}
+use Rattle.std.proofs.Common.{◌≡◌, ◌⊎◌, ℕ, ◌≤◌, List, Option, None, Some, Ok, Err, sym, subst, ◌∙◌, inl, inr}
+use Rattle.std.specs.Prelude.{IfErr, IfSome, MatchOption, Result, OnOk}
 use Rattle.command_line.specs.Command.{IsCommand, command_values}
-use Rattle.command_line.specs.CommandWords.{ScoreValues, score_values}
+use Rattle.command_line.specs.CommandWords.{ScoreValues}
 use Rattle.command_line.specs.declared.command.Command.{Command}
 use Rattle.cov_host.specs.Outside.{Outside, Files, IsCounted, KeepsFiles, SameFiles, Told, HasFile}
 use Rattle.covered_cli.specs.Covered.{KeepsOthers}
@@ -13,7 +13,6 @@ use Rattle.covered_cli.specs.declared.fault.Fault.TheVariants.{Usage, Source, Du
 use Rattle.design_model.specs.declared.design.Design.{Design}
 use Rattle.coverage_db.specs.Text.{text_of}
 use Rattle.coverage_db.specs.declared.db.Db.{Db}
-use Rattle.dump_score.specs.Reading.{IsFile}
 use Rattle.dump_score.specs.Scoring.{IsScoreOfFile}
 use Rattle.input_runs.proofs.Reasoned.{reasoned_table}
 use Rattle.input_runs.proofs.Sound.{sound_table}

@@ -1,5 +1,5 @@
 -- What the values of a `score` command say of its sources.
-use Rattle.std.specs.Prelude.{List, map}
+use Rattle.std.specs.Prelude.{map}
 use Rattle.command_line.specs.CommandWords.{ScoreValues}
 use Rattle.command_line.specs.Define.{Define}
 use Rattle.verilog_lexer.specs.Defines.{DefineText}

@@ -1,7 +1,7 @@
 -- What a `score` command reads and writes, and why it cannot.
 use Rattle.std.specs.Prelude.{◌≡◌, ℕ, false, List, map, slice_index_or, All}
 use Rattle.std.specs.List.{list_any}
-use Rattle.command_line.specs.CommandWords.{IsScore, ScoreValues, score_values}
+use Rattle.command_line.specs.CommandWords.{ScoreValues}
 use Rattle.command_line.specs.Command.{AreWordsOf, CommandValues, score as of_score, merge as of_merge, report as of_report, command_values}
 use Rattle.command_line.specs.declared.command.Command.{Command}
 use Rattle.cov_host.specs.Outside.{Outside, HasFile, Told}
