@@ -5,7 +5,7 @@
 
 PREFIX ?= /usr/local
 PROGRAM = crates/covered/out/covered
-STAGE = inputs
+STAGE = frontend
 # parts of later stages that stand already: dumps, bindings, merge and report
 AHEAD = merge-report pieces assigns
 ROWS ?= $(firstword $(wildcard ../*/rows))

@@ -1,11 +1,11 @@
 -- Items, and one more of them.
-use Rattle.std.proofs.Common.{◌≡◌, ◌∙◌, ◌⊎◌, ℕ, ◌+◌, ◌≤◌, ◌==◌, Bool, true, false, cond, sym, ap, refl, subst, arith, inl, inr, List, [], ◌∷◌, ◌++◌, length, append_assoc, append-nil, length-append, Option, Some, None, IsTrue}
+use Rattle.std.proofs.Common.{◌≡◌, ◌∙◌, ℕ, ◌≤◌, Bool, true, false, cond, sym, ap, refl, subst, arith, List, [], ◌∷◌, ◌++◌, length, append_assoc, append-nil, length-append, Option, Some, None}
 use Rattle.std.proofs.lemmas.Bool.{false≢true, eqb-true}
 use Rattle.std.proofs.lemmas.Option.{none-some}
 use Rattle.command_line.specs.declared.database_command.DatabaseCommand.{DatabaseCommand}
-use Rattle.command_line.specs.declared.database_command.DatabaseCommand.TheVariants.{Merge, Report}
+use Rattle.command_line.specs.declared.database_command.DatabaseCommand.TheVariants.{Report}
 use Rattle.command_line.specs.declared.database_option.DatabaseOption.{DatabaseOption}
-use Rattle.command_line.specs.DatabaseOption.{has_room, is_same}
+use Rattle.command_line.specs.DatabaseOption.{is_same}
 use Rattle.command_line.specs.DatabaseWords.{Item, file, given, item_words, spelled, files_in, value_in, MayFollow, AreItems}
 use Rattle.command_line.proofs.DatabaseOptions.{is_same-both}
 

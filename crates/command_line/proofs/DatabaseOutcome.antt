@@ -1,15 +1,14 @@
 -- What the words of a command that reads databases come to, as a function of them: so they come to one thing only.
-use Rattle.std.proofs.Common.{◌≡◌, ◌∙◌, ◌⊎◌, ℕ, ◌==◌, ◌&&◌, Bool, cond, true, false, sym, ap, refl, inl, inr, List, [], ◌∷◌, ◌++◌, length, append_assoc, append-nil, Option, Some, None, Result, Ok, Err, is_some, codes}
+use Rattle.std.proofs.Common.{◌≡◌, ◌∙◌, ℕ, ◌==◌, ◌&&◌, Bool, cond, true, false, sym, ap, refl, inl, inr, List, [], ◌∷◌, ◌++◌, length, append_assoc, append-nil, Option, Some, None, Result, Ok, Err, is_some, codes}
 use Rattle.std.proofs.lemmas.Bool.{and_from, and_left, and_right, cases_Bool}
 use Rattle.command_line.specs.declared.database_command.DatabaseCommand.{DatabaseCommand}
-use Rattle.command_line.specs.declared.database_command.DatabaseCommand.TheVariants.{Merge, Report}
 use Rattle.command_line.specs.declared.database_option.DatabaseOption.{DatabaseOption}
 use Rattle.command_line.specs.declared.database_option.DatabaseOption.TheVariants.{Output}
 use Rattle.command_line.specs.declared.usage_fault.UsageFault.{UsageFault}
 use Rattle.command_line.specs.declared.usage_fault.UsageFault.TheVariants.{NoCommand, UnknownCommand, UnknownWord, GivenTwice, NeedsValue, BadValue, Missing}
 use Rattle.command_line.specs.DatabaseFault.{missing_of, DatabaseFaultAfter, IsNoDatabase}
-use Rattle.command_line.specs.DatabaseOption.{accepts, has_room, is_database_name, option_text, takes_value, IsNoOptionOf, IsOptionOf}
-use Rattle.command_line.specs.DatabaseWords.{Item, file, given, command_text, value_words, spelled, files_in, value_in, AreItems, IsUpTo}
+use Rattle.command_line.specs.DatabaseOption.{accepts, has_room, is_database_name, option_text, takes_value}
+use Rattle.command_line.specs.DatabaseWords.{Item, file, given, value_words, spelled, files_in, value_in, AreItems}
 use Rattle.command_line.specs.UsageFault.{usage_text}
 use Rattle.command_line.proofs.DatabaseOptions.{empty_value, named, named_none, named_option, no_option_text}
 

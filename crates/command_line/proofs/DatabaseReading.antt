@@ -1,5 +1,5 @@
 -- What was read of a command that reads databases, and what one more word tells.
-use Rattle.std.proofs.Common.{◌≡◌, ◌∙◌, ◌⊎◌, ℕ, ◌==◌, Bool, true, false, cond, sym, ap, refl, subst, arith, inl, inr, List, [], ◌∷◌, ◌++◌, length, append_assoc, append-nil, length-append, Option, Some, None, is_none, is_some}
+use Rattle.std.proofs.Common.{◌≡◌, ◌∙◌, ◌⊎◌, ℕ, ◌==◌, true, false, cond, sym, ap, refl, subst, arith, inl, inr, List, [], ◌∷◌, ◌++◌, length, append_assoc, append-nil, length-append, Option, Some, None, is_none, is_some}
 use Rattle.std.proofs.lemmas.Bool.{ne_eqb}
 use Rattle.std.specs.Prelude.{unwrap_or}
 use Rattle.command_line.specs.declared.database_command.DatabaseCommand.{DatabaseCommand}
@@ -9,17 +9,15 @@ use Rattle.command_line.specs.declared.database_option.DatabaseOption.TheVariant
 use Rattle.command_line.specs.declared.given_words.GivenWords.{GivenWords}
 use Rattle.command_line.specs.declared.merge_words.MergeWords.{MergeWords}
 use Rattle.command_line.specs.declared.report_words.ReportWords.{ReportWords}
-use Rattle.command_line.specs.declared.usage_fault.UsageFault.{UsageFault}
-use Rattle.command_line.specs.declared.usage_fault.UsageFault.TheVariants.{UnknownWord, GivenTwice, NeedsValue, BadValue, Missing}
-use Rattle.command_line.specs.DatabaseFault.{missing_of, IsNoDatabase, HasDatabaseFault}
+use Rattle.command_line.specs.DatabaseFault.{missing_of, IsNoDatabase}
 use Rattle.command_line.specs.DatabaseFiles.{files_among}
-use Rattle.command_line.specs.DatabaseOption.{accepts, has_room, is_database_name, is_same, option_text, takes_value, IsOptionOf, IsNoOptionOf}
-use Rattle.command_line.specs.DatabaseWords.{Item, file, given, command_text, value_words, files_in, value_in, IsUpTo, IsMerge, IsReport, merge_values, report_values}
+use Rattle.command_line.specs.DatabaseOption.{accepts, has_room, is_database_name, is_same, option_text, IsOptionOf}
+use Rattle.command_line.specs.DatabaseWords.{Item, file, given, command_text, value_words, files_in, value_in, IsMerge, IsReport, merge_values, report_values}
 use Rattle.command_line.specs.ReportLevel.{level_of}
 use Rattle.command_line.specs.ReportMetrics.{metrics_of}
 use Rattle.command_line.specs.GivenWords.{AreFiles, HasRead, GivesMerge, GivesReport, IsMissing, files_from, value_of}
 use Rattle.command_line.proofs.DatabaseItems.{spelled-push, files_in-append, value_in-file, value_in-given, AreItems-push, the_one_file}
-use Rattle.command_line.proofs.DatabaseOptions.{empty_accepted, no_option_named}
+use Rattle.command_line.proofs.DatabaseOptions.{no_option_named}
 use Rattle.command_line.proofs.FilesAmong.{files_among-file, files_among-given}
 
 -- nothing was read after the command

@@ -1,55 +1,114 @@
 -- Options with their values, and one more of them.
-use Rattle.std.proofs.Common.{◌≡◌, ◌∙◌, Bool, true, false, cond, sym, ap, refl, List, [], ◌∷◌, ◌++◌, Option, Some, None, IsTrue}
-use Rattle.std.proofs.lemmas.Bool.{false≢true}
-use Rattle.std.proofs.lemmas.Option.{none-some}
+use Rattle.std.proofs.Common.{◌≡◌, ◌∙◌, ◌+◌, ◌≤◌, ◌==◌, ◌||◌, ℕ, suc, Bool, true, false, cond, sym, ap, refl, arith, List, [], ◌∷◌, ◌++◌, length, length-append, append-nil, Option, Some, None, IsTrue, is_none, subst}
+use Rattle.std.specs.List.{AllByRecursion, last_or}
+use Rattle.std.proofs.lemmas.Bool.{eqb-true, ne_eqb}
 use Rattle.command_line.specs.declared.score_option.ScoreOption.{ScoreOption}
-use Rattle.command_line.specs.ScoreOption.{option_text, is_same, accepts}
-use Rattle.command_line.specs.CommandWords.{GivenOption, spelled, value_in, AreGiven}
-use Rattle.command_line.proofs.OptionLemmas.{is_same-both, is_same-other}
+use Rattle.command_line.specs.CommandWords.{GivenOption, spelled, values_in, is_absent, may_follow, at_most_one, AreGiven}
+use Rattle.command_line.specs.OptionValues.{values_among}
+use Rattle.command_line.specs.ScoreOption.{option_text, is_same, accepts, repeats}
+use Rattle.command_line.proofs.OptionLemmas.{same_option, is_same-self}
 
 pub spelled-append : (given more : List GivenOption) → spelled (given ++ more) ≡ spelled given ++ spelled more
 spelled-append [] more = refl
 spelled-append (x ∷ given) more = ap (λ words. option_text x.option ∷ x.value ∷ words) (spelled-append given more)
 
--- two choices of which not both are made may be made in either order
-swap_choices : {A : Type 0} (first second : Bool) (x y z : A) → (first ≡ true → second ≡ true → ⊥) → cond first x (cond second y z) ≡ cond second y (cond first x z)
-swap_choices true true x y z h = absurd (h refl refl)
-swap_choices true false x y z h = refl
-swap_choices false true x y z h = refl
-swap_choices false false x y z h = refl
+-- the values of an option among the words of options are those that it was given
+pub values_among-spelled : (given : List GivenOption) (option : ScoreOption) → values_among option (spelled given) ≡ values_in given option
+values_among-spelled [] option = refl
+values_among-spelled (x ∷ given) option = ap (λ values. cond (is_same x.option option) (x.value ∷ values) values) (values_among-spelled given option)
 
--- nothing is chosen of a value and an option
-no_choice : {A : Type 0} (b : Bool) (x : A) (o : Option A) → cond b (Some x) o ≡ None → (b ≡ false) × (o ≡ None)
-no_choice true x o h = absurd (none-some x (sym h))
-no_choice false x o h = (refl, h)
+values_in-append : (given more : List GivenOption) (option : ScoreOption) → values_in (given ++ more) option ≡ values_in given option ++ values_in more option
+values_in-append [] more option = refl
+values_in-append (x ∷ given) more option =
+    let rest = values_in-append given more option in
+    elim (is_same x.option option) as (λ b. cond b (x.value ∷ values_in (given ++ more) option) (values_in (given ++ more) option) ≡ cond b (x.value ∷ values_in given option) (values_in given option) ++ values_in more option) [
+      | true ↦ ap (λ values. x.value ∷ values) rest
+      | false ↦ rest
+    ]
 
--- after one more option, which had no value
-pub value_in-push : (given : List GivenOption) (x : GivenOption) (option : ScoreOption) → value_in given x.option ≡ None → value_in (given ++ x ∷ []) option ≡ cond (is_same x.option option) (Some x.value) (value_in given option)
-value_in-push [] x option h = refl
-value_in-push (g ∷ given) x option h =
-    let absent = no_choice (is_same g.option x.option) g.value (value_in given x.option) h in
-    let pushed = value_in-push given x option absent.1 in
-    let apart = λ (p : is_same g.option option ≡ true) (q : is_same x.option option ≡ true). false≢true (sym absent.0 ∙ is_same-both g.option x.option option p q) in
-    ap (cond (is_same g.option option) (Some g.value)) pushed ∙ swap_choices (is_same g.option option) (is_same x.option option) (Some g.value) (Some x.value) (value_in given option) apart
+values_in-length : (given more : List GivenOption) (option : ScoreOption) → length (values_in (given ++ more) option) ≡ length (values_in given option) + length (values_in more option)
+values_in-length given more option = ap length (values_in-append given more option) ∙ length-append (values_in given option) (values_in more option)
 
--- options with their values stay so with one more, which had no value
-pub AreGiven-push : (given : List GivenOption) (x : GivenOption) → AreGiven given → IsTrue (accepts x.option x.value) → value_in given x.option ≡ None → AreGiven (given ++ x ∷ [])
-AreGiven-push [] x are_given form h = (form, refl, tt)
-AreGiven-push (g ∷ given) x are_given form h =
-    let absent = no_choice (is_same g.option x.option) g.value (value_in given x.option) h in
-    let other = is_same-other g.option x.option absent.0 in
-    let pushed = value_in-push given x g.option absent.1 in
-    (are_given.0, pushed ∙ ap (λ b. cond b (Some x.value) (value_in given g.option)) other ∙ are_given.1, AreGiven-push given x are_given.2 form absent.1)
+last_or-push : (before : Option (List ℕ)) (values : List (List ℕ)) (value : List ℕ) → last_or before (values ++ value ∷ []) ≡ Some value
+last_or-push before [] value = refl
+last_or-push before (first ∷ values) value = last_or-push (Some first) values value
 
--- an option that has no value is none of those that were given
-value_in-absent : (front : List GivenOption) (x : GivenOption) (more : List GivenOption) (option : ScoreOption) → value_in (front ++ x ∷ more) option ≡ None → is_same x.option option ≡ false
-value_in-absent [] x more option h = (no_choice (is_same x.option option) x.value (value_in more option) h).0
-value_in-absent (g ∷ front) x more option h = value_in-absent front x more option (no_choice (is_same g.option option) g.value (value_in (front ++ x ∷ more) option) h).1
+-- after one more option its value is the last
+pub last_value-push : (given : List GivenOption) (x : GivenOption) (option : ScoreOption) → last_or None (values_in (given ++ x ∷ []) option) ≡ cond (is_same x.option option) (Some x.value) (last_or None (values_in given option))
+last_value-push given x option =
+    ap (last_or None) (values_in-append given (x ∷ []) option)
+    ∙ elim (is_same x.option option) as (λ b. last_or None (values_in given option ++ cond b (x.value ∷ []) []) ≡ cond b (Some x.value) (last_or None (values_in given option))) [
+      | true ↦ last_or-push None (values_in given option) x.value
+      | false ↦ ap (last_or None) (append-nil (values_in given option))
+    ]
 
--- of options with their values each has a value of its form, and had none before
-pub AreGiven-at : (front : List GivenOption) (x : GivenOption) (more : List GivenOption) → AreGiven (front ++ x ∷ more) → (value_in front x.option ≡ None) × (accepts x.option x.value ≡ true)
-AreGiven-at [] x more h = (refl, h.0)
-AreGiven-at (g ∷ front) x more h =
-    let at = AreGiven-at front x more h.2 in
-    let other = is_same-other x.option g.option (value_in-absent front x more g.option h.1) in
-    (ap (λ b. cond b (Some g.value) (value_in front x.option)) other ∙ at.0, at.1)
+last_or-some : (before : List ℕ) (values : List (List ℕ)) → is_none (last_or (Some before) values) ≡ false
+last_or-some before [] = refl
+last_or-some before (value ∷ values) = last_or-some value values
+
+-- a list with a first element is not empty
+pub not_empty : (first : List ℕ) (others : List (List ℕ)) → (length (first ∷ others) == 0) ≡ false
+not_empty first others = ne_eqb (length (first ∷ others)) 0 (λ e. omega (arith, e))
+
+-- a list is empty where it has no last value
+pub absent_last : (values : List (List ℕ)) → (length values == 0) ≡ is_none (last_or None values)
+absent_last [] = refl
+absent_last (value ∷ values) = not_empty value values ∙ sym (last_or-some value values)
+
+-- of at most one value the last is all
+pub few_values : (values : List (List ℕ)) → length values ≤ 1 → values ≡ at_most_one (last_or None values)
+few_values [] few = refl
+few_values (value ∷ []) few = refl
+few_values (value ∷ second ∷ values) few = absurd (omega (arith, few))
+
+-- an option that does not repeat follows only where it has no value
+no_value : (given : List GivenOption) (option : ScoreOption) → repeats option ≡ false → may_follow given option ≡ true → length (values_in given option) ≡ 0
+no_value given option single may = eqb-true (length (values_in given option)) 0 (sym (ap (λ b. b || is_absent given option) single) ∙ may)
+
+once-push : (given : List GivenOption) (x : GivenOption) → AreGiven given → may_follow given x.option ≡ true → (option : ScoreOption) → repeats option ≡ false → length (values_in (given ++ x ∷ []) option) ≤ 1
+once-push given x are may option single = go (is_same x.option option) refl
+  where
+    go : (t : Bool) → is_same x.option option ≡ t → length (values_in (given ++ x ∷ []) option) ≤ 1
+    go true e =
+        let one : length (values_in (x ∷ []) option) ≡ 1 = ap (λ b. length (cond b (x.value ∷ []) [])) e in
+        let none = no_value given option single (sym (ap (may_follow given) (same_option x.option option e)) ∙ may) in
+        omega (arith, values_in-length given (x ∷ []) option, one, none)
+    go false e =
+        let none : length (values_in (x ∷ []) option) ≡ 0 = ap (λ b. length (cond b (x.value ∷ []) [])) e in
+        omega (arith, values_in-length given (x ∷ []) option, none, are.once option single)
+
+forms-push : (given : List GivenOption) (x : GivenOption) → AllByRecursion (λ one. IsTrue (accepts one.option one.value)) given → IsTrue (accepts x.option x.value) → AllByRecursion (λ one. IsTrue (accepts one.option one.value)) (given ++ x ∷ [])
+forms-push [] x forms form = (form, tt)
+forms-push (first ∷ given) x forms form = (forms.0, forms-push given x forms.1 form)
+
+-- options with their values stay so with one more, which may follow them
+pub AreGiven-push : (given : List GivenOption) (x : GivenOption) → AreGiven given → IsTrue (accepts x.option x.value) → may_follow given x.option ≡ true → AreGiven (given ++ x ∷ [])
+AreGiven-push given x are form may = record { forms = forms-push given x are.forms form; once = once-push given x are may }
+
+-- each of options with their values may follow those before it
+pub may_follow-at : (front : List GivenOption) (x : GivenOption) (more : List GivenOption) → AreGiven (front ++ x ∷ more) → may_follow front x.option ≡ true
+may_follow-at front x more are = go (repeats x.option) refl
+  where
+    go : (t : Bool) → repeats x.option ≡ t → may_follow front x.option ≡ true
+    go true e = ap (λ b. b || is_absent front x.option) e
+    go false e =
+        let first : length (values_in (x ∷ more) x.option) ≡ suc (length (values_in more x.option)) = ap (λ b. length (cond b (x.value ∷ values_in more x.option) (values_in more x.option))) (is_same-self x.option) in
+        let none : length (values_in front x.option) ≡ 0 = omega (arith, values_in-length front (x ∷ more) x.option, first, are.once x.option e) in
+        ap (λ b. b || is_absent front x.option) e ∙ ap (λ n. n == 0) none
+
+-- and has a value of its form
+pub form-at : (front : List GivenOption) (x : GivenOption) (more : List GivenOption) → AllByRecursion (λ one. IsTrue (accepts one.option one.value)) (front ++ x ∷ more) → accepts x.option x.value ≡ true
+form-at [] x more forms = forms.0
+form-at (first ∷ front) x more forms = form-at front x more forms.1
+
+-- so has each value that an option was given
+pub values_accepted : (given : List GivenOption) (option : ScoreOption) → AllByRecursion (λ one. IsTrue (accepts one.option one.value)) given → AllByRecursion (λ value. IsTrue (accepts option value)) (values_in given option)
+values_accepted [] option forms = tt
+values_accepted (x ∷ given) option forms = go (is_same x.option option) refl (values_accepted given option forms.1)
+  where
+    here : is_same x.option option ≡ true → IsTrue (accepts option x.value)
+    here same = subst (λ o. IsTrue (accepts o x.value)) (same_option x.option option same) forms.0
+
+    go : (t : Bool) → is_same x.option option ≡ t → AllByRecursion (λ value. IsTrue (accepts option value)) (values_in given option) → AllByRecursion (λ value. IsTrue (accepts option value)) (cond t (x.value ∷ values_in given option) (values_in given option))
+    go true same others = (here same, others)
+    go false same others = others

@@ -1,6 +1,7 @@
 pub mod OptionLemmas
 pub mod GivenLemmas
 pub mod ScoreReading
+pub mod ScoreForms
 pub mod ScoreOutcome
 pub mod DatabaseOptions
 pub mod FilesAmong

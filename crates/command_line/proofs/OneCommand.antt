@@ -1,28 +1,34 @@
 -- Words are one command at most.
-use Rattle.std.proofs.Common.{◌≡◌, ◌∙◌, ℕ, Bool, List, ◌∷◌, Option, sym, ap}
+use Rattle.std.proofs.Common.{◌≡◌, ◌∙◌, ℕ, Bool, List, Option, Some, None, refl, sym, ap}
+use Rattle.std.specs.List.{last_or}
 use Rattle.command_line.specs.declared.report_level.ReportLevel.{ReportLevel}
 use Rattle.command_line.specs.declared.report_metrics.ReportMetrics.{ReportMetrics}
-use Rattle.command_line.specs.declared.score_option.ScoreOption.{ScoreOption}
 use Rattle.command_line.specs.Command.{AreWordsOf, CommandValues, score, merge, report}
-use Rattle.command_line.specs.CommandWords.{AreValues, IsScore, ScoreValues, value_in}
+use Rattle.command_line.specs.CommandWords.{at_most_one, AreValues, GivenOption, IsScore, ScoreValues}
+use Rattle.command_line.specs.Define.{Define}
 use Rattle.command_line.specs.DatabaseWords.{AreMergeValues, AreReportValues, IsMerge, IsReport, Item, MergeValues, ReportValues}
 use Rattle.command_line.proofs.Outcome.{outcome_of-score, outcome_of-merge, outcome_of-report}
 
--- five values as one
-all_five : (top instance source dump output : List ℕ) → ScoreValues
-all_five top instance source dump output = record { top = top; instance = instance; source = source; dump = dump; output = output }
+-- the values as one
+all_values : (top instance : List ℕ) (sources : List (List ℕ)) (defines : List Define) (folder : Option (List ℕ)) (dump output : List ℕ) → ScoreValues
+all_values top instance sources defines folder dump output = record { top = top; instance = instance; sources = sources; defines = defines; folder = folder; dump = dump; output = output }
+
+last_of_one : (value : Option (List ℕ)) → last_or None (at_most_one value) ≡ value
+last_of_one None = refl
+last_of_one (Some value) = refl
 
 -- options have one value each
-one_values : (value : ScoreOption → Option (List ℕ)) (a b : ScoreValues) → AreValues value a → AreValues value b → a ≡ b
-unfolding all_five
-one_values value a b are_a are_b =
-    let e : all_five a.top a.instance a.source a.dump a.output ≡ all_five b.top b.instance b.source b.dump b.output = cc in e
+one_values : (given : List GivenOption) (a b : ScoreValues) → AreValues given a → AreValues given b → a ≡ b
+unfolding all_values
+one_values given a b are_a are_b =
+    let folder : a.folder ≡ b.folder = sym (last_of_one a.folder) ∙ ap (last_or None) (sym are_a.folder ∙ are_b.folder) ∙ last_of_one b.folder in
+    let e : all_values a.top a.instance a.sources a.defines a.folder a.dump a.output ≡ all_values b.top b.instance b.sources b.defines b.folder b.dump b.output = cc in e
 
 pub one_command : (words : List (List ℕ)) (a b : ScoreValues) → IsScore words a → IsScore words b → a ≡ b
 one_command words a b score_a score_b =
     let e = sym (outcome_of-score words a score_a) ∙ outcome_of-score words b score_b in
-    let same : value_in score_b.0 ≡ value_in score_a.0 = cc in
-    one_values (value_in score_a.0) a b score_a.2 (rw (same) at score_b.2)
+    let same : score_b.0 ≡ score_a.0 = cc in
+    one_values score_a.0 a b score_a.2 (rw (same) at score_b.2)
 
 merge_of : (output first : List ℕ) (others : List (List ℕ)) → MergeValues
 merge_of output first others = record { output = output; first = first; others = others }

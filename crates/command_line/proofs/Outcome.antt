@@ -1,18 +1,20 @@
 -- What words come to, as a function of them: a command, or the text of a fault.
-use Rattle.std.proofs.Common.{◌≡◌, ◌∙◌, ◌⊎◌, ℕ, cond, true, false, sym, ap, refl, inl, inr, List, [], ◌∷◌, ◌++◌, Option, Some, None, Result, Ok, Err, codes}
+use Rattle.std.proofs.Common.{◌≡◌, ◌∙◌, ◌⊎◌, ◌==◌, ℕ, cond, false, sym, ap, refl, inl, inr, List, [], ◌∷◌, ◌++◌, length, Some, None, Result, Ok, Err, codes}
 use Rattle.std.specs.Str.{bytes_eq}
 use Rattle.std.proofs.lemmas.Bool.{false_from_ne_true}
 use Rattle.std.proofs.lemmas.Slice.Eq.{bytes_eq-Decides}
 use Rattle.command_line.specs.declared.database_command.DatabaseCommand.{DatabaseCommand}
 use Rattle.command_line.specs.declared.database_command.DatabaseCommand.TheVariants.{Merge, Report}
 use Rattle.command_line.specs.declared.database_option.DatabaseOption.TheVariants.{Output}
+use Rattle.command_line.specs.declared.score_option.ScoreOption.TheVariants.{Source}
 use Rattle.command_line.specs.declared.usage_fault.UsageFault.{UsageFault}
-use Rattle.command_line.specs.declared.usage_fault.UsageFault.TheVariants.{NoCommand, UnknownCommand, UnknownWord, GivenTwice, NeedsValue, BadValue, Missing}
+use Rattle.command_line.specs.declared.usage_fault.UsageFault.TheVariants.{NoCommand, UnknownCommand}
 use Rattle.command_line.specs.Command.{AreWordsOf, CommandValues, score, merge, report}
-use Rattle.command_line.specs.CommandWords.{AreValues, GivenOption, IsScore, ScoreValues, value_in}
+use Rattle.command_line.specs.CommandWords.{is_absent, AreValues, GivenOption, IsScore, ScoreValues}
 use Rattle.command_line.specs.DatabaseFault.{missing_of, HasDatabaseFault}
 use Rattle.command_line.specs.DatabaseWords.{AreMergeValues, AreReportValues, Item, IsMerge, IsReport, IsUpTo, MergeValues, ReportValues, command_text, files_in, value_in as item_value}
 use Rattle.command_line.specs.UsageFault.{usage_text, HasScoreFault, HasUsageFault}
+use Rattle.command_line.proofs.GivenLemmas.{not_empty}
 use Rattle.command_line.proofs.DatabaseOutcome as database
 use Rattle.command_line.proofs.ScoreOutcome as scoring
 
@@ -64,8 +66,14 @@ outcome_of-fault words (UnknownCommand word) h =
 outcome_of-fault words fault h = outcome_of-any_fault words fault h
 
 -- all that a command needs was given
-score_end : (given : List GivenOption) (values : ScoreValues) → AreValues (value_in given) values → scoring.outcome given [] ≡ Ok given
-score_end given values are = rw (are.top, are.instance, are.source, are.dump, are.output)
+is_some_value : (values : List (List ℕ)) → (values ≡ [] → ⊥) → (length values == 0) ≡ false
+is_some_value [] some = absurd (some refl)
+is_some_value (value ∷ values) some = not_empty value values
+
+score_end : (given : List GivenOption) (values : ScoreValues) → AreValues given values → scoring.outcome given [] ≡ Ok given
+score_end given values are =
+    let source : is_absent given Source ≡ false = ap (λ values. length values == 0) are.sources ∙ is_some_value values.sources are.some in
+    rw (are.top, are.instance, source, are.dump, are.output)
 
 several_files : (output first : List ℕ) (others : List (List ℕ)) → (others ≡ [] → ⊥) → missing_of Merge (Some output) (first ∷ others) ≡ None
 several_files output first [] some = absurd (some refl)

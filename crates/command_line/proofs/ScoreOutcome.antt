@@ -1,22 +1,25 @@
 -- What words come to, as a function of them: so they come to one thing only.
-use Rattle.std.proofs.Common.{◌≡◌, ◌∙◌, ℕ, cond, true, ap, refl, List, [], ◌∷◌, ◌++◌, append_assoc, Option, Some, None, Result, Ok, Err, is_some, codes}
+use Rattle.std.proofs.Common.{◌≡◌, ◌∙◌, ℕ, cond, false, ap, refl, List, [], ◌∷◌, ◌++◌, append_assoc, Option, Some, None, Result, Ok, Err, codes}
 use Rattle.std.specs.List.{find}
 use Rattle.std.specs.Str.{bytes_eq}
 use Rattle.std.proofs.lemmas.Bool.{false_from_ne_true}
 use Rattle.std.proofs.lemmas.List.{append-nil}
 use Rattle.std.proofs.lemmas.Slice.Eq.{bytes_eq-Decides}
 use Rattle.command_line.specs.declared.score_option.ScoreOption.{ScoreOption}
-use Rattle.command_line.specs.declared.score_option.ScoreOption.TheVariants.{Top, Instance, Source, Dump, Output}
+use Rattle.command_line.specs.declared.score_option.ScoreOption.TheVariants.{Top, Instance, Source, Define, Folder, Dump, Output}
 use Rattle.command_line.specs.declared.usage_fault.UsageFault.{UsageFault}
 use Rattle.command_line.specs.declared.usage_fault.UsageFault.TheVariants.{NoCommand, UnknownCommand, UnknownWord, GivenTwice, NeedsValue, BadValue, Missing}
-use Rattle.command_line.specs.ScoreOption.{options, option_text, accepts}
-use Rattle.command_line.specs.CommandWords.{GivenOption, spelled, value_in, AreGiven, IsScoreUpTo, IsScore, ScoreValues}
-use Rattle.command_line.specs.UsageFault.{usage_text, first_missing, IsNoOption, FaultAfter, HasUsageFault}
-use Rattle.command_line.proofs.GivenLemmas.{AreGiven-at}
+use Rattle.command_line.specs.ScoreOption.{option_text, accepts}
+use Rattle.command_line.specs.CommandWords.{GivenOption, spelled, is_absent, may_follow, AreGiven}
+use Rattle.command_line.specs.UsageFault.{usage_text, first_missing, IsNoOption, FaultAfter}
+use Rattle.command_line.proofs.GivenLemmas.{form-at, may_follow-at}
 
 -- what words come to: options with their values, or the text of a fault
 abbrev pub Outcome : Type 0
 Outcome = Result (List GivenOption) (List ℕ)
+
+abbrev pub options : List ScoreOption
+options = Top ∷ Instance ∷ Source ∷ Define ∷ Folder ∷ Dump ∷ Output ∷ []
 
 -- the option that a word is
 pub named : List ℕ → Option ScoreOption
@@ -27,14 +30,14 @@ abbrev pub at_end : List GivenOption → Option ScoreOption → Outcome
 at_end given None = Ok given
 at_end given (Some option) = Err (codes "missing " ++ option_text option)
 
--- at a word that is this option, if any, and comes to next if it has no value
+-- at a word that is this option, if any, and comes to next if it may stand there
 abbrev pub at_option : List GivenOption → List ℕ → Option ScoreOption → (ScoreOption → Outcome) → Outcome
 at_option given word None next = Err (codes "unknown word " ++ word)
-at_option given word (Some option) next = cond (is_some (value_in given option)) (Err (word ++ codes " given twice")) (next option)
+at_option given word (Some option) next = cond (may_follow given option) (next option) (Err (word ++ codes " given twice"))
 
 -- after options with their values
 abbrev pub outcome : List GivenOption → List (List ℕ) → Outcome
-outcome given [] = at_end given (first_missing (value_in given))
+outcome given [] = at_end given (first_missing (is_absent given))
 outcome given (word ∷ []) = at_option given word (named word) (λ option. Err (word ++ codes " needs a value"))
 outcome given (word ∷ value ∷ left) = at_option given word (named word) (λ option. cond (accepts option value) (outcome (given ++ record { option = option; value = value } ∷ []) left) (Err (codes "bad value " ++ value)))
 
@@ -43,6 +46,8 @@ unfolding named
 named_text Top = refl
 named_text Instance = refl
 named_text Source = refl
+named_text Define = refl
+named_text Folder = refl
 named_text Dump = refl
 named_text Output = refl
 
@@ -53,15 +58,16 @@ named_none : (word : List ℕ) → IsNoOption word → named word ≡ None
 unfolding named
 named_none word h =
     let other = λ (option : ScoreOption). false_from_ne_true (bytes_eq word (option_text option)) (λ e. h option ((bytes_eq-Decides word (option_text option)).0 e)) in
-    rw (other Top, other Instance, other Source, other Dump, other Output)
+    rw (other Top, other Instance, other Source, other Define, other Folder, other Dump, other Output)
 
 -- options with their values are read one by one
 outcome-spelled : (front more : List GivenOption) (left : List (List ℕ)) → AreGiven (front ++ more) → outcome front (spelled more ++ left) ≡ outcome (front ++ more) left
 outcome-spelled front [] left h = rw append-nil
 outcome-spelled front (x ∷ more) left h =
-    let at = AreGiven-at front x more h in
+    let may = may_follow-at front x more h in
+    let form = form-at front x more h.forms in
     let next = outcome-spelled (front ++ x ∷ []) more left (rw append_assoc h) in
-    rw (named_text x.option, at.0, at.1, next, append_assoc)
+    rw (named_text x.option, may, form, next, append_assoc)
 
 pub outcome-up_to : (given : List GivenOption) (left : List (List ℕ)) → AreGiven given → outcome [] (spelled given ++ left) ≡ outcome given left
 outcome-up_to given left are = outcome-spelled [] given left are
@@ -71,10 +77,10 @@ outcome-unknown : (given : List GivenOption) (word : List ℕ) (rest : List (Lis
 outcome-unknown given word [] h = rw h
 outcome-unknown given word (value ∷ rest) h = rw h
 
--- a word that is an option with a value
-outcome-twice : (given : List GivenOption) (word : List ℕ) (rest : List (List ℕ)) (option : ScoreOption) → named word ≡ Some option → is_some (value_in given option) ≡ true → outcome given (word ∷ rest) ≡ Err (word ++ codes " given twice")
-outcome-twice given word [] option h has = rw (h, has)
-outcome-twice given word (value ∷ rest) option h has = rw (h, has)
+-- a word that is an option which may not stand there
+outcome-twice : (given : List GivenOption) (word : List ℕ) (rest : List (List ℕ)) (option : ScoreOption) → named word ≡ Some option → may_follow given option ≡ false → outcome given (word ∷ rest) ≡ Err (word ++ codes " given twice")
+outcome-twice given word [] option h twice = rw (h, twice)
+outcome-twice given word (value ∷ rest) option h twice = rw (h, twice)
 
 pub outcome-fault : (given : List GivenOption) (left : List (List ℕ)) (fault : UsageFault) → FaultAfter given left fault → outcome given left ≡ Err (usage_text fault)
 outcome-fault given left NoCommand h = absurd h

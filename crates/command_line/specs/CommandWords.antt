@@ -1,9 +1,15 @@
--- The words of a command.
-use Rattle.std.specs.Prelude.{◌≡◌, ℕ, if◌then◌else◌, IsTrue, List, [], ◌∷◌, ◌++◌, Option, Some, None, codes}
+-- The words of the command `score`.
+use Rattle.std.specs.Prelude.{◌≡◌, ◌≢◌, ◌==◌, ◌≤◌, ℕ, Bool, false, ◌||◌, if◌then◌else◌, IsTrue, IfSome, List, [], ◌∷◌, ◌++◌, length, map, Option, Some, None, codes}
+use Rattle.std.specs.List.{All, AllByRecursion}
+use Rattle.std.specs.Option.{option_copied}
+use Rattle.cov_host.specs.Identifier.{is_identifier}
 use Rattle.command_line.specs.declared.score_option.ScoreOption.{ScoreOption}
-use Rattle.command_line.specs.declared.score_option.ScoreOption.TheVariants.{Top, Instance, Source, Dump, Output}
+use Rattle.command_line.specs.declared.score_option.ScoreOption.TheVariants as option
 use Rattle.command_line.specs.declared.score_words.ScoreWords.{ScoreWords}
-use Rattle.command_line.specs.ScoreOption.{option_text, is_same, accepts}
+use Rattle.command_line.specs.Define.{Define, define_of}
+use Rattle.command_line.specs.OptionValues.{defines_of, sources_of}
+use Rattle.command_line.specs.ScoreOption.{option_text, is_same, accepts, repeats}
+use Rattle.command_line.specs.ValueForm.{is_file_name, is_instance_path}
 
 -- an option with its value
 pub record GivenOption : Type 0 where
@@ -15,15 +21,23 @@ abbrev pub spelled : List GivenOption → List (List ℕ)
 spelled [] = []
 spelled (given ∷ others) = option_text given.option ∷ given.value ∷ spelled others
 
--- the value that an option was given
-abbrev pub value_in : List GivenOption → ScoreOption → Option (List ℕ)
-value_in [] option = None
-value_in (given ∷ others) option = if is_same given.option option then Some given.value else value_in others option
+-- the values that an option was given, in order
+abbrev pub values_in : List GivenOption → ScoreOption → List (List ℕ)
+values_in [] option = []
+values_in (given ∷ others) option = if is_same given.option option then given.value ∷ values_in others option else values_in others option
 
--- each value has its option's form, and no option stands twice
-abbrev pub AreGiven : List GivenOption → Type 0
-AreGiven [] = Unit {0}
-AreGiven (given ∷ others) = IsTrue (accepts given.option given.value) × (value_in others given.option ≡ None) × AreGiven others
+-- the option was given no value
+abbrev pub is_absent : List GivenOption → ScoreOption → Bool
+is_absent given option = length (values_in given option) == 0
+
+-- the option may stand behind these
+abbrev pub may_follow : List GivenOption → ScoreOption → Bool
+may_follow given option = repeats option || is_absent given option
+
+-- each value has its option's form, and an option that does not repeat stands once at most
+pub record AreGiven (given : List GivenOption) : Type 0 where
+  pub forms : AllByRecursion (λ one. IsTrue (accepts one.option one.value)) given
+  pub once : (option : ScoreOption) → repeats option ≡ false → length (values_in given option) ≤ 1
 
 -- the words are `score`, options with their values, and what is left
 pub record IsScoreUpTo (words : List (List ℕ)) (given : List GivenOption) (left : List (List ℕ)) : Type 0 where
@@ -34,22 +48,51 @@ pub record IsScoreUpTo (words : List (List ℕ)) (given : List GivenOption) (lef
 pub record ScoreValues : Type 0 where
   pub top : List ℕ
   pub instance : List ℕ
-  pub source : List ℕ
+  pub sources : List (List ℕ)
+  pub defines : List Define
+  pub folder : Option (List ℕ)
   pub dump : List ℕ
   pub output : List ℕ
 
--- each option has its value
-pub record AreValues (value : ScoreOption → Option (List ℕ)) (values : ScoreValues) : Type 0 where
-  pub top : value Top ≡ Some values.top
-  pub instance : value Instance ≡ Some values.instance
-  pub source : value Source ≡ Some values.source
-  pub dump : value Dump ≡ Some values.dump
-  pub output : value Output ≡ Some values.output
+-- an optional value as a list
+abbrev pub at_most_one : Option (List ℕ) → List (List ℕ)
+at_most_one None = []
+at_most_one (Some value) = value ∷ []
 
--- the words are `score` and each option once with its value, in any order
+-- sources and defines in order, the folder at most once, and each other option once
+pub record AreValues (given : List GivenOption) (values : ScoreValues) : Type 0 where
+  pub top : values_in given option.Top ≡ values.top ∷ []
+  pub instance : values_in given option.Instance ≡ values.instance ∷ []
+  pub sources : values_in given option.Source ≡ values.sources
+  pub some : values.sources ≢ []
+  pub defines : map define_of (values_in given option.Define) ≡ values.defines
+  pub folder : values_in given option.Folder ≡ at_most_one values.folder
+  pub dump : values_in given option.Dump ≡ values.dump ∷ []
+  pub output : values_in given option.Output ≡ values.output ∷ []
+
+-- each value has its form, and there is a source
+pub record HaveForms (values : ScoreValues) : Type 0 where
+  pub top : IsTrue (is_identifier values.top)
+  pub instance : IsTrue (is_instance_path values.instance)
+  pub some : values.sources ≢ []
+  pub sources : All (λ name. IsTrue (is_file_name name)) values.sources
+  pub defines : All (λ define. IsTrue (is_identifier define.name)) values.defines
+  pub folder : IfSome values.folder (λ name. IsTrue (is_file_name name))
+  pub dump : IsTrue (is_file_name values.dump)
+  pub output : IsTrue (is_file_name values.output)
+
+-- the words are `score` and options with their values, in any order
 abbrev pub IsScore : List (List ℕ) → ScoreValues → Type 0
-IsScore words values = (given : List GivenOption) × IsScoreUpTo words given [] × AreValues (value_in given) values
+IsScore words values = (given : List GivenOption) × IsScoreUpTo words given [] × AreValues given values
 
 -- the values as texts, without where they lie in memory
 abbrev pub score_values : ScoreWords → ScoreValues
-score_values score = record { top = score.top.now; instance = score.instance.now; source = score.source.now; dump = score.dump.now; output = score.output.now }
+score_values score = record {
+  top = score.top.now;
+  instance = score.instance.now;
+  sources = sources_of score.sources;
+  defines = defines_of score.defines;
+  folder = option_copied score.folder;
+  dump = score.dump.now;
+  output = score.output.now;
+}

@@ -1,5 +1,5 @@
 -- The first fault of words that begin as a command that reads databases.
-use Rattle.std.specs.Prelude.{◌≡◌, ◌⊎◌, ◌==◌, ◌≤◌, ℕ, Bool, true, false, if◌then◌else◌, IsTrue, IsSome, List, [], ◌∷◌, length, Option, Some, None, is_none, codes}
+use Rattle.std.specs.Prelude.{◌≡◌, ◌⊎◌, ◌==◌, ℕ, false, IsTrue, IsSome, List, [], ◌∷◌, length, Option, Some, None, codes}
 use Rattle.command_line.specs.declared.database_command.DatabaseCommand.{DatabaseCommand}
 use Rattle.command_line.specs.declared.database_command.DatabaseCommand.TheVariants.{Merge, Report}
 use Rattle.command_line.specs.declared.database_option.DatabaseOption.{DatabaseOption}

@@ -1,5 +1,5 @@
 -- The words of a command that reads databases.
-use Rattle.std.specs.Prelude.{◌≡◌, ◌≢◌, ◌==◌, ℕ, Bool, true, false, if◌then◌else◌, IsTrue, List, [], ◌∷◌, ◌++◌, length, Option, Some, None, is_none, is_some, codes}
+use Rattle.std.specs.Prelude.{◌≡◌, ◌≢◌, ◌==◌, ℕ, Bool, if◌then◌else◌, IsTrue, List, [], ◌∷◌, ◌++◌, length, Option, Some, None, is_some, codes}
 use Rattle.command_line.specs.declared.database_command.DatabaseCommand.{DatabaseCommand}
 use Rattle.command_line.specs.declared.database_command.DatabaseCommand.TheVariants.{Merge, Report}
 use Rattle.command_line.specs.declared.database_option.DatabaseOption.{DatabaseOption}

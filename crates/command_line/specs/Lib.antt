@@ -1,4 +1,6 @@
 pub mod ValueForm
+pub mod Define
+pub mod OptionValues
 pub mod ScoreOption
 pub mod CommandWords
 pub mod WordsLeft

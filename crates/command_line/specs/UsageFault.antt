@@ -1,13 +1,13 @@
 -- The first fault of words that are no command.
-use Rattle.std.specs.Prelude.{◌≡◌, ◌≢◌, ◌⊎◌, ℕ, false, is_none, IsSome, List, [], ◌∷◌, ◌++◌, Option, Some, None, codes}
+use Rattle.std.specs.Prelude.{◌≡◌, ◌≢◌, ◌⊎◌, ℕ, Bool, false, IsTrue, List, [], ◌∷◌, ◌++◌, Option, Some, codes}
 use Rattle.std.specs.List.{find}
 use Rattle.command_line.specs.declared.score_option.ScoreOption.{ScoreOption}
 use Rattle.command_line.specs.declared.usage_fault.UsageFault.{UsageFault}
 use Rattle.command_line.specs.declared.usage_fault.UsageFault.TheVariants.{NoCommand, UnknownCommand, UnknownWord, GivenTwice, NeedsValue, BadValue, Missing}
 use Rattle.command_line.specs.declared.database_command.DatabaseCommand.TheVariants.{Merge, Report}
 use Rattle.command_line.specs.DatabaseFault.{HasDatabaseFault}
-use Rattle.command_line.specs.ScoreOption.{options, option_text, accepts}
-use Rattle.command_line.specs.CommandWords.{GivenOption, value_in, IsScoreUpTo}
+use Rattle.command_line.specs.ScoreOption.{required, option_text, accepts}
+use Rattle.command_line.specs.CommandWords.{GivenOption, is_absent, may_follow, IsScoreUpTo}
 
 -- the fault as it is told
 abbrev pub usage_text : UsageFault → List ℕ
@@ -19,9 +19,9 @@ usage_text (NeedsValue word) = word.now ++ codes " needs a value"
 usage_text (BadValue word) = codes "bad value " ++ word.now
 usage_text (Missing word) = codes "missing " ++ word.now
 
--- the first option that has no value
-abbrev pub first_missing : (ScoreOption → Option (List ℕ)) → Option ScoreOption
-first_missing value = find (λ option. is_none (value option)) options
+-- the first option that is missing, where these are absent
+abbrev pub first_missing : (ScoreOption → Bool) → Option ScoreOption
+first_missing absent = find absent required
 
 -- the words begin with this one
 abbrev pub BeginsWith : List ℕ → List (List ℕ) → Type 0
@@ -31,29 +31,29 @@ BeginsWith word words = (rest : List (List ℕ)) × (words ≡ word ∷ rest)
 abbrev pub IsNoOption : List ℕ → Type 0
 IsNoOption word = (option : ScoreOption) → word ≢ option_text option
 
--- the word is an option that has a value
-abbrev pub HasValue : List GivenOption → List ℕ → Type 0
-HasValue given word = (option : ScoreOption) × (word ≡ option_text option) × IsSome (value_in given option)
+-- the word is an option that may not stand behind these
+abbrev pub IsGivenTwice : List GivenOption → List ℕ → Type 0
+IsGivenTwice given word = (option : ScoreOption) × (word ≡ option_text option) × (may_follow given option ≡ false)
 
--- the word is an option that has no value
-abbrev pub HasNoValue : List GivenOption → List ℕ → Type 0
-HasNoValue given word = (option : ScoreOption) × (word ≡ option_text option) × (value_in given option ≡ None)
+-- the word is an option that may stand behind these
+abbrev pub MayFollow : List GivenOption → List ℕ → Type 0
+MayFollow given word = (option : ScoreOption) × (word ≡ option_text option) × IsTrue (may_follow given option)
 
--- the words are an option that has no value, one that is not of its form, and any others
+-- the words are an option that may stand there, a value that is not of its form, and any others
 abbrev pub BeginsWithBadValue : List GivenOption → List ℕ → List (List ℕ) → Type 0
-BeginsWithBadValue given value words = (option : ScoreOption) × (rest : List (List ℕ)) × (words ≡ option_text option ∷ value ∷ rest) × (value_in given option ≡ None) × (accepts option value ≡ false)
+BeginsWithBadValue given value words = (option : ScoreOption) × (rest : List (List ℕ)) × (words ≡ option_text option ∷ value ∷ rest) × IsTrue (may_follow given option) × (accepts option value ≡ false)
 
--- the first option that has no value is this word
+-- the first option that is missing is this word
 abbrev pub IsMissing : List GivenOption → List ℕ → Type 0
-IsMissing given word = (option : ScoreOption) × (first_missing (value_in given) ≡ Some option) × (word ≡ option_text option)
+IsMissing given word = (option : ScoreOption) × (first_missing (is_absent given) ≡ Some option) × (word ≡ option_text option)
 
 -- after options with their values this is the fault of the words that are left
 abbrev pub FaultAfter : List GivenOption → List (List ℕ) → UsageFault → Type 0
 FaultAfter given left NoCommand = ⊥
 FaultAfter given left (UnknownCommand word) = ⊥
 FaultAfter given left (UnknownWord word) = BeginsWith word.now left × IsNoOption word.now
-FaultAfter given left (GivenTwice word) = BeginsWith word.now left × HasValue given word.now
-FaultAfter given left (NeedsValue word) = (left ≡ word.now ∷ []) × HasNoValue given word.now
+FaultAfter given left (GivenTwice word) = BeginsWith word.now left × IsGivenTwice given word.now
+FaultAfter given left (NeedsValue word) = (left ≡ word.now ∷ []) × MayFollow given word.now
 FaultAfter given left (BadValue word) = BeginsWithBadValue given word.now left
 FaultAfter given left (Missing word) = (left ≡ []) × IsMissing given word.now
 

@@ -42,12 +42,12 @@ fn read_score<'a>(left: &mut WordsLeft<'a>) -> Result<ScoreWords<'a>, UsageFault
     ensures score { IfOk result (λ score. IsScore (codes "score" ∷ left_words left.old) (score_values score)) }
     ensures fault { IfErr result (λ fault. HasScoreFault (codes "score" ∷ left_words left.old) fault) }
 {
-    let mut values = GivenValues::none();
+    let mut values = GivenValues::none(*left);
     while let Some(word) = left.next_word() {
         let Some(option) = ScoreOption::named(word) else {
             return Err(UsageFault::UnknownWord(word));
         };
-        if values.get(option).is_some() {
+        if !values.has_room(option) {
             return Err(UsageFault::GivenTwice(word));
         }
         let Some(value) = left.next_word() else {
@@ -58,7 +58,8 @@ fn read_score<'a>(left: &mut WordsLeft<'a>) -> Result<ScoreWords<'a>, UsageFault
         }
         values.set(option, value);
     }
-    values
-        .complete()
-        .map_err(|option| UsageFault::Missing(option.text()))
+    match values.complete() {
+        Ok(score) => Ok(score),
+        Err(option) => Err(UsageFault::Missing(option.text())),
+    }
 }

@@ -1,48 +1,65 @@
-ghost use Rattle.std.specs.Prelude.{◌≡◌, if◌then◌else◌, Some, None, IfOk, IfErr};
+ghost use Rattle.std.specs.Prelude.{◌≡◌, if◌then◌else◌, Some, None, is_none, IfOk, IfErr};
 ghost use Rattle.std.specs.Option.{option_copied};
 ghost use Rattle.command_line.specs.declared.score_option.ScoreOption.{ScoreOption};
 ghost use Rattle.command_line.specs.ScoreOption.{is_same};
-ghost use Rattle.command_line.specs.CommandWords.{AreValues, score_values};
 ghost use Rattle.command_line.specs.UsageFault.{first_missing};
-ghost use Rattle.command_line.specs.GivenValues.{value_of};
+ghost use Rattle.command_line.specs.GivenValues.{all_words, has_room, value_of, GivesScore};
+ghost use Rattle.command_line.specs.WordsLeft.{left_words};
 
-use crate::{ScoreOption, ScoreWords};
+use crate::words_left::WordsLeft;
+use crate::{GivenDefines, ScoreOption, ScoreWords, SourceFiles};
 
-/// The values of the options that were read so far.
+/// The values of the options that were read so far, of one that repeats the last.
 #[derive(Clone, Copy)]
 pub(crate) struct GivenValues<'a> {
+    words: WordsLeft<'a>,
     top: Option<&'a str>,
     instance: Option<&'a str>,
     source: Option<&'a str>,
+    define: Option<&'a str>,
+    folder: Option<&'a str>,
     dump: Option<&'a str>,
     output: Option<&'a str>,
 }
 
 impl<'a> GivenValues<'a> {
-    /// No values yet.
-    pub(crate) fn none() -> Self
-        ensures { (option : ScoreOption) → value_of result option ≡ None }
+    /// Nothing was read yet of these words.
+    pub(crate) fn none(words: WordsLeft<'a>) -> Self
+        ensures values { (option : ScoreOption) → value_of result option ≡ None }
+        ensures words { all_words result ≡ left_words words.entry }
     {
         GivenValues {
+            words,
             top: None,
             instance: None,
             source: None,
+            define: None,
+            folder: None,
             dump: None,
             output: None,
         }
     }
 
-    /// The value of an option.
-    pub(crate) fn get(&self, option: ScoreOption) -> Option<&'a str>
+    /// The value that an option was given last.
+    fn get(&self, option: ScoreOption) -> Option<&'a str>
         ensures { option_copied result ≡ value_of self.now option }
     {
         match option {
             ScoreOption::Top => self.top,
             ScoreOption::Instance => self.instance,
             ScoreOption::Source => self.source,
+            ScoreOption::Define => self.define,
+            ScoreOption::Folder => self.folder,
             ScoreOption::Dump => self.dump,
             ScoreOption::Output => self.output,
         }
+    }
+
+    /// Whether one more value of the option may be given.
+    pub(crate) fn has_room(&self, option: ScoreOption) -> bool
+        ensures { result ≡ has_room self.now option }
+    {
+        option.repeats() || self.get(option).is_none()
     }
 
     /// The value of an option, or the option where it has none.
@@ -53,28 +70,38 @@ impl<'a> GivenValues<'a> {
         self.get(option).ok_or(option)
     }
 
-    /// The values of all options, or the first option that has none.
+    /// The values of a `score` command, or the first option that is missing.
     pub(crate) fn complete(&self) -> Result<ScoreWords<'a>, ScoreOption>
-        ensures values { IfOk result (λ score. AreValues (value_of self.now) (score_values score)) }
-        ensures missing { IfErr result (λ option. first_missing (value_of self.now) ≡ Some option) }
+        ensures values { IfOk result (λ score. GivesScore self.now score) }
+        ensures missing { IfErr result (λ option. first_missing (λ needed. is_none (value_of self.now needed)) ≡ Some option) }
     {
+        let top = self.need(ScoreOption::Top)?;
+        let instance = self.need(ScoreOption::Instance)?;
+        let _ = self.need(ScoreOption::Source)?;
+        let dump = self.need(ScoreOption::Dump)?;
+        let output = self.need(ScoreOption::Output)?;
         Ok(ScoreWords {
-            top: self.need(ScoreOption::Top)?,
-            instance: self.need(ScoreOption::Instance)?,
-            source: self.need(ScoreOption::Source)?,
-            dump: self.need(ScoreOption::Dump)?,
-            output: self.need(ScoreOption::Output)?,
+            top,
+            instance,
+            sources: SourceFiles::new(self.words),
+            defines: GivenDefines::new(self.words),
+            folder: self.folder,
+            dump,
+            output,
         })
     }
 
     /// Gives an option its value.
     pub(crate) fn set(&mut self, option: ScoreOption, value: &'a str)
-        ensures { (other : ScoreOption) → value_of self.new other ≡ (if is_same option other then Some value.now else value_of self.old other) }
+        ensures words { all_words self.new ≡ all_words self.old }
+        ensures values { (other : ScoreOption) → value_of self.new other ≡ (if is_same option other then Some value.now else value_of self.old other) }
     {
         match option {
             ScoreOption::Top => self.top = Some(value),
             ScoreOption::Instance => self.instance = Some(value),
             ScoreOption::Source => self.source = Some(value),
+            ScoreOption::Define => self.define = Some(value),
+            ScoreOption::Folder => self.folder = Some(value),
             ScoreOption::Dump => self.dump = Some(value),
             ScoreOption::Output => self.output = Some(value),
         }

@@ -10,15 +10,19 @@ mod database_command;
 mod database_files;
 mod database_option;
 mod database_words;
+mod given_define;
+mod given_defines;
 mod given_values;
 mod given_words;
 mod laws;
 mod merge_words;
+mod option_values;
 mod report_level;
 mod report_metrics;
 mod report_words;
 mod score_option;
 mod score_words;
+mod source_files;
 #[cfg(test)]
 mod tests;
 mod usage_fault;
@@ -29,12 +33,17 @@ pub use command::{Command, read_command};
 pub use database_command::DatabaseCommand;
 pub use database_files::DatabaseFiles;
 pub use database_option::DatabaseOption;
-pub use laws::{commands_have_no_fault, words_are_one_command, words_have_one_fault};
+pub use given_define::GivenDefine;
+pub use given_defines::GivenDefines;
+pub use laws::{
+    commands_have_no_fault, values_have_their_forms, words_are_one_command, words_have_one_fault,
+};
 pub use merge_words::MergeWords;
 pub use report_level::ReportLevel;
 pub use report_metrics::ReportMetrics;
 pub use report_words::ReportWords;
 pub use score_option::ScoreOption;
 pub use score_words::ScoreWords;
+pub use source_files::SourceFiles;
 pub use usage_fault::UsageFault;
 pub use value_form::{is_file_name, is_instance_path, is_module_name};

@@ -1,7 +1,7 @@
 ghost use Rattle.std.specs.Prelude.{◌≡◌, ◌≢◌, IfSome, IfNone};
-ghost use Rattle.command_line.specs.ScoreOption.{option_text, accepts};
+ghost use Rattle.command_line.specs.ScoreOption.{option_text, accepts, repeats};
 
-use crate::{is_file_name, is_instance_path, is_module_name};
+use crate::{GivenDefine, is_file_name, is_instance_path, is_module_name};
 
 /// An option of the command `score`. Its value is the next word, whatever that begins with.
 #[derive(Clone, Copy, Debug, PartialEq, Eq)]
@@ -10,8 +10,12 @@ pub enum ScoreOption {
     Top,
     /// The path of the top module's instance in the dump.
     Instance,
-    /// The file of the design.
+    /// A file of the design. It may stand more than once.
     Source,
+    /// A name that is defined, with its text. It may stand more than once.
+    Define,
+    /// The folder in which included files lie.
+    Folder,
     /// The file of the value change dump (IEEE 1364-2001 clause 18).
     Dump,
     /// The file that the coverage is written to.
@@ -28,6 +32,8 @@ impl ScoreOption {
             "-t" => Some(ScoreOption::Top),
             "-i" => Some(ScoreOption::Instance),
             "-v" => Some(ScoreOption::Source),
+            "-D" => Some(ScoreOption::Define),
+            "-I" => Some(ScoreOption::Folder),
             "-vcd" => Some(ScoreOption::Dump),
             "-o" => Some(ScoreOption::Output),
             _ => None,
@@ -42,9 +48,18 @@ impl ScoreOption {
             ScoreOption::Top => "-t",
             ScoreOption::Instance => "-i",
             ScoreOption::Source => "-v",
+            ScoreOption::Define => "-D",
+            ScoreOption::Folder => "-I",
             ScoreOption::Dump => "-vcd",
             ScoreOption::Output => "-o",
         }
+    }
+
+    /// Whether the option may stand more than once.
+    pub fn repeats(self) -> bool
+        ensures { result ≡ repeats self }
+    {
+        matches!(self, ScoreOption::Source | ScoreOption::Define)
     }
 
     /// Whether the value has the option's form.
@@ -54,7 +69,10 @@ impl ScoreOption {
         match self {
             ScoreOption::Top => is_module_name(value),
             ScoreOption::Instance => is_instance_path(value),
-            ScoreOption::Source | ScoreOption::Dump | ScoreOption::Output => is_file_name(value),
+            ScoreOption::Define => is_module_name(GivenDefine::new(value).name),
+            ScoreOption::Source | ScoreOption::Folder | ScoreOption::Dump | ScoreOption::Output => {
+                is_file_name(value)
+            }
         }
     }
 }

@@ -1,6 +1,7 @@
 //! Each fault as it is told, and a whole command of each kind.
 use crate::{
-    Command, MergeWords, ReportLevel, ReportMetrics, ReportWords, ScoreWords, read_command,
+    Command, GivenDefine, MergeWords, ReportLevel, ReportMetrics, ReportWords, ScoreWords,
+    read_command,
 };
 use cov_host::{NoMemory, Words};
 use std::alloc::Global;
@@ -8,7 +9,7 @@ use std::test::Fail;
 
 /// Words that are no command, and what is told of them.
 #[rattlefmt::skip]
-const FAULTS: [(&[&str], &str); 70] = [
+const FAULTS: [(&[&str], &str); 79] = [
     (&[], "no command"),
     (&[""], "unknown command "),
     (&["exclude", "-o", "e.db", "-point", "t ff clk - 10", "t1.db"], "unknown command exclude"),
@@ -18,9 +19,7 @@ const FAULTS: [(&[&str], &str); 70] = [
     (&["selfrun", "1", "2"], "unknown command selfrun"),
     (&["frob"], "unknown command frob"),
     (&["score", "-F", "ctl=st,st"], "unknown word -F"),
-    (&["score", "-D", "X"], "unknown word -D"),
     (&["score", "-t", "ff", "zzz", "-t"], "unknown word zzz"),
-    (&["score", "-I", "inc"], "unknown word -I"),
     (&["score", "-late"], "unknown word -late"),
     (&["score", "-states", "ff=q:A,B"], "unknown word -states"),
     (&["score", "zzz"], "unknown word zzz"),
@@ -31,10 +30,19 @@ const FAULTS: [(&[&str], &str); 70] = [
     (&["score", "-i", "tb.dut", "-i", "tb.dut"], "-i given twice"),
     (&["score", "-t", "ff", "-t", "gg"], "-t given twice"),
     (&["score", "-o", "B", "-o", "C"], "-o given twice"),
-    (&["score", "-v", "a.v", "-v", "b.v"], "-v given twice"),
+    (&["score", "-I", "inc", "-I", "inc"], "-I given twice"),
+    (&["score", "-I", "inc", "-I"], "-I given twice"),
     (&["score", "-t", "ff", "-t", "1x"], "-t given twice"),
     (&["score", "-t", "ff", "-t"], "-t given twice"),
     (&["score", "-o"], "-o needs a value"),
+    (&["score", "-D"], "-D needs a value"),
+    (&["score", "-v", "a.v", "-v"], "-v needs a value"),
+    (&["score", "-D", "1X"], "bad value 1X"),
+    (&["score", "-D", "=x"], "bad value =x"),
+    (&["score", "-D", "module=1"], "bad value module=1"),
+    (&["score", "-I", ""], "bad value "),
+    (&["score", "-I", "a\tb"], "bad value a\tb"),
+    (&["score", "-v", "a.v", "-v", ""], "bad value "),
     (&["score", "-vcd", "a\tb"], "bad value a\tb"),
     (&["score", "-t", "ff", "-i", ".dut"], "bad value .dut"),
     (&["score", "-t", "ff", "-i", ""], "bad value "),
@@ -54,6 +62,8 @@ const FAULTS: [(&[&str], &str); 70] = [
     (&["score", "-t", "ff", "-i", "tb.dut"], "missing -v"),
     (&["score", "-o", "B", "-vcd", "D"], "missing -t"),
     (&["score"], "missing -t"),
+    (&["score", "-D", "X", "-v", "a.v", "-I", "inc", "-D", "X=", "-v", "a.v"], "missing -t"),
+    (&["score", "-t", "ff", "-i", "tb.dut", "-D", "X", "-I", "inc", "-vcd", "D", "-o", "B"], "missing -v"),
     (&["score", "-v", "-t", "-t", "ff"], "missing -i"),
     (&["merge"], "missing -o"),
     (&["merge", "a.db", "b.db"], "missing -o"),
@@ -117,17 +127,45 @@ fn reads_options_in_any_order(rt: HostRuntime) -> Result<(), Fail> {
             "score", "-v", "ff.v", "-o", "-o", "-t", "ff", "-vcd", "t.vcd", "-i", "tb.dut",
         ],
     ];
-    let score = ScoreWords {
-        top: "ff",
-        instance: "tb.dut",
-        source: "ff.v",
-        dump: "t.vcd",
-        output: "-o",
-    };
     for order in &orders {
         let words = words_of(rt.alloc(), order)?;
-        assert_eq!(rt; score_of(&words), Some(score));
+        let score = score_of(&words).ok_or("no score")?;
+        let mut sources = score.sources;
+        let mut defines = score.defines;
+        assert_eq!(rt; score.top, "ff");
+        assert_eq!(rt; score.instance, "tb.dut");
+        assert_eq!(rt; sources.next_file(), Some("ff.v"));
+        assert_eq!(rt; sources.next_file(), None);
+        assert_eq!(rt; defines.next_define(), None);
+        assert_eq!(rt; score.folder, None);
+        assert_eq!(rt; score.dump, "t.vcd");
+        assert_eq!(rt; score.output, "-o");
     }
+    Ok(())
+}
+
+#[test]
+fn reads_sources_and_defines_in_the_order_of_the_words(rt: HostRuntime) -> Result<(), Fail> {
+    let words = words_of(
+        rt.alloc(),
+        &[
+            "score", "-v", "-D", "-D", "W=a=b", "-o", "-v", "-v", "b.v", "-D", "FAST", "-t", "ff",
+            "-I", "-D", "-i", "tb.dut", "-v", "-D", "-vcd", "-v", "-D", "W=",
+        ],
+    )?;
+    let score = score_of(&words).ok_or("no score")?;
+    let mut sources = score.sources;
+    assert_eq!(rt; sources.next_file(), Some("-D"));
+    assert_eq!(rt; sources.next_file(), Some("b.v"));
+    assert_eq!(rt; sources.next_file(), Some("-D"));
+    assert_eq!(rt; sources.next_file(), None);
+    let mut defines = score.defines;
+    for (name, text) in [("W", "a=b"), ("FAST", "1"), ("W", "")] {
+        let define = Some(GivenDefine { name, text });
+        assert_eq!(rt; defines.next_define(), define);
+    }
+    assert_eq!(rt; defines.next_define(), None);
+    assert_eq!(rt; score.folder, Some("-D"));
     Ok(())
 }
 

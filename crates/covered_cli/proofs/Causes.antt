@@ -1,6 +1,6 @@
 -- Why a call of the program ends with its status.
-use Rattle.std.proofs.Common.{◌≡◌, ◌⊎◌, ℕ, List, [], ◌∷◌, ◌++◌, Option, None, Some, Ok, Err, sym, ap, subst, refl, ◌∙◌, inl, inr}
-use Rattle.std.specs.Prelude.{Contains, MatchOption, Result, IfErr, OnOk, ◌↔◌}
+use Rattle.std.proofs.Common.{◌≡◌, ℕ, List, Option, None, Some, Ok, Err, sym, ap, refl, ◌∙◌, inl, inr}
+use Rattle.std.specs.Prelude.{Result, IfErr, OnOk, ◌↔◌}
 use Rattle.command_line.specs.Command.{AreWordsOf, CommandValues, IsCommand, score, merge, report, command_values}
 use Rattle.command_line.specs.CommandWords.{IsScore, ScoreValues, score_values}
 use Rattle.command_line.specs.DatabaseWords.{IsMerge, IsReport, MergeValues, ReportValues, merge_values, report_values}
@@ -16,8 +16,11 @@ use Rattle.database_commands.specs.declared.fault.CommandFault.TheVariants as da
 use Rattle.covered_cli.specs.Covered.{IsNoCommand, IsSomeCommand, KeepsUnnamed, PrintsReport, output_in}
 use Rattle.covered_cli.specs.Databases.{database_status}
 use Rattle.covered_cli.specs.Fault.{IsDatabaseFault, Stands, StandsIn, StandsInDatabases, StandsInWork, output_of, status_of}
+use Rattle.source_design.specs.declared.fault.SourceFault.{SourceFault}
+use Rattle.source_design.specs.declared.fault.SourceFault.TheVariants as source_fault
+use Rattle.covered_cli.specs.SourceMessage.{source_status}
 use Rattle.covered_cli.specs.declared.fault.Fault.{Fault}
-use Rattle.covered_cli.specs.declared.fault.Fault.TheVariants.{Usage, SourceNotYet, Dump, Files as FilesFault, Memory, Databases}
+use Rattle.covered_cli.specs.declared.fault.Fault.TheVariants.{Usage, Source, Dump, Files as FilesFault, Memory, Databases}
 use Rattle.covered_cli.specs.declared.status.Status.TheVariants as status
 use Rattle.whole_files.proofs.EffectLemmas.{Told-map}
 
@@ -32,7 +35,7 @@ IfErr-map (Err fault) step holds = step fault holds
 
 stands_as_score : (words : List (List ℕ)) (values : ScoreValues) (before after : Outside) → IsScore words values → (fault : Fault) → StandsIn values before after fault → Stands words before after fault
 stands_as_score words values before after is (Usage usage) stands = absurd stands
-stands_as_score words values before after is SourceNotYet stands = (values, is, stands)
+stands_as_score words values before after is (Source f) stands = (values, is, stands)
 stands_as_score words values before after is (Dump refusal) stands = (values, is, stands)
 stands_as_score words values before after is (FilesFault call file) stands = (values, is, stands)
 stands_as_score words values before after is Memory stands = (values, is, stands)
@@ -40,7 +43,7 @@ stands_as_score words values before after is (Databases f) stands = absurd stand
 
 stands_as_merge : (words : List (List ℕ)) (values : MergeValues) (before after : Outside) → IsMerge words values → (fault : Fault) → IsDatabaseFault (IsMergeFault values before after) fault → Stands words before after fault
 stands_as_merge words values before after is (Usage usage) stands = absurd stands
-stands_as_merge words values before after is SourceNotYet stands = absurd stands
+stands_as_merge words values before after is (Source f) stands = absurd stands
 stands_as_merge words values before after is (Dump refusal) stands = absurd stands
 stands_as_merge words values before after is (FilesFault call file) stands = absurd stands
 stands_as_merge words values before after is Memory stands = absurd stands
@@ -48,7 +51,7 @@ stands_as_merge words values before after is (Databases f) stands = inl (values,
 
 stands_as_report : (words : List (List ℕ)) (values : ReportValues) (before after : Outside) → IsReport words values → (fault : Fault) → IsDatabaseFault (IsReportFault values before after) fault → Stands words before after fault
 stands_as_report words values before after is (Usage usage) stands = absurd stands
-stands_as_report words values before after is SourceNotYet stands = absurd stands
+stands_as_report words values before after is (Source f) stands = absurd stands
 stands_as_report words values before after is (Dump refusal) stands = absurd stands
 stands_as_report words values before after is (FilesFault call file) stands = absurd stands
 stands_as_report words values before after is Memory stands = absurd stands
@@ -110,10 +113,17 @@ no_usage database_fault.Memory same = cc
 no_usage (database_fault.NoDatabase file kind line) same = cc
 no_usage (database_fault.DesignsDiffer file line first other) same = cc
 
+source_no_usage : (f : SourceFault) → source_status f ≡ status.Usage → ⊥
+source_no_usage source_fault.NoMemory same = cc
+source_no_usage (source_fault.File call file) same = cc
+source_no_usage (source_fault.Included call path) same = cc
+source_no_usage (source_fault.Refused refusal) same = cc
+source_no_usage source_fault.NotYet same = cc
+
 -- a fault ends with the status of usage exactly where the words are no command
 pub usage_exactly : (words : List (List ℕ)) (before after : Outside) → (fault : Fault) → Stands words before after fault → (status_of fault ≡ status.Usage) ↔ IsNoCommand words
 usage_exactly words before after (Usage usage) stands = (λ same. (usage, stands), λ none. refl)
-usage_exactly words before after SourceNotYet stands = (λ same. cc, λ none. absurd (command_or_fault words (score stands.0, stands.1) none))
+usage_exactly words before after (Source f) stands = (λ same. absurd (source_no_usage f same), λ none. absurd (command_or_fault words (score stands.0, stands.1) none))
 usage_exactly words before after (Dump refusal) stands = (λ same. cc, λ none. absurd (command_or_fault words (score stands.0, stands.1) none))
 usage_exactly words before after (FilesFault call file) stands = (λ same. cc, λ none. absurd (command_or_fault words (score stands.0, stands.1) none))
 usage_exactly words before after Memory stands = (λ same. cc, λ none. absurd (command_or_fault words (score stands.0, stands.1) none))

@@ -1,5 +1,5 @@
 -- Where both files are told and no call of the host failed, the texts decide how a command ends.
-use Rattle.std.proofs.Common.{◌≡◌, ◌⊎◌, inl, inr, ℕ, ◌<◌, ◌≤◌, is_some, List, ◌++◌, length, Option, None, Some, refl, sym, ap, subst, ◌∙◌}
+use Rattle.std.proofs.Common.{◌≡◌, inl, inr, ℕ, ◌<◌, ◌≤◌, is_some, List, ◌++◌, length, Option, None, Some, refl, sym, ap, subst, ◌∙◌}
 use Rattle.std.proofs.lemmas.Bool.{false≢true}
 use Rattle.std.specs.Prelude.{IfSome, IsSome, IsSomeAnd, MatchOption, slice_index_or}
 use Rattle.std.specs.List.{list_any}
@@ -9,8 +9,6 @@ use Rattle.command_line.specs.CommandWords.{IsScore, ScoreValues}
 use Rattle.cov_host.specs.Outside.{Files, Outside, IsCounted}
 use Rattle.design_model.specs.Design.{no_signal}
 use Rattle.design_model.specs.declared.design.Design.{Design}
-use Rattle.input_module.proofs.SourceLemmas.{IsSource-once}
-use Rattle.input_module.specs.SourceForm.{IsSource}
 use Rattle.input_toggles.specs.Binding.{AreBound, code_of, stands_in}
 use Rattle.input_toggles.specs.Scored.{IsBound, first_value}
 use Rattle.vcd_reader.proofs.FaultLaws.{dump_excludes, fault_excludes}
@@ -25,16 +23,24 @@ use Rattle.whole_files.proofs.EffectLemmas.{IsCounted-later}
 use Rattle.whole_files.specs.declared.call.Call.{Call}
 use Rattle.whole_files.specs.declared.call.Call.TheVariants.{OpenRead, Read, OpenWrite, Write, CloseWrite}
 use Rattle.covered_cli.proofs.Causes.{command_or_fault, score_or_databases}
-use Rattle.covered_cli.specs.Complete.{EndsWith, HasBadDump, HasBadSource, HasUnboundDump, HaveTexts, IsCommandWith, IsGoodScore, IsOfBinding, NoFaults, RefusesBinding}
+use Rattle.covered_cli.specs.Complete.{EndsWith, HasBadDump, HasBadSource, HasText, HasUnboundDump, HaveTexts, IsCommandWith, IsGoodScore, IsOfBinding, NoFaults, RefusesBinding}
 use Rattle.covered_cli.specs.Effects.{WarnsLine}
 use Rattle.covered_cli.specs.Fault.{IsRefused, NamesFile, Stands, line_of, status_of}
-use Rattle.covered_cli.specs.Scoring.{HasNoScore, IsDone, IsDoneBy, IsDoneIn, IsDumpRefusal, IsRefusedDump, IsRefusedSource}
+use Rattle.source_design.proofs.Told.{IsOfSources, design_or_fault, files_read, one_design, one_sources}
+use Rattle.source_design.specs.Accepted.{StandFor}
+use Rattle.source_design.specs.Reading.{HasSources, IsSourceFault}
+use Rattle.source_design.specs.declared.fault.SourceFault.{SourceFault}
+use Rattle.source_design.specs.declared.fault.SourceFault.TheVariants as source_fault
+use Rattle.verilog_lexer.specs.Sources.{SourceText}
+use Rattle.covered_cli.specs.ScoreSources.{sources_in}
+use Rattle.covered_cli.specs.Scoring.{HasDesign, HasNoScore, IsDone, IsDoneBy, IsDoneIn, IsDumpRefusal, IsRefusedDump}
+use Rattle.covered_cli.specs.SourceMessage.{source_status}
 use Rattle.covered_cli.specs.declared.dump_refusal.DumpRefusal.{DumpRefusal}
 use Rattle.covered_cli.specs.declared.dump_refusal.DumpRefusal.TheVariants as refusal
 use Rattle.covered_cli.specs.declared.fault.Fault.{Fault}
 use Rattle.covered_cli.specs.declared.fault.Fault.TheVariants as fault
 use Rattle.covered_cli.specs.declared.status.Status.{Status}
-use Rattle.covered_cli.specs.declared.status.Status.TheVariants.{Done, Dump as dump_status, Source as source_status}
+use Rattle.covered_cli.specs.declared.status.Status.TheVariants.{Done, Dump as dump_status, Source as source_status_of}
 
 some_or_none : {A : Type 0} (o : Option A) → IsSome o → o ≡ None → ⊥
 some_or_none o some none = false≢true (sym (ap is_some none) ∙ some)
@@ -84,46 +90,58 @@ not_missing_at : (files : Option Files) (name text : List ℕ) (P : Type 0) → 
 not_missing_at None name text P told missing = told
 not_missing_at (Some files) name text P told missing = let e : Some text ≡ None = sym told ∙ missing in cc
 
-module _ (score : ScoreValues) (before : Outside) (source text : List ℕ) (texts : HaveTexts score before source text) where
-  -- the source that a relation finds is the one that is told
-  same_source : (other : List ℕ) → IfSome before.files (λ files. files score.source ≡ Some other) → source ≡ other
-  same_source other is = one_text_at before.files score.source source other texts.source_is is
+is_told : (files : Option Files) (name text : List ℕ) → IsSomeAnd files (λ files. files name ≡ Some text) → IsSome files
+is_told None name text told = absurd told
+is_told (Some files) name text told = refl
 
+-- a call that gave nothing was counted as a fault, since the dump is there
+refused_call : (score : ScoreValues) (before after : Outside) (text : List ℕ) → HasText before score.dump text → (call : Call) (file : List ℕ) → NamesFile score call file → IsRefused call file before after → IsCounted before.faults after.faults
+refused_call score before after text is OpenRead file named (inl counted) = counted
+refused_call score before after text is OpenRead file named (inr missing) = absurd (not_missing_at before.files score.dump text _ is (subst (λ name. IsMissing name before after) named missing))
+refused_call score before after text is Read file named counted = counted
+refused_call score before after text is OpenWrite file named counted = counted
+refused_call score before after text is Write file named counted = counted
+refused_call score before after text is CloseWrite file named counted = counted
+
+-- the sources of a command that are told
+module _ (score : ScoreValues) (before : Outside) (sources : List SourceText) (told : IsSome before.files) (gathered : HasSources (sources_in score) before sources) where
+  -- the design that a relation finds is that of the sources
+  same_design : (design : Design) → StandFor sources (sources_in score).defines score.top design → (others : List SourceText) (other : Design) → HasDesign score before others other → design ≡ other
+  same_design design stands others other has =
+      one_design sources (sources_in score).defines score.top design other stands
+      (subst (λ ss. StandFor ss (sources_in score).defines score.top other) (sym (one_sources (sources_in score) before sources told gathered others has.gathered)) has.stands)
+
+  -- what is done has a design
+  source_done : (after : Outside) → ((design : Design) → StandFor sources (sources_in score).defines score.top design → ⊥) → IsDoneIn score before after → ⊥
+  source_done after none done =
+      none done.design (subst (λ ss. StandFor ss (sources_in score).defines score.top done.design) (sym (one_sources (sources_in score) before sources told gathered done.sources done.has_design.gathered)) done.has_design.stands)
+
+  no_design : ((design : Design) → StandFor sources (sources_in score).defines score.top design → ⊥) → (r : DumpRefusal) → IsRefusedDump score before r → ⊥
+  no_design none r refused =
+      none refused.design (subst (λ ss. StandFor ss (sources_in score).defines score.top refused.design) (sym (one_sources (sources_in score) before sources told gathered refused.sources refused.has_design.gathered)) refused.has_design.stands)
+
+module _ (score : ScoreValues) (before : Outside) (design : Design) (text : List ℕ) (texts : HaveTexts score before design text) where
+  told : IsSome before.files
+  told = is_told before.files score.dump text texts.dump_is
+
+  -- the dump that a relation finds is the one that is told
   same_text : (other : List ℕ) → IfSome before.files (λ files. files score.dump ≡ Some other) → text ≡ other
   same_text other is = one_text_at before.files score.dump text other texts.dump_is is
 
-  files_there : (file : List ℕ) → (file ≡ score.source) ⊎ (file ≡ score.dump) → (after : Outside) → IsMissing file before after → ⊥
-  files_there file (inl is) after missing = not_missing_at before.files score.source source _ texts.source_is (subst (λ name. IsMissing name before after) is missing)
-  files_there file (inr is) after missing = not_missing_at before.files score.dump text _ texts.dump_is (subst (λ name. IsMissing name before after) is missing)
-
-  -- a call that gave nothing was counted as a fault, since the files are there
-  refused_call : (call : Call) (file : List ℕ) (after : Outside) → NamesFile score call file → IsRefused call file before after → IsCounted before.faults after.faults
-  refused_call OpenRead file after named (inl counted) = counted
-  refused_call OpenRead file after named (inr missing) = absurd (files_there file named after missing)
-  refused_call Read file after named counted = counted
-  refused_call OpenWrite file after named counted = counted
-  refused_call Write file after named counted = counted
-  refused_call CloseWrite file after named counted = counted
-
-  -- a source of the form is not refused
-  source_stands : (design : Design) → IsSource source score.top design → IsRefusedSource score before → ⊥
-  source_stands design is refused = refused.refused design (subst (λ text. IsSource text score.top design) (same_source refused.text refused.is) is)
-
-  -- the design that a relation finds is that of the source
-  same_design : (design other : Design) (found : List ℕ) → IsSource source score.top design → IfSome before.files (λ files. files score.source ≡ Some found) → IsSource found score.top other → design ≡ other
-  same_design design other found is told found_is = IsSource-once source score.top design other is (subst (λ text. IsSource text score.top other) (sym (same_source found told)) found_is)
+  design_found : (others : List SourceText) (other : Design) → HasDesign score before others other → design ≡ other
+  design_found others other has = same_design score before texts.sources told texts.has_design.gathered design texts.has_design.stands others other has
 
   -- what has a score is not refused
-  dump_stands : (design : Design) (dump : Dump) → IsSource source score.top design → IsDump text dump → IsBound design dump score.instance → (r : DumpRefusal) → IsRefusedDump score before r → ⊥
-  dump_stands design dump is is_dump bound r refused =
+  dump_stands : (dump : Dump) → IsDump text dump → IsBound design dump score.instance → (r : DumpRefusal) → IsRefusedDump score before r → ⊥
+  dump_stands dump is_dump bound r refused =
       not_refused refused.design dump score.top score.instance refused.text (subst (λ text. IsDump text dump) (same_text refused.text refused.is) is_dump)
-      (subst (λ design. IsBound design dump score.instance) (same_design design refused.design refused.source is refused.source_is refused.is_source) bound)
+      (subst (λ design. IsBound design dump score.instance) (design_found refused.sources refused.design refused.has_design) bound)
       r refused.refused
 
   -- where the header is read and binds nothing, the refusal is one of the binding
-  of_binding : (design : Design) (b : Body) → IsSource source score.top design → SaysBody text b → (AreBound b.vars score.instance design.signals → ⊥) → (r : DumpRefusal) → IsRefusedDump score before r → IsOfBinding r
-  of_binding design b is says unbound r refused =
-      go r (subst (λ d. IsDumpRefusal d score.top score.instance text r) (sym (same_design design refused.design refused.source is refused.source_is refused.is_source)) (subst (λ t. IsDumpRefusal refused.design score.top score.instance t r) (sym (same_text refused.text refused.is)) refused.refused))
+  of_binding : (b : Body) → SaysBody text b → (AreBound b.vars score.instance design.signals → ⊥) → (r : DumpRefusal) → IsRefusedDump score before r → IsOfBinding r
+  of_binding b says unbound r refused =
+      go r (subst (λ d. IsDumpRefusal d score.top score.instance text r) (sym (design_found refused.sources refused.design refused.has_design)) (subst (λ t. IsDumpRefusal refused.design score.top score.instance t r) (sym (same_text refused.text refused.is)) refused.refused))
     where
       not_bound : (other : Body) → SaysBody text other → AreBound other.vars score.instance design.signals → ⊥
       not_bound other said bound = unbound (subst (λ vars. AreBound vars score.instance design.signals) (sym (one_header text other b said says)) bound)
@@ -135,67 +153,82 @@ module _ (score : ScoreValues) (before : Outside) (source text : List ℕ) (text
       go (refusal.InputNotDumped outer name) is = tt
       go (refusal.NoBaseline outer name) is = let some = is.1.2 in not_bound some.0 some.1 some.2.are_bound
 
-  -- what is done has a design
-  source_done : (after : Outside) → ((design : Design) → IsSource source score.top design → ⊥) → IsDoneIn score before after → ⊥
-  source_done after none done = none done.design (subst (λ text. IsSource text score.top done.design) (sym (same_source done.source done.source_is)) done.is_source)
-
-  -- and a score
-  dump_done : (after : Outside) (design : Design) → IsSource source score.top design → HasNoScore design score.instance text → IsDoneIn score before after → ⊥
-  dump_done after design is none done =
+  -- a design that has no score is not done
+  dump_done : (after : Outside) → HasNoScore design score.instance text → IsDoneIn score before after → ⊥
+  dump_done after none done =
       none done.scores.dump (subst (λ text. IsDump text done.scores.dump) (sym (same_text done.dump done.dump_is)) done.scores.is_dump)
-      (subst (λ design. IsBound design done.scores.dump score.instance) (sym (same_design design done.design done.source is done.source_is done.is_source)) done.scores.scores.bound)
+      (subst (λ design. IsBound design done.scores.dump score.instance) (sym (design_found done.sources done.design done.has_design)) done.scores.scores.bound)
 
--- how a fault ends that is no fault of the host, where the texts rule out those of the other texts
-module _ (words : List (List ℕ)) (score : ScoreValues) (is_score : IsScore words score) (before middle after : Outside) (first : before.faults ≤ middle.faults) (second : middle.faults ≤ after.faults) (none : NoFaults before after) (source text : List ℕ) (texts : HaveTexts score before source text) where
-  ends_with : (expected : Status) → ((status_of fault.SourceNotYet ≡ expected) ⊎ (IsRefusedSource score before → ⊥)) → (((r : DumpRefusal) → status_of (fault.Dump r) ≡ expected) ⊎ ((r : DumpRefusal) → IsRefusedDump score before r → ⊥)) → (f : Fault) → Stands words before middle f → EndsWith expected (status_of f)
-  ends_with expected of_source of_dump (fault.Usage usage) stands = absurd (command_or_fault words (of_score score, is_score) (usage, stands))
-  ends_with expected (inl is) of_dump fault.SourceNotYet stands = inl is
-  ends_with expected (inr ruled_out) of_dump fault.SourceNotYet stands = absurd (ruled_out (subst (λ score. IsRefusedSource score before) (one_command words stands.0 score stands.1 is_score) stands.2))
-  ends_with expected of_source (inl is) (fault.Dump r) stands = inl (is r)
-  ends_with expected of_source (inr ruled_out) (fault.Dump r) stands = absurd (ruled_out r (subst (λ score. IsRefusedDump score before r) (one_command words stands.0 score stands.1 is_score) stands.2))
-  ends_with expected of_source of_dump (fault.Files call file) stands =
-      let named = subst (λ score. NamesFile score call file.now) (one_command words stands.0 score stands.1 is_score) stands.2.0 in
-      absurd (none (IsCounted-later before.faults middle.faults after.faults first second (refused_call score before source text texts call file.now middle named stands.2.1)))
-  ends_with expected of_source of_dump fault.Memory stands = inr refl
-  ends_with expected of_source of_dump (fault.Databases f) stands = absurd (score_or_databases words score before middle f is_score stands)
+-- how a fault ends that is no fault of the host, where it is known how one of the sources, of a dump and of a file ends
+module _ (words : List (List ℕ)) (score : ScoreValues) (is_score : IsScore words score) (before middle after : Outside) where
+  ends_with : (expected : Status) → ((f : SourceFault) → IsSourceFault (sources_in score) before middle f → EndsWith expected (source_status f)) → ((r : DumpRefusal) → IsRefusedDump score before r → EndsWith expected (status_of (fault.Dump r)))
+      → ((call : Call) (file : List ℕ) → NamesFile score call file → IsRefused call file before middle → ⊥) → (f : Fault) → Stands words before middle f → EndsWith expected (status_of f)
+  ends_with expected of_source of_dump of_file (fault.Usage usage) stands = absurd (command_or_fault words (of_score score, is_score) (usage, stands))
+  ends_with expected of_source of_dump of_file (fault.Source f) stands = of_source f (subst (λ score. IsSourceFault (sources_in score) before middle f) (one_command words stands.0 score stands.1 is_score) stands.2)
+  ends_with expected of_source of_dump of_file (fault.Dump r) stands = of_dump r (subst (λ score. IsRefusedDump score before r) (one_command words stands.0 score stands.1 is_score) stands.2)
+  ends_with expected of_source of_dump of_file (fault.Files call file) stands =
+      absurd (of_file call file.now (subst (λ score. NamesFile score call file.now) (one_command words stands.0 score stands.1 is_score) stands.2.0) stands.2.1)
+  ends_with expected of_source of_dump of_file fault.Memory stands = inr refl
+  ends_with expected of_source of_dump of_file (fault.Databases f) stands = absurd (score_or_databases words score before middle f is_score stands)
 
 -- a dump that does not bind the design is a bad one
 unbound_is_bad : (score : ScoreValues) (before : Outside) → HasUnboundDump score before → HasBadDump score before
 unbound_is_bad score before u = record {
-  source = u.source;
   text = u.text;
   design = u.design;
   texts = u.texts;
-  is_source = u.is_source;
   refused = λ dump is bound.
       let same : dump.vars ≡ u.b.vars = is.vars ∙ one_header u.text u.b is.b u.says (inr is.ends) in
       u.refused (subst (λ vars. AreBound vars score.instance u.design.signals) same (record { instance_is = bound.instance_is; variables = bound.variables }));
 }
 
+source_or_dump : (g : SourceFault) → source_status g ≡ dump_status → ⊥
+source_or_dump source_fault.NoMemory same = cc
+source_or_dump (source_fault.File call file) same = cc
+source_or_dump (source_fault.Included call path) same = cc
+source_or_dump (source_fault.Refused refusal) same = cc
+source_or_dump source_fault.NotYet same = cc
+
 bad_command : (words : List (List ℕ)) (before : Outside) → IsCommandWith HasUnboundDump words before → IsCommandWith HasBadDump words before
 bad_command words before u = (u.0, u.1, unbound_is_bad u.0 before u.2)
 
 module _ (words : List (List ℕ)) (before middle after : Outside) (first : CountsUp before middle) (second : CountsUp middle after) (none : NoFaults before after) (f : Fault) (stands : Stands words before middle f) where
+  none_yet : IsCounted before.faults middle.faults → ⊥
+  none_yet counted = none (IsCounted-later before.faults middle.faults after.faults first.faults second.faults counted)
+
+  -- where the sources have a design, their fault is want of memory
+  design_ends : (score : ScoreValues) (design : Design) (text : List ℕ) → HaveTexts score before design text → (expected : Status) → (g : SourceFault) → IsSourceFault (sources_in score) before middle g → EndsWith expected (source_status g)
+  design_ends score design text texts expected g is =
+      inr (ap source_status (design_or_fault (sources_in score) before texts.sources (told score before design text texts) texts.has_design.gathered design texts.has_design.stands middle none_yet g is))
+
+  file_counted : (score : ScoreValues) (text : List ℕ) → HasText before score.dump text → (call : Call) (file : List ℕ) → NamesFile score call file → IsRefused call file before middle → ⊥
+  file_counted score text is call file named refused = none_yet (refused_call score before middle text is call file named refused)
+
   pub good_ends : IsCommandWith IsGoodScore words before → EndsWith Done (status_of f)
   good_ends (score, is, good) =
-      ends_with words score is before middle after first.faults second.faults none good.source good.text good.texts Done
-      (inr (source_stands score before good.source good.text good.texts good.design good.is_source))
-      (inr (dump_stands score before good.source good.text good.texts good.design good.dump good.is_source good.is_dump good.bound))
-      f stands
-
-  pub bad_source_ends : IsCommandWith HasBadSource words before → EndsWith source_status (status_of f)
-  bad_source_ends (score, is, bad) =
-      ends_with words score is before middle after first.faults second.faults none bad.source bad.text bad.texts source_status
-      (inl refl)
-      (inr (λ refusal refused. bad.refused refused.design (subst (λ text. IsSource text score.top refused.design) (sym (same_source score before bad.source bad.text bad.texts refused.source refused.source_is)) refused.is_source)))
-      f stands
+      ends_with words score is before middle after Done (design_ends score good.design good.text good.texts Done)
+      (λ r refused. absurd (dump_stands score before good.design good.text good.texts good.dump good.is_dump good.bound r refused))
+      (file_counted score good.text good.texts.dump_is) f stands
 
   pub bad_dump_ends : IsCommandWith HasBadDump words before → EndsWith dump_status (status_of f)
   bad_dump_ends (score, is, bad) =
-      ends_with words score is before middle after first.faults second.faults none bad.source bad.text bad.texts dump_status
-      (inr (source_stands score before bad.source bad.text bad.texts bad.design bad.is_source))
-      (inl (λ r. refl))
-      f stands
+      ends_with words score is before middle after dump_status (design_ends score bad.design bad.text bad.texts dump_status)
+      (λ r refused. inl refl) (file_counted score bad.text bad.texts.dump_is) f stands
+
+  bad_ends : (g : SourceFault) → IsOfSources g → EndsWith source_status_of (source_status g)
+  bad_ends source_fault.NoMemory is = inr refl
+  bad_ends (source_fault.File call file) is = absurd is
+  bad_ends (source_fault.Included call path) is = absurd is
+  bad_ends (source_fault.Refused refusal) is = inl refl
+  bad_ends source_fault.NotYet is = inl refl
+
+  pub bad_source_ends : IsCommandWith HasBadSource words before → EndsWith source_status_of (status_of f)
+  bad_source_ends (score, is, bad) =
+      let there = is_told before.files score.dump bad.text bad.dump_is in
+      ends_with words score is before middle after source_status_of
+      (λ g stands. bad_ends g (files_read (sources_in score) before bad.sources there bad.gathered middle none_yet g stands))
+      (λ r refused. absurd (no_design score before bad.sources there bad.gathered bad.refused r refused))
+      (file_counted score bad.text bad.dump_is) f stands
 
   pub unbound_ends : IsCommandWith HasUnboundDump words before → WarnsLine (line_of f) before after → RefusesBinding words (status_of f) before after
   unbound_ends unbound warned = go f stands warned (bad_dump_ends (bad_command words before unbound))
@@ -209,11 +242,11 @@ module _ (words : List (List ℕ)) (before middle after : Outside) (first : Coun
       go : (f : Fault) → Stands words before middle f → WarnsLine (line_of f) before after → EndsWith dump_status (status_of f) → RefusesBinding words (status_of f) before after
       go (fault.Dump r) stands warned ends =
           let refused = subst (λ score. IsRefusedDump score before r) (one_command words stands.0 score stands.1 unbound.1) stands.2 in
-          inl (refl, record { score = score; refusal = r; is_score = unbound.1; refused = refused; of_binding = of_binding score before u.source u.text u.texts u.design u.b u.is_source u.says u.refused r refused; warned = warned })
+          inl (refl, record { score = score; refusal = r; is_score = unbound.1; refused = refused; of_binding = of_binding score before u.design u.text u.texts u.b u.says u.refused r refused; warned = warned })
       go (fault.Usage usage) stands warned (inl is) = cc
       go (fault.Usage usage) stands warned (inr is) = inr is
-      go fault.SourceNotYet stands warned (inl is) = cc
-      go fault.SourceNotYet stands warned (inr is) = inr is
+      go (fault.Source g) stands warned (inl is) = absurd (source_or_dump g is)
+      go (fault.Source g) stands warned (inr is) = inr is
       go (fault.Files call file) stands warned (inl is) = cc
       go (fault.Files call file) stands warned (inr is) = inr is
       go fault.Memory stands warned ends = inr refl
@@ -230,10 +263,10 @@ module _ (words : List (List ℕ)) (before after : Outside) (done : IsDone words
       by_values (of_report other) is_other by = let e = one_of_all words (of_report other) (of_score score) is_other is in absurd (cc)
 
   pub bad_source_not_done : IsCommandWith HasBadSource words before → ⊥
-  bad_source_not_done (score, is, bad) = source_done score before bad.source bad.text bad.texts after bad.refused (done_by score is)
+  bad_source_not_done (score, is, bad) = source_done score before bad.sources (is_told before.files score.dump bad.text bad.dump_is) bad.gathered after bad.refused (done_by score is)
 
   pub bad_dump_not_done : IsCommandWith HasBadDump words before → ⊥
-  bad_dump_not_done (score, is, bad) = dump_done score before bad.source bad.text bad.texts after bad.design bad.is_source bad.refused (done_by score is)
+  bad_dump_not_done (score, is, bad) = dump_done score before bad.design bad.text bad.texts after bad.refused (done_by score is)
 
   pub unbound_not_done : IsCommandWith HasUnboundDump words before → ⊥
   unbound_not_done unbound = bad_dump_not_done (bad_command words before unbound)

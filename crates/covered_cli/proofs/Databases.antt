@@ -1,5 +1,5 @@
 -- Why a command ends as it does, where commands over databases are among them.
-use Rattle.std.proofs.Common.{◌≡◌, ◌⊎◌, ℕ, ◌≤◌, List, [], ◌∷◌, ◌++◌, Option, None, Some, refl, sym, ap, subst, ◌∙◌, inl, inr, arith}
+use Rattle.std.proofs.Common.{◌≡◌, ◌⊎◌, ℕ, ◌≤◌, List, [], ◌∷◌, Option, None, Some, refl, sym, ap, subst, inl, inr, arith}
 use Rattle.std.proofs.lemmas.List.Elements.{Contains-append_right}
 use Rattle.std.specs.Global.{Global}
 use Rattle.std.specs.Prelude.{Contains, MatchOption}
@@ -8,8 +8,7 @@ use Rattle.command_line.specs.CommandWords.{IsScore, ScoreValues}
 use Rattle.command_line.specs.DatabaseWords.{IsMerge, IsReport, MergeValues, ReportValues}
 use Rattle.command_line.proofs.OneCommand.{one_merge, one_of_all, one_report}
 use Rattle.cov_host.specs.Outside.{Files as HostFiles, IsCounted, Outside}
-use Rattle.database_commands.specs.Complete.{IsGoodMerge, IsGoodReport}
-use Rattle.database_commands.specs.Faults.{ComesTo, IsMergeFault, IsNoTable, IsReading, IsRefused as IsRefusedFile, IsWriting, inputs_of}
+use Rattle.database_commands.specs.Faults.{ComesTo, IsMergeFault, IsNoTable, IsReading, IsRefused as IsRefusedFile, inputs_of}
 use Rattle.database_commands.specs.Reporting.{IsReportFault}
 use Rattle.database_commands.specs.declared.fault.CommandFault.{CommandFault}
 use Rattle.database_commands.specs.declared.fault.CommandFault.TheVariants as database
@@ -19,18 +18,25 @@ use Rattle.whole_files.specs.declared.call.Call.{Call}
 use Rattle.whole_files.specs.declared.call.Call.TheVariants.{OpenRead, Read, OpenWrite, Write, CloseWrite}
 use Rattle.whole_files.proofs.EffectLemmas.{IsCounted-later}
 use Rattle.covered_cli.specs.Complete.{EndsWith, NoFaults}
-use Rattle.covered_cli.specs.Covered.{HasDatabaseCause, HasEarlyStatus, HasFilesCause, HasGoodDatabases, HasNoTable, IsInput, MissesFile}
+use Rattle.covered_cli.specs.Covered.{HasDatabaseCause, HasEarlyStatus, HasFilesCause, HasGoodDatabases, IsIncluded, IsInput}
 use Rattle.covered_cli.specs.Databases.{database_status}
 use Rattle.covered_cli.specs.Fault.{IsEarly, IsRefused, NamesFile, Stands, StandsInDatabases, status_of}
+use Rattle.source_files.specs.Joining.{IsRefusedCall}
+use Rattle.source_design.specs.Reading.{IsSourceFault}
+use Rattle.source_design.specs.Words.{SourceValues}
+use Rattle.source_design.specs.declared.fault.SourceFault.{SourceFault}
+use Rattle.source_design.specs.declared.fault.SourceFault.TheVariants as source_fault
+use Rattle.covered_cli.specs.ScoreSources.{sources_in}
+use Rattle.covered_cli.specs.SourceMessage.{source_status}
 use Rattle.covered_cli.specs.declared.fault.Fault.{Fault}
-use Rattle.covered_cli.specs.declared.fault.Fault.TheVariants.{Usage, SourceNotYet, Dump, Files as FilesFault, Memory, Databases}
+use Rattle.covered_cli.specs.declared.fault.Fault.TheVariants.{Usage, Source, Dump, Files as FilesFault, Memory, Databases}
 use Rattle.covered_cli.specs.declared.status.Status.TheVariants as status
 use Rattle.covered_cli.proofs.Causes.{command_or_fault}
 
 -- a status that comes before the output is opened is that of such a fault
 pub early_status : (fault : Fault) → HasEarlyStatus (status_of fault) → IsEarly fault
 early_status (Usage usage) early = tt
-early_status SourceNotYet early = tt
+early_status (Source f) early = tt
 early_status (Dump refusal) early = tt
 early_status (FilesFault call file) early = absurd early
 early_status Memory early = absurd early
@@ -64,7 +70,7 @@ good_fault alloc words before after none (inr good) f (inr stands) =
 
 pub good_databases_end : (alloc : Global) (words : List (List ℕ)) (before middle after : Outside) → CountsUp before middle → CountsUp middle after → NoFaults before after → (fault : Fault) → Stands words before middle fault → HasGoodDatabases words before → EndsWith status.Done (status_of fault)
 good_databases_end alloc words before middle after first second none (Usage usage) stands good = absurd (command_or_fault words (good_are_words words before good) (usage, stands))
-good_databases_end alloc words before middle after first second none SourceNotYet stands good = absurd (good_or_score words before stands.0 good stands.1)
+good_databases_end alloc words before middle after first second none (Source f) stands good = absurd (good_or_score words before stands.0 good stands.1)
 good_databases_end alloc words before middle after first second none (Dump refusal) stands good = absurd (good_or_score words before stands.0 good stands.1)
 good_databases_end alloc words before middle after first second none (FilesFault call file) stands good = absurd (good_or_score words before stands.0 good stands.1)
 good_databases_end alloc words before middle after first second none Memory stands good = inr refl
@@ -89,9 +95,16 @@ database_fault_cause words before after (database.DesignsDiffer file line first 
     inl (merge, file.now, is_merge, comes_within (inputs_of merge) before file.now fault.0, inr (line, first, other, fault.1))
 database_fault_cause words before after (database.DesignsDiffer file line first other) (inr (report, is_report, fault)) is = absurd fault
 
+source_no_database : (f : SourceFault) → source_status f ≡ status.Database → ⊥
+source_no_database source_fault.NoMemory same = cc
+source_no_database (source_fault.File call file) same = cc
+source_no_database (source_fault.Included call path) same = cc
+source_no_database (source_fault.Refused refusal) same = cc
+source_no_database source_fault.NotYet same = cc
+
 pub database_cause : (words : List (List ℕ)) (before after : Outside) (fault : Fault) → Stands words before after fault → status_of fault ≡ status.Database → HasDatabaseCause words before
 database_cause words before after (Usage usage) stands is = absurd (cc)
-database_cause words before after SourceNotYet stands is = absurd (cc)
+database_cause words before after (Source f) stands is = absurd (source_no_database f is)
 database_cause words before after (Dump refusal) stands is = absurd (cc)
 database_cause words before after (FilesFault call file) stands is = absurd (cc)
 database_cause words before after Memory stands is = absurd (cc)
@@ -99,24 +112,39 @@ database_cause words before after (Databases f) stands is = database_fault_cause
 
 -- ---- the cause of a fault of files
 
-misses_at : (words : List (List ℕ)) (name : List ℕ) (files : Option HostFiles) (P : Type 0) → IsInput words name → MatchOption files P (λ files. files name ≡ None) → MatchOption files P (λ files. (name : List ℕ) × IsInput words name × (files name ≡ None))
-misses_at words name None P input missing = missing
-misses_at words name (Some files) P input missing = (name, input, missing)
+misses_at : (words : List (List ℕ)) (before : Outside) (name : List ℕ) (files : Option HostFiles) (P : Type 0) → IsInput words name ⊎ IsIncluded words before name → MatchOption files P (λ files. files name ≡ None) → MatchOption files P (λ files. (name : List ℕ) × (IsInput words name ⊎ IsIncluded words before name) × (files name ≡ None))
+misses_at words before name None P input missing = missing
+misses_at words before name (Some files) P input missing = (name, input, missing)
+
+missing_read : (words : List (List ℕ)) (before after : Outside) (name : List ℕ) → IsInput words name ⊎ IsIncluded words before name → IsCounted before.faults after.faults ⊎ IsMissing name before after → HasFilesCause words before after
+missing_read words before after name input (inl counted) = inl counted
+missing_read words before after name input (inr missing) = inr (misses_at words before name before.files (IsCounted before.absences after.absences) input missing)
 
 missing_cause : (words : List (List ℕ)) (before after : Outside) (name : List ℕ) → IsInput words name → IsCounted before.faults after.faults ⊎ IsMissing name before after → HasFilesCause words before after
-missing_cause words before after name input (inl counted) = inl counted
-missing_cause words before after name input (inr missing) = inr (misses_at words name before.files (IsCounted before.absences after.absences) input missing)
+missing_cause words before after name input refused = missing_read words before after name (inl input) refused
 
 score_call : (words : List (List ℕ)) (before after : Outside) (score : ScoreValues) (call : Call) (file : List ℕ) → IsScore words score → NamesFile score call file → IsRefused call file before after → HasFilesCause words before after
-score_call words before after score OpenRead file is names refused = missing_cause words before after file (of_score score, is, named_input names) refused
-  where
-    named_input : (file ≡ score.source) ⊎ (file ≡ score.dump) → Contains (score.source ∷ score.dump ∷ []) file
-    named_input (inl same) = (0, omega arith, sym same)
-    named_input (inr same) = (1, omega arith, sym same)
+score_call words before after score OpenRead file is names refused = missing_cause words before after file (of_score score, is, (0, omega arith, sym names)) refused
 score_call words before after score Read file is names counted = inl counted
 score_call words before after score OpenWrite file is names counted = inl counted
 score_call words before after score Write file is names counted = inl counted
 score_call words before after score CloseWrite file is names counted = inl counted
+
+-- a file of the words or of their sources was not read
+source_call : (words : List (List ℕ)) (before after : Outside) (call : Call) (path : List ℕ) → IsInput words path ⊎ IsIncluded words before path → IsRefusedCall before after path call → HasFilesCause words before after
+source_call words before after OpenRead path input refused = missing_read words before after path input refused
+source_call words before after Read path input counted = inl counted
+source_call words before after OpenWrite path input counted = absurd counted
+source_call words before after Write path input counted = absurd counted
+source_call words before after CloseWrite path input counted = absurd counted
+
+source_files_cause : (words : List (List ℕ)) (before after : Outside) (score : ScoreValues) → IsScore words score → (f : SourceFault) → IsSourceFault (sources_in score) before after f → source_status f ≡ status.Files → HasFilesCause words before after
+source_files_cause words before after score is source_fault.NoMemory stands same = absurd cc
+source_files_cause words before after score is (source_fault.File call file) stands same =
+    source_call words before after call file.now (inl (of_score score, is, Contains-append_right (score.dump ∷ []) score.sources file.now stands.0)) stands.1
+source_files_cause words before after score is (source_fault.Included call path) stands same = source_call words before after call path (inr (score, is, stands.0)) stands.1
+source_files_cause words before after score is (source_fault.Refused refusal) stands same = absurd cc
+source_files_cause words before after score is source_fault.NotYet stands same = absurd cc
 
 reading_call : (words : List (List ℕ)) (before after : Outside) (call : Call) (file : List ℕ) → IsReading call → IsInput words file → IsRefusedFile call file before after → HasFilesCause words before after
 reading_call words before after OpenRead file reading input refused = missing_cause words before after file input refused
@@ -140,19 +168,19 @@ databases_files_cause words before after (database.DesignsDiffer file line first
 
 files_fault_cause : (words : List (List ℕ)) (before after : Outside) (fault : Fault) → Stands words before after fault → status_of fault ≡ status.Files → HasFilesCause words before after
 files_fault_cause words before after (Usage usage) stands is = absurd (cc)
-files_fault_cause words before after SourceNotYet stands is = absurd (cc)
+files_fault_cause words before after (Source f) stands is = source_files_cause words before after stands.0 stands.1 f stands.2 is
 files_fault_cause words before after (Dump refusal) stands is = absurd (cc)
 files_fault_cause words before after (FilesFault call file) stands is = score_call words before after stands.0 call file.now stands.1 stands.2.0 stands.2.1
 files_fault_cause words before after Memory stands is = absurd (cc)
 files_fault_cause words before after (Databases f) stands is = databases_files_cause words before after f stands is
 
-misses_later : (words : List (List ℕ)) (files : Option HostFiles) (a b c : ℕ) → a ≤ b → b ≤ c → MatchOption files (IsCounted a b) (λ files. (name : List ℕ) × IsInput words name × (files name ≡ None)) → MatchOption files (IsCounted a c) (λ files. (name : List ℕ) × IsInput words name × (files name ≡ None))
-misses_later words None a b c first second missing = IsCounted-later a b c first second missing
-misses_later words (Some files) a b c first second missing = missing
+misses_later : (words : List (List ℕ)) (before : Outside) (files : Option HostFiles) (a b c : ℕ) → a ≤ b → b ≤ c → MatchOption files (IsCounted a b) (λ files. (name : List ℕ) × (IsInput words name ⊎ IsIncluded words before name) × (files name ≡ None)) → MatchOption files (IsCounted a c) (λ files. (name : List ℕ) × (IsInput words name ⊎ IsIncluded words before name) × (files name ≡ None))
+misses_later words before None a b c first second missing = IsCounted-later a b c first second missing
+misses_later words before (Some files) a b c first second missing = missing
 
 cause_later : (words : List (List ℕ)) (before middle after : Outside) → CountsUp before middle → CountsUp middle after → HasFilesCause words before middle → HasFilesCause words before after
 cause_later words before middle after first second (inl counted) = inl (IsCounted-later before.faults middle.faults after.faults first.faults second.faults counted)
-cause_later words before middle after first second (inr misses) = inr (misses_later words before.files before.absences middle.absences after.absences first.absences second.absences misses)
+cause_later words before middle after first second (inr misses) = inr (misses_later words before before.files before.absences middle.absences after.absences first.absences second.absences misses)
 
 pub files_cause : (words : List (List ℕ)) (before middle after : Outside) → CountsUp before middle → CountsUp middle after → (fault : Fault) → Stands words before middle fault → status_of fault ≡ status.Files → HasFilesCause words before after
 files_cause words before middle after first second fault stands is = cause_later words before middle after first second (files_fault_cause words before middle fault stands is)
@@ -185,6 +213,20 @@ module _ (before middle after : Outside) (first : CountsUp before middle) (secon
   refused_file_later Write name counted = counted_later counted
   refused_file_later CloseWrite name counted = counted_later counted
 
+  source_call_later : (call : Call) (path : List ℕ) → IsRefusedCall before middle path call → IsRefusedCall before after path call
+  source_call_later OpenRead path refused = open_later path refused
+  source_call_later Read path counted = counted_later counted
+  source_call_later OpenWrite path counted = counted
+  source_call_later Write path counted = counted
+  source_call_later CloseWrite path counted = counted
+
+  source_later : (words : SourceValues) (f : SourceFault) → IsSourceFault words before middle f → IsSourceFault words before after f
+  source_later words source_fault.NoMemory stands = tt
+  source_later words (source_fault.File call file) stands = (stands.0, source_call_later call file.now stands.1)
+  source_later words (source_fault.Included call path) stands = (stands.0, source_call_later call path stands.1)
+  source_later words (source_fault.Refused refusal) stands = stands
+  source_later words source_fault.NotYet stands = stands
+
   merge_fault_later : (merge : MergeValues) (f : CommandFault) → IsMergeFault merge before middle f → IsMergeFault merge before after f
   merge_fault_later merge (database.Files call file) (inl fault) = inl (fault.0, fault.1, refused_file_later call file.now fault.2)
   merge_fault_later merge (database.Files call file) (inr fault) = inr (fault.0, fault.1, refused_file_later call file.now fault.2)
@@ -207,7 +249,7 @@ module _ (before middle after : Outside) (first : CountsUp before middle) (secon
 
   pub stands_later : (words : List (List ℕ)) (fault : Fault) → Stands words before middle fault → Stands words before after fault
   stands_later words (Usage usage) stands = stands
-  stands_later words SourceNotYet stands = stands
+  stands_later words (Source f) stands = (stands.0, stands.1, source_later (sources_in stands.0) f stands.2)
   stands_later words (Dump refusal) stands = stands
   stands_later words (FilesFault call file) stands = (stands.0, stands.1, (stands.2.0, refused_later call file.now stands.2.1))
   stands_later words Memory stands = stands

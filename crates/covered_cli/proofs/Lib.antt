@@ -4,3 +4,4 @@ pub mod Databases
 pub mod Inputs
 pub mod Lines
 pub mod Scoring
+pub mod WordLists

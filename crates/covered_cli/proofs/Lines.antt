@@ -1,5 +1,5 @@
 -- A line that is written in pieces.
-use Rattle.std.proofs.Common.{◌≡◌, ℕ, zero, suc, ◌+◌, ◌<◌, List, [], ◌∷◌, ◌++◌, length, take, drop, get_or, Option, None, Some, sym, ap, subst, ◌∙◌, refl, inl, inr, arith, append_assoc, take-append-drop}
+use Rattle.std.proofs.Common.{◌≡◌, ℕ, zero, suc, ◌+◌, ◌<◌, List, [], ◌∷◌, ◌++◌, length, take, drop, get_or, Option, None, Some, sym, ap, subst, ◌∙◌, refl, inl, inr, arith, append-nil, append_assoc, take-append-drop}
 use Rattle.std.proofs.Math.Seq.{take-append-add}
 use Rattle.std.proofs.lemmas.List.{take_at}
 use Rattle.std.specs.List.{flat_map}
@@ -41,3 +41,13 @@ WarnsLine-since line before middle after same first second (inr front) =
 -- a line that was warned, written otherwise
 pub WarnsLine-is : (line other : List ℕ) (before after : Outside) → line ≡ other → WarnsLine line before after → WarnsLine other before after
 WarnsLine-is line other before after same warned = subst (λ all. WarnsLine all before after) same warned
+
+-- a line without a place, with one, and with a detail
+pub no_place : (a b c d n : List ℕ) → a ++ b ++ c ++ d ++ n ≡ a ++ b ++ c ++ d ++ [] ++ n
+no_place a b c d n = ap (λ front. front ++ n) (sym (append-nil (a ++ b ++ c ++ d)))
+
+pub at_place : (a b c d s e f g h i n : List ℕ) → a ++ b ++ c ++ d ++ s ++ e ++ f ++ g ++ h ++ i ++ n ≡ a ++ b ++ c ++ d ++ (s ++ e ++ f ++ g ++ h ++ i) ++ n
+at_place a b c d s e f g h i n = simp append_assoc refl
+
+pub with_detail : (a b c d s n : List ℕ) → a ++ b ++ c ++ d ++ s ++ n ≡ a ++ b ++ (c ++ d) ++ s ++ n
+with_detail a b c d s n = simp append_assoc refl

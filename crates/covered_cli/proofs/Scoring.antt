@@ -1,30 +1,28 @@
 -- From what was read to what a score says.
-use Rattle.std.proofs.Common.{◌≡◌, ◌⊎◌, ℕ, ◌≤◌, List, length, Option, None, Some, Ok, Err, refl, sym, subst, ◌∙◌, inl, inr, arith}
-use Rattle.std.proofs.lemmas.Bool.{cases_lt}
-use Rattle.std.specs.Prelude.{IfErr, IfSome, IsSomeAnd, MatchOption, Result, OnOk}
+use Rattle.std.proofs.Common.{◌≡◌, ◌⊎◌, ℕ, ◌≤◌, List, Option, None, Some, Ok, Err, sym, subst, ◌∙◌, inl, inr}
+use Rattle.std.specs.Prelude.{IfErr, IfSome, MatchOption, Result, OnOk}
 use Rattle.command_line.specs.Command.{IsCommand, command_values}
-use Rattle.command_line.specs.CommandWords.{ScoreValues, score_values}
+use Rattle.command_line.specs.CommandWords.{ScoreValues}
 use Rattle.command_line.specs.declared.command.Command.{Command}
 use Rattle.cov_host.specs.Outside.{Outside, Files, IsCounted, KeepsFiles, SameFiles, Told, HasFile}
 use Rattle.covered_cli.specs.Covered.{KeepsOthers}
-use Rattle.covered_cli.specs.Fault.{IsEarly, IsReadingFault, IsScoringFault, IsSourceFault, IsWritingFault, StandsIn}
-use Rattle.covered_cli.specs.Scoring.{HasNoDesign, IsDone, IsDoneIn, IsDoneWork, IsReadOf}
+use Rattle.covered_cli.specs.Fault.{IsDesignFault, IsEarly, IsReadingFault, IsScoringFault, IsWritingFault, StandsIn}
+use Rattle.covered_cli.specs.Scoring.{HasDesign, IsDone, IsDoneIn, IsDoneWork, names_of}
 use Rattle.covered_cli.specs.declared.fault.Fault.{Fault}
-use Rattle.covered_cli.specs.declared.fault.Fault.TheVariants.{Usage, SourceNotYet, Dump, Files as FilesFault, Memory, Databases}
+use Rattle.covered_cli.specs.declared.fault.Fault.TheVariants.{Usage, Source, Dump, Files as FilesFault, Memory, Databases}
 use Rattle.design_model.specs.declared.design.Design.{Design}
-use Rattle.input_module.specs.SourceForm.{IsSource}
 use Rattle.coverage_db.specs.Text.{text_of}
 use Rattle.coverage_db.specs.declared.db.Db.{Db}
-use Rattle.dump_score.specs.Reading.{IsFile}
 use Rattle.dump_score.specs.Scoring.{IsScoreOfFile}
 use Rattle.input_runs.proofs.Reasoned.{reasoned_table}
 use Rattle.input_runs.proofs.Sound.{sound_table}
 use Rattle.input_toggles.proofs.DumpTimes.{times_rise}
 use Rattle.input_toggles.specs.InputDesign.{IsInputDesign}
+use Rattle.input_toggles.specs.Scored.{HasHead}
+use Rattle.verilog_lexer.specs.Sources.{SourceText}
 use Rattle.whole_files.proofs.EffectLemmas.{IsCounted-earlier, Told-map, Told-trans}
 use Rattle.whole_files.specs.Effects.{CountsUp, IsMissing}
 use Rattle.whole_files.specs.declared.call.Call.TheVariants.{OpenRead, Read, OpenWrite, Write, CloseWrite}
-use Rattle.whole_files.specs.Files.{IsContent}
 
 missing_earlier : (name : List ℕ) (before middle after : Option Files) (first last : ℕ) (m : ℕ) → first ≤ m → m ≤ last → Told SameFiles before middle → MatchOption middle (IsCounted m last) (λ files. files name ≡ None) → MatchOption before (IsCounted first last) (λ files. files name ≡ None)
 missing_earlier name None None after first last m up more same missing = IsCounted-earlier first m last up more missing
@@ -37,67 +35,28 @@ refused_earlier : (name : List ℕ) (before middle after : Outside) → KeepsFil
 refused_earlier name before middle after kept first second (inl counted) = inl (IsCounted-earlier before.faults middle.faults after.faults first.faults second.faults counted)
 refused_earlier name before middle after kept first second (inr missing) = inr (missing_earlier name before.files middle.files after.files before.absences after.absences middle.absences first.absences second.absences kept missing)
 
--- what was read is some text's content, and that text is the file's where files are told
-read_at : (most : ℕ) (name bytes : List ℕ) (outside : Outside) (found : Option Files) → outside.files ≡ found → IfSome found (λ files. IsSomeAnd (files name) (IsContent most bytes)) → IsReadOf most name outside bytes
-read_at most name bytes outside None is holds = record {
-  text = bytes;
-  is = subst (λ f. IfSome f (λ files. files name ≡ Some bytes)) (sym is) tt;
-  content = record { whole = λ short. refl; longer = λ long. long };
-}
-read_at most name bytes outside (Some files) is holds = go (files name) refl holds
-  where
-    go : (found : Option (List ℕ)) → files name ≡ found → IsSomeAnd found (IsContent most bytes) → IsReadOf most name outside bytes
-    go None none content = absurd content
-    go (Some text) some content = record {
-      text = text;
-      is = subst (λ f. IfSome f (λ files. files name ≡ Some text)) (sym is) some;
-      content = content;
-    }
-
-pub read_of_content : (most : ℕ) (name bytes : List ℕ) (outside : Outside) → IfSome outside.files (λ files. IsSomeAnd (files name) (IsContent most bytes)) → IsReadOf most name outside bytes
-read_of_content most name bytes outside holds = read_at most name bytes outside outside.files refl holds
-
 file_as_before : (name text : List ℕ) (before after : Option Files) → Told SameFiles before after → IfSome after (λ files. files name ≡ Some text) → IfSome before (λ files. files name ≡ Some text)
 file_as_before name text None None same is = tt
 file_as_before name text None (Some after) same is = absurd same
 file_as_before name text (Some before) None same is = absurd same
 file_as_before name text (Some before) (Some after) same is = sym (same name) ∙ is
 
--- a file that was read later is the one that was there before
-pub read_before : (most : ℕ) (name bytes : List ℕ) (before after : Outside) → KeepsFiles before after → IsReadOf most name after bytes → IsReadOf most name before bytes
-read_before most name bytes before after same read = record {
-  text = read.text;
-  is = file_as_before name read.text before.files after.files same read.is;
-  content = read.content;
-}
-
--- a text that is short enough was read whole
-whole_text : (most : ℕ) (bytes text : List ℕ) → IsContent most bytes text → length bytes ≤ most → bytes ≡ text
-whole_text most bytes text content short =
-    elim (cases_lt most (length text)) [ inl long ↦ absurd (omega (arith, content.longer long, short)) | inr within ↦ content.whole (omega (arith, within)) ]
-
-pub source_text : (name bytes top : List ℕ) (before : Outside) (design : Design) (read : IsReadOf 67108864 name before bytes) → IsSource bytes top design → IsSource read.text top design
-source_text name bytes top before design read is = subst (λ text. IsSource text top design) (whole_text 67108864 bytes read.text read.content is.short) is
-
-no_source_text : (name bytes top : List ℕ) (before : Outside) (read : IsReadOf 67108864 name before bytes) → HasNoDesign top bytes → HasNoDesign top read.text
-no_source_text name bytes top before read none design is = none design (subst (λ text. IsSource text top design) (sym (read.content.whole is.short)) is)
-
--- a source fault stands
-pub source_stands : (score : ScoreValues) (bytes : List ℕ) (before after : Outside) → IsReadOf 67108864 score.source before bytes → (fault : Fault) → IsSourceFault score.top bytes fault → StandsIn score before after fault
-source_stands score bytes before after read (Usage usage) is = absurd is
-source_stands score bytes before after read SourceNotYet is = record { text = read.text; is = read.is; refused = no_source_text score.source bytes score.top before read is }
-source_stands score bytes before after read (Dump refusal) is = absurd is
-source_stands score bytes before after read (FilesFault call file) is = absurd is
-source_stands score bytes before after read Memory is = tt
-source_stands score bytes before after read (Databases f) is = absurd is
+-- a fault of the sources stands
+pub design_stands : (score : ScoreValues) (before after : Outside) (fault : Fault) → IsDesignFault score before after fault → StandsIn score before after fault
+design_stands score before after (Usage usage) is = absurd is
+design_stands score before after (Source f) is = is
+design_stands score before after (Dump refusal) is = absurd is
+design_stands score before after (FilesFault call file) is = absurd is
+design_stands score before after Memory is = tt
+design_stands score before after (Databases f) is = absurd is
 
 -- a fault of a file stands
 reading_stands : (score : ScoreValues) (before middle after : Outside) → KeepsFiles before middle → CountsUp before middle → CountsUp middle after → (fault : Fault) → IsReadingFault score.dump middle after fault → StandsIn score before after fault
 reading_stands score before middle after kept first second (Usage usage) is = absurd is
-reading_stands score before middle after kept first second SourceNotYet is = absurd is
+reading_stands score before middle after kept first second (Source f) is = absurd is
 reading_stands score before middle after kept first second (Dump refusal) is = absurd is
-reading_stands score before middle after kept first second (FilesFault OpenRead file) is = (inr is.0, refused_earlier file.now before middle after kept first second is.1)
-reading_stands score before middle after kept first second (FilesFault Read file) is = (inr is.0, IsCounted-earlier before.faults middle.faults after.faults first.faults second.faults is.1)
+reading_stands score before middle after kept first second (FilesFault OpenRead file) is = (is.0, refused_earlier file.now before middle after kept first second is.1)
+reading_stands score before middle after kept first second (FilesFault Read file) is = (is.0, IsCounted-earlier before.faults middle.faults after.faults first.faults second.faults is.1)
 reading_stands score before middle after kept first second (FilesFault OpenWrite file) is = absurd is
 reading_stands score before middle after kept first second (FilesFault Write file) is = absurd is
 reading_stands score before middle after kept first second (FilesFault CloseWrite file) is = absurd is
@@ -105,21 +64,20 @@ reading_stands score before middle after kept first second Memory is = tt
 reading_stands score before middle after kept first second (Databases f) is = absurd is
 
 -- a fault of the scoring stands
-pub scoring_stands : (score : ScoreValues) (source : List ℕ) (design : Design) (before middle after : Outside) → IsReadOf 67108864 score.source before source → IsSource source score.top design → KeepsFiles before middle → CountsUp before middle → CountsUp middle after → (fault : Fault) → IsScoringFault score design middle after fault → StandsIn score before after fault
-scoring_stands score source design before middle after from is_source kept first second (Dump refusal) is = record {
-  source = from.text;
+pub scoring_stands : (score : ScoreValues) (sources : List SourceText) (design : Design) (before middle after : Outside) → HasDesign score before sources design → KeepsFiles before middle → CountsUp before middle → CountsUp middle after → (fault : Fault) → IsScoringFault score design middle after fault → StandsIn score before after fault
+scoring_stands score sources design before middle after has kept first second (Dump refusal) is = record {
+  sources = sources;
   text = is.0;
   design = design;
-  source_is = from.is;
+  has_design = has;
   is = file_as_before score.dump is.0 before.files middle.files kept is.1;
-  is_source = source_text score.source source score.top before design from is_source;
   refused = is.2;
 }
-scoring_stands score source design before middle after from is_source kept first second (Usage usage) is = reading_stands score before middle after kept first second (Usage usage) is
-scoring_stands score source design before middle after from is_source kept first second SourceNotYet is = reading_stands score before middle after kept first second SourceNotYet is
-scoring_stands score source design before middle after from is_source kept first second (FilesFault call file) is = reading_stands score before middle after kept first second (FilesFault call file) is
-scoring_stands score source design before middle after from is_source kept first second Memory is = tt
-scoring_stands score source design before middle after from is_source kept first second (Databases f) is = absurd is
+scoring_stands score sources design before middle after has kept first second (Usage usage) is = reading_stands score before middle after kept first second (Usage usage) is
+scoring_stands score sources design before middle after has kept first second (Source f) is = reading_stands score before middle after kept first second (Source f) is
+scoring_stands score sources design before middle after has kept first second (FilesFault call file) is = reading_stands score before middle after kept first second (FilesFault call file) is
+scoring_stands score sources design before middle after has kept first second Memory is = tt
+scoring_stands score sources design before middle after has kept first second (Databases f) is = absurd is
 
 written_since : (name text : List ℕ) (before middle after : Option Files) → Told SameFiles before middle → Told (HasFile name text) middle after → Told (HasFile name text) before after
 written_since name text None None None same written = tt
@@ -130,18 +88,17 @@ written_since name text (Some before) (Some middle) None same written = absurd w
 written_since name text (Some before) (Some middle) (Some after) same written = record { named = written.named; others = λ other apart. written.others other apart ∙ same other }
 
 -- what was read, scored and written is what the command asks for
-pub score_is_done : (score : ScoreValues) (source text : List ℕ) (design : Design) (db : Db) (before middle later after : Outside) → IsReadOf 67108864 score.source before source → IsSource source score.top design → IsInputDesign design → KeepsFiles before middle → KeepsFiles before later
-    → IsScoreOfFile score.dump middle design score.source score.instance db → text ≡ text_of db → Told (HasFile score.output text) later.files after.files → IsDoneIn score before after
-score_is_done score source text design db before middle later after from is_source inputs kept same scored is_text written =
+pub score_is_done : (score : ScoreValues) (sources : List SourceText) (names : List (List ℕ)) (text : List ℕ) (design : Design) (db : Db) (before middle later after : Outside) → HasDesign score before sources design → names ≡ names_of sources → IsInputDesign design → KeepsFiles before middle → KeepsFiles before later
+    → IsScoreOfFile score.dump middle design names score.instance db → text ≡ text_of db → Told (HasFile score.output text) later.files after.files → IsDoneIn score before after
+score_is_done score sources names text design db before middle later after has are_names inputs kept same scored is_text written =
     let rise = times_rise scored.text scored.dump scored.is_dump in
     record {
-      source = from.text;
+      sources = sources;
       dump = scored.text;
       design = design;
       text = text;
-      source_is = from.is;
+      has_design = has;
       dump_is = file_as_before score.dump scored.text before.files middle.files kept scored.is;
-      is_source = source_text score.source source score.top before design from is_source;
       scores = record {
         dump = scored.dump;
         db = db;
@@ -149,7 +106,7 @@ score_is_done score source text design db before middle later after from is_sour
         scores = record {
           bound = scored.table.bound;
           table = scored.table.table;
-          head = scored.table.head;
+          head = subst (λ ns. HasHead design ns db) are_names scored.table.head;
           listed = scored.table.listed;
           verdicts = scored.table.verdicts;
           sound = sound_table design scored.dump score.instance db inputs rise scored.table.verdicts;
@@ -175,7 +132,7 @@ IfErr-map (Err fault) step holds = step fault holds
 -- a fault of writing stands
 pub writing_stands : (score : ScoreValues) (before later after : Outside) → CountsUp before later → CountsUp later after → (fault : Fault) → IsWritingFault score.output later after fault → StandsIn score before after fault
 writing_stands score before later after first second (Usage usage) is = absurd is
-writing_stands score before later after first second SourceNotYet is = absurd is
+writing_stands score before later after first second (Source f) is = absurd is
 writing_stands score before later after first second (Dump refusal) is = absurd is
 writing_stands score before later after first second (FilesFault OpenRead file) is = absurd is
 writing_stands score before later after first second (FilesFault Read file) is = absurd is
@@ -188,7 +145,7 @@ writing_stands score before later after first second (Databases f) is = absurd i
 -- a fault of writing comes when the output was opened, or might have been
 pub writing_is_late : (name : List ℕ) (before after : Outside) (fault : Fault) → IsWritingFault name before after fault → IsEarly fault → ⊥
 writing_is_late name before after (Usage usage) is early = is
-writing_is_late name before after SourceNotYet is early = is
+writing_is_late name before after (Source f) is early = is
 writing_is_late name before after (Dump refusal) is early = is
 writing_is_late name before after (FilesFault OpenRead file) is early = is
 writing_is_late name before after (FilesFault Read file) is early = is

@@ -3,14 +3,17 @@ use Rattle.std.specs.Prelude.{◌≡◌, ◌⊎◌, ℕ, List, Some, IsSomeAnd}
 use Rattle.command_line.specs.CommandWords.{IsScore, ScoreValues}
 use Rattle.cov_host.specs.Outside.{Outside, IsCounted}
 use Rattle.design_model.specs.declared.design.Design.{Design}
-use Rattle.input_module.specs.SourceForm.{IsSource}
 use Rattle.input_toggles.specs.Binding.{AreBound}
 use Rattle.input_toggles.specs.Scored.{IsBound}
 use Rattle.vcd_reader.specs.Dump.{Dump as SpecDump, IsDump, SaysBody}
 use Rattle.vcd_reader.specs.Reading.{Body}
 use Rattle.covered_cli.specs.DumpRefusal.{refusal_line}
 use Rattle.covered_cli.specs.Effects.{WarnsLine}
-use Rattle.covered_cli.specs.Scoring.{HasNoDesign, HasNoScore, IsRefusedDump}
+use Rattle.source_design.specs.Accepted.{StandFor}
+use Rattle.source_design.specs.Reading.{HasSources}
+use Rattle.verilog_lexer.specs.Sources.{SourceText}
+use Rattle.covered_cli.specs.ScoreSources.{sources_in}
+use Rattle.covered_cli.specs.Scoring.{HasDesign, HasNoScore, IsRefusedDump}
 use Rattle.covered_cli.specs.declared.dump_refusal.DumpRefusal.{DumpRefusal}
 use Rattle.covered_cli.specs.declared.dump_refusal.DumpRefusal.TheVariants as refusal
 use Rattle.covered_cli.specs.declared.status.Status.{Status}
@@ -20,46 +23,42 @@ use Rattle.covered_cli.specs.declared.status.Status.TheVariants.{Dump, Memory}
 abbrev pub HasText : Outside → List ℕ → List ℕ → Type 0
 HasText outside name text = IsSomeAnd outside.files (λ files. files name ≡ Some text)
 
--- the source and the dump of the command have these texts
-pub record HaveTexts (score : ScoreValues) (before : Outside) (source dump : List ℕ) : Type 0 where
-  pub source_is : HasText before score.source source
-  pub dump_is : HasText before score.dump dump
+-- the sources of the command are told, and stand for the design, and its dump has the text
+pub record HaveTexts (score : ScoreValues) (before : Outside) (design : Design) (text : List ℕ) : Type 0 where
+  pub sources : List SourceText
+  pub has_design : HasDesign score before sources design
+  pub dump_is : HasText before score.dump text
 
--- the source is of the form, and the dump has the instance, and each of its inputs with a first value
+-- the sources stand for a design, and the dump has the instance, and each of its inputs with a first value
 pub record IsGoodScore (score : ScoreValues) (before : Outside) : Type 0 where
-  pub source : List ℕ
   pub text : List ℕ
   pub design : Design
   pub dump : SpecDump
-  pub texts : HaveTexts score before source text
-  pub is_source : IsSource source score.top design
+  pub texts : HaveTexts score before design text
   pub is_dump : IsDump text dump
   pub bound : IsBound design dump score.instance
 
--- the source is not of the form
+-- the sources are told, with all that they include, and stand for no design, and the dump has a text
 pub record HasBadSource (score : ScoreValues) (before : Outside) : Type 0 where
-  pub source : List ℕ
+  pub sources : List SourceText
   pub text : List ℕ
-  pub texts : HaveTexts score before source text
-  pub refused : HasNoDesign score.top source
+  pub dump_is : HasText before score.dump text
+  pub gathered : HasSources (sources_in score) before sources
+  pub refused : (design : Design) → StandFor sources (sources_in score).defines score.top design → ⊥
 
--- the source is of the form, and the text of the dump is none that has the instance, and each input with a first value
+-- the sources stand for a design, and the text of the dump is none that has the instance, and each input with a first value
 pub record HasBadDump (score : ScoreValues) (before : Outside) : Type 0 where
-  pub source : List ℕ
   pub text : List ℕ
   pub design : Design
-  pub texts : HaveTexts score before source text
-  pub is_source : IsSource source score.top design
+  pub texts : HaveTexts score before design text
   pub refused : HasNoScore design score.instance text
 
--- the source is of the form, and the header of the dump is read, but the design is not bound to its variables
+-- the sources stand for a design, and the header of the dump is read, but the design is not bound to its variables
 pub record HasUnboundDump (score : ScoreValues) (before : Outside) : Type 0 where
-  pub source : List ℕ
   pub text : List ℕ
   pub design : Design
   pub b : Body
-  pub texts : HaveTexts score before source text
-  pub is_source : IsSource source score.top design
+  pub texts : HaveTexts score before design text
   pub says : SaysBody text b
   pub refused : AreBound b.vars score.instance design.signals → ⊥
 

@@ -1,6 +1,7 @@
 -- What a call of the program leaves outside, and why it ends with a status above 0.
 use Rattle.std.specs.Prelude.{◌≡◌, ◌≢◌, ◌⊎◌, ℕ, List, [], ◌∷◌, Contains, Option, Some, None, MatchOption}
 use Rattle.command_line.specs.Command.{AreWordsOf, CommandValues, score, merge, report}
+use Rattle.command_line.specs.CommandWords.{IsScore, ScoreValues}
 use Rattle.command_line.specs.DatabaseWords.{IsMerge, IsReport, MergeValues, ReportValues}
 use Rattle.command_line.specs.UsageFault.{HasUsageFault}
 use Rattle.command_line.specs.declared.usage_fault.UsageFault.{UsageFault}
@@ -8,8 +9,10 @@ use Rattle.cov_host.specs.Outside.{Outside, Files, IsCounted}
 use Rattle.coverage_db.specs.declared.fault.DbKind.{DbKind}
 use Rattle.database_commands.specs.Complete.{IsGoodMerge, IsGoodReport}
 use Rattle.database_commands.specs.Faults.{IsNoTable, IsOtherDesign, inputs_of}
+use Rattle.source_design.specs.Reading.{LacksAt}
 use Rattle.covered_cli.specs.Effects.{WarnsLine}
 use Rattle.covered_cli.specs.Fault.{Stands, line_of, status_of}
+use Rattle.covered_cli.specs.ScoreSources.{sources_in}
 use Rattle.covered_cli.specs.declared.fault.Fault.{Fault}
 use Rattle.covered_cli.specs.declared.status.Status.{Status}
 use Rattle.covered_cli.specs.declared.status.Status.TheVariants.{Usage, Source, Dump, Database}
@@ -34,7 +37,7 @@ output_in (report values) = values.output
 
 -- the files that a command reads
 abbrev pub inputs_in : CommandValues → List (List ℕ)
-inputs_in (score values) = values.source ∷ values.dump ∷ []
+inputs_in (score values) = values.dump ∷ values.sources
 inputs_in (merge values) = inputs_of values
 inputs_in (report values) = values.file ∷ []
 
@@ -62,11 +65,15 @@ HasEarlyStatus Dump = Unit {0}
 HasEarlyStatus Database = Unit {0}
 HasEarlyStatus other = ⊥
 
--- a file that the words name for reading is not among those that the host tells; where it tells none, an absence was counted
-abbrev pub MissesFile : List (List ℕ) → Outside → Outside → Type 0
-MissesFile words before after = MatchOption before.files (IsCounted before.absences after.absences) (λ files. (name : List ℕ) × IsInput words name × (files name ≡ None))
+-- the sources of the words lack a file that lies at the path
+abbrev pub IsIncluded : List (List ℕ) → Outside → List ℕ → Type 0
+IsIncluded words before path = (values : ScoreValues) × IsScore words values × LacksAt (sources_in values) before path
 
--- a call on the host failed, or a file that the words name for reading is missing
+-- A file that the words name for reading, or that their sources include, is not among those that the host tells; where it tells none, an absence was counted.
+abbrev pub MissesFile : List (List ℕ) → Outside → Outside → Type 0
+MissesFile words before after = MatchOption before.files (IsCounted before.absences after.absences) (λ files. (name : List ℕ) × (IsInput words name ⊎ IsIncluded words before name) × (files name ≡ None))
+
+-- a call on the host failed, or a file that is to be read is missing
 abbrev pub HasFilesCause : List (List ℕ) → Outside → Outside → Type 0
 HasFilesCause words before after = IsCounted before.faults after.faults ⊎ MissesFile words before after
 

@@ -1,13 +1,12 @@
 -- Why a command ends with a status above 0, and the line that says so.
-use Rattle.std.specs.Prelude.{◌≡◌, ◌⊎◌, ℕ, IsTrue, List, ◌++◌, codes, Option, Some}
+use Rattle.std.specs.Prelude.{◌≡◌, ◌⊎◌, ℕ, List, ◌++◌, codes, Option, Some}
 use Rattle.std.specs.Option.{option_copied}
-use Rattle.command_line.specs.CommandWords.{IsScore, ScoreValues, score_values}
+use Rattle.command_line.specs.CommandWords.{HaveForms, IsScore, ScoreValues, score_values}
 use Rattle.command_line.specs.DatabaseWords.{IsMerge, IsReport, MergeValues, ReportValues, merge_values, report_values}
 use Rattle.command_line.specs.UsageFault.{HasUsageFault, usage_text}
 use Rattle.command_line.specs.declared.command.Command.{Command}
 use Rattle.command_line.specs.declared.command.Command.TheVariants.{Score, Merge, Report}
 use Rattle.cov_host.specs.Outside.{Outside, IsCounted}
-use Rattle.coverage_db.specs.Table.{is_file_name}
 use Rattle.database_commands.specs.Faults.{IsEarly as IsEarlyDatabase, IsMergeFault}
 use Rattle.database_commands.specs.Reporting.{IsReportFault}
 use Rattle.database_commands.specs.declared.fault.CommandFault.{CommandFault}
@@ -18,8 +17,11 @@ use Rattle.whole_files.specs.Effects.{IsMissing}
 use Rattle.whole_files.specs.declared.call.Call.{Call}
 use Rattle.whole_files.specs.declared.call.Call.TheVariants.{OpenRead, Read, OpenWrite, Write, CloseWrite}
 use Rattle.covered_cli.specs.Databases.{database_line, database_status}
-use Rattle.covered_cli.specs.Scoring.{HasNoDesign, IsDumpRefusal, IsRefusedDump, IsRefusedSource}
+use Rattle.covered_cli.specs.ScoreSources.{sources_in}
+use Rattle.covered_cli.specs.Scoring.{IsDumpRefusal, IsRefusedDump}
+use Rattle.covered_cli.specs.SourceMessage.{source_line, source_status}
 use Rattle.covered_cli.specs.DumpRefusal.{refusal_line}
+use Rattle.source_design.specs.Reading.{IsSourceFault}
 use Rattle.covered_cli.specs.declared.fault.Fault.{Fault}
 use Rattle.covered_cli.specs.declared.fault.Fault.TheVariants as fault
 use Rattle.covered_cli.specs.declared.status.Status.{Status}
@@ -28,7 +30,7 @@ use Rattle.covered_cli.specs.declared.status.Status.TheVariants as status
 -- the status with which a fault ends
 abbrev pub status_of : Fault → Status
 status_of (fault.Usage usage) = status.Usage
-status_of fault.SourceNotYet = status.Source
+status_of (fault.Source f) = source_status f
 status_of (fault.Dump refusal) = status.Dump
 status_of (fault.Files call file) = status.Files
 status_of fault.Memory = status.Memory
@@ -37,16 +39,16 @@ status_of (fault.Databases f) = database_status f
 -- the line that is warned
 abbrev pub line_of : Fault → List ℕ
 line_of (fault.Usage usage) = codes "covered: usage: " ++ usage_text usage ++ codes "\n"
-line_of fault.SourceNotYet = codes "covered: source: early 1 NotYet\n"
+line_of (fault.Source f) = source_line f
 line_of (fault.Dump refusal) = refusal_line refusal
 line_of (fault.Files call file) = codes "covered: files: " ++ call_name call ++ codes " " ++ file.now ++ codes "\n"
 line_of fault.Memory = codes "covered: memory\n"
 line_of (fault.Databases f) = database_line f
 
--- the command names the file for this call
+-- the command names the file for this call: the dump for reading, and the output for writing
 abbrev pub NamesFile : ScoreValues → Call → List ℕ → Type 0
-NamesFile score OpenRead file = (file ≡ score.source) ⊎ (file ≡ score.dump)
-NamesFile score Read file = (file ≡ score.source) ⊎ (file ≡ score.dump)
+NamesFile score OpenRead file = file ≡ score.dump
+NamesFile score Read file = file ≡ score.dump
 NamesFile score call file = file ≡ score.output
 
 -- the call on the file gave nothing: it failed, or the file that was to be read is not there
@@ -57,7 +59,7 @@ IsRefused call file before after = IsCounted before.faults after.faults
 -- the fault stands in the work of this command between two outsides
 abbrev pub StandsIn : ScoreValues → Outside → Outside → Fault → Type 0
 StandsIn score before after (fault.Usage usage) = ⊥
-StandsIn score before after fault.SourceNotYet = IsRefusedSource score before
+StandsIn score before after (fault.Source f) = IsSourceFault (sources_in score) before after f
 StandsIn score before after (fault.Dump refusal) = IsRefusedDump score before refusal
 StandsIn score before after (fault.Files call file) = NamesFile score call file.now × IsRefused call file.now before after
 StandsIn score before after fault.Memory = Unit {0}
@@ -69,11 +71,11 @@ output_of (Score score) = Some score.output.now
 output_of (Merge merge) = Some merge.output.now
 output_of (Report report) = option_copied report.output
 
--- the source that the command reads, if it reads one, has a name that a database can have
-abbrev pub HasSourceName : Command → Type 0
-HasSourceName (Score score) = IsTrue (is_file_name score.source.now)
-HasSourceName (Merge merge) = Unit {0}
-HasSourceName (Report report) = Unit {0}
+-- the values of a score have their forms
+abbrev pub HasForms : Command → Type 0
+HasForms (Score score) = HaveForms (score_values score)
+HasForms (Merge merge) = Unit {0}
+HasForms (Report report) = Unit {0}
 
 -- the fault is one of a command over databases, of which this holds
 abbrev pub IsDatabaseFault : (CommandFault → Type 0) → Fault → Type 0
@@ -124,19 +126,20 @@ IsWritingFault name before after (fault.Files call file) = (file.now ≡ name) �
 IsWritingFault name before after fault.Memory = Unit {0}
 IsWritingFault name before after other = ⊥
 
--- no design was read from the text of the source
-abbrev pub IsSourceFault : List ℕ → List ℕ → Fault → Type 0
-IsSourceFault top text fault.SourceNotYet = HasNoDesign top text
-IsSourceFault top text fault.Memory = Unit {0}
-IsSourceFault top text other = ⊥
+-- no design was read from the command's sources
+abbrev pub IsDesignFault : ScoreValues → Outside → Outside → Fault → Type 0
+IsDesignFault score before after (fault.Source f) = IsSourceFault (sources_in score) before after f
+IsDesignFault score before after fault.Memory = Unit {0}
+IsDesignFault score before after other = ⊥
 
 -- the design was not scored by the command's dump
 abbrev pub IsScoringFault : ScoreValues → Design → Outside → Outside → Fault → Type 0
 IsScoringFault score design before after (fault.Dump refusal) = (text : List ℕ) × IsFile before score.dump text × IsDumpRefusal design score.top score.instance text refusal
 IsScoringFault score design before after other = IsReadingFault score.dump before after other
 
--- the fault is none of a dump and none of a command over databases
+-- the fault is none of sources, none of a dump and none of a command over databases
 abbrev pub IsPlain : Fault → Type 0
+IsPlain (fault.Source f) = ⊥
 IsPlain (fault.Dump refusal) = ⊥
 IsPlain (fault.Databases f) = ⊥
 IsPlain other = Unit {0}

@@ -6,3 +6,5 @@ pub mod Databases
 pub mod Scoring
 pub mod Fault
 pub mod Status
+pub mod ScoreSources
+pub mod SourceMessage

@@ -1,7 +1,7 @@
 -- What a `score` command reads and writes, and why it cannot.
-use Rattle.std.specs.Prelude.{◌≡◌, ℕ, false, List, slice_index_or, All}
+use Rattle.std.specs.Prelude.{◌≡◌, ℕ, false, List, map, slice_index_or, All}
 use Rattle.std.specs.List.{list_any}
-use Rattle.command_line.specs.CommandWords.{IsScore, ScoreValues, score_values}
+use Rattle.command_line.specs.CommandWords.{ScoreValues}
 use Rattle.command_line.specs.Command.{AreWordsOf, CommandValues, score as of_score, merge as of_merge, report as of_report, command_values}
 use Rattle.command_line.specs.declared.command.Command.{Command}
 use Rattle.cov_host.specs.Outside.{Outside, HasFile, Told}
@@ -16,24 +16,25 @@ use Rattle.vcd_reader.specs.Dump.{Dump, IsDump}
 use Rattle.vcd_reader.specs.declared.fault.DumpFault.TheVariants.{At}
 use Rattle.dump_score.specs.Faults.{IsDumpFault, SaysSome}
 use Rattle.dump_score.specs.Reading.{IsFile}
-use Rattle.input_module.specs.SourceForm.{IsSource}
 use Rattle.input_runs.specs.Reasoned.{IsReasoned}
 use Rattle.input_runs.specs.Sound.{IsSound}
 use Rattle.input_toggles.specs.Binding.{IsNotDumped, stands_in}
 use Rattle.input_toggles.specs.Scored.{HasHead, HasNoBaseline, IsBound, IsScored, ListsTogglePoints}
+use Rattle.source_design.specs.Accepted.{StandFor}
+use Rattle.source_design.specs.Reading.{HasSources}
+use Rattle.verilog_lexer.specs.Sources.{SourceText}
+use Rattle.covered_cli.specs.ScoreSources.{sources_in}
 use Rattle.covered_cli.specs.declared.dump_refusal.DumpRefusal.{DumpRefusal}
 use Rattle.covered_cli.specs.declared.dump_refusal.DumpRefusal.TheVariants as refusal
-use Rattle.whole_files.specs.Files.{IsContent}
 
--- the bytes are the text of the file, or both are longer than this
-pub record IsReadOf (most : ℕ) (name : List ℕ) (before : Outside) (bytes : List ℕ) : Type 0 where
-  pub text : List ℕ
-  pub is : IsFile before name text
-  pub content : IsContent most bytes text
+-- the sources of the command stand for the design
+pub record HasDesign (score : ScoreValues) (before : Outside) (sources : List SourceText) (design : Design) : Type 0 where
+  pub gathered : HasSources (sources_in score) before sources
+  pub stands : StandFor sources (sources_in score).defines score.top design
 
--- the text is not a source of the form
-abbrev pub HasNoDesign : List ℕ → List ℕ → Type 0
-HasNoDesign top text = (design : Design) → IsSource text top design → ⊥
+-- the names of sources, in order
+abbrev pub names_of : List SourceText → List (List ℕ)
+names_of sources = map (λ source. source.name) sources
 
 -- the text is no dump that has the instance, and a variable and a first value of each signal
 abbrev pub HasNoScore : Design → List ℕ → List ℕ → Type 0
@@ -41,28 +42,22 @@ HasNoScore design instance text = (dump : Dump) → IsDump text dump → IsBound
 
 -- the table lists each toggle point of the design once, with the verdict of the dump, which holds in every run that shows it,
 -- and leaves none undetermined without a reason
-pub record IsScoreOf (design : Design) (dump : Dump) (source instance : List ℕ) (db : Db) : Type 0 where
+pub record IsScoreOf (design : Design) (dump : Dump) (names : List (List ℕ)) (instance : List ℕ) (db : Db) : Type 0 where
   pub bound : IsBound design dump instance
   pub table : IsTable db
-  pub head : HasHead design source db
+  pub head : HasHead design names db
   pub listed : ListsTogglePoints design db
   pub verdicts : All (IsScored design dump instance) db.points
   pub sound : IsSound design dump instance db
   pub reasoned : IsReasoned design dump instance db
 
 -- the text is that of a table of the design under the dump of this text
-pub record IsScoreText (design : Design) (dump_text source instance text : List ℕ) : Type 0 where
+pub record IsScoreText (design : Design) (names : List (List ℕ)) (dump_text instance text : List ℕ) : Type 0 where
   pub dump : Dump
   pub db : Db
   pub is_dump : IsDump dump_text dump
-  pub scores : IsScoreOf design dump source instance db
+  pub scores : IsScoreOf design dump names instance db
   pub is_text : text ≡ text_of db
-
--- the source is not of the form
-pub record IsRefusedSource (score : ScoreValues) (before : Outside) : Type 0 where
-  pub text : List ℕ
-  pub is : IsFile before score.source text
-  pub refused : HasNoDesign score.top text
 
 -- the signal with this number has this name
 abbrev pub IsNamed : Design → ℕ → List ℕ → Type 0
@@ -78,26 +73,24 @@ IsDumpRefusal design top instance text (refusal.InputNotDumped outer name) =
 IsDumpRefusal design top instance text (refusal.NoBaseline outer name) =
     (outer.now ≡ top) × ((signal : ℕ) × IsNamed design signal name × SaysSome text (λ b. HasNoBaseline b.vars instance design.signals b.items signal))
 
--- the source is of the form, and the dump is refused for its design
+-- the sources stand for a design, and the dump is refused for it
 pub record IsRefusedDump (score : ScoreValues) (before : Outside) (refusal : DumpRefusal) : Type 0 where
-  pub source : List ℕ
+  pub sources : List SourceText
   pub text : List ℕ
   pub design : Design
-  pub source_is : IsFile before score.source source
+  pub has_design : HasDesign score before sources design
   pub is : IsFile before score.dump text
-  pub is_source : IsSource source score.top design
   pub refused : IsDumpRefusal design score.top score.instance text refusal
 
--- the output holds the table of the design of the source under the dump, and every other file is as before
+-- the output holds the table of the design of the sources under the dump, and every other file is as before
 pub record IsDoneIn (score : ScoreValues) (before after : Outside) : Type 0 where
-  pub source : List ℕ
+  pub sources : List SourceText
   pub dump : List ℕ
   pub design : Design
   pub text : List ℕ
-  pub source_is : IsFile before score.source source
+  pub has_design : HasDesign score before sources design
   pub dump_is : IsFile before score.dump dump
-  pub is_source : IsSource source score.top design
-  pub scores : IsScoreText design dump score.source score.instance text
+  pub scores : IsScoreText design (names_of sources) dump score.instance text
   pub written : Told (HasFile score.output text) before.files after.files
 
 -- what a command with these values asks for was done

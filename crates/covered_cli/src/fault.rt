@@ -1,19 +1,24 @@
 ghost use Rattle.std.specs.Prelude.{◌≡◌};
 ghost use Rattle.covered_cli.specs.Fault.{status_of};
+ghost use Rattle.covered_cli.specs.declared.fault.Fault.TheVariants.{Memory as memory_fault};
 
 use crate::Status;
 use crate::database_message::database_status;
 use crate::dump_refusal::DumpRefusal;
+use crate::source_message::source_status;
 use command_line::UsageFault;
+use cov_host::NoMemory;
 use database_commands::CommandFault;
+use source_design::SourceFault;
+use std::alloc::AllocError;
 use whole_files::Call;
 
 /// Why a command ends with a status above 0.
 #[derive(Debug, Drop)]
 pub(crate) enum Fault<'a> {
     Usage(UsageFault<'a>),
-    /// The source is not in the form that is read so far.
-    SourceNotYet,
+    /// No design was read from the sources.
+    Source(SourceFault<'a>),
     /// The dump is refused.
     Dump(DumpRefusal<'a>),
     /// A call on the host gave nothing.
@@ -30,11 +35,27 @@ impl Fault<'_> {
     {
         match self {
             Fault::Usage(_) => Status::Usage,
-            Fault::SourceNotYet => Status::Source,
+            Fault::Source(fault) => source_status(fault),
             Fault::Dump(_) => Status::Dump,
             Fault::Files { .. } => Status::Files,
             Fault::Memory => Status::Memory,
             Fault::Databases(fault) => database_status(fault),
         }
+    }
+}
+
+impl From<NoMemory> for Fault<'_> {
+    ghost from_gives = { λ _ fault. fault ≡ memory_fault };
+
+    fn from(_: NoMemory) -> Self {
+        Fault::Memory
+    }
+}
+
+impl From<AllocError> for Fault<'_> {
+    ghost from_gives = { λ _ fault. fault ≡ memory_fault };
+
+    fn from(_: AllocError) -> Self {
+        Fault::Memory
     }
 }

@@ -7,6 +7,8 @@ mod fault;
 mod message;
 mod pieces;
 mod score;
+mod score_words;
+mod source_message;
 mod status;
 mod top_call;
 

@@ -11,6 +11,7 @@ use crate::database_message::warn_database;
 use crate::dump_refusal::warn_refusal;
 use crate::fault::Fault;
 use crate::pieces::warn_texts;
+use crate::source_message::warn_source;
 use command_line::UsageFault;
 use cov_host::Host;
 use whole_files::Call;
@@ -24,22 +25,22 @@ pub(crate) fn warn_of<H: Host>(host: &mut H, fault: &Fault<'_>)
     ensures counts { CountsUp (H.outside host.old) (H.outside host.new) }
 {
     match fault {
+        Fault::Source(fault) => warn_source(host, fault),
         Fault::Dump(refusal) => warn_refusal(host, refusal),
         Fault::Databases(fault) => warn_database(host, fault),
-        Fault::Usage(_) | Fault::SourceNotYet | Fault::Files { .. } | Fault::Memory => {
+        Fault::Usage(_) | Fault::Files { .. } | Fault::Memory => {
             warn_texts(host, &pieces_of(fault))
         }
     }
 }
 
-/// The pieces of a fault's line in order, but for one of a dump or of a command over databases.
+/// The pieces of a fault's line in order, but for one of sources, of a dump or of a command over databases.
 fn pieces_of<'a>(fault: &Fault<'a>) -> [&'a str; 5]
     ensures { IsPlain fault.now → flat_map (λ piece. piece.now) result ≡ line_of fault.now }
 {
     match fault {
         Fault::Usage(usage) => usage_pieces(usage),
-        Fault::SourceNotYet => ["covered: source: early 1 NotYet\n", "", "", "", ""],
-        Fault::Dump(_) | Fault::Databases(_) => ["", "", "", "", ""],
+        Fault::Source(_) | Fault::Dump(_) | Fault::Databases(_) => ["", "", "", "", ""],
         Fault::Files { call, file } => file_pieces(*call, file),
         Fault::Memory => ["covered: memory\n", "", "", "", ""],
     }

@@ -1,43 +1,43 @@
-ghost use Rattle.std.specs.Prelude.{◌≡◌, ◌<◌, ◌^◌, IfErr, IfOk, IsTrue, OnOk, length, slice_index_or};
-ghost use Rattle.command_line.specs.CommandWords.{score_values};
+ghost use Rattle.std.specs.Prelude.{◌≡◌, ◌<◌, IfErr, IfOk, OnOk, length, slice_index_or};
+ghost use Rattle.command_line.specs.CommandWords.{HaveForms, score_values};
 ghost use Rattle.cov_host.specs.Outside.{HasFile, KeepsFiles, KeepsStreams, Outside, Told};
 ghost use Rattle.whole_files.specs.Effects.{CountsUp, OnlyReads};
-ghost use Rattle.coverage_db.specs.Table.{IsTable, is_file_name};
+ghost use Rattle.coverage_db.specs.Table.{IsTable};
 ghost use Rattle.coverage_db.specs.Text.{text_of};
 ghost use Rattle.design_model.specs.Design.{no_signal};
 ghost use Rattle.dump_score.specs.Faults.{IsScoreFault};
 ghost use Rattle.dump_score.specs.Scoring.{IsScoreOfFile};
 ghost use Rattle.input_toggles.specs.InputDesign.{IsInputDesign};
+ghost use Rattle.input_toggles.specs.Scored.{AreSources};
+ghost use Rattle.source_design.specs.Reading.{IsReadIn};
 ghost use Rattle.covered_cli.specs.Covered.{KeepsOthers};
-ghost use Rattle.covered_cli.specs.Fault.{StandsIn, IsEarly, IsReadingFault, IsWritingFault, IsSourceFault, IsScoringFault};
-ghost use Rattle.covered_cli.specs.Scoring.{IsDoneIn, IsReadOf};
+ghost use Rattle.covered_cli.specs.Fault.{IsDesignFault, StandsIn, IsEarly, IsWritingFault, IsScoringFault};
+ghost use Rattle.covered_cli.specs.ScoreSources.{sources_in};
+ghost use Rattle.covered_cli.specs.Scoring.{IsDoneIn};
 ghost use Rattle.covered_cli.specs.declared.fault.Fault.TheVariants as fault_row;
-ghost use Rattle.input_module.specs.SourceForm.{IsSource};
 
 use crate::dump_refusal::DumpRefusal;
 use crate::fault::Fault;
+use crate::score_words::{defines_of, files_of};
 use command_line::ScoreWords;
-use cov_host::{Bytes, Host, Name, NoMemory, Text};
+use cov_host::{Host, Name, NoMemory, Sequence, Text};
 use coverage_db::{Db, write_db};
 use design_model::Design;
 use dump_score::{ScoreFault, score_dump};
-use input_module::read_source;
 use input_toggles::{BindFault, NoBaseline};
+use source_design::{ReadDesign, SourceWords, read_design};
 use std::alloc::Global;
 use vcd_reader::DumpFault;
-use whole_files::{FileFault, read_file, write_file};
+use whole_files::{FileFault, write_file};
 
-/// The longest source, in bytes.
-const LONGEST_SOURCE: usize = 67_108_864;
-
-/// Scores a dump and writes the database: source, design, dump, binding, verdicts, database, in this order. The
+/// Scores a dump and writes the database: sources, design, dump, binding, verdicts, database, in this order. The
 /// first refusal ends it.
 pub(crate) fn run_score<'a, H: Host>(
     alloc: Global,
     words: &ScoreWords<'a>,
     host: &mut H,
 ) -> Result<(), Fault<'a>>
-    requires { IsTrue (is_file_name words.now.source.now) }
+    requires { HaveForms (score_values words.now) }
     ensures done { OnOk result (IsDoneIn (score_values words.now) (H.outside host.old) (H.outside host.new)) }
     ensures fault { IfErr result (StandsIn (score_values words.now) (H.outside host.old) (H.outside host.new)) }
     ensures early { IfErr result (λ fault. IsEarly fault → KeepsFiles (H.outside host.old) (H.outside host.new)) }
@@ -45,29 +45,33 @@ pub(crate) fn run_score<'a, H: Host>(
     ensures streams { KeepsStreams (H.outside host.old) (H.outside host.new) }
     ensures counts { CountsUp (H.outside host.old) (H.outside host.new) }
 {
-    let source = read(alloc, host, words.source, LONGEST_SOURCE)?;
-    let design = design_of(alloc, &source, words.top)?;
-    let db = db_of(alloc, host, &design, words)?;
+    let ReadDesign { design, sources } = design_of(alloc, host, words)?;
+    let db = db_of(alloc, host, &design, sources, words)?;
     let text = text_of(alloc, &db)?;
     write(host, words.output, &text)
 }
 
-/// Reads a file whole.
-fn read<'a, H: Host>(
+/// The design that the command's sources stand for, and the names of the sources.
+fn design_of<'a, H: Host>(
     alloc: Global,
     host: &mut H,
-    name: &'a str,
-    most: usize,
-) -> Result<Bytes, Fault<'a>>
-    requires { most < 2 ^ 63 }
-    ensures content { IfOk result (IsReadOf most name.now (H.outside host.old)) }
-    ensures fault { IfErr result (IsReadingFault name.now (H.outside host.old) (H.outside host.new)) }
+    words: &ScoreWords<'a>,
+) -> Result<ReadDesign, Fault<'a>>
+    ensures read { IfOk result (IsReadIn (sources_in (score_values words.now)) (H.outside host.old)) }
+    ensures fault { IfErr result (IsDesignFault (score_values words.now) (H.outside host.old) (H.outside host.new)) }
     ensures effects { OnlyReads (H.outside host.old) (H.outside host.new) }
 {
-    match read_file(alloc, host, name, most) {
-        Ok(bytes) => Ok(bytes),
-        Err(FileFault::Refused(call)) => Err(Fault::Files { call, file: name }),
-        Err(FileFault::NoMemory) => Err(Fault::Memory),
+    let files = files_of(alloc, words.sources)?;
+    let defines = defines_of(alloc, words.defines)?;
+    let source_words = SourceWords {
+        top: words.top,
+        files: files.as_slice(),
+        folder: words.folder,
+        defines: &defines,
+    };
+    match read_design(alloc, host, &source_words) {
+        Ok(read) => Ok(read),
+        Err(fault) => Err(Fault::Source(fault)),
     }
 }
 
@@ -86,40 +90,21 @@ fn write<'a, H: Host>(host: &mut H, name: &'a str, text: &Text) -> Result<(), Fa
     }
 }
 
-/// The design that the source stands for.
-fn design_of<'a>(alloc: Global, source: &Bytes, top: &str) -> Result<Design, Fault<'a>>
-    ensures source { IfOk result (IsSource source.now top.now) }
-    ensures design { IfOk result IsInputDesign }
-    ensures fault { IfErr result (IsSourceFault top.now source.now) }
-{
-    match read_source(alloc, source.as_slice(), top) {
-        Ok(Some(design)) => Ok(design),
-        Ok(None) => Err(Fault::SourceNotYet),
-        Err(NoMemory) => Err(Fault::Memory),
-    }
-}
-
 /// The database of a design under the command's dump.
 fn db_of<'a, H: Host>(
     alloc: Global,
     host: &mut H,
     design: &Design,
+    sources: Sequence<Name>,
     words: &ScoreWords<'a>,
 ) -> Result<Db, Fault<'a>>
     requires design { IsInputDesign design.now }
-    requires source { IsTrue (is_file_name words.now.source.now) }
-    ensures scored { IfOk result (IsScoreOfFile words.now.dump.now (H.outside host.old) design.now words.now.source.now words.now.instance.now) }
+    requires sources { AreSources sources }
+    ensures scored { IfOk result (IsScoreOfFile words.now.dump.now (H.outside host.old) design.now sources words.now.instance.now) }
     ensures fault { IfErr result (IsScoringFault (score_values words.now) design.now (H.outside host.old) (H.outside host.new)) }
     ensures effects { OnlyReads (H.outside host.old) (H.outside host.new) }
 {
-    match score_dump(
-        alloc,
-        host,
-        words.dump,
-        design,
-        words.source,
-        words.instance,
-    ) {
+    match score_dump(alloc, host, words.dump, design, sources, words.instance) {
         Ok(db) => Ok(db),
         Err(fault) => Err(fault_of(alloc, design, words, fault)),
     }

@@ -113,6 +113,92 @@ fn scores_a_module_of_inputs(rt: HostRuntime) -> Result<(), Fail> {
     Ok(())
 }
 
+/// The database of the same module, from files that one of them includes.
+const INCLUDED: &str =
+    "covered-db 1\ntop pads\nsource 1 a.v\nsource 2 pads.v\nsource 3 ports.vh\ninstance pads pads\npoints 6\nt pads a 0 01 = hit\nt pads a 0 10 = missed\nt pads a 1 01 = hit\nt pads a 1 10 = missed\nt pads clk - 01 = hit\nt pads clk - 10 = hit\nend\n";
+
+#[test]
+fn reads_sources_with_what_they_include(rt: HostRuntime) -> Result<(), Fail> {
+    let alloc = rt.alloc();
+    let words = words_of(
+        alloc,
+        &[
+            "score", "-t", "pads", "-i", "tb.dut", "-v", "a.v", "-D", "TOP=1", "-v", "pads.v",
+            "-I", "inc", "-vcd", "D", "-o", "B",
+        ],
+    )?;
+    let mut host = MemoryHost::new(alloc, Calls::new(alloc))?;
+    host.put("a.v", b"`include \"ports.vh\"\n")?;
+    host.put("pads.v", b"module pads(`PORTS);\nendmodule\n")?;
+    host.put("D", DUMP.as_bytes())?;
+    assert_eq!(rt; covered(alloc, &words, &mut host), Status::Files);
+    assert_eq!(rt;
+        host.warned(),
+        b"covered: files: open_read inc/ports.vh\n".as_slice()
+    );
+    let mut host = MemoryHost::new(alloc, Calls::new(alloc))?;
+    host.put("a.v", b"`include \"ports.vh\"\n")?;
+    host.put("pads.v", b"module pads(`PORTS);\nendmodule\n")?;
+    host.put("D", DUMP.as_bytes())?;
+    host.put(
+        "inc/ports.vh",
+        b"`define PORTS input clk, input [`TOP:0] a\n",
+    )?;
+    assert_eq!(rt; covered(alloc, &words, &mut host), Status::Done);
+    assert_eq!(rt; host.file("B"), Some(INCLUDED.as_bytes()));
+    assert!(rt; host.warned().is_empty());
+    Ok(())
+}
+
+/// What scoring a source ends with, and what is warned.
+fn refuses_source(alloc: Global, source: &str, line: &str) -> Result<bool, Fail> {
+    let words = words_of(
+        alloc,
+        &[
+            "score", "-t", "m", "-i", "tb.dut", "-v", "m.v", "-vcd", "D", "-o", "B",
+        ],
+    )?;
+    let mut host = MemoryHost::new(alloc, Calls::new(alloc))?;
+    host.put("m.v", source.as_bytes())?;
+    host.put("D", DUMP.as_bytes())?;
+    let status = covered(alloc, &words, &mut host);
+    Ok(status == Status::Source && host.warned() == line.as_bytes() && host.file("B").is_none())
+}
+
+#[test]
+fn refuses_sources(rt: HostRuntime) -> Result<(), Fail> {
+    let alloc = rt.alloc();
+    assert!(rt;
+        refuses_source(
+            alloc,
+            "module m(input a);\n  `NONE\nendmodule\n",
+            "covered: source: lex 6 UnknownMacro NONE at m.v:2:3\n"
+        )?
+    );
+    assert!(rt;
+        refuses_source(
+            alloc,
+            "module m(input a);\n  assign #1 b = a;\nendmodule\n",
+            "covered: source: parse 4 LeftOut delay at m.v:2:10\n"
+        )?
+    );
+    assert!(rt;
+        refuses_source(
+            alloc,
+            "module m(input a);\n",
+            "covered: source: parse 2 EarlyEnd\n"
+        )?
+    );
+    assert!(rt;
+        refuses_source(
+            alloc,
+            "module m(input a, output b);\nendmodule\n",
+            "covered: source: early 1 NotYet\n"
+        )?
+    );
+    Ok(())
+}
+
 /// The table of a register.
 const FIRST: &[u8] =
     b"covered-db 1\ntop ff\nsource 1 ff.v\ninstance ff ff\npoints 11\nl ff 1 1:3 if = hit\nl ff 2 1:3 assign = hit\nl ff 3 1:3 assign = missed\nc ff 1 1:3 value 0 = missed\nc ff 1 1:3 value 1 = hit\nt ff a - 01 = missed\nt ff a - 10 = missed\nt ff clk - 01 = hit\nt ff clk - 10 = missed\nt ff q - 01 = missed\nt ff q - 10 = missed\nend\n";

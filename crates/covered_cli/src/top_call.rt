@@ -4,7 +4,7 @@ ghost use Rattle.database_commands.specs.Reporting.{KeepsUnlessNamed, PrintsIfUn
 ghost use Rattle.whole_files.specs.Effects.{CountsUp};
 ghost use Rattle.covered_cli.specs.Complete.{EndsWith, HasBadDump, HasBadSource, HasUnboundDump, IsCommandWith, IsGoodScore, NoFaults, RefusesBinding};
 ghost use Rattle.covered_cli.specs.Covered.{HasDatabaseCause, HasEarlyStatus, HasFilesCause, HasGoodDatabases, IsNoCommand, IsSomeCommand, KeepsUnnamed, PrintsReport, WarnsFault};
-ghost use Rattle.covered_cli.specs.Fault.{HasSourceName, IsEarly, Stands, StandsInWork, output_of};
+ghost use Rattle.covered_cli.specs.Fault.{HasForms, IsEarly, Stands, StandsInWork, output_of};
 ghost use Rattle.covered_cli.specs.Scoring.{IsDone, IsDoneWork};
 
 use crate::Status;
@@ -29,7 +29,7 @@ pub fn covered<H: Host>(alloc: Global, words: &Words, host: &mut H) -> Status
     ensures kept { HasEarlyStatus result → KeepsFiles (H.outside host.old) (H.outside host.new) }
     ensures unprinted { HasEarlyStatus result → (H.outside host.new).printed ≡ (H.outside host.old).printed }
 
-    // With status 0 the output holds what the command asks for: of a score the table of the source and the dump, with
+    // With status 0 the output holds what the command asks for: of a score the table of the sources and the dump, with
     // each toggle point once and its verdict; of a merge the merge of the tables of the files; of a report its text,
     // which was printed where no file is named.
     ensures done { result ≡ Status.Done → IsDone words.now (H.outside host.old) (H.outside host.new) }
@@ -81,7 +81,7 @@ fn run_command<'a, H: Host>(
     command: &Command<'a>,
     host: &mut H,
 ) -> Result<(), Fault<'a>>
-    requires { HasSourceName command.now }
+    requires { HasForms command.now }
     ensures done { OnOk result (IsDoneWork command.now (H.outside host.old) (H.outside host.new)) }
     ensures fault { IfErr result (StandsInWork command.now (H.outside host.old) (H.outside host.new)) }
     ensures early { IfErr result (λ fault. IsEarly fault → KeepsFiles (H.outside host.old) (H.outside host.new)) }

@@ -230,8 +230,8 @@ positive zero none = absurd (none refl)
 positive (suc n) none = omega arith
 
 -- the table of a design that was scored by a whole file
-pub scored_file : (name : List ℕ) (before : Outside) (design : Design) (source instance text : List ℕ) (vars : List Var) (scorer : Scorer) (db : Db) → IsFile before name text → HasScored scorer design vars instance text → IsScoreBy scorer design source db → IsScoreOfFile name before design source instance db
-scored_file name before design source instance text vars scorer db file scored by =
+pub scored_file : (name : List ℕ) (before : Outside) (design : Design) (sources : List (List ℕ)) (instance text : List ℕ) (vars : List Var) (scorer : Scorer) (db : Db) → IsFile before name text → HasScored scorer design vars instance text → IsScoreBy scorer design sources db → IsScoreOfFile name before design sources instance db
+scored_file name before design sources instance text vars scorer db file scored by =
     record {
       text = text;
       dump = record { vars = vars; steps = steps_of scored.b.items };

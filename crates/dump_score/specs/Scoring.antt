@@ -80,9 +80,9 @@ pub record IsOpen (name : List ℕ) (before now : Outside) (piece : List ℕ) (s
   pub ended : span.count ≡ 0 → IsFile before name front × CanEnd body scorer design vars instance front
 
 -- the table is that of the design under the dump in the file
-pub record IsScoreOfFile (name : List ℕ) (before : Outside) (design : Design) (source instance : List ℕ) (db : Db) : Type 0 where
+pub record IsScoreOfFile (name : List ℕ) (before : Outside) (design : Design) (sources : List (List ℕ)) (instance : List ℕ) (db : Db) : Type 0 where
   pub text : List ℕ
   pub dump : Dump
   pub is : IsFile before name text
   pub is_dump : IsDump text dump
-  pub table : IsToggleTable design dump source instance db
+  pub table : IsToggleTable design dump sources instance db

@@ -1,6 +1,6 @@
-ghost use Rattle.std.specs.Prelude.{◌<◌, IfErr, IfOk, IsTrue, length};
-ghost use Rattle.coverage_db.specs.Table.{is_file_name};
+ghost use Rattle.std.specs.Prelude.{◌<◌, IfErr, IfOk, length};
 ghost use Rattle.input_toggles.specs.InputDesign.{IsInputDesign};
+ghost use Rattle.input_toggles.specs.Scored.{AreSources};
 ghost use Rattle.whole_files.specs.Effects.{OnlyReads};
 ghost use Rattle.dump_score.specs.Faults.{IsScoreFault};
 ghost use Rattle.dump_score.specs.Scoring.{IsScoreOfFile};
@@ -9,13 +9,14 @@ use crate::ScoreFault;
 use crate::header::read_header;
 use crate::items::{score_body, score_end};
 use crate::pieces::{open, room};
-use cov_host::Host;
+use cov_host::{Host, Name, Sequence};
 use coverage_db::Db;
 use design_model::Design;
 use input_toggles::Scorer;
 use std::alloc::Global;
 
-/// The database of a design of inputs alone under the dump in a file, in which the design is the instance.
+/// The database of a design of inputs alone, which was read from these sources, under the dump in a file, in which the
+/// design is the instance.
 ///
 /// The file is opened once and read in pieces of 65,536 bytes. All room is made before the body is read, apart from
 /// the database's own.
@@ -24,12 +25,12 @@ pub fn score_dump<H: Host>(
     host: &mut H,
     name: &str,
     design: &Design,
-    source: &str,
+    sources: Sequence<Name>,
     instance: &str,
 ) -> Result<Db, ScoreFault>
     requires design { IsInputDesign design.now }
-    requires source { IsTrue (is_file_name source.now) }
-    ensures scored { IfOk result (IsScoreOfFile name.now (H.outside host.old) design.now source.now instance.now) }
+    requires sources { AreSources sources }
+    ensures scored { IfOk result (IsScoreOfFile name.now (H.outside host.old) design.now sources instance.now) }
     ensures fault { IfErr result (IsScoreFault name.now (H.outside host.old) (H.outside host.new) design.now instance.now) }
     ensures effects { OnlyReads (H.outside host.old) (H.outside host.new) }
 {
@@ -40,7 +41,7 @@ pub fn score_dump<H: Host>(
         piece.as_mut_slice(),
         name,
         design,
-        source,
+        sources,
         instance,
     )
 }
@@ -52,13 +53,13 @@ fn score_file<H: Host>(
     piece: &mut [u8],
     name: &str,
     design: &Design,
-    source: &str,
+    sources: Sequence<Name>,
     instance: &str,
 ) -> Result<Db, ScoreFault>
     requires design { IsInputDesign design.now }
-    requires source { IsTrue (is_file_name source.now) }
+    requires sources { AreSources sources }
     requires piece { 0 < length piece.old }
-    ensures scored { IfOk result (IsScoreOfFile name.now (H.outside host.old) design.now source.now instance.now) }
+    ensures scored { IfOk result (IsScoreOfFile name.now (H.outside host.old) design.now sources instance.now) }
     ensures fault { IfErr result (IsScoreFault name.now (H.outside host.old) (H.outside host.new) design.now instance.now) }
     ensures effects { OnlyReads (H.outside host.old) (H.outside host.new) }
 {
@@ -68,5 +69,5 @@ fn score_file<H: Host>(
     let span = opened.span;
     score_body(host, piece, &span, &mut opened.body, &mut scorer)?;
     score_end(&mut opened.body, &mut scorer)?;
-    Ok(scorer.finish(alloc, design, source)?)
+    Ok(scorer.finish(alloc, design, sources)?)
 }

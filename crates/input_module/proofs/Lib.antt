@@ -1,10 +1,8 @@
-pub mod TokenLemmas
 pub mod PortLemmas
 pub mod PortReading
 pub mod PortLists
 pub mod ModuleReading
 pub mod NameLemmas
-pub mod TextLength
 pub mod SourceLemmas
 pub mod InputLemmas
 pub mod Example

@@ -7,7 +7,6 @@ use Rattle.std.proofs.lemmas.Bool.{cases_Bool}
 use Rattle.std.proofs.lemmas.Bool.Decides.{nat_tests}
 use Rattle.std.proofs.lemmas.Str.Parse.{IsNumeralModel, digits_value_short, numerals_by_value, tells_all_ascii_digits}
 use Rattle.cov_host.specs.Decimal.{IsDecimal, decimal_value}
-use Rattle.input_module.specs.Tokens.{Token, word}
 use Rattle.input_module.specs.Port.{IsBound}
 use Rattle.input_module.specs.Reading.{is_bound, bound_at}
 
@@ -36,14 +35,14 @@ IsBound-test digits test =
 pub bound_within : {digits : List ℕ} → IsBound digits → decimal_value digits ≤ 999
 bound_within {digits} bound = omega (arith, digits_value_short digits_test digits 3 (digits_test.from digits bound.decimal.1) bound.short)
 
--- a word that is no bound is not read as one
-pub bound_at-none : (found : List ℕ) (left tokens : List Token) → tokens ≡ word found ∷ left → length found ≤ 3 → (IsDecimal found → 999 < decimal_value found) → bound_at tokens ≡ None
-bound_at-none found left tokens is short large =
+-- a text that is no bound is not read as one
+pub bound_at-none : (found : List ℕ) (left texts : List (List ℕ)) → texts ≡ found ∷ left → length found ≤ 3 → (IsDecimal found → 999 < decimal_value found) → bound_at texts ≡ None
+bound_at-none found left texts is short large =
     rw is (elim (cases_Bool (is_bound found)) [
       | inl test ↦ absurd (let bound = IsBound-test found test in omega (arith, bound_within bound, large bound.decimal))
       | inr test ↦ rw test refl
     ])
 
 -- a bound is read
-pub bound_at-some : (found : List ℕ) (left tokens : List Token) → tokens ≡ word found ∷ left → IsBound found → bound_at tokens ≡ Some (decimal_value found, left)
-bound_at-some found left tokens is bound = rw (is, is_bound-true bound) refl
+pub bound_at-some : (found : List ℕ) (left texts : List (List ℕ)) → texts ≡ found ∷ left → IsBound found → bound_at texts ≡ Some (decimal_value found, left)
+bound_at-some found left texts is bound = rw (is, is_bound-true bound) refl

@@ -1,5 +1,5 @@
 -- A worked example.
-use Rattle.std.specs.Prelude.{false, true, [], ◌∷◌, codes}
+use Rattle.std.specs.Prelude.{ℕ, false, true, List, [], ◌∷◌, codes}
 use Rattle.design_model.specs.declared.design.Design.{Design}
 use Rattle.design_model.specs.declared.design.Signal.{Signal}
 use Rattle.input_module.specs.SourceForm.{IsSource}
@@ -23,6 +23,11 @@ example_design = record {
   aliases = [];
 }
 
--- what this source stands for
+-- the texts of `module pads(input[0:03]a, input b_1);endmodule`
+abbrev pub example_texts : List (List ℕ)
+example_texts =
+    codes "module" ∷ codes "pads" ∷ codes "(" ∷ codes "input" ∷ codes "[" ∷ codes "0" ∷ codes ":" ∷ codes "03" ∷ codes "]" ∷ codes "a" ∷ codes "," ∷ codes "input" ∷ codes "b_1" ∷ codes ")" ∷ codes ";" ∷ codes "endmodule" ∷ []
+
+-- what they stand for
 abbrev pub IsWorkedExample : Type 0
-IsWorkedExample = IsSource (codes "module pads(input[0:03]a, input b_1);endmodule") (codes "pads") example_design
+IsWorkedExample = IsSource example_texts (codes "pads") example_design

@@ -1,4 +1,4 @@
--- What holds of each design that a source of the form stands for.
+-- What holds of each design that texts of the form stand for.
 use Rattle.std.specs.Prelude.{◌≡◌, ℕ, ◌*◌, ◌≤◌, false, true, List, [], ◌∷◌, length, map, IsTrue, All}
 use Rattle.cov_host.specs.Identifier.{is_identifier}
 use Rattle.design_model.specs.declared.design.Design.{Design}
@@ -19,13 +19,13 @@ pub record IsInput (signal : Signal) : Type 0 where
   pub signed : signal.signed ≡ false
   pub input : signal.input ≡ true
 
--- one instance with inputs of different names and nothing else; a port takes eight bytes of the text or more
-pub record IsInputDesign (text : List ℕ) (design : Design) : Type 0 where
+-- one instance with inputs of different names and nothing else; a port takes two texts or more
+pub record IsInputDesign (texts : List (List ℕ)) (design : Design) : Type 0 where
   pub top : IsTrue (is_identifier design.top)
   pub instances : design.instances ≡ record { path = design.top; «module» = design.top } ∷ []
   pub signals : All IsInput design.signals
   pub names : AreDistinct (map (λ signal. signal.name) design.signals)
-  pub few : 8 * length design.signals ≤ length text
+  pub few : 2 * length design.signals ≤ length texts
   pub memories : design.memories ≡ []
   pub processes : design.processes ≡ []
   pub constants : design.constants ≡ []

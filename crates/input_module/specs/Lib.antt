@@ -1,5 +1,5 @@
 pub mod Example
-pub mod Tokens
+pub mod Texts
 pub mod Port
 pub mod SourceForm
 pub mod InputDesign

@@ -2,11 +2,9 @@
 use Rattle.std.specs.Prelude.{ℕ, ◌+◌, ◌≤◌, List, [], ◌∷◌, ◌++◌, length, Option, Some, None, is_some, false, true, IsTrue, IfSome, codes}
 use Rattle.std.specs.Int.{abs_diff}
 use Rattle.std.specs.Option.{option_map}
-use Rattle.std.specs.Str.{byte}
 use Rattle.cov_host.specs.Decimal.{IsDecimal, decimal_value}
 use Rattle.cov_host.specs.Identifier.{is_identifier}
 use Rattle.design_model.specs.declared.design.Signal.{Signal}
-use Rattle.input_module.specs.Tokens.{Token, word, mark}
 
 -- a range as it is written, in digits
 pub record Bounds : Type 0 where
@@ -19,13 +17,13 @@ pub record Port : Type 0 where
   pub range : Option Bounds
 
 -- `[ A : B ]`
-abbrev pub range_tokens : Option Bounds → List Token
-range_tokens None = []
-range_tokens (Some bounds) = mark (byte "[") ∷ word bounds.high ∷ mark (byte ":") ∷ word bounds.low ∷ mark (byte "]") ∷ []
+abbrev pub range_texts : Option Bounds → List (List ℕ)
+range_texts None = []
+range_texts (Some bounds) = codes "[" ∷ bounds.high ∷ codes ":" ∷ bounds.low ∷ codes "]" ∷ []
 
 -- `input NAME` or `input [ A : B ] NAME`
-abbrev pub port_tokens : Port → List Token
-port_tokens port = word (codes "input") ∷ range_tokens port.range ++ word port.name ∷ []
+abbrev pub port_texts : Port → List (List ℕ)
+port_texts port = codes "input" ∷ range_texts port.range ++ port.name ∷ []
 
 -- the number of bits from one bound to the other
 abbrev pub width_between : ℕ → ℕ → ℕ

@@ -1,28 +1,26 @@
 -- The source form: one module with inputs alone, and the design that it stands for.
 use Rattle.std.specs.Prelude.{◌≡◌, ◌≢◌, ℕ, ◌<◌, ◌≤◌, List, [], ◌∷◌, ◌++◌, length, map, IsTrue, AllPairs, codes}
 use Rattle.std.specs.List.{AllByRecursion}
-use Rattle.std.specs.Str.{byte}
 use Rattle.cov_host.specs.Identifier.{is_identifier}
 use Rattle.design_model.specs.declared.design.Design.{Design}
 use Rattle.design_model.specs.declared.design.Signal.{Signal}
-use Rattle.input_module.specs.Tokens.{Token, word, mark, tokens_of}
-use Rattle.input_module.specs.Port.{Port, IsPort, port_tokens, declaration_of, signal_of}
+use Rattle.input_module.specs.Port.{Port, IsPort, port_texts, declaration_of, signal_of}
 
 -- the ports with a comma between each two
-abbrev pub list_tokens : List Port → List Token
-list_tokens [] = []
-list_tokens (port ∷ []) = port_tokens port
-list_tokens (port ∷ next ∷ ports) = port_tokens port ++ mark (byte ",") ∷ list_tokens (next ∷ ports)
+abbrev pub list_texts : List Port → List (List ℕ)
+list_texts [] = []
+list_texts (port ∷ []) = port_texts port
+list_texts (port ∷ next ∷ ports) = port_texts port ++ codes "," ∷ list_texts (next ∷ ports)
 
 -- `module NAME ( PORT , .. ) ; endmodule`
-abbrev pub module_tokens : List ℕ → List Port → List Token
-module_tokens name ports = word (codes "module") ∷ word name ∷ mark (byte "(") ∷ list_tokens ports ++ mark (byte ")") ∷ mark (byte ";") ∷ word (codes "endmodule") ∷ []
+abbrev pub module_texts : List ℕ → List Port → List (List ℕ)
+module_texts name ports = codes "module" ∷ name ∷ codes "(" ∷ list_texts ports ++ codes ")" ∷ codes ";" ∷ codes "endmodule" ∷ []
 
--- the tokens are a module of this name with one or more ports
-pub record IsModule (tokens : List Token) (name : List ℕ) (ports : List Port) : Type 0 where
+-- the texts are a module of this name with one or more ports
+pub record IsModule (texts : List (List ℕ)) (name : List ℕ) (ports : List Port) : Type 0 where
   pub some : 0 < length ports
   pub each : AllByRecursion IsPort ports
-  pub spelled : tokens ≡ module_tokens name ports
+  pub spelled : texts ≡ module_texts name ports
 
 -- no two are the same
 abbrev pub AreDistinct : List (List ℕ) → Type 0
@@ -36,11 +34,11 @@ design_with top signals = record { top = top; instances = record { path = top; �
 abbrev pub signals_of : List Port → List Signal
 signals_of ports = map (λ port. signal_of (declaration_of port)) ports
 
--- the text is a module `top` with inputs alone, and stands for this design
-pub record IsSource (text top : List ℕ) (design : Design) : Type 0 where
-  pub short : length text ≤ 67108864
+-- the texts are a module `top` with inputs alone, and stand for this design
+pub record IsSource (texts : List (List ℕ)) (top : List ℕ) (design : Design) : Type 0 where
+  pub short : length texts ≤ 4194304
   pub name : IsTrue (is_identifier top)
   pub ports : List Port
-  pub of_form : IsModule (tokens_of text) top ports
+  pub of_form : IsModule texts top ports
   pub distinct : AreDistinct (map (λ port. port.name) ports)
   pub design_is : design ≡ design_with top (signals_of ports)

@@ -3,15 +3,7 @@ use Rattle.std.specs.Prelude.{ℕ}
 use Rattle.std.specs.Option.{option_map}
 use Rattle.input_module.specs.declared.port.Port.{Port as PortRow}
 use Rattle.input_module.specs.declared.port.Range.{Range as RangeRow}
-use Rattle.input_module.specs.declared.token.Token.{Token as TokenRow}
-use Rattle.input_module.specs.declared.token.Token.TheVariants.{Word, Mark}
-use Rattle.input_module.specs.Tokens.{Token, word, mark}
 use Rattle.input_module.specs.Port.{Declaration}
-
--- a token without where it lies in memory
-abbrev pub token_of : TokenRow → Token
-token_of (Word bytes) = word bytes.now
-token_of (Mark byte) = mark byte
 
 -- the numbers of a range
 abbrev pub bounds_of : RangeRow → ℕ × ℕ

@@ -3,13 +3,13 @@ ghost use Rattle.design_model.specs.declared.design.Design.{Design};
 ghost use Rattle.input_module.specs.Example.{IsWorkedExample};
 ghost use Rattle.input_module.specs.SourceForm.{IsSource};
 
-/// A source stands for at most one design of a top module.
+/// The texts of tokens stand for at most one design of a top module.
 pub fn one_design()
-    ensures { (text top : List ℕ) (design other : Design) → IsSource text top design
-        → IsSource text top other → design ≡ other }
+    ensures { (texts : List (List ℕ)) (top : List ℕ) (design other : Design) → IsSource texts top design
+        → IsSource texts top other → design ≡ other }
 {}
 
-/// A source with a range that rises and a port without one, and the design that it stands for.
+/// The texts of a module with a range that rises and a port without a range, and the design that they stand for.
 pub fn worked_example()
     ensures { IsWorkedExample }
 {}

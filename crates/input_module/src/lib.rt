@@ -1,7 +1,8 @@
-//! Reads a source that is one module with inputs alone into its design. The lexer, the parser and the elaborator
-//! take its place one by one.
+//! Reads the tokens of a module with inputs alone into its design. The parser and the elaborator take its place one by
+//! one.
 #![tactic(auto)]
 
+mod cursor;
 mod laws;
 mod module_form;
 mod names;
@@ -10,8 +11,6 @@ mod port_form;
 mod source;
 #[cfg(test)]
 mod tests;
-mod token;
-mod tokens;
 
 pub use laws::{one_design, worked_example};
-pub use source::read_source;
+pub use source::read_tokens;

@@ -1,33 +1,34 @@
 ghost use Rattle.std.specs.Prelude.{◌≡◌, ◌↔◌, [], IfNone, IfOk, IfSome, IsTrue};
 ghost use Rattle.input_module.specs.Reading.{DeclaresSignals, IsModuleWith, NoModule, NoPortList, Reads, Takes, end_at, front_at, separator_at};
-ghost use Rattle.input_module.specs.Tokens.{tokens_of};
+ghost use Rattle.input_module.specs.Texts.{texts_of};
+ghost use Rattle.verilog_lexer.specs.TokenView.{lexemes};
 
+use crate::cursor::Cursor;
 use crate::port_form::read_port;
-use crate::token::Token;
-use crate::tokens::Tokens;
 use cov_host::{NoMemory, Sequence};
 use design_model::Signal;
 use std::alloc::Global;
+use verilog_lexer::Tokens;
 
 /// The signals of the ports of a module of this name, which may have one name twice.
 pub(crate) fn read_module(
     alloc: Global,
-    source: &[u8],
+    tokens: &Tokens<'_>,
     name: &str,
 ) -> Result<Option<Sequence<Signal>>, NoMemory>
     ensures found { IfOk result (λ found. IfSome found (λ signals.
-        IsModuleWith (tokens_of source.now) name.now signals)) }
+        IsModuleWith (texts_of (lexemes tokens.now)) name.now signals)) }
     ensures none { IfOk result (λ found. IfNone found (
-        NoModule (tokens_of source.now) name.now)) }
+        NoModule (texts_of (lexemes tokens.now)) name.now)) }
 {
-    let mut tokens = Tokens::new(source);
-    if open_module(&mut tokens, name).is_none() {
+    let mut cursor = Cursor::new(tokens);
+    if open_module(&mut cursor, name).is_none() {
         return Ok(None);
     }
-    let Some(signals) = read_ports(alloc, &mut tokens)? else {
+    let Some(signals) = read_ports(alloc, &mut cursor)? else {
         return Ok(None);
     };
-    if is_closed(&mut tokens) {
+    if is_closed(&mut cursor) {
         Ok(Some(signals))
     } else {
         Ok(None)
@@ -36,27 +37,30 @@ pub(crate) fn read_module(
 
 /// Takes `module NAME (`.
 #[tactic(auto, unfolding(crate::specs::Reading::front_at))]
-fn open_module(tokens: &mut Tokens<'_>, name: &str) -> Option<()>
-    ensures { Takes result tokens.new (front_at name.now tokens.old) }
+fn open_module(cursor: &mut Cursor<'_, '_>, name: &str) -> Option<()>
+    ensures { Takes result cursor.new (front_at name.now cursor.old) }
 {
-    tokens.take_word("module")?;
-    tokens.take_word(name)?;
-    tokens.take_mark(b'(')
+    cursor.take_text("module")?;
+    cursor.take_text(name)?;
+    cursor.take_text("(")
 }
 
 /// Takes the ports, and the `)` that ends them.
-fn read_ports(alloc: Global, tokens: &mut Tokens<'_>) -> Result<Option<Sequence<Signal>>, NoMemory>
+fn read_ports(
+    alloc: Global,
+    cursor: &mut Cursor<'_, '_>,
+) -> Result<Option<Sequence<Signal>>, NoMemory>
     ensures found { IfOk result (λ found. IfSome found (λ signals.
-        DeclaresSignals tokens.old signals tokens.new)) }
-    ensures none { IfOk result (λ found. IfNone found (NoPortList tokens.old)) }
+        DeclaresSignals cursor.old signals cursor.new)) }
+    ensures none { IfOk result (λ found. IfNone found (NoPortList cursor.old)) }
 {
     let mut signals = Sequence::new(alloc);
     loop {
-        let Some(port) = read_port(tokens) else {
+        let Some(port) = read_port(cursor) else {
             return Ok(None);
         };
         signals.push(port.signal(alloc)?)?;
-        let Some(goes_on) = take_separator(tokens) else {
+        let Some(goes_on) = take_separator(cursor) else {
             return Ok(None);
         };
         if !goes_on {
@@ -66,28 +70,31 @@ fn read_ports(alloc: Global, tokens: &mut Tokens<'_>) -> Result<Option<Sequence<
 }
 
 /// Takes what stands behind a port: a comma, and true, as another port follows, or the `)` that ends the list.
-fn take_separator(tokens: &mut Tokens<'_>) -> Option<bool>
-    ensures { Reads (λ goes_on. goes_on) result tokens.new (separator_at tokens.old) }
+fn take_separator(cursor: &mut Cursor<'_, '_>) -> Option<bool>
+    ensures { Reads (λ goes_on. goes_on) result cursor.new (separator_at cursor.old) }
 {
-    match tokens.next_token()? {
-        Token::Mark(b',') => Some(true),
-        Token::Mark(b')') => Some(false),
-        _ => None,
+    let text = cursor.next_text()?;
+    if text == b",".as_slice() {
+        Some(true)
+    } else if text == b")".as_slice() {
+        Some(false)
+    } else {
+        None
     }
 }
 
 /// Whether `; endmodule` is all that is left.
-fn is_closed(tokens: &mut Tokens<'_>) -> bool
-    ensures { IsTrue result ↔ (end_at tokens.old ≡ Some []) }
+fn is_closed(cursor: &mut Cursor<'_, '_>) -> bool
+    ensures { IsTrue result ↔ (end_at cursor.old ≡ Some []) }
 {
-    close_module(tokens).is_some() && tokens.next_token().is_none()
+    close_module(cursor).is_some() && cursor.next_text().is_none()
 }
 
 /// Takes `; endmodule`.
 #[tactic(auto, unfolding(crate::specs::Reading::end_at))]
-fn close_module(tokens: &mut Tokens<'_>) -> Option<()>
-    ensures { Takes result tokens.new (end_at tokens.old) }
+fn close_module(cursor: &mut Cursor<'_, '_>) -> Option<()>
+    ensures { Takes result cursor.new (end_at cursor.old) }
 {
-    tokens.take_mark(b';')?;
-    tokens.take_word("endmodule")
+    cursor.take_text(";")?;
+    cursor.take_text("endmodule")
 }

@@ -1,35 +1,42 @@
 ghost use Rattle.std.specs.Prelude.{◌≡◌, IfNone, IfOk, IfSome};
 ghost use Rattle.input_module.specs.InputDesign.{IsInputDesign};
 ghost use Rattle.input_module.specs.SourceForm.{IsSource, design_with};
+ghost use Rattle.input_module.specs.Texts.{texts_of};
+ghost use Rattle.verilog_lexer.specs.TokenView.{lexemes};
 
 use crate::module_form::read_module;
 use crate::names::have_distinct_names;
 use cov_host::{Name, NoMemory, Sequence, is_identifier};
 use design_model::{Design, Instance, Signal};
 use std::alloc::Global;
+use verilog_lexer::Tokens;
 
-/// The longest source, in bytes.
-const LONGEST_SOURCE: usize = 67_108_864;
+/// The most tokens.
+const MOST_TOKENS: usize = 4_194_304;
 
-/// The design of a source that is one module `top` with inputs alone (IEEE 1364-2001, 12.1 and 12.3):
+/// The design of tokens that are one module `top` with inputs alone (IEEE 1364-2001, 12.1 and 12.3):
 ///
 /// `module NAME ( PORT , .. ) ; endmodule`, where a PORT is `input NAME` or `input [ A : B ] NAME`.
 ///
-/// None where the source is not of this form. The module and each port have an identifier as their name, no two
-/// ports the same. A and B are decimals of one to three digits and span at most 128 bits. White space stands
-/// where two words would join, and the source has at most 67,108,864 bytes.
-pub fn read_source(alloc: Global, source: &[u8], top: &str) -> Result<Option<Design>, NoMemory>
+/// None where the tokens are not of this form. The module and each port have an identifier as their name, no two
+/// ports the same. A and B are decimals of one to three digits and span at most 128 bits. There are at most 4,194,304
+/// tokens.
+pub fn read_tokens(
+    alloc: Global,
+    tokens: &Tokens<'_>,
+    top: &str,
+) -> Result<Option<Design>, NoMemory>
     ensures design { IfOk result (λ found. IfSome found (λ design.
-        IsSource source.now top.now design)) }
+        IsSource (texts_of (lexemes tokens.now)) top.now design)) }
     ensures none { IfOk result (λ found. IfNone found (
-        (design : Design) → IsSource source.now top.now design → ⊥)) }
+        (design : Design) → IsSource (texts_of (lexemes tokens.now)) top.now design → ⊥)) }
     ensures inputs { IfOk result (λ found. IfSome found (λ design.
-        IsInputDesign source.now design)) }
+        IsInputDesign (texts_of (lexemes tokens.now)) design)) }
 {
-    if source.len() > LONGEST_SOURCE || !is_identifier(top.as_bytes()) {
+    if tokens.len() > MOST_TOKENS || !is_identifier(top.as_bytes()) {
         return Ok(None);
     }
-    let Some(signals) = read_module(alloc, source, top)? else {
+    let Some(signals) = read_module(alloc, tokens, top)? else {
         return Ok(None);
     };
     if !have_distinct_names(alloc, signals.as_slice())? {

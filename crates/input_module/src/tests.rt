@@ -1,11 +1,15 @@
-use crate::read_source;
+use crate::read_tokens;
+use cov_host::Bytes;
 use design_model::{Design, Signal};
+use std::alloc::Global;
+use std::test::Fail;
+use verilog_lexer::{Defines, Sources, lex};
 
 /// An input that a source declares: its name, its bounds where it has a range, and its width.
 struct Input(&'static str, Option<(u32, u32)>, u8);
 
 /// Sources with their top module and the inputs that they declare.
-const ACCEPTED: [(&str, &str, &[Input]); 7] = [
+const ACCEPTED: [(&str, &str, &[Input]); 9] = [
     (
         "pads",
         "module pads(input clk, input [1:0] a);\nendmodule\n",
@@ -41,10 +45,20 @@ const ACCEPTED: [(&str, &str, &[Input]); 7] = [
         "module m(input [127:0] a);\nendmodule\n",
         &[Input("a", Some((127, 0)), 128)],
     ),
+    (
+        "m",
+        "// one line\nmodule m(input a);\nendmodule\n",
+        &[Input("a", None, 1)],
+    ),
+    (
+        "m",
+        "`define TOP 3\nmodule/* m */m(input [`TOP:0]/**/a);endmodule",
+        &[Input("a", Some((3, 0)), 4)],
+    ),
 ];
 
 /// Sources that are not of the form, or of another top module than `m`.
-const REFUSED: [&str; 16] = [
+const REFUSED: [&str; 15] = [
     "",
     "module n(input a); endmodule",
     "module m(input a) endmodule",
@@ -54,9 +68,8 @@ const REFUSED: [&str; 16] = [
     "module m(input a); wire b; endmodule",
     "module m(input a); assign y = a; endmodule",
     "module m(input a); initial #5 ; endmodule",
-    "module m(input \\a ); endmodule",
-    "// one line\nmodule m(input a);\nendmodule\n",
-    "`define TOP 3\nmodule m(input [`TOP:0] a);\nendmodule\n",
+    "module m(input [0_1:0] a); endmodule",
+    "`define TOP 128\nmodule m(input [`TOP:0] a);\nendmodule\n",
     "module m(input a, input a); endmodule",
     "module m(input wire); endmodule",
     "module m(); endmodule",
@@ -81,16 +94,27 @@ fn has_inputs(design: &Design, inputs: &[Input]) -> bool {
             .all(|(signal, input)| is_declared(signal, input))
 }
 
+/// The design of a source that is read by itself.
+fn read(alloc: Global, source: &str, top: &str) -> Result<Option<Design>, Fail> {
+    let mut sources = Sources::new(alloc);
+    let bytes = Bytes::from_vec(source.as_bytes().to_vec(alloc)?);
+    sources.add_root("m.v", bytes)?;
+    let defines = Defines::new(alloc);
+    let tokens = lex(alloc, &sources, &defines)?;
+    Ok(read_tokens(alloc, &tokens, top)?)
+}
+
 #[test]
-fn reads_the_source_form(rt: HostRuntime) {
+fn reads_the_source_form(rt: HostRuntime) -> Result<(), Fail> {
     let alloc = rt.alloc();
     for (top, source, inputs) in &ACCEPTED {
-        let found = read_source(alloc, source.as_bytes(), top);
-        let declared = matches!(&found, Ok(Some(design)) if has_inputs(design, inputs));
+        let found = read(alloc, source, top)?;
+        let declared = matches!(&found, Some(design) if has_inputs(design, inputs));
         assert!(rt; declared, "at {source}");
     }
     for source in &REFUSED {
-        let found = read_source(alloc, source.as_bytes(), "m");
-        assert!(rt; matches!(&found, Ok(None)), "at {source}");
+        let found = read(alloc, source, "m")?;
+        assert!(rt; found.is_none(), "at {source}");
     }
+    Ok(())
 }

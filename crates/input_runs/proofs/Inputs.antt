@@ -1,4 +1,4 @@
--- A source of the form is a design of inputs.
+-- Texts of the form are a design of inputs.
 use Rattle.std.proofs.Common.{◌≡◌, ◌≢◌, ◌+◌, ◌-◌, ◌≤◌, ℕ, zero, suc, List, [], ◌∷◌, length, map, max, min, refl, sym, ap, ◌∙◌, arith}
 use Rattle.std.proofs.lemmas.Bool.{OnFalse_from}
 use Rattle.std.specs.Prelude.{AllPairs, slice_index_or}
@@ -38,9 +38,9 @@ distinct_of_map : (signals : List Signal) → AllPairs (λ x y. x ≢ y) (map (�
 distinct_of_map signals apart i j d below within =
     λ same. apart i j d.name below (omega (arith, as_many_names signals)) (name_at signals i d ∙ same ∙ sym (name_at signals j d))
 
--- the design of a source of the form is one of inputs alone
-pub input_design : (text : List ℕ) (design : Design) → length text ≤ 67108864 → form.IsInputDesign text design → IsInputDesign design
-input_design text design short is = record {
+-- the design of texts of the form is one of inputs alone
+pub input_design : (texts : List (List ℕ)) (design : Design) → length texts ≤ 4194304 → form.IsInputDesign texts design → IsInputDesign design
+input_design texts design short is = record {
   top = is.top;
   instances = is.instances;
   signals = λ k d within. input_of_form (slice_index_or design.signals k d) (is.signals k d within);
@@ -52,6 +52,6 @@ input_design text design short is = record {
   aliases = is.aliases;
 }
 
--- so is what a source stands for
-pub source_design : (text top : List ℕ) (design : Design) → IsSource text top design → IsInputDesign design
-source_design text top design is = input_design text design is.short (IsInputDesign-source text top design is)
+-- so is what such texts stand for
+pub source_design : (texts : List (List ℕ)) (top : List ℕ) (design : Design) → IsSource texts top design → IsInputDesign design
+source_design texts top design is = input_design texts design is.short (IsInputDesign-source texts top design is)

@@ -1,16 +1,23 @@
 -- The worked case, computed.
-use Rattle.std.proofs.Common.{ℕ, zero, suc, true, false, List, [], ◌∷◌, Some, None, refl, lit≤, arith}
+use Rattle.std.proofs.Common.{◌≡◌, ℕ, zero, suc, true, false, List, [], ◌∷◌, Some, None, Ok, refl, lit≤, arith}
 use Rattle.std.specs.Prelude.{codes}
 use Rattle.vcd_reader.specs.declared.entry.Entry.{Entry}
 use Rattle.cov_host.specs.Identifier.{is_reserved}
 use Rattle.input_module.specs.SourceForm.{AreDistinct, IsSource}
+use Rattle.input_module.specs.Texts.{texts_of}
+use Rattle.verilog_lexer.specs.Operator.{operator_length}
+use Rattle.verilog_lexer.specs.Piece.{read_piece}
+use Rattle.verilog_lexer.specs.Reading.{read_roots, scan, tokens_of}
+use Rattle.verilog_lexer.specs.Tokens.{Lexeme}
+use Rattle.verilog_lexer.specs.declared.token.TokenKind.{TokenKind}
+use Rattle.verilog_lexer.specs.declared.token.TokenKind.TheVariants.{Identifier, Keyword, Decimal, Operator}
 use Rattle.vcd_reader.specs.Body.{nothing}
 use Rattle.vcd_reader.specs.Dump.{IsDump}
 use Rattle.vcd_reader.specs.Reading.{Body, body}
 use Rattle.vcd_reader.specs.declared.entry.Entry.TheVariants.{Time, Value}
 use Rattle.four_state.specs.declared.Bit.{Bit}
 use Rattle.four_state.specs.declared.Bit.TheVariants.{Zero, One, X}
-use Rattle.input_runs.specs.Worked.{IsWorkedRun, dump_text, pads, pads_dump, pads_text}
+use Rattle.input_runs.specs.Worked.{IsWorkedRun, dump_text, pads, pads_dump, pads_sources}
 use Rattle.input_runs.proofs.Inputs.{source_design}
 use Rattle.input_runs.proofs.SomeRun.{some_run_shows}
 
@@ -21,7 +28,24 @@ distinct_names zero (suc zero) d below within = λ same. cc
 distinct_names (suc i) (suc zero) d below within = absurd (omega arith)
 distinct_names i (suc (suc j)) d below within = absurd (omega arith)
 
-pads_source : IsSource pads_text (codes "pads") pads
+-- a token of the file, which has the number 1
+abbrev token_at : TokenKind → List ℕ → ℕ → ℕ → Lexeme
+token_at kind text line column = record { kind = kind; text = text; place = record { source = 1; line = line; column = column } }
+
+-- the tokens of the file
+abbrev pads_tokens : List Lexeme
+pads_tokens =
+    token_at Keyword (codes "module") 1 1 ∷ token_at Identifier (codes "pads") 1 8 ∷ token_at Operator (codes "(") 1 12
+    ∷ token_at Keyword (codes "input") 1 13 ∷ token_at Identifier (codes "clk") 1 19 ∷ token_at Operator (codes ",") 1 22
+    ∷ token_at Keyword (codes "input") 1 24 ∷ token_at Operator (codes "[") 1 30 ∷ token_at Decimal (codes "1") 1 31 ∷ token_at Operator (codes ":") 1 32 ∷ token_at Decimal (codes "0") 1 33 ∷ token_at Operator (codes "]") 1 34 ∷ token_at Identifier (codes "a") 1 36
+    ∷ token_at Operator (codes ")") 1 37 ∷ token_at Operator (codes ";") 1 38 ∷ token_at Keyword (codes "endmodule") 2 1 ∷ []
+
+-- the lexer gives them
+pads_read : tokens_of pads_sources [] ≡ Ok pads_tokens
+unfolding tokens_of read_roots scan read_piece operator_length is_reserved
+pads_read = refl
+
+pads_source : IsSource (texts_of pads_tokens) (codes "pads") pads
 unfolding is_reserved
 pads_source = record {
   short = omega arith;
@@ -78,7 +102,9 @@ pads_dump_is = record {
 
 pub worked_run : IsWorkedRun
 worked_run = record {
+  tokens = pads_tokens;
+  read = pads_read;
   source = pads_source;
   dump = pads_dump_is;
-  run = some_run_shows pads pads_dump (codes "tb.dut") (source_design pads_text (codes "pads") pads pads_source);
+  run = some_run_shows pads pads_dump (codes "tb.dut") (source_design (texts_of pads_tokens) (codes "pads") pads pads_source);
 }

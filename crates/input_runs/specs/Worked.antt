@@ -1,10 +1,14 @@
 -- The worked case: a module of two inputs, its dump, and a run.
-use Rattle.std.specs.Prelude.{ℕ, false, true, List, [], ◌∷◌, codes}
+use Rattle.std.specs.Prelude.{◌≡◌, ℕ, false, true, List, [], ◌∷◌, Ok, codes}
 use Rattle.four_state.specs.declared.Bit.{Bit}
 use Rattle.four_state.specs.declared.Bit.TheVariants.{Zero, One, X}
 use Rattle.design_model.specs.declared.design.Design.{Design}
 use Rattle.design_model.specs.declared.design.Signal.{Signal}
 use Rattle.input_module.specs.SourceForm.{IsSource}
+use Rattle.input_module.specs.Texts.{texts_of}
+use Rattle.verilog_lexer.specs.Reading.{tokens_of}
+use Rattle.verilog_lexer.specs.Sources.{SourceText}
+use Rattle.verilog_lexer.specs.Tokens.{Lexeme}
 use Rattle.vcd_reader.specs.Dump.{Change, Dump, IsDump}
 use Rattle.input_runs.specs.Shown.{SomeRunShows}
 
@@ -27,8 +31,9 @@ pads = record {
   aliases = [];
 }
 
-abbrev pub pads_text : List ℕ
-pads_text = codes "module pads(input clk, input [1:0] a);\nendmodule\n"
+-- the file of the module
+abbrev pub pads_sources : List SourceText
+pads_sources = record { name = codes "pads.v"; bytes = codes "module pads(input clk, input [1:0] a);\nendmodule\n"; root = true } ∷ []
 
 -- a dump of the two inputs, as a simulator writes it
 abbrev pub dump_text : List ℕ
@@ -49,8 +54,10 @@ pads_dump = record {
       ∷ record { time = 15; changes = changed 0 (One ∷ []) ∷ [] } ∷ [];
 }
 
--- the source stands for the design, the text is a dump, and some run of the design shows it
+-- the tokens of the file stand for the design, the text is a dump, and some run of the design shows it
 pub record IsWorkedRun : Type 0 where
-  pub source : IsSource pads_text (codes "pads") pads
+  pub tokens : List Lexeme
+  pub read : tokens_of pads_sources [] ≡ Ok tokens
+  pub source : IsSource (texts_of tokens) (codes "pads") pads
   pub dump : IsDump dump_text pads_dump
   pub run : SomeRunShows pads pads_dump (codes "tb.dut")

@@ -22,9 +22,10 @@ pub fn inputs_run()
     ensures { (d : DesignTree) → d.processes ≡ [] → TakesAll d }
 {}
 
-/// Whatever a dump says of the inputs of a source, some run of its design shows it; so it is with the worked case.
+/// Whatever a dump says of the inputs of a module, some run of its design shows it; so it is with the worked case.
 pub fn shown_by_some_run()
-    ensures each { (source top dump_text instance : List ℕ) (design : Design) (dump : Dump) → IsSource source top design → IsDump dump_text dump → SomeRunShows design dump instance }
+    ensures each { (texts : List (List ℕ)) (top dump_text instance : List ℕ) (design : Design) (dump : Dump)
+        → IsSource texts top design → IsDump dump_text dump → SomeRunShows design dump instance }
     ensures worked { IsWorkedRun }
 {}
 

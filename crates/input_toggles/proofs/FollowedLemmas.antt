@@ -1,10 +1,10 @@
 -- The table of the signals of a design after the dump was told.
-use Rattle.std.proofs.Common.{◌≡◌, ℕ, ◌+◌, ◌<◌, ◌≤◌, ◌^◌, Option, Some, IsTrue, List, [], ◌∷◌, ◌++◌, length, map, take, get_or, refl, sym, ap, subst, ◌∙◌, arith}
+use Rattle.std.proofs.Common.{◌≡◌, ℕ, ◌+◌, ◌<◌, ◌≤◌, ◌^◌, Option, Some, List, [], ◌∷◌, ◌++◌, length, map, take, get_or, refl, sym, ap, subst, ◌∙◌, arith}
 use Rattle.std.specs.List.{All, Contains}
 use Rattle.std.proofs.lemmas.List.Elements.{All-nil, All-cons, All-contains, All-push, All-weaker, Contains-get_or}
 use Rattle.std.proofs.lemmas.List.{map_push, take_all, take_more}
 use Rattle.std.proofs.lemmas.List.Sorted.{All-permutation, Contains-permutation, IsPermutation-map, length_permutation}
-use Rattle.coverage_db.specs.Table.{IsTable, is_file_name}
+use Rattle.coverage_db.specs.Table.{IsTable}
 use Rattle.coverage_db.specs.declared.db.Db.{Db}
 use Rattle.design_model.specs.Shows.{AreRising}
 use Rattle.design_model.specs.declared.design.Design.{Design}
@@ -15,7 +15,7 @@ use Rattle.vcd_reader.specs.declared.vars.Var.{Var}
 use Rattle.input_toggles.specs.Binding.{code_of}
 use Rattle.input_toggles.specs.InputDesign.{IsInput, IsInputDesign}
 use Rattle.input_toggles.specs.PointList.{IsTableOf}
-use Rattle.input_toggles.specs.Scored.{HasHead, IsScored, IsToggleTable, ListsTogglePoints}
+use Rattle.input_toggles.specs.Scored.{AreSources, HasHead, IsScored, IsToggleTable, ListsTogglePoints}
 use Rattle.input_toggles.specs.Scores.{AreWatched, HasToggles, Scores}
 use Rattle.input_toggles.specs.Tracked.{IsTracked}
 use Rattle.input_toggles.specs.Watched.{signals_of}
@@ -58,7 +58,7 @@ module _ (design : Design) (d : IsInputDesign design) (scorer : Scorer) (watched
             (λ t. shown.0 (kept.0 t), λ t. kept.1 (shown.1 t));
       }
 
-  module _ (source : List ℕ) (db : Db) (t : IsTableOf design.top source watched db) where
+  module _ (sources : List (List ℕ)) (db : Db) (t : IsTableOf design.top sources watched db) where
     all_followed : All (IsFollowed design the_dump instance) t.sorted
     all_followed = All-permutation (IsFollowed design the_dump instance) watched t.sorted t.permutation are_followed
 
@@ -72,12 +72,12 @@ module _ (design : Design) (d : IsInputDesign design) (scorer : Scorer) (watched
     inputs : All (λ w. IsInput w.signal.now) t.sorted
     inputs = All-weaker (IsFollowed design the_dump instance) (λ w. IsInput w.signal.now) (λ w f. f.input) t.sorted all_followed
 
-    pub toggle_table : IsTrue (is_file_name source) → IsToggleTable design (record { vars = vars; steps = steps_of entries }) source instance db
+    pub toggle_table : AreSources sources → IsToggleTable design (record { vars = vars; steps = steps_of entries }) sources instance db
     unfolding the_dump
-    toggle_table file = record {
+    toggle_table files = record {
       bound = bound_design scorer design vars instance entries s;
-      table = subst IsTable (sym t.is) (table_is design source t.sorted d file inputs t.rising few);
-      head = subst (HasHead design source) (sym t.is) (record { top = refl; sources = refl; instances = refl });
+      table = subst IsTable (sym t.is) (table_is design sources t.sorted d files inputs t.rising few);
+      head = subst (HasHead design sources) (sym t.is) (record { top = refl; sources = refl; instances = refl });
       listed = subst (ListsTogglePoints design) (sym t.is) (points_listed design the_dump instance t.sorted all_followed all_there);
       verdicts = subst (λ (x : Db). All (IsScored design the_dump instance) x.points) (sym t.is) (points_scored design the_dump instance t.sorted all_followed);
     }

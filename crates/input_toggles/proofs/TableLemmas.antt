@@ -9,12 +9,13 @@ use Rattle.std.proofs.lemmas.List.FromFn.{length-range_with_len}
 use Rattle.std.proofs.lemmas.List.Splits.{slice_split_none}
 use Rattle.std.proofs.lemmas.List.Sums.{AllPass-from_list_all}
 use Rattle.cov_host.specs.Identifier.{begins_name, continues_name, has_name_form, is_identifier, is_reserved}
-use Rattle.coverage_db.specs.Table.{IsIdentifier, IsInstance, IsPoint, IsTable, IsVerdict, is_file_name, is_path}
+use Rattle.coverage_db.specs.Table.{IsIdentifier, IsInstance, IsPoint, IsTable, IsVerdict, is_path}
 use Rattle.coverage_db.specs.declared.db.DbInstance.{DbInstance}
 use Rattle.coverage_db.specs.declared.db.DbPoint.{DbPoint}
 use Rattle.design_model.specs.declared.design.Design.{Design}
 use Rattle.input_toggles.specs.InputDesign.{IsInput, IsInputDesign}
 use Rattle.input_toggles.specs.PointList.{bit_points, point_of, signal_points, table, top_instance, verdict_of}
+use Rattle.input_toggles.specs.Scored.{AreSources}
 use Rattle.input_toggles.specs.Watched.{NamesDiffer, NamesRise, signals_of}
 use Rattle.input_toggles.specs.declared.watched.Watched.{Watched}
 use Rattle.input_toggles.proofs.ListLemmas.{All-flat_map, All-range, All-unmap, AllPairs-unmap, length-flat_map-le}
@@ -55,20 +56,20 @@ index_is : (ranged : Bool) (index : ℕ) → index < 2 ^ 32 → IfSome (cond ran
 index_is true index h = h
 index_is false index h = tt
 
-point_is : (top : List ℕ) (w : Watched) (index : ℕ) (rise : Bool) → IsInput w.signal.now → index < 2 ^ 32 → IsPoint 1 (top_instance top ∷ []) (point_of w index rise)
-point_is top w index rise h l =
+point_is : (count : ℕ) (top : List ℕ) (w : Watched) (index : ℕ) (rise : Bool) → IsInput w.signal.now → index < 2 ^ 32 → IsPoint count (top_instance top ∷ []) (point_of w index rise)
+point_is count top w index rise h l =
     record {
       instance = omega (arith, h.instance);
       subject = (h.name, index_is w.signal.now.ranged index l);
       verdict = verdict_is (top_instance top ∷ []) _;
     }
 
-signal_is : (top : List ℕ) (w : Watched) → IsInput w.signal.now → All (IsPoint 1 (top_instance top ∷ [])) (signal_points w)
-signal_is top w h =
-    let P : DbPoint → Type 0 = IsPoint 1 (top_instance top ∷ []) in
+signal_is : (count : ℕ) (top : List ℕ) (w : Watched) → IsInput w.signal.now → All (IsPoint count (top_instance top ∷ [])) (signal_points w)
+signal_is count top w h =
+    let P : DbPoint → Type 0 = IsPoint count (top_instance top ∷ []) in
     All-flat_map P (bit_points w) _ (All-range (λ i. All P (bit_points w i)) _ _ (λ i p q.
     let l : i < 2 ^ 32 = omega (arith, h.high, h.low, h.width) in
-    All-cons P (point_of w i true) (point_of w i false ∷ []) (point_is top w i true h l) (All-cons P (point_of w i false) [] (point_is top w i false h l) (All-nil P))))
+    All-cons P (point_of w i true) (point_of w i false ∷ []) (point_is count top w i true h l) (All-cons P (point_of w i false) [] (point_is count top w i false h l) (All-nil P))))
 
 signal_length : (w : Watched) → IsInput w.signal.now → length (signal_points w) ≤ 256
 signal_length w h =
@@ -77,18 +78,18 @@ signal_length w h =
     omega (arith, length-range_with_len (min s.high s.low) s.width, h.at_most)
 
 -- the table of a design of inputs whose signals are in the order of their names
-pub table_is : (design : Design) (source : List ℕ) (ws : List Watched) → IsInputDesign design → IsTrue (is_file_name source) → All (λ w. IsInput w.signal.now) ws → NamesRise ws → length ws ≤ 2 ^ 23 → IsTable (table design.top source ws)
-table_is design source ws d file inputs rise few =
+pub table_is : (design : Design) (sources : List (List ℕ)) (ws : List Watched) → IsInputDesign design → AreSources sources → All (λ w. IsInput w.signal.now) ws → NamesRise ws → length ws ≤ 2 ^ 23 → IsTable (table design.top sources ws)
+table_is design sources ws d files inputs rise few =
     record {
       top = d.top;
-      sources = All-cons (λ name. IsTrue (is_file_name name)) source [] file (All-nil (λ name. IsTrue (is_file_name name)));
+      sources = files.names;
       instances = All-cons IsInstance (top_instance design.top) [] (record { path = name_is_path design.top d.top; module_name = d.top }) (All-nil IsInstance);
-      points = All-flat_map (IsPoint 1 (top_instance design.top ∷ [])) signal_points ws (All-weaker (λ w. IsInput w.signal.now) (λ w. All (IsPoint 1 (top_instance design.top ∷ [])) (signal_points w)) (signal_is design.top) ws inputs);
-      some_source = λ e. cc;
+      points = All-flat_map (IsPoint (length sources) (top_instance design.top ∷ [])) signal_points ws (All-weaker (λ w. IsInput w.signal.now) (λ w. All (IsPoint (length sources) (top_instance design.top ∷ [])) (signal_points w)) (signal_is (length sources) design.top) ws inputs);
+      some_source = λ e. omega (arith, files.at_least, ap length e);
       some_instance = λ e. cc;
       instances_rise = tt;
       points_rise = points_rise ws inputs rise;
-      lines = omega (arith, length-flat_map-le signal_points 256 ws (All-weaker (λ w. IsInput w.signal.now) (λ w. length (signal_points w) ≤ 256) signal_length ws inputs));
+      lines = omega (arith, files.at_most, length-flat_map-le signal_points 256 ws (All-weaker (λ w. IsInput w.signal.now) (λ w. length (signal_points w) ≤ 256) signal_length ws inputs));
     }
 
 -- the signals of a design that are followed

@@ -47,13 +47,13 @@ points_of watched = flat_map signal_points watched
 abbrev pub top_instance : List ℕ → DbInstance
 top_instance top = record { path = top; «module» = top }
 
--- the table of a top module from one source, with the points of its signals
-abbrev pub table : List ℕ → List ℕ → List Watched → Db
-table top source watched = record { top = top; sources = source ∷ []; instances = top_instance top ∷ []; points = points_of watched }
+-- the table of a top module from these sources, with the points of its signals
+abbrev pub table : List ℕ → List (List ℕ) → List Watched → Db
+table top sources watched = record { top = top; sources = sources; instances = top_instance top ∷ []; points = points_of watched }
 
 -- the table of these signals in the order of their names
-pub record IsTableOf (top source : List ℕ) (watched : List Watched) (db : Db) : Type 0 where
+pub record IsTableOf (top : List ℕ) (sources : List (List ℕ)) (watched : List Watched) (db : Db) : Type 0 where
   pub sorted : List Watched
   pub permutation : IsPermutation watched sorted
   pub rising : NamesRise sorted
-  pub is : db ≡ table top source sorted
+  pub is : db ≡ table top sources sorted

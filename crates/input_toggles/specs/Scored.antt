@@ -1,7 +1,7 @@
 -- What a table says of a design of inputs under a dump.
-use Rattle.std.specs.Prelude.{◌≡◌, ◌<◌, ◌≤◌, ◌↔◌, ℕ, Bool, true, Option, Some, None, IsSome, IfSome, IsSomeAnd, List, [], ◌∷◌, length, map, take, slice_index_or, All, Contains}
+use Rattle.std.specs.Prelude.{◌≡◌, ◌<◌, ◌≤◌, ◌↔◌, ℕ, Bool, true, Option, Some, None, IsSome, IfSome, IsSomeAnd, IsTrue, List, [], ◌∷◌, length, map, take, slice_index_or, All, Contains}
 use Rattle.std.specs.List.{list_any}
-use Rattle.coverage_db.specs.Table.{IsTable}
+use Rattle.coverage_db.specs.Table.{IsTable, is_file_name}
 use Rattle.coverage_db.specs.declared.address.Address.{Address}
 use Rattle.coverage_db.specs.declared.db.Db.{Db}
 use Rattle.coverage_db.specs.declared.db.DbPoint.{DbPoint}
@@ -43,10 +43,16 @@ pub record HasNoBaseline (vars : List Var) (instance : List ℕ) (signals : List
   pub bound : code_of vars instance (slice_index_or signals signal no_signal) ≡ Some code
   pub none : first_value (steps_of entries) code ≡ None
 
--- the table is of the design's top module and of one source
-pub record HasHead (design : Design) (source : List ℕ) (db : Db) : Type 0 where
+-- the names of the files that a design is read from: one or more, and no more than 256
+pub record AreSources (sources : List (List ℕ)) : Type 0 where
+  pub names : All (λ name. IsTrue (is_file_name name)) sources
+  pub at_least : 1 ≤ length sources
+  pub at_most : length sources ≤ 256
+
+-- the table is of the design's top module and of the sources of these names
+pub record HasHead (design : Design) (names : List (List ℕ)) (db : Db) : Type 0 where
   pub top : db.top ≡ design.top
-  pub sources : db.sources ≡ source ∷ []
+  pub sources : db.sources ≡ names
   pub instances : db.instances ≡ record { path = design.top; «module» = design.top } ∷ []
 
 -- the addresses of the table are the toggle points of the design
@@ -72,9 +78,9 @@ pub record IsScored (design : Design) (dump : Dump) (instance : List ℕ) (point
   pub verdict : Tells point.verdict (TogglesIn dump.steps code (place_of signal index) rise)
 
 -- the table lists each toggle point of the design once, with the verdict of the dump
-pub record IsToggleTable (design : Design) (dump : Dump) (source instance : List ℕ) (db : Db) : Type 0 where
+pub record IsToggleTable (design : Design) (dump : Dump) (sources : List (List ℕ)) (instance : List ℕ) (db : Db) : Type 0 where
   pub bound : IsBound design dump instance
   pub table : IsTable db
-  pub head : HasHead design source db
+  pub head : HasHead design sources db
   pub listed : ListsTogglePoints design db
   pub verdicts : All (IsScored design dump instance) db.points

@@ -48,6 +48,6 @@ pub record AreWatched (scorer : Scorer) (signals : List Signal) (watched : List 
   pub toggles_are : All (HasToggles scorer.tracks) watched
 
 -- the table is that of the design under whatever was said
-abbrev pub IsScoreBy : Scorer → Design → List ℕ → Db → Type 0
-IsScoreBy scorer design source db =
-    (vars : List Var) (instance : List ℕ) (entries : List Entry) → Scores scorer design vars instance entries → AreRising (times_of (steps_of entries)) → IsToggleTable design (record { vars = vars; steps = steps_of entries }) source instance db
+abbrev pub IsScoreBy : Scorer → Design → List (List ℕ) → Db → Type 0
+IsScoreBy scorer design sources db =
+    (vars : List Var) (instance : List ℕ) (entries : List Entry) → Scores scorer design vars instance entries → AreRising (times_of (steps_of entries)) → IsToggleTable design (record { vars = vars; steps = steps_of entries }) sources instance db

@@ -1,5 +1,4 @@
 ghost use Rattle.std.specs.Prelude.{◌≡◌, ◌++◌, ◌∷◌, [], ℕ, List, None, IfErr, IfOk, OnOk, IsTrue, All, length};
-ghost use Rattle.coverage_db.specs.Table.{is_file_name};
 ghost use Rattle.design_model.specs.declared.design.Design.{Design as SpecDesign};
 ghost use Rattle.vcd_reader.specs.Times.{Rises};
 ghost use Rattle.vcd_reader.specs.declared.entry.Entry.{Entry};
@@ -7,7 +6,7 @@ ghost use Rattle.vcd_reader.specs.declared.entry.Entry.TheVariants as entry;
 ghost use Rattle.vcd_reader.specs.declared.vars.Var.{Var as SpecVar};
 ghost use Rattle.input_toggles.specs.Binding.{IsBindFault};
 ghost use Rattle.input_toggles.specs.InputDesign.{IsInputDesign};
-ghost use Rattle.input_toggles.specs.Scored.{HasNoBaseline};
+ghost use Rattle.input_toggles.specs.Scored.{AreSources, HasNoBaseline};
 ghost use Rattle.input_toggles.specs.Scores.{AreWatched, FollowsAll, IsScoreBy, LacksValue, Scores};
 ghost use Rattle.input_toggles.specs.Tracked.{has_value};
 
@@ -16,7 +15,7 @@ use crate::table::table_of;
 use crate::tracks::Tracks;
 use crate::watched::Watched;
 use crate::{BindFault, NoBaseline};
-use cov_host::NoMemory;
+use cov_host::{Name, NoMemory, Sequence};
 use coverage_db::Db;
 use design_model::{Design, Signal};
 use four_state::Four;
@@ -84,15 +83,20 @@ impl Scorer {
         Ok(())
     }
 
-    /// The database of the design under the dump that was told.
-    pub fn finish(&self, alloc: Global, design: &Design, source: &str) -> Result<Db, NoMemory>
+    /// The database of the design, which was read from these files, under the dump that was told.
+    pub fn finish(
+        &self,
+        alloc: Global,
+        design: &Design,
+        sources: Sequence<Name>,
+    ) -> Result<Db, NoMemory>
         requires design { IsInputDesign design.now }
-        requires source { IsTrue (is_file_name source.now) }
+        requires sources { AreSources sources }
         requires codes { length self.now.codes.items ≡ length design.now.signals }
-        ensures { IfOk result (IsScoreBy self.now design.now source.now) }
+        ensures { IfOk result (IsScoreBy self.now design.now sources) }
     {
         let watched = self.watched(alloc, design.signals.as_slice())?;
-        table_of(alloc, design.top.as_slice(), source, watched)
+        table_of(alloc, design.top.as_slice(), sources, watched)
     }
 
     /// The signals with their toggles.

@@ -10,35 +10,35 @@ use cov_host::{Name, NoMemory, Sequence};
 use coverage_db::{Db, DbInstance};
 use std::alloc::Global;
 
-/// The database of a top module with the points of its signals, in the order of their names.
+/// The database of a top module from these sources, with the points of its signals in the order of their names.
 pub(crate) fn table_of(
     alloc: Global,
     top: &[u8],
-    source: &str,
+    sources: Sequence<Name>,
     watched: Vec<Watched<'_>>,
 ) -> Result<Db, NoMemory>
     requires inputs { All (λ w. IsInput w.signal.now) watched.items }
     requires names { NamesDiffer watched.items }
-    ensures { IfOk result (IsTableOf top.now source.now watched.entry.items) }
+    ensures { IfOk result (IsTableOf top.now sources watched.entry.items) }
 {
     let mut watched = watched;
     sort_by_name(&mut watched)?;
-    table_in_order(alloc, top, source, &watched)
+    table_in_order(alloc, top, sources, &watched)
 }
 
-/// The database of a top module with the points of its signals, as they stand.
+/// The database of a top module from these sources, with the points of its signals as they stand.
 fn table_in_order(
     alloc: Global,
     top: &[u8],
-    source: &str,
+    sources: Sequence<Name>,
     watched: &[Watched<'_>],
 ) -> Result<Db, NoMemory>
     requires { All (λ w. IsInput w.signal.now) watched.now }
-    ensures { IfOk result (λ db. db ≡ table top.now source.now watched.now) }
+    ensures { IfOk result (λ db. db ≡ table top.now sources watched.now) }
 {
     Ok(Db {
         top: name_of(alloc, top)?,
-        sources: only(alloc, name_of(alloc, source.as_bytes())?)?,
+        sources,
         instances: only(alloc, top_instance(alloc, top)?)?,
         points: points_of(alloc, watched)?,
     })

@@ -1,4 +1,4 @@
-use Rattle.std.proofs.Common.{List, ℕ, [], ◌++◌, append_assoc, subst}
+use Rattle.std.proofs.Common.{[], ◌++◌, append_assoc, subst}
 use Rattle.std.proofs.lemmas.List.{append-nil}
 use Rattle.std.specs.Prelude.{codes, decimal}
 use Rattle.covered_cli.specs.Databases.{kind_text}

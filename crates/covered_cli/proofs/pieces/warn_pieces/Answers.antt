@@ -1,4 +1,4 @@
-use Rattle.std.proofs.Common.{◌≡◌, ℕ, ◌++◌, inr, arith, take}
+use Rattle.std.proofs.Common.{inr, arith}
 use Rattle.std.specs.List.{flat_map}
 use Rattle.whole_files.proofs.EffectLemmas.{IsCounted-earlier}
 use Rattle.covered_cli.proofs.Lines.{AppendsPrefix-after, front_of_pieces}

@@ -1,10 +1,10 @@
 use Rattle.covered_cli.proofs.Causes.{IfErr-map, OnOk-intro, is_some_command, keeps_unnamed, prints_nothing, stands_in_call}
 use Rattle.covered_cli.proofs.Scoring.{OnOk-map, command_is_done}
-use Rattle.covered_cli.proofs.Inputs.{source_of_command}
+use Rattle.covered_cli.proofs.Inputs.{forms_of_command}
 use Rattle.covered_cli.proofs.top_call.run.Goals as goal
 
 pub run_command-requires : goal.run_command-requires
-run_command-requires g c = source_of_command _ _ c.in-Ok.ensures.command
+run_command-requires g c = forms_of_command _ _ c.in-Ok.ensures.command
 
 pub returns-in-Ok-clause-command : goal.returns-in-Ok-clause-command
 returns-in-Ok-clause-command g c = OnOk-intro c.run_command.result (is_some_command _ _ c.in-Ok.ensures.command)

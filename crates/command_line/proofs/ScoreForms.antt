@@ -1,0 +1,35 @@
+-- The values of a `score` command have the forms of their options.
+use Rattle.std.proofs.Common.{◌≡◌, ℕ, List, [], ◌∷◌, Option, Some, None, subst, IsTrue}
+use Rattle.std.specs.Prelude.{IfSome}
+use Rattle.std.specs.List.{All, AllByRecursion}
+use Rattle.std.proofs.lemmas.List.Elements.{All-from_recursion, All-map}
+use Rattle.cov_host.specs.Identifier.{is_identifier}
+use Rattle.command_line.specs.declared.score_option.ScoreOption.{ScoreOption}
+use Rattle.command_line.specs.declared.score_option.ScoreOption.TheVariants.{Top, Instance, Source, Define, Folder, Dump, Output}
+use Rattle.command_line.specs.CommandWords.{at_most_one, values_in, HaveForms, IsScore, ScoreValues}
+use Rattle.command_line.specs.Define.{define_of, Define as Defined}
+use Rattle.command_line.specs.ScoreOption.{accepts}
+use Rattle.command_line.specs.ValueForm.{is_file_name}
+use Rattle.command_line.proofs.GivenLemmas.{values_accepted}
+
+folder_form : (folder : Option (List ℕ)) → AllByRecursion (λ name. IsTrue (is_file_name name)) (at_most_one folder) → IfSome folder (λ name. IsTrue (is_file_name name))
+folder_form None forms = tt
+folder_form (Some name) forms = forms.0
+
+pub score_forms : (words : List (List ℕ)) (values : ScoreValues) → IsScore words values → HaveForms values
+score_forms words values is =
+    let forms = λ (option : ScoreOption). values_accepted is.0 option is.1.are_given.forms in
+    let form = λ (option : ScoreOption) (value : List ℕ) (one : values_in is.0 option ≡ value ∷ []). (subst (AllByRecursion (λ value. IsTrue (accepts option value))) one (forms option)).0 in
+    let sources = All-from_recursion (λ name. IsTrue (is_file_name name)) (values_in is.0 Source) (forms Source) in
+    let names = All-from_recursion (λ value. IsTrue (accepts Define value)) (values_in is.0 Define) (forms Define) in
+    let HasName : Defined → Type 0 = λ define. IsTrue (is_identifier define.name) in
+    record {
+      top = form Top values.top is.2.top;
+      instance = form Instance values.instance is.2.instance;
+      some = is.2.some;
+      sources = subst (All (λ name. IsTrue (is_file_name name))) is.2.sources sources;
+      defines = subst (All HasName) is.2.defines (All-map HasName define_of (values_in is.0 Define) names);
+      folder = folder_form values.folder (subst (AllByRecursion (λ name. IsTrue (is_file_name name))) is.2.folder (forms Folder));
+      dump = form Dump values.dump is.2.dump;
+      output = form Output values.output is.2.output;
+    }

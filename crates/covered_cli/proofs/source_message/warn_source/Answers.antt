@@ -1,0 +1,18 @@
+use Rattle.std.proofs.Common.{append_assoc, rules}
+use Rattle.covered_cli.proofs.Lines.{WarnsLine-is}
+use Rattle.covered_cli.proofs.source_message.warn_source.Goals as goal
+
+pub returns-in-NoMemory-clause-line : goal.returns-in-NoMemory-clause-line
+returns-in-NoMemory-clause-line g c = rw c.in-NoMemory.is (WarnsLine-is _ _ (g.H.Host.outside c.args.host.now) (g.H.Host.outside c.warn_pieces.new.host) (search (rules, c.as_bytes.ensures.value)) c.warn_pieces.ensures.line)
+
+pub returns-in-File-clause-line : goal.returns-in-File-clause-line
+returns-in-File-clause-line g c = rw c.in-File.is (WarnsLine-is _ _ (g.H.Host.outside c.args.host.now) (g.H.Host.outside c.warn_file.new.host) (search (rules, append_assoc, c.name.ensures, c.as_bytes-in-File.ensures.value)) c.warn_file.ensures.line)
+
+pub returns-in-Included-clause-line : goal.returns-in-Included-clause-line
+returns-in-Included-clause-line g c = rw c.in-Included.is (WarnsLine-is _ _ (g.H.Host.outside c.args.host.now) (g.H.Host.outside c.warn_file-in-Included.new.host) (search (rules, append_assoc, c.name-in-Included.ensures, c.as_slice.ensures)) c.warn_file-in-Included.ensures.line)
+
+pub returns-in-Refused-clause-line : goal.returns-in-Refused-clause-line
+returns-in-Refused-clause-line g c = rw c.in-Refused.is c.warn_refused.ensures.line
+
+pub returns-in-NotYet-clause-line : goal.returns-in-NotYet-clause-line
+returns-in-NotYet-clause-line g c = rw c.in-NotYet.is (WarnsLine-is _ _ (g.H.Host.outside c.args.host.now) (g.H.Host.outside c.warn_pieces-in-NotYet.new.host) (search (rules, c.as_bytes-in-NotYet.ensures.value)) c.warn_pieces-in-NotYet.ensures.line)

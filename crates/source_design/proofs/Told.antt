@@ -1,0 +1,178 @@
+-- Where the host tells its files, they decide what is read of the sources.
+use Rattle.std.proofs.Common.{◌≡◌, ◌⊎◌, ℕ, zero, suc, ◌<◌, List, [], ◌∷◌, ◌++◌, length, take, drop, slice_index_or, Option, None, Some, Ok, Err, refl, sym, ap, subst, ◌∙◌, inl, inr, arith}
+use Rattle.std.specs.Prelude.{Contains, IfSome, IsSome, MatchOption, Result}
+use Rattle.std.proofs.lemmas.List.{take-append-drop}
+use Rattle.cov_host.specs.Outside.{Files, Outside, IsCounted}
+use Rattle.cov_host.specs.declared.place.Place.{Place}
+use Rattle.design_model.specs.declared.design.Design.{Design}
+use Rattle.input_module.specs.SourceForm.{IsSource}
+use Rattle.input_module.specs.Texts.{texts_of}
+use Rattle.input_module.proofs.SourceLemmas.{IsSource-once}
+use Rattle.verilog_lexer.specs.Answer.{Answer}
+use Rattle.verilog_lexer.specs.Defines.{DefineText}
+use Rattle.verilog_lexer.specs.Reading.{tokens_of}
+use Rattle.verilog_lexer.specs.Sources.{SourceText, refusal_of}
+use Rattle.verilog_lexer.specs.Tokens.{Lexeme}
+use Rattle.verilog_lexer.specs.declared.fault.LexFault.{LexFault}
+use Rattle.verilog_lexer.specs.declared.fault.LexFault.TheVariants as lex_fault
+use Rattle.verilog_lexer.specs.declared.fault.LexKind.TheVariants.{IncludeMissing}
+use Rattle.verilog_tree.specs.Tree as t
+use Rattle.grammar_rules.specs.Grammar.{GoesOn, GoesOnAtAll, IsSpelled}
+use Rattle.verilog_grammar.specs.Language.{verilog}
+use Rattle.verilog_grammar.specs.Verilog.{grammar}
+use Rattle.verilog_parser.specs.Parses.{AreModules, IsRefused, StandsIn}
+use Rattle.verilog_parser.specs.declared.fault.ParseFault.{ParseFault}
+use Rattle.verilog_parser.specs.declared.fault.ParseFault.TheVariants as parse_fault
+use Rattle.verilog_parser.specs.declared.fault.ParseKind.TheVariants.{Unexpected, EarlyEnd, TooDeep, LeftOut}
+use Rattle.whole_files.specs.Effects.{IsMissing}
+use Rattle.whole_files.specs.declared.call.Call.{Call}
+use Rattle.whole_files.specs.declared.call.Call.TheVariants.{OpenRead, Read, OpenWrite, Write, CloseWrite}
+use Rattle.source_files.specs.Files.{AreRoots, Grow, IsFile, Lacks, path_of}
+use Rattle.source_files.specs.Joining.{IsRefusedCall}
+use Rattle.source_files.proofs.Growing.{grow_within, grows_on, lacking_there, root_fits, settled}
+use Rattle.source_files.proofs.OneList.{one_list, one_list_of_roots, one_text}
+use Rattle.source_design.specs.Accepted.{AreAccepted, StandFor}
+use Rattle.source_design.specs.Reading.{HasBegun, HasFullInclude, HasFullRoot, HasRefused, HasSources, IsSourceFault, LacksAt}
+use Rattle.source_design.specs.Refusals.{AreOfNoForm, AreRefused, IsFoundAt}
+use Rattle.source_design.specs.Words.{SourceValues}
+use Rattle.source_design.specs.declared.fault.SourceFault.{SourceFault}
+use Rattle.source_design.specs.declared.fault.SourceFault.TheVariants as fault
+use Rattle.source_design.specs.declared.fault.SourceKind.{SourceKind}
+use Rattle.source_design.specs.declared.fault.SourceKind.TheVariants as kind
+use Rattle.source_design.specs.declared.fault.SourceRefusal.{SourceRefusal}
+
+-- ---- tokens that spell modules have no fault
+
+one_ok : {A F : Type 0} (r : Result A F) (a b : A) → r ≡ Ok a → r ≡ Ok b → a ≡ b
+one_ok r a b first second = cc
+
+ok_or_err : {A F : Type 0} (r : Result A F) (a : A) (f : F) → r ≡ Ok a → r ≡ Err f → ⊥
+ok_or_err r a f ok err = cc
+
+front_goes_on : (tokens : List Lexeme) (modules : List t.Module) (n : ℕ) → AreModules tokens modules → GoesOn verilog grammar 256 (take n tokens)
+front_goes_on tokens modules n spelled = (drop n tokens, modules, subst (λ ts. IsSpelled verilog grammar 256 ts modules) (sym (take-append-drop n tokens)) spelled)
+
+refused_or_spelled : (tokens : List Lexeme) (modules : List t.Module) (place : Place) (form : Option (List ℕ)) → AreModules tokens modules → IsRefused tokens place form → ⊥
+refused_or_spelled tokens modules place form spelled refused = refused.refused.with_it (256, front_goes_on tokens modules (suc refused.at) spelled)
+
+spelled_or_stands : (tokens : List Lexeme) (modules : List t.Module) (k : _) (place : Option Place) (detail : Option (List ℕ)) → AreModules tokens modules → StandsIn tokens (parse_fault.At k place detail) → ⊥
+spelled_or_stands tokens modules Unexpected (Some place) None spelled stands = refused_or_spelled tokens modules place None spelled stands
+spelled_or_stands tokens modules LeftOut (Some place) (Some form) spelled stands = refused_or_spelled tokens modules place (Some form) spelled stands
+spelled_or_stands tokens modules EarlyEnd None None spelled stands = stands.not_yet 256 modules spelled
+spelled_or_stands tokens modules TooDeep (Some place) None spelled stands = stands.0.1.within (front_goes_on tokens modules (suc stands.0.0) spelled)
+spelled_or_stands tokens modules k place detail spelled stands = absurd stands
+
+-- no fault of the lexer or of the parser stands in accepted sources
+accepted_or_refused : (sources : List SourceText) (defines : List DefineText) (tokens : List Lexeme) (refusal : SourceRefusal) → AreAccepted sources defines tokens → AreRefused sources defines refusal → ⊥
+accepted_or_refused sources defines tokens refusal accepted refused = go refusal.kind refused.found
+  where
+    go : (k : SourceKind) → IsFoundAt sources defines k refused.place refusal.detail → ⊥
+    go (kind.Lex k) found = ok_or_err (tokens_of sources defines) tokens _ accepted.lexed found
+    go (kind.Parse k) found =
+        let same : found.0 ≡ tokens = one_ok (tokens_of sources defines) found.0 tokens found.1 accepted.lexed in
+        spelled_or_stands tokens accepted.modules k refused.place refusal.detail accepted.spelled (subst (λ ts. StandsIn ts (parse_fault.At k refused.place refusal.detail)) same found.2)
+
+-- sources stand for one design
+pub one_design : (sources : List SourceText) (defines : List DefineText) (top : List ℕ) (a b : Design) → StandFor sources defines top a → StandFor sources defines top b → a ≡ b
+one_design sources defines top a b one other =
+    let same = one_ok (tokens_of sources defines) one.tokens other.tokens one.accepted.lexed other.accepted.lexed in
+    IsSource-once (texts_of one.tokens) top a b one.of_form (subst (λ ts. IsSource (texts_of ts) top b) (sym same) other.of_form)
+
+no_form_or_design : (sources : List SourceText) (defines : List DefineText) (top : List ℕ) (design : Design) → AreOfNoForm sources defines top → StandFor sources defines top design → ⊥
+no_form_or_design sources defines top design formless stands =
+    let same = one_ok (tokens_of sources defines) stands.tokens formless.tokens stands.accepted.lexed formless.accepted.lexed in
+    formless.none design (subst (λ ts. IsSource (texts_of ts) top design) same stands.of_form)
+
+-- sources in which a fault stands lack no file
+refused_lack : (sources : List SourceText) (defines : List DefineText) (refusal : SourceRefusal) → AreRefused sources defines refusal → (name : List ℕ) → Lacks sources defines name → ⊥
+refused_lack sources defines refusal refused name lacks = go refusal.kind refl refused.found
+  where
+    same_kind : (k : _) (p q : Option Place) (d e : Option (List ℕ)) (a : Answer (List Lexeme)) → a ≡ Err (lex_fault.At k p d) → a ≡ Err (lex_fault.At IncludeMissing q e) → k ≡ IncludeMissing
+    same_kind k p q d e a one other = cc
+
+    go : (k : SourceKind) → refusal.kind ≡ k → IsFoundAt sources defines k refused.place refusal.detail → ⊥
+    go (kind.Lex k) is found = refused.no_file (is ∙ ap kind.Lex (same_kind k refused.place (Some lacks.0) refusal.detail (Some name) (tokens_of sources defines) found lacks.1))
+    go (kind.Parse k) is found = ok_or_err (tokens_of sources defines) found.0 _ found.1 lacks.1
+
+none_or_some : (o : Option LexFault) (f : LexFault) → o ≡ None → o ≡ Some f → ⊥
+none_or_some o f none some = cc
+
+-- ---- files that are told are read
+
+not_missing_at : (files : Option Files) (name text : List ℕ) (P : Type 0) → IsSome files → IfSome files (λ files. files name ≡ Some text) → MatchOption files P (λ files. files name ≡ None) → ⊥
+not_missing_at None name text P told is missing = absurd cc
+not_missing_at (Some files) name text P told is missing = let e : Some text ≡ None = sym is ∙ missing in cc
+
+-- a call on a file that is there gave nothing only where a fault was counted
+call_counted : (before after : Outside) (path text : List ℕ) (call : Call) → IsSome before.files → IsFile before path text → IsRefusedCall before after path call → IsCounted before.faults after.faults
+call_counted before after path text OpenRead told is (inl counted) = counted
+call_counted before after path text OpenRead told is (inr missing) = absurd (not_missing_at before.files path text _ told is missing)
+call_counted before after path text Read told is counted = counted
+call_counted before after path text OpenWrite told is counted = absurd counted
+call_counted before after path text Write told is counted = absurd counted
+call_counted before after path text CloseWrite told is counted = absurd counted
+
+root_at : (before : Outside) (names : List (List ℕ)) (roots : List SourceText) (k : ℕ) (name : List ℕ) → k < length names → slice_index_or names k name ≡ name → AreRoots before names roots → (text : List ℕ) × IsFile before name text
+root_at before [] roots k name within is are = absurd (omega (arith, within))
+root_at before (n ∷ names) [] k name within is are = absurd are
+root_at before (n ∷ names) (root ∷ roots) zero name within is are = (root.bytes, subst (λ n. IsFile before n root.bytes) is are.0.text)
+root_at before (n ∷ names) (root ∷ roots) (suc k) name within is are = root_at before names roots k name (omega (arith, within)) is are.1
+
+-- the fault is none of a file that is not read
+abbrev pub IsOfSources : SourceFault → Type 0
+IsOfSources (fault.File call file) = ⊥
+IsOfSources (fault.Included call path) = ⊥
+IsOfSources other = Unit {0}
+
+module _ (words : SourceValues) (before : Outside) (all : List SourceText) (told : IsSome before.files) (gathered : HasSources words before all) where
+  -- sources on the way grow to all
+  on_the_way : (sources : List SourceText) → HasBegun words before sources → Grow before words.folder words.defines sources all
+  on_the_way sources begun =
+      let roots = one_list_of_roots before words.files begun.roots gathered.roots told begun.are_roots gathered.are_roots in
+      grows_on before words.folder words.defines begun.roots sources all told begun.grow
+      (subst (λ rs. Grow before words.folder words.defines rs all) (sym roots) gathered.grow) gathered.whole
+
+  pub one_sources : (other : List SourceText) → HasSources words before other → all ≡ other
+  one_sources other has = one_list before words.files words.folder words.defines all other told gathered has
+
+  roots_fit : (refusal : SourceRefusal) → HasFullRoot words before refusal → ⊥
+  roots_fit refusal full =
+      let within = grow_within before words.folder words.defines gathered.roots all gathered.grow gathered.within in
+      let fits = root_fits before words.files full.front full.others full.file full.not_fit.text gathered.roots full.sources told full.stands gathered.are_roots full.roots within full.not_fit.is in
+      none_or_some _ _ fits full.not_fit.refused
+
+  includes_fit : (refusal : SourceRefusal) → HasFullInclude words before refusal → ⊥
+  includes_fit refusal full =
+      let there = lacking_there before words.folder words.defines full.sources all full.name (on_the_way full.sources full.begun) gathered.whole gathered.within full.lacks in
+      let same = one_text before (path_of words.folder full.name) there.0 full.not_fit.text told there.1 full.not_fit.is in
+      none_or_some _ _ (subst (λ t. refusal_of full.sources full.name (length t) ≡ None) same there.2) full.not_fit.refused
+
+  include_reads : (path : List ℕ) → LacksAt words before path → (text : List ℕ) × IsFile before path text
+  include_reads path lacks =
+      let there = lacking_there before words.folder words.defines lacks.sources all lacks.name (on_the_way lacks.sources lacks.begun) gathered.whole gathered.within lacks.lacks in
+      (there.0, subst (λ p. IsFile before p there.0) (sym lacks.path_is) there.1)
+
+  -- every file is there
+  pub files_read : (after : Outside) → (IsCounted before.faults after.faults → ⊥) → (f : SourceFault) → IsSourceFault words before after f → IsOfSources f
+  files_read after none fault.NoMemory is = tt
+  files_read after none (fault.File call file) is =
+      let root = root_at before words.files gathered.roots is.0.0 file.now is.0.1 is.0.2 gathered.are_roots in
+      none (call_counted before after file.now root.0 call told root.1 is.1)
+  files_read after none (fault.Included call path) is =
+      let file = include_reads path is.0 in
+      none (call_counted before after path file.0 call told file.1 is.1)
+  files_read after none (fault.Refused refusal) is = tt
+  files_read after none fault.NotYet is = tt
+
+  -- sources with a design have no fault but want of memory
+  pub design_or_fault : (design : Design) → StandFor all words.defines words.top design → (after : Outside) → (IsCounted before.faults after.faults → ⊥) → (f : SourceFault) → IsSourceFault words before after f → f ≡ fault.NoMemory
+  design_or_fault design stands after none fault.NoMemory is = refl
+  design_or_fault design stands after none (fault.File call file) is = absurd (files_read after none (fault.File call file) is)
+  design_or_fault design stands after none (fault.Included call path) is = absurd (files_read after none (fault.Included call path) is)
+  design_or_fault design stands after none (fault.Refused refusal) (inl refused) =
+      let same = settled before words.folder words.defines refused.sources all (on_the_way refused.sources refused.begun) (refused_lack refused.sources words.defines refusal refused.refused) in
+      absurd (accepted_or_refused all words.defines stands.tokens refusal stands.accepted (subst (λ ss. AreRefused ss words.defines refusal) same refused.refused))
+  design_or_fault design stands after none (fault.Refused refusal) (inr (inl full)) = absurd (roots_fit refusal full)
+  design_or_fault design stands after none (fault.Refused refusal) (inr (inr full)) = absurd (includes_fit refusal full)
+  design_or_fault design stands after none fault.NotYet is =
+      absurd (no_form_or_design all words.defines words.top design (subst (λ ss. AreOfNoForm ss words.defines words.top) (sym (one_sources is.sources is.gathered)) is.no_form) stands)

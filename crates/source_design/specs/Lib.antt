@@ -1,0 +1,5 @@
+pub mod Words
+pub mod Accepted
+pub mod Refusals
+pub mod Staging
+pub mod Reading
