@@ -9,7 +9,7 @@ use Rattle.grammar_rules.proofs.Steps.{chosen, fault_is, bind_err, test_false, n
 use Rattle.grammar_rules.proofs.Members.{both_ways}
 use Rattle.grammar_rules.proofs.Sound.{sound}
 use Rattle.grammar_rules.proofs.Language.{le_wider, phrase_shrinks, source_complete, spelled_deeper}
-use Rattle.grammar_rules.proofs.Local.{Past, past, past_cond, Shared, here, there, shared_after, shared_next, Agrees, agrees_cond, agrees_refuse, local}
+use Rattle.grammar_rules.proofs.Local.{Past, past, past_cond, Shared, here, there, shared_after, shared_next, moved, Agrees, agrees_cond, agrees_refuse, local}
 use Rattle.grammar_rules.proofs.Deeper.{IsSame, IsDeep, same, same_bind, refuses}
 use Rattle.grammar_rules.proofs.Wider.{spells_wider}
 use Rattle.grammar_rules.proofs.Framed.{framed}
@@ -28,7 +28,7 @@ not_equal : (n m : ℕ) → n ≡ m → (n == m) ≡ false → ⊥
 not_equal n m q e = both_ways (n == m) (grind arith) e
 
 -- the item at which so many are left
-abbrev Cut : {A : Type 0} → ℕ → List A → Type 0
+abbrev pub Cut : {A : Type 0} → ℕ → List A → Type 0
 Cut {A} n i = (c : List A) × (x : A) × (p : List A) × (i ≡ c ++ x ∷ p) × (suc (length p) ≡ n)
 
 cut_at : {A : Type 0} (n : ℕ) (t : A) (i : List A) → n ≤ suc (length i) → (n ≤ length i → Cut n i) → Cut n (t ∷ i)
@@ -41,11 +41,11 @@ cut_at {A} n t i le more = go (n == suc (length i)) refl
         let s = more (omega arith) in
         (t ∷ s.0, s.1, s.2, ap (λ (z : List A). t ∷ z) s.3, s.4)
 
-cut : {A : Type 0} (n : ℕ) (i : List A) → 0 < n → n ≤ length i → Cut n i
+pub cut : {A : Type 0} (n : ℕ) (i : List A) → 0 < n → n ≤ length i → Cut n i
 cut n [] lt le = absurd (omega arith)
 cut n (t ∷ i) lt le = cut_at n t i le (λ h. cut n i lt h)
 
-take_more : {A : Type 0} (c p : List A) (x : A) → take (suc (length c)) (c ++ x ∷ p) ≡ c ++ x ∷ []
+pub take_more : {A : Type 0} (c p : List A) (x : A) → take (suc (length c)) (c ++ x ∷ p) ≡ c ++ x ∷ []
 take_more {A} c p x =
     let e : (c ++ x ∷ []) ++ p ≡ c ++ x ∷ p = append_assoc c (x ∷ []) p in
     let n : length (c ++ x ∷ []) ≡ suc (length c) = omega (arith, length-append c (x ∷ [])) in
@@ -87,7 +87,7 @@ module _ (L : Language) (G : Grammar L) (T : Tables L) (P : Passes L G T) where
       go true e = inr (bottom_deep p t i e)
       go false e = inl (phrase_refuses zero p (t ∷ i) e ∙ sym (phrase_refuses (zero + k) p (t ∷ i) e))
 
-  phrase_same : (k d : ℕ) (p : L.Phrase) (i : Tokens L) → IsSame L (phrase L G d p i) (phrase L G (d + k) p i)
+  pub phrase_same : (k d : ℕ) (p : L.Phrase) (i : Tokens L) → IsSame L (phrase L G d p i) (phrase L G (d + k) p i)
   unfolding phrase
   phrase_same k zero p i = bottom_same k p i
   phrase_same k (suc d) p i =
@@ -103,12 +103,12 @@ module _ (L : Language) (G : Grammar L) (T : Tables L) (P : Passes L G T) where
 
   -- ---- what stands behind a fault
 
-  phrase_past : (d n : ℕ) (p : L.Phrase) (i : Tokens L) → length i ≤ n → Past L n (phrase L G d p i)
+  pub phrase_past : (d n : ℕ) (p : L.Phrase) (i : Tokens L) → length i ≤ n → Past L n (phrase L G d p i)
   unfolding phrase
   phrase_past zero n p i le = past_cond L n (member (next L i) (G.begins p)) (deep L i) (refuse L i) (past_deep L _ n i le) le
   phrase_past (suc d) n p i le = past L G.begins (λ h. nat_le h d) (phrase L G d) n (phrase_past d n) (G.rule_of p) i le
 
-  phrase_local : (x : L.Token) (p q : Tokens L) (d : ℕ) (c : L.Phrase) (i j : Tokens L) → Shared L x p q i j → Agrees L x p q (phrase L G d c i) (phrase L G d c j)
+  pub phrase_local : (x : L.Token) (p q : Tokens L) (d : ℕ) (c : L.Phrase) (i j : Tokens L) → Shared L x p q i j → Agrees L x p q (phrase L G d c i) (phrase L G d c j)
   unfolding phrase
   phrase_local x p q zero c i j s =
       agrees_cond L x p q (member (next L i) (G.begins c)) (member (next L j) (G.begins c)) (deep L i) (refuse L i) (deep L j) (refuse L j) (ap (λ (z : ℕ). member z (G.begins c)) (shared_next L x p q i j s))
@@ -116,12 +116,15 @@ module _ (L : Language) (G : Grammar L) (T : Tables L) (P : Passes L G T) where
   phrase_local x p q (suc d) c i j s =
       local L x p q G.begins (λ h. nat_le h d) (phrase L G d) (phrase_past d (length p)) (phrase_shrinks L G T P d) (phrase_local x p q d) (G.rule_of c) (P.stepping c) i j s
 
-  ended_left : (v : G.Tree) (o : Tokens L) (f : Fault L) → ended L G (v, o) ≡ Err f → ((length o == 0) ≡ false) × (f ≡ record { kind = unexpected; left = length o })
+  pub ended_left : (v : G.Tree) (o : Tokens L) (f : Fault L) → ended L G (v, o) ≡ Err f → ((length o == 0) ≡ false) × (f ≡ record { kind = unexpected; left = length o })
   ended_left v o f e =
       elim (chosen (length o == 0) (Ok v) (Err (record { kind = unexpected; left = length o })) (Err f) e) [
         | inl g ↦ absurd cc
         | inr g ↦ (g.0, sym (fault_is {A = G.Tree} _ f g.1))
       ]
+
+  pub kinds_differ : (place : L.Place) → ◌≡◌ {A = Wrong L} unexpected (too_deep place) → ⊥
+  kinds_differ place q = cc
 
   module _ (x : L.Token) (p q : Tokens L) where
     agreed : (a b : Outcome L G.Tree) (f : Fault L) (v : G.Tree) → Agrees L x p q a b → (a >>= ended L G) ≡ Err f → length p < f.left → (b >>= ended L G) ≡ Ok v → ⊥
@@ -140,6 +143,22 @@ module _ (L : Language) (G : Grammar L) (T : Tables L) (P : Passes L G T) where
         agreed (reads L G d G.source (c ++ x ∷ p)) (reads L G d G.source (c ++ x ∷ q)) f v
         (local L x p q G.begins (λ h. nat_le h d) (phrase L G d) (phrase_past d (length p)) (phrase_shrinks L G T P d) (phrase_local x p q d) G.source P.source_steps (c ++ x ∷ p) (c ++ x ∷ q) (shared_after L x p q c))
         e lt (source_complete L G T P d (c ++ x ∷ q) v s)
+
+    -- a part that nests too deep as is known at x does so whatever stands behind x
+    deep_again : (a b : Outcome L G.Tree) (place : L.Place) (n : ℕ) → Agrees L x p q a b → (a >>= ended L G) ≡ Err (record { kind = too_deep place; left = n }) → length p < n
+        → (b >>= ended L G) ≡ Err (record { kind = too_deep place; left = n - length p + length q })
+    deep_again (Ok w) b place n s e lt = let k = ended_left w.0 w.1 (record { kind = too_deep place; left = n }) e in absurd (kinds_differ place (ap (λ (z : Fault L). z.kind) (sym k.1)))
+    deep_again (Err d) b place n (inl s) e lt =
+        ap (λ (z : Outcome L G.Tree). z >>= ended L G) s.1 ∙ ap (λ (z : Fault L). Err (moved L x p q z)) (fault_is {A = G.Tree} d (record { kind = too_deep place; left = n }) e)
+    deep_again (Err d) b place n (inr s) e lt = let k = fault_is {A = G.Tree} d (record { kind = too_deep place; left = n }) e in absurd (omega (arith, ap (λ (z : Fault L). z.left) k))
+
+    pub whole_again : (d : ℕ) (c : Tokens L) (place : L.Place) (n : ℕ) → whole L G d (c ++ x ∷ p) ≡ Err (record { kind = too_deep place; left = n }) → length p < n
+        → whole L G d (c ++ x ∷ q) ≡ Err (record { kind = too_deep place; left = n - length p + length q })
+    unfolding whole
+    whole_again d c place n e lt =
+        deep_again (reads L G d G.source (c ++ x ∷ p)) (reads L G d G.source (c ++ x ∷ q)) place n
+        (local L x p q G.begins (λ h. nat_le h d) (phrase L G d) (phrase_past d (length p)) (phrase_shrinks L G T P d) (phrase_local x p q d) G.source P.source_steps (c ++ x ∷ p) (c ++ x ∷ q) (shared_after L x p q c))
+        e lt
 
   -- ---- what stands before a fault
 
@@ -184,9 +203,6 @@ module _ (L : Language) (G : Grammar L) (T : Tables L) (P : Passes L G T) where
 
   abbrev wrong : Wrong L → ℕ → Result G.Tree (Fault L)
   wrong k n = Err (record { kind = k; left = n })
-
-  kinds_differ : (place : L.Place) → ◌≡◌ {A = Wrong L} unexpected (too_deep place) → ⊥
-  kinds_differ place q = cc
 
   still : (d k n : ℕ) (i : Tokens L) → whole L G d i ≡ wrong unexpected n → whole L G (d + k) i ≡ wrong unexpected n
   still d k n i e =

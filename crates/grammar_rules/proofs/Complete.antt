@@ -24,15 +24,15 @@ module _ (L : Language) where
     is_told (made f g) F = is_told g F
     is_told (nest p) F = within F (follow p)
 
-  ahead_first : (b : Bool) (x : ℕ) (xs F : List ℕ) → member x xs ≡ true → member x (cond b (xs ++ F) xs) ≡ true
+  pub ahead_first : (b : Bool) (x : ℕ) (xs F : List ℕ) → member x xs ≡ true → member x (cond b (xs ++ F) xs) ≡ true
   ahead_first true x xs F h = member-left x xs F h
   ahead_first false x xs F h = h
 
-  ahead_behind : (b : Bool) (x : ℕ) (xs F : List ℕ) → b ≡ true → member x F ≡ true → member x (cond b (xs ++ F) xs) ≡ true
+  pub ahead_behind : (b : Bool) (x : ℕ) (xs F : List ℕ) → b ≡ true → member x F ≡ true → member x (cond b (xs ++ F) xs) ≡ true
   ahead_behind true x xs F e h = member-right x xs F h
   ahead_behind false x xs F e h = absurd cc
 
-  chain_starts : {A : Type 0} (S : A → Tokens L → Tokens L → Type 0) (P : Tokens L → Type 0) → ((v : A) (i m : Tokens L) → S v i m → P i ⊎ (i ≡ m))
+  pub chain_starts : {A : Type 0} (S : A → Tokens L → Tokens L → Type 0) (P : Tokens L → Type 0) → ((v : A) (i m : Tokens L) → S v i m → P i ⊎ (i ≡ m))
       → (vs : List A) (i o : Tokens L) → Chain S vs i o → P i ⊎ (i ≡ o)
   chain_starts S P h [] i o s = inr s
   chain_starts S P h (v ∷ vs) i o s =
@@ -92,14 +92,14 @@ module _ (L : Language) where
 
   -- ---- reading finds what is spelled
 
-  take_same : (ks : List ℕ) (t : L.Token) (i o : Tokens L) → (i ≡ t ∷ o) × (member (L.code t) ks ≡ true) → take_one L ks i ≡ Ok (t, o)
+  pub take_same : (ks : List ℕ) (t : L.Token) (i o : Tokens L) → (i ≡ t ∷ o) × (member (L.code t) ks ≡ true) → take_one L ks i ≡ Ok (t, o)
   unfolding take_one
   take_same ks t i o s = ap (take_one L ks) s.0 ∙ (rw s.1 refl)
 
   pair_is : {A : Type 0} (a v : A) (i o : Tokens L) → a ≡ v → i ≡ o → ◌≡◌ {A = A × Tokens L} (a, i) (v, o)
   pair_is {A} a v i o g s = rw (g, s) refl
 
-  not_first : (a b : Bool) → a ≡ false → (a && b) ≡ false
+  pub not_first : (a b : Bool) → a ≡ false → (a && b) ≡ false
   not_first true b e = absurd cc
   not_first false b e = refl
 
@@ -111,17 +111,17 @@ module _ (L : Language) where
       (begun : (p : L.Phrase) (v : L.Value p) (i o : Tokens L) → R p v i o → member (next L i) (begins p) ≡ true)
       (shrinks : (p : L.Phrase) (i : Tokens L) (v : L.Value p) (o : Tokens L) → r p i ≡ Ok (v, o) → length o < length i)
       (finds : (p : L.Phrase) (v : L.Value p) (i o : Tokens L) → R p v i o → member (next L o) (follow p) ≡ true → r p i ≡ Ok (v, o)) where
-    begins_it : {A : Type 0} (g : Rule L A) → nullable g ≡ false → (v : A) (i o : Tokens L) → Spells L fits R g v i o → member (next L i) (first L begins g) ≡ true
+    pub begins_it : {A : Type 0} (g : Rule L A) → nullable g ≡ false → (v : A) (i o : Tokens L) → Spells L fits R g v i o → member (next L i) (first L begins g) ≡ true
     begins_it g n v i o s = elim (starts begins fits R begun g v i o s) [ inl a ↦ a | inr a ↦ both_ways (nullable g) a.0 n ]
 
-    in_ahead : {A : Type 0} (h : Rule L A) (F : List ℕ) (v : A) (i o : Tokens L) → Spells L fits R h v i o → member (next L o) F ≡ true → member (next L i) (ahead begins follow h F) ≡ true
+    pub in_ahead : {A : Type 0} (h : Rule L A) (F : List ℕ) (v : A) (i o : Tokens L) → Spells L fits R h v i o → member (next L o) F ≡ true → member (next L i) (ahead begins follow h F) ≡ true
     in_ahead h F v i o s f =
         elim (starts begins fits R begun h v i o s) [
           | inl a ↦ ahead_first (nullable h) (next L i) (first L begins h) F a
           | inr a ↦ ahead_behind (nullable h) (next L i) (first L begins h) F a.0 (ap (λ (z : Tokens L). member (next L z) F) a.1 ∙ f)
         ]
 
-    chain_next : {A : Type 0} (g : Rule L A) (F : List ℕ) → nullable g ≡ false → (vs : List A) (i o : Tokens L) → Chain (Spells L fits R g) vs i o → member (next L o) F ≡ true → member (next L i) (first L begins g ++ F) ≡ true
+    pub chain_next : {A : Type 0} (g : Rule L A) (F : List ℕ) → nullable g ≡ false → (vs : List A) (i o : Tokens L) → Chain (Spells L fits R g) vs i o → member (next L o) F ≡ true → member (next L i) (first L begins g ++ F) ≡ true
     chain_next g F n [] i o s f = member-right (next L i) (first L begins g) F (ap (λ (z : Tokens L). member (next L z) F) s ∙ f)
     chain_next g F n (v ∷ vs) i o s f = member-left (next L i) (first L begins g) F (begins_it g n v i s.0 s.1)
 
@@ -144,7 +144,7 @@ module _ (L : Language) where
         rw (t, e, more) refl
 
     -- what may stand behind a part by which a value has grown
-    next_behind : {A B : Type 0} (x : Bool) (w : Growth L A) (f : A → B → A) → Ends x w f → (h : Rule L B) (F : List ℕ) → nullable h ≡ false → (a : A) (b : B) (bs : List B) (v : A) (m o : Tokens L)
+    pub next_behind : {A B : Type 0} (x : Bool) (w : Growth L A) (f : A → B → A) → Ends x w f → (h : Rule L B) (F : List ℕ) → nullable h ≡ false → (a : A) (b : B) (bs : List B) (v : A) (m o : Tokens L)
         → Grown fits w f (f a b) bs v → Chain (Spells L fits R h) bs m o → member (next L o) F ≡ true → member (next L m) (cond x (first L begins h ++ F) F) ≡ true
     next_behind true w f e h F z a b bs v m o g s k = chain_next h F z bs m o s k
     next_behind false w f e h F z a b [] v m o g s k = ap (λ (u : Tokens L). member (next L u) F) s ∙ k

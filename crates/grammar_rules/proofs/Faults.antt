@@ -34,7 +34,7 @@ module _ (L : Language) (G : Grammar L) where
   abbrev pub Within : {A : Type 0} → ℕ → Rule L A → A → Tokens L → Tokens L → Type 0
   Within d g v i o = Spells L (λ h. nat_le h d) (Nests L G d) g v i o
 
-  raised : (d e : ℕ) {A : Type 0} (g : Rule L A) (v : A) (i o : Tokens L) → Within e g v i o → Within (d + e) g v i o
+  pub raised : (d e : ℕ) {A : Type 0} (g : Rule L A) (v : A) (i o : Tokens L) → Within e g v i o → Within (d + e) g v i o
   raised d e g v i o s = let swap : e + d ≡ d + e = omega arith in subst (λ (n : ℕ). Within n g v i o) swap (spells_deeper L G d e g v i o s)
 
   chain_bounded : {A : Type 0} (g : Rule L A) → ((v : A) (i o : Tokens L) → Spells L all_fit Any g v i o → (d : ℕ) × Within d g v i o)
@@ -102,10 +102,16 @@ module _ (L : Language) (G : Grammar L) where
         let a = opens L G.begins T.greedy T.token T.word_of T.value_of safe_any all_fit Any word_any (λ q. false) (λ q k u n. absurd cc) (G.rule_of p) c (P.fit p) t m in
         (a.0, a.1, λ z s. closes p a.1 (t ∷ (a.0 ++ z)) z (a.2 z s))
 
-    deep_viable : (p : L.Phrase) (t : L.Token) (i : Tokens L) → member (L.code t) (G.begins p) ≡ true → Viable L T.greedy (Any p) (t ∷ i) (record { kind = too_deep (L.place t); left = suc (length i) })
-    deep_viable p t i h =
+    -- so does one that begins a phrase
+    pub opens_any : (p : L.Phrase) (t : L.Token) → member (L.code t) (G.begins p) ≡ true → Opened L G.begins T.greedy T.token T.word_of T.value_of safe_any all_fit Any word_any (Any p) t
+    opens_any p t h =
         let m : member (L.code t) (first L G.begins (G.rule_of p)) ≡ true = subst (λ (xs : List ℕ). member (L.code t) xs ≡ true) (sym (P.begins_first p)) h in
         let a = opens L G.begins T.greedy T.token T.word_of T.value_of safe_any all_fit Any word_any (λ q. is_open L (λ r. false) (G.rule_of q)) opens_phrase (G.rule_of p) (P.opened p) (P.fit p) t m in
+        (a.0, a.1, λ z s. closes p a.1 (t ∷ (a.0 ++ z)) z (a.2 z s))
+
+    deep_viable : (p : L.Phrase) (t : L.Token) (i : Tokens L) → member (L.code t) (G.begins p) ≡ true → Viable L T.greedy (Any p) (t ∷ i) (record { kind = too_deep (L.place t); left = suc (length i) })
+    deep_viable p t i h =
+        let a = opens_any p t h in
         record {
           front = t ∷ [];
           rest = i;
@@ -114,7 +120,7 @@ module _ (L : Language) (G : Grammar L) where
           parts = refl;
           left = omega arith;
           near = λ z s. inl refl;
-          spells = λ z s. closes p a.1 (t ∷ (a.0 ++ z)) z (a.2 z s);
+          spells = λ z s. a.2 z s;
         }
 
     lone_viable : (p : L.Phrase) (i : Tokens L) → Viable L T.greedy (Any p) i (record { kind = unexpected; left = length i })

@@ -13,6 +13,13 @@ pub mod Viable
 pub mod Passes
 pub mod Language
 pub mod Faults
+pub mod Leaves
+pub mod DeepFaults
+pub mod DeepRead
+pub mod FirstDeep
+pub mod SameFront
+pub mod Measured
+pub mod Stays
 pub mod Answers
 pub mod Loops
 pub mod Exact

@@ -118,10 +118,10 @@ module _ (L : Language) where
           | inr g ↦ absurd cc
         ]
 
-  abbrev here : Tokens L → Fault L
+  abbrev pub here : Tokens L → Fault L
   here i = record { kind = unexpected; left = length i }
 
-  refused : (ks : List ℕ) (i : Tokens L) (e : Fault L) → take_one L ks i ≡ Err e → here i ≡ e
+  pub refused : (ks : List ℕ) (i : Tokens L) (e : Fault L) → take_one L ks i ≡ Err e → here i ≡ e
   unfolding take_one
   refused ks [] e q = fault_is {A = L.Token × Tokens L} _ e q
   refused ks (t ∷ i) e q =

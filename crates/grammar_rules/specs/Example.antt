@@ -2,6 +2,8 @@
 use Rattle.std.specs.Prelude.{◌≡◌, ℕ, suc, nat_le, true, ◌==◌, if◌then◌else◌, List, [], ◌∷◌, ◌++◌, codes, Option, Result, Ok, Err}
 use Rattle.grammar_rules.specs.Rule.{Language, Rule, one, both, either, many, maybe, grow, made, nest, Growth, Wrong, unexpected, too_deep, Fault}
 use Rattle.grammar_rules.specs.Grammar.{Grammar, whole}
+use Rattle.grammar_rules.specs.Deep.{IsFirstTooDeep}
+use Rattle.grammar_rules.specs.Around.{IsDeepInEach}
 
 -- 1 is a number, 2 a plus, 3 and 4 are parentheses, 5 is a semicolon, 6 is if and 7 is else
 pub record Token : Type 0 where
@@ -130,6 +132,12 @@ pub record ReadsTexts : Type 0 where
   -- a plus is known to make its left side too deep, of which the first of the innermost sums is the place
   pub too_high : said 3 (codes "(1)+1+1;") ≡ wrong (too_deep 1) 5
   pub too_high_later : said 4 (codes "1+(1)+1;") ≡ wrong (too_deep 3) 3
+  pub first_of_two : said 4 (codes "(1)+(1)+1;") ≡ wrong (too_deep 1) 3
+  -- the second plus makes the first number the part with three parts around it, which are the statement and two sums
+  pub too_many : said 3 (codes "1+1+1;") ≡ wrong (too_deep 0) 3
+  pub first_part : IsFirstTooDeep sums grammar 3 (written 0 (codes "1+1+1;")) (written 3 (codes "+1;")) 0
+  pub in_each : IsDeepInEach sums grammar 3 (written 0 (codes "1+1+1;")) 3 0
+  pub no_other : (place : ℕ) → IsFirstTooDeep sums grammar 3 (written 0 (codes "1+1+1;")) (written 3 (codes "+1;")) place → place ≡ 0
   -- so is a token that begins a sum inside too many, but no other token is
   pub too_deep_inside : said 3 (codes "((1));") ≡ wrong (too_deep 2) 4
   pub other_inside : said 3 (codes "((;") ≡ wrong unexpected 1

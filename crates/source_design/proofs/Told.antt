@@ -59,7 +59,7 @@ spelled_or_stands : (tokens : List Lexeme) (modules : List t.Module) (k : _) (pl
 spelled_or_stands tokens modules Unexpected (Some place) None spelled stands = refused_or_spelled tokens modules place None spelled stands
 spelled_or_stands tokens modules LeftOut (Some place) (Some form) spelled stands = refused_or_spelled tokens modules place (Some form) spelled stands
 spelled_or_stands tokens modules EarlyEnd None None spelled stands = stands.not_yet 256 modules spelled
-spelled_or_stands tokens modules TooDeep (Some place) None spelled stands = stands.0.1.within (front_goes_on tokens modules (suc stands.0.0) spelled)
+spelled_or_stands tokens modules TooDeep (Some place) None spelled stands = stands.1.within (front_goes_on tokens modules (suc stands.0) spelled)
 spelled_or_stands tokens modules k place detail spelled stands = absurd stands
 
 -- no fault of the lexer or of the parser stands in accepted sources

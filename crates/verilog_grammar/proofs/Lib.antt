@@ -1,2 +1,3 @@
 pub mod Verilog
 pub mod Low
+pub mod Measures

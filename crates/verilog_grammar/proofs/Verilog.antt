@@ -1,16 +1,16 @@
 -- The grammar passes the tests, so the laws of all grammars hold of it.
 use Rattle.std.proofs.Common.{◌≡◌, ℕ, true, false, List, [], ◌∷◌, ◌++◌, Ok, refl}
-use Rattle.std.specs.Prelude.{nat_eq, if◌then◌else◌}
+use Rattle.std.specs.Prelude.{nat_eq, if◌then◌else◌, codes}
 use Rattle.cov_host.specs.declared.place.Place.{Place}
 use Rattle.verilog_lexer.specs.Tokens.{Lexeme}
 use Rattle.verilog_lexer.specs.declared.token.TokenKind.{TokenKind}
 use Rattle.verilog_lexer.specs.declared.token.TokenKind.TheVariants as lexical
 use Rattle.verilog_tree.specs.Tree.{identifier, null_statement}
-use Rattle.grammar_rules.specs.Rule.{next, member, nullable, first, take_one, repeat, grow_by}
+use Rattle.grammar_rules.specs.Rule.{next, member, nullable, first, too_deep, take_one, repeat, grow_by}
 use Rattle.grammar_rules.specs.Grammar.{phrase, whole}
 use Rattle.cov_host.specs.Identifier.{is_reserved}
-use Rattle.verilog_grammar.specs.Examples.{ReadsTexts}
-use Rattle.grammar_rules.specs.Laws.{IsExact}
+use Rattle.verilog_grammar.specs.Examples.{at, tokens_of, said, wrong, ReadsTexts}
+use Rattle.grammar_rules.specs.Laws.{Stands, IsExact}
 use Rattle.grammar_rules.proofs.Complete.{is_told}
 use Rattle.grammar_rules.proofs.Local.{steps}
 use Rattle.grammar_rules.proofs.Deeper.{is_lean}
@@ -18,6 +18,7 @@ use Rattle.grammar_rules.proofs.Opened.{is_open}
 use Rattle.grammar_rules.proofs.Framed.{is_fit}
 use Rattle.grammar_rules.proofs.Passes.{Tables, Passes}
 use Rattle.grammar_rules.proofs.Exact.{exact}
+use Rattle.verilog_grammar.proofs.Measures.{measures}
 use Rattle.verilog_grammar.specs.Kind.{Kind, code, kind_of}
 use Rattle.verilog_grammar.specs.declared.kind.Kind.TheVariants as k
 use Rattle.verilog_grammar.specs.declared.kind.TheConstants.{KEYWORDS, OPERATORS, SYSTEM_NAMES}
@@ -363,7 +364,14 @@ passes = record {
 }
 
 pub verilog_exact : IsExact verilog grammar
-verilog_exact = exact verilog grammar tables passes
+verilog_exact = exact verilog grammar tables passes measures
+
+too_deep_chain : said 2 (codes "module m ; assign y = a + b + c ; endmodule") ≡ wrong (too_deep (at 7)) 4
+unfolding range_rule number_rule select_end_rule select_rule selects_rule exprs_rule paren_rule brace_end_rule braced_rule cast_rule prim_rule unary_rule operation_rule product_rule sum_rule shift_rule relation_rule equality_rule bitwise_and_rule bitwise_xor_rule bitwise_or_rule logical_and_rule logical_or_rule branches_rule expr_rule target_name_rule targets_rule target_rule statements_rule block_rule if_rule label_arm_rule label_arms_rule default_arm_rule default_arms_rule arms_rule case_rule set_rule header_rule for_rule assignment_rule argument_rule arguments_rule task_rule statement_rule direction_rule shape_rule port_rule entry_rule entries_rule plist_rule header_ports_rule type_rule valued_rule header_param_rule header_params_rule port_item_rule net_rule net_item_rule variable_rule variable_item_rule integer_item_rule parameter_item_rule continuous_item_rule edge_rule timed_rule always_item_rule initial_item_rule overrides_rule connections_rule one_rule instance_item_rule item_rule items_rule module_rule source_rule kind_of phrase whole take_one repeat grow_by is_reserved
+too_deep_chain = refl
+
+chain_stands : Stands verilog grammar 2 (tokens_of (codes "module m ; assign y = a + b + c ; endmodule")) (too_deep (at 7)) 4
+chain_stands = verilog_exact.faults 2 (tokens_of (codes "module m ; assign y = a + b + c ; endmodule")) (record { kind = too_deep (at 7); left = 4 }) too_deep_chain
 
 pub reads_texts : ReadsTexts
 unfolding range_rule number_rule select_end_rule select_rule selects_rule exprs_rule paren_rule brace_end_rule braced_rule cast_rule prim_rule unary_rule operation_rule product_rule sum_rule shift_rule relation_rule equality_rule bitwise_and_rule bitwise_xor_rule bitwise_or_rule logical_and_rule logical_or_rule branches_rule expr_rule target_name_rule targets_rule target_rule statements_rule block_rule if_rule label_arm_rule label_arms_rule default_arm_rule default_arms_rule arms_rule case_rule set_rule header_rule for_rule assignment_rule argument_rule arguments_rule task_rule statement_rule direction_rule shape_rule port_rule entry_rule entries_rule plist_rule header_ports_rule type_rule valued_rule header_param_rule header_params_rule port_item_rule net_rule net_item_rule variable_rule variable_item_rule integer_item_rule parameter_item_rule continuous_item_rule edge_rule timed_rule always_item_rule initial_item_rule overrides_rule connections_rule one_rule instance_item_rule item_rule items_rule module_rule source_rule kind_of phrase whole take_one repeat grow_by is_reserved
@@ -385,5 +393,8 @@ reads_texts = record {
   two_defaults = refl;
   no_end = refl;
   too_deep_left = refl;
+  too_deep_chain = too_deep_chain;
+  first_too_deep = chain_stands.1;
+  deep_in_each = chain_stands.2;
   too_deep_name = refl;
 }

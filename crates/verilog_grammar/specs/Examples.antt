@@ -1,6 +1,6 @@
 -- Texts of the language with what they say. In a text of an example spaces stand between the tokens, and the column of a
 -- token is its number.
-use Rattle.std.specs.Prelude.{◌≡◌, ℕ, suc, ◌==◌, if◌then◌else◌, List, [], ◌∷◌, ◌++◌, codes, None, Some, Result, Ok, Err}
+use Rattle.std.specs.Prelude.{◌≡◌, ℕ, suc, ◌==◌, if◌then◌else◌, List, [], ◌∷◌, ◌++◌, codes, drop, None, Some, Result, Ok, Err}
 use Rattle.std.specs.Char.{is_ascii_digit}
 use Rattle.cov_host.specs.Identifier.{is_reserved, begins_name}
 use Rattle.cov_host.specs.declared.place.Place.{Place}
@@ -12,6 +12,8 @@ use Rattle.verilog_tree.specs.declared.item.Named.{Named}
 use Rattle.verilog_tree.specs.Tree.{Expr, identifier, bit_select, binary_operator, conditional, if_statement, null_statement, a_statement, no_statements, Item, continuous_item, initial_item, instance_item, Module}
 use Rattle.grammar_rules.specs.Rule.{Wrong, unexpected, too_deep, Fault}
 use Rattle.grammar_rules.specs.Grammar.{whole}
+use Rattle.grammar_rules.specs.Deep.{IsFirstTooDeep}
+use Rattle.grammar_rules.specs.Around.{IsDeepInEach}
 use Rattle.verilog_grammar.specs.Language.{verilog}
 use Rattle.verilog_grammar.specs.Verilog.{grammar}
 
@@ -37,9 +39,12 @@ abbrev pub tokens : ℕ → List (List ℕ) → List Lexeme
 tokens n [] = []
 tokens n (word ∷ others) = record { kind = word_kind word; text = word; place = at n } ∷ tokens (suc n) others
 
+abbrev pub tokens_of : List ℕ → List Lexeme
+tokens_of text = tokens 1 (words [] text)
+
 -- what a text says, where statements and expressions nest no deeper than the number
 abbrev pub said : ℕ → List ℕ → Result (List Module) (Fault verilog)
-said d text = whole verilog grammar d (tokens 1 (words [] text))
+said d text = whole verilog grammar d (tokens_of text)
 
 abbrev pub wrong : Wrong verilog → ℕ → Result (List Module) (Fault verilog)
 wrong kind left = Err (record { kind = kind; left = left })
@@ -85,4 +90,8 @@ pub record ReadsTexts : Type 0 where
   pub no_end : said 256 (codes "module m ( input a ) ;") ≡ wrong unexpected 0
   -- within three a sum of a sum of a name in parentheses is too deep at the name
   pub too_deep_left : said 3 (codes "module m ; assign y = ( a ) + b + c ; endmodule") ≡ wrong (too_deep (at 8)) 4
+  -- within two the second plus makes the first name the part with two parts around it, which are two sums
+  pub too_deep_chain : said 2 (codes "module m ; assign y = a + b + c ; endmodule") ≡ wrong (too_deep (at 7)) 4
+  pub first_too_deep : IsFirstTooDeep verilog grammar 2 (tokens_of (codes "module m ; assign y = a + b + c ; endmodule")) (drop 9 (tokens_of (codes "module m ; assign y = a + b + c ; endmodule"))) (at 7)
+  pub deep_in_each : IsDeepInEach verilog grammar 2 (tokens_of (codes "module m ; assign y = a + b + c ; endmodule")) 9 (at 7)
   pub too_deep_name : said 2 (codes "module m ; assign y = ( ( a ) ) ; endmodule") ≡ wrong (too_deep (at 9)) 5

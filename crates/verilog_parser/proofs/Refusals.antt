@@ -45,8 +45,8 @@ none tokens ns f e s = not_both ns f (Read tokens) e (verilog_exact.complete 256
 stands : (tokens : List Lexeme) (f : AnyFault verilog) → Read tokens ≡ Err f → Stands verilog grammar 256 tokens f.kind f.left
 stands tokens f e = verilog_exact.faults 256 tokens f e
 
-pub too_deep_at : (tokens : List Lexeme) (place : Place) (left : ℕ) → Read tokens ≡ Err (record { kind = too_deep place; left = left }) → NestTooDeep tokens × IsTooDeepAt tokens place
-too_deep_at tokens place left e = ((length tokens - left, stands tokens (record { kind = too_deep place; left = left }) e), (left, e))
+pub too_deep_at : (tokens : List Lexeme) (place : Place) (left : ℕ) → Read tokens ≡ Err (record { kind = too_deep place; left = left }) → (at : ℕ) × NestTooDeep tokens at × IsTooDeepAt tokens at place
+too_deep_at tokens place left e = let s = stands tokens (record { kind = too_deep place; left = left }) e in (length tokens - left, s.0, (s.1, s.2))
 
 -- no token stands where the fault is
 pub ends_early : (tokens : List Lexeme) (left : ℕ) → Read tokens ≡ Err (record { kind = unexpected; left = left }) → length tokens ≤ length tokens - left → EndsEarly verilog grammar tokens

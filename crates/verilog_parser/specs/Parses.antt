@@ -5,8 +5,9 @@ use Rattle.verilog_lexer.specs.Tokens.{Lexeme}
 use Rattle.verilog_tree.specs.Tree as t
 use Rattle.verilog_tree.specs.View.{modules_view}
 use Rattle.verilog_tree.specs.declared.module.Module.{Module}
-use Rattle.grammar_rules.specs.Rule.{too_deep}
-use Rattle.grammar_rules.specs.Grammar.{IsSpelled, IsUnexpected, IsTooDeep, EndsEarly, whole}
+use Rattle.grammar_rules.specs.Grammar.{IsSpelled, IsUnexpected, IsTooDeep, EndsEarly}
+use Rattle.grammar_rules.specs.Deep.{IsFirstTooDeep}
+use Rattle.grammar_rules.specs.Around.{IsDeepInEach}
 use Rattle.verilog_grammar.specs.Kind.{kind_of}
 use Rattle.verilog_grammar.specs.Language.{verilog}
 use Rattle.verilog_grammar.specs.Verilog.{grammar}
@@ -29,13 +30,13 @@ pub record IsRefused (tokens : List Lexeme) (place : Place) (form : Option (List
   pub is_form : form_of (kind_of token) ≡ form
   pub refused : IsUnexpected verilog grammar tokens at
 
--- The tokens up to one of them go on to modules, but to none that nest no deeper than 256.
-abbrev pub NestTooDeep : List Lexeme → Type 0
-NestTooDeep tokens = (at : ℕ) × IsTooDeep verilog grammar 256 tokens at
+-- The tokens up to this one go on to modules, but to none that nest no deeper than 256.
+abbrev pub NestTooDeep : List Lexeme → ℕ → Type 0
+NestTooDeep tokens at = IsTooDeep verilog grammar 256 tokens at
 
--- reading from left to right finds that the part that begins at the place is the first that nests too deep
-abbrev pub IsTooDeepAt : List Lexeme → Place → Type 0
-IsTooDeepAt tokens place = (left : ℕ) × (whole verilog grammar 256 tokens ≡ Err (record { kind = too_deep place; left = left }))
+-- With this token, the part at the place is the first that nests too deep, and has at least 256 parts around it in all modules that the tokens up to it go on to.
+abbrev pub IsTooDeepAt : List Lexeme → ℕ → Place → Type 0
+IsTooDeepAt tokens at place = IsFirstTooDeep verilog grammar 256 tokens (drop at tokens) place × IsDeepInEach verilog grammar 256 tokens at place
 
 -- the fault stands in the tokens
 abbrev pub StandsIn : List Lexeme → ParseFault → Type 0
@@ -43,7 +44,7 @@ StandsIn tokens fault.NoMemory = Unit {0}
 StandsIn tokens (fault.At Unexpected (Some place) None) = IsRefused tokens place None
 StandsIn tokens (fault.At LeftOut (Some place) (Some form)) = IsRefused tokens place (Some form)
 StandsIn tokens (fault.At EarlyEnd None None) = EndsEarly verilog grammar tokens
-StandsIn tokens (fault.At TooDeep (Some place) None) = NestTooDeep tokens × IsTooDeepAt tokens place
+StandsIn tokens (fault.At TooDeep (Some place) None) = (at : ℕ) × NestTooDeep tokens at × IsTooDeepAt tokens at place
 StandsIn tokens (fault.At kind place detail) = ⊥
 
 -- the fault of this token, with which no rule goes on
