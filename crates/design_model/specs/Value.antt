@@ -9,6 +9,7 @@ use Rattle.four_state.specs.declared.bit.Bit.{Bit}
 use Rattle.four_state.specs.declared.bit.Bit.TheVariants.{X}
 use Rattle.design_model.specs.Tree.{Head, Term, Terms, a_term, binary, bit, choice, concat, no_terms, number, part, repeat, sign, signal, slide, unary, word}
 use Rattle.design_model.specs.Design.{Design, Memory, memory_at, signal_at, signal_bits, word_bits}
+pub use Rattle.design_model.specs.declared.design.Range.{Range}
 
 -- what every term has
 abbrev pub head : Term → Head
@@ -24,11 +25,6 @@ head (choice h c t u) = h
 head (concat h ts) = h
 head (repeat h n ts) = h
 head (sign h s t) = h
-
--- the declared range of bits: its left and its right number
-pub record Range : Type 0 where
-  pub high : ℕ
-  pub low : ℕ
 
 -- the range of what a select is taken of
 abbrev pub range_of : Design → Term → Range

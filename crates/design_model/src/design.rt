@@ -71,6 +71,13 @@ pub struct Instance {
     pub module: Name,
 }
 
+/// A declared range of bits or words, `[high:low]`, in either direction (IEEE 1364-2001, 3.3).
+#[derive(Clone, Copy, Debug, PartialEq, Eq)]
+pub struct Range {
+    pub high: u32,
+    pub low: u32,
+}
+
 /// A net or a variable (IEEE 1364-2001, 3.2).
 #[derive(Debug, Drop)]
 pub struct Signal {

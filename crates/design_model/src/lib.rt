@@ -14,7 +14,7 @@ mod examples;
 mod point;
 mod tree;
 
-pub use design::{Alias, Constant, Design, Instance, Memory, Signal};
+pub use design::{Alias, Constant, Design, Instance, Memory, Range, Signal};
 pub use examples::{memory_word, moving_input, steady_register, undumped_net, undumped_register};
 pub use point::{LineWord, NodeCase, Point};
 pub use tree::{CaseArm, Form, Process, Stmt, StmtForm, Target, Term};

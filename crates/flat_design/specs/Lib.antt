@@ -1,0 +1,17 @@
+pub mod Fault
+pub mod Identifiers
+pub mod Scope
+pub mod Numbering
+pub mod Terms
+pub mod Expressions
+pub mod Loops
+pub mod Targets
+pub mod Bodies
+pub mod Declarations
+pub mod Processes
+pub mod Instances
+pub mod Connections
+pub mod Flat
+pub mod Faults
+pub mod Laws
+pub mod Tokens
