@@ -21,6 +21,10 @@ look_up bindings name = lookup (λ bound. bytes_eq name bound) bindings
 abbrev pub with_entry : List ℕ → Entry → Names → Names
 with_entry x e g name = if bytes_eq name x then Some e else g name
 
+-- the names where x stands for nothing
+abbrev pub without_entry : List ℕ → Names → Names
+without_entry x g name = if bytes_eq name x then None else g name
+
 -- the names in one turn of a loop over x
 abbrev pub with_turn : List ℕ → Vector → Names → Names
 with_turn x v g = with_entry x (Turn v) g

@@ -1,9 +1,9 @@
 ghost use Rattle.std.specs.Prelude.{◌≡◌, None, Some, OnOk, OnErr, IfSome};
 ghost use Rattle.std.specs.Option.{option_copied};
-ghost use Rattle.elab_const.specs.Scope.{IsEntry, look_up, with_entry};
+ghost use Rattle.elab_const.specs.Scope.{IsEntry, look_up, with_entry, without_entry};
 
 use crate::Entry;
-use cov_host::NoMemory;
+use cov_host::{Name, NoMemory};
 use indexmap::IndexMap;
 use std::alloc::Global;
 use std::marker::Model;
@@ -44,9 +44,33 @@ impl Scope {
         ensures ok { OnOk result (look_up self.new ≡ with_entry name.now entry (look_up self.old)) }
         ensures err { OnErr result (self.new ≡ self.old) }
     {
-        let key = Vec::from_slice(self.alloc, name.as_bytes())?;
+        self.insert_bytes(name.as_bytes(), entry)
+    }
+
+    /// The same for the name of a token.
+    pub fn insert_name(&mut self, name: &Name, entry: Entry) -> Result<(), NoMemory>
+        requires { IsEntry entry }
+        ensures ok { OnOk result (look_up self.new ≡ with_entry name.now entry (look_up self.old)) }
+        ensures err { OnErr result (self.new ≡ self.old) }
+    {
+        self.insert_bytes(name.as_slice(), entry)
+    }
+
+    fn insert_bytes(&mut self, name: &[u8], entry: Entry) -> Result<(), NoMemory>
+        requires { IsEntry entry }
+        ensures ok { OnOk result (look_up self.new ≡ with_entry name.now entry (look_up self.old)) }
+        ensures err { OnErr result (self.new ≡ self.old) }
+    {
+        let key = Vec::from_slice(self.alloc, name)?;
         let _ = self.entries.insert(key, entry)?;
         Ok(())
+    }
+
+    /// Lets a name stand for nothing.
+    pub fn remove(&mut self, name: &Name)
+        ensures { look_up self.new ≡ without_entry name.now (look_up self.old) }
+    {
+        let _ = self.entries.swap_remove(name.as_slice());
     }
 
     /// What a name stands for.

@@ -1,136 +1,93 @@
-ghost use Rattle.std.specs.Prelude.{◌≡◌};
-ghost use Rattle.elaborator.specs.declared.fault.ElabFault.TheVariants as variant;
-ghost use Rattle.elaborator.specs.Fault.{limit_number, told_constant};
+ghost use Rattle.std.specs.Prelude.{◌≡◌, ◌+◌, ◌∷◌, []};
+ghost use Rattle.elaborator.specs.View.{fault_view, name_view};
+ghost use Rattle.flat_design.specs.Fault as spec;
 
-use cov_host::{Name, NoMemory, Place};
-use elab_const::ConstFault;
-use std::alloc::{AllocError, AllocFailed};
-use thiserror::Error;
+use crate::names::NameAt;
+use cov_host::Place;
+use elab_const::ConstKind;
+use flat_design::{DesignLimit, ElabKind};
 
-/// What is wrong with modules and a top, apart from the faults of constants. Each is told with a name and the place
-/// of that name's token; where two things are at odds it is the later one.
-#[derive(Clone, Copy, Debug, PartialEq, Eq)]
-pub enum ElabKind {
-    /// No module has this name. For the top there is no place.
-    NoModule = 1,
-    /// Two modules have this name.
-    TwoModules = 2,
-    /// A module stands inside itself. The place is the module's name in the item.
-    Recursion = 3,
-    /// A name without declaration.
-    Undeclared = 4,
-    /// A name that is declared twice.
-    TwiceDeclared = 5,
-    /// A connection or override that names no port or parameter, one given twice, or too many; a listed port without
-    /// direction; an output joined to what is no net, or to an input. The name is that of the port or parameter, or by
-    /// position that of the module.
-    PortMismatch = 6,
-    /// A bit of a net with two drivers, or a variable or memory that two processes write.
-    TwoDrivers = 7,
-    /// Blocking and nonblocking assignments to one signal or memory.
-    MixedAssign = 8,
-    /// A list of names that lacks a signal which the block reads and does not assign, or a memory that is read under
-    /// such a list.
-    Incomplete = 9,
-    /// An edge of what is no signal of one bit.
-    EventNotBit = 10,
-    /// A continuous assignment that reads a bit which it drives, or by an index that is not constant a net of which it
-    /// drives a bit.
-    SelfAssign = 11,
-    /// A limit is passed. The name is the limit's number as a digit, and the place is the first token of the item or
-    /// statement.
-    Limit = 12,
-    /// A continuous assignment to a variable, a procedural one to a net, any to an input, a parameter or a loop
-    /// variable, a memory written in a combinational block, or a part of a word written.
-    WrongTarget = 13,
-    /// A loop variable read outside its loop, an inner loop over the variable of an outer one, a memory without an
-    /// index, a select on what has no range, a constant select out of range, or a memory in a list or connection.
-    WrongUse = 14,
+/// What is wrong, and where, by a name of the modules.
+#[derive(Clone, Copy, Drop)]
+pub(crate) enum FoundFault<'a> {
+    /// Of a constant, a width or a loop.
+    Constant(ConstKind, Place),
+    /// Of modules, with the name that it is told with. For a top that no module has there is no place.
+    Modules(ElabKind, Option<Place>, &'a [u8]),
 }
 
-/// The limits of a design.
-#[derive(Clone, Copy, Debug, PartialEq, Eq)]
-pub enum DesignLimit {
-    /// 65,536 signals.
-    Signals,
-    /// 65,536 processes.
-    Processes,
-    /// 65,536 words in one memory.
-    MemoryWords,
-    /// 262,144 words in all memories.
-    Words,
-    /// 65,536 instances, 64 deep.
-    Instances,
-    /// 256 bytes in a path.
-    Path,
-    /// 1,048,576 statements with each turn of a loop written out.
-    Statements,
-}
+impl<'a> FoundFault<'a> {
+    /// A fault of this kind at a name.
+    pub(crate) fn at(kind: ElabKind, name: NameAt<'a>) -> FoundFault<'a>
+        ensures { fault_view result ≡ spec.fault_at kind (name_view name.entry) }
+    {
+        FoundFault::Modules(kind, Some(name.place), name.name)
+    }
 
-impl DesignLimit {
-    /// Its number, from 1 to 7.
-    pub fn number(self) -> u8
-        ensures { result ≡ limit_number self }
+    /// A limit that is passed at this place.
+    pub(crate) fn limit(limit: DesignLimit, place: Place) -> FoundFault<'a>
+        ensures { fault_view result ≡ spec.limit_fault limit place }
+    {
+        FoundFault::Modules(ElabKind::Limit, Some(place), digit(limit))
+    }
+
+    /// Whether this fault is told and not the other one: it stands before it, or at one place it alone is an undeclared
+    /// name.
+    pub(crate) fn goes_before(&self, other: &FoundFault) -> bool
+        ensures { result ≡ spec.goes_before (fault_view self.now) (fault_view other.now) }
+    {
+        let first = self.is_undeclared() && !other.is_undeclared();
+        match (self.place(), other.place()) {
+            (None, _) => false,
+            (Some(_), None) => true,
+            (Some(place), Some(other)) => is_before_or(first, place, other),
+        }
+    }
+
+    /// Whether a limit is passed.
+    pub(crate) fn is_limit(&self) -> bool
+        ensures { result ≡ spec.is_limit (fault_view self.now) }
+    {
+        matches!(self, FoundFault::Modules(ElabKind::Limit, _, _))
+    }
+
+    fn is_undeclared(&self) -> bool
+        ensures { result ≡ spec.is_undeclared (fault_view self.now) }
+    {
+        matches!(self, FoundFault::Modules(ElabKind::Undeclared, _, _))
+    }
+
+    fn place(&self) -> Option<Place>
+        ensures { result ≡ spec.place_of (fault_view self.now) }
     {
         match self {
-            DesignLimit::Signals => 1,
-            DesignLimit::Processes => 2,
-            DesignLimit::MemoryWords => 3,
-            DesignLimit::Words => 4,
-            DesignLimit::Instances => 5,
-            DesignLimit::Path => 6,
-            DesignLimit::Statements => 7,
+            FoundFault::Constant(_, place) => Some(*place),
+            FoundFault::Modules(_, place, _) => *place,
         }
     }
 }
 
-/// Why modules and a top have no flat design.
-#[derive(Debug, Drop, Error)]
-pub enum ElabFault {
-    #[error("memory ran out")]
-    NoMemory,
-    #[error("{0}")]
-    Const(ConstFault),
-    #[error("{kind:?}")]
-    At {
-        kind: ElabKind,
-        /// None for a top that no module has.
-        place: Option<Place>,
-        detail: Name,
-    },
+/// Whether p stands before q in the text, or is the same place and the test holds.
+pub(crate) fn is_before_or(same: bool, p: Place, q: Place) -> bool
+    ensures { result ≡ spec.before_or same p q }
+{
+    p.source < q.source
+        || p.source == q.source
+            && (p.line < q.line
+                || p.line == q.line && (p.column < q.column || p.column == q.column && same))
 }
 
-impl From<ConstFault> for ElabFault {
-    ghost from_gives = { λ constant fault. fault ≡ told_constant constant };
-
-    fn from(fault: ConstFault) -> Self {
-        match fault {
-            ConstFault::NoMemory => ElabFault::NoMemory,
-            fault => ElabFault::Const(fault),
-        }
-    }
-}
-
-impl From<AllocError> for ElabFault {
-    ghost from_gives = { λ _ fault. fault ≡ variant.NoMemory };
-
-    fn from(_: AllocError) -> Self {
-        ElabFault::NoMemory
-    }
-}
-
-impl<T: Drop> From<AllocFailed<T>> for ElabFault {
-    ghost from_gives = { λ _ fault. fault ≡ variant.NoMemory };
-
-    fn from(_: AllocFailed<T>) -> Self {
-        ElabFault::NoMemory
-    }
-}
-
-impl From<NoMemory> for ElabFault {
-    ghost from_gives = { λ _ fault. fault ≡ variant.NoMemory };
-
-    fn from(_: NoMemory) -> Self {
-        ElabFault::NoMemory
+/// The number of a limit as a digit.
+fn digit(limit: DesignLimit) -> &'static [u8]
+    ensures { result.now ≡ (48 + spec.limit_number limit) ∷ [] }
+{
+    match limit {
+        DesignLimit::Signals => b"1",
+        DesignLimit::Processes => b"2",
+        DesignLimit::MemoryWords => b"3",
+        DesignLimit::Words => b"4",
+        DesignLimit::Instances => b"5",
+        DesignLimit::Path => b"6",
+        DesignLimit::Statements => b"7",
     }
 }

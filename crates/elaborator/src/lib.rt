@@ -1,43 +1,29 @@
-//! From modules to one flat design (IEEE 1364-2001 clause 12), and what is wrong with modules.
+//! From modules to one flat design (IEEE 1364-2001 clause 12).
 #![tactic(auto)]
 
-ghost use Rattle.std.specs.Prelude.{ℕ, ◌≡◌, List, Ok, Err};
-ghost use Rattle.design_model.specs.Design.{Design};
-ghost use Rattle.verilog_tree.specs.Tree.{Expr, Module, Statement};
-ghost use Rattle.elaborator.specs.Fault.{Fault, IsFirst};
-ghost use Rattle.elaborator.specs.Faults.{Stands, answer, faults_of};
-ghost use Rattle.elaborator.specs.Laws.{ConstantLaw, LineLaw, NodeLaw, TurnLaw};
-ghost use Rattle.elaborator.specs.Scope.{Scope};
-
+mod build;
+mod conflicts;
+mod connections;
+mod constants;
+mod declaration;
+mod declarations;
+mod expressions;
 mod fault;
-
-pub use fault::{DesignLimit, ElabFault, ElabKind};
-
-/// A design is answered only where no fault stands; a fault that is answered stands, and none that stands goes before
-/// it in the text.
-pub fn first_fault_law()
-    ensures design { (ms : List Module) (top : List ℕ) (d : Design) → answer ms top ≡ Ok d → (f : Fault) → Stands ms top f → ⊥ }
-    ensures fault { (ms : List Module) (top : List ℕ) (f : Fault) → answer ms top ≡ Err f → Stands ms top f }
-    ensures first { (ms : List Module) (top : List ℕ) (f : Fault) → answer ms top ≡ Err f → IsFirst f (faults_of ms top) }
-{}
-
-/// The line points of a flat statement have the numbers from the first on, as many as the statement has line points.
-pub fn line_number_law()
-    ensures { (g : Scope) (s : Statement) → LineLaw g s }
-{}
-
-/// How many counted nodes a statement has depends on its signals and memories alone, so it is the same in each turn of
-/// a loop.
-pub fn node_count_law()
-    ensures { (g h : Scope) → NodeLaw g h }
-{}
-
-/// The term of a constant expression has the value that `elab_const` gives it, in each context, design and state.
-pub fn constant_law()
-    ensures { (g : Scope) (e : Expr) → ConstantLaw g e }
-{}
-
-/// In a turn of a loop the names that have a value are those of the scope, and the variable with the value of the turn.
-pub fn turn_law()
-    ensures { (g : Scope) → TurnLaw g }
-{}
+mod indexes;
+mod items;
+mod loops;
+mod modules;
+mod name_map;
+mod name_set;
+mod names;
+mod others;
+mod parameters;
+mod processes;
+mod range;
+mod scope;
+mod selected;
+mod sizes;
+mod tally;
+mod targets;
+mod undeclared;
+mod values;

@@ -1,0 +1,10 @@
+use Rattle.std.proofs.Common.{arith}
+use Rattle.std.proofs.lemmas.Grind.{common_steps}
+use Rattle.elaborator.proofs.ConnectionLemmas.{has_only}
+use Rattle.elaborator.proofs.connections.set_of.Goals as goal
+
+pub loop-name-preserved : goal.loop-name-preserved
+loop-name-preserved c = rw c.in_ok-add.ensures.names (grind (arith, common_steps))
+
+pub returns : goal.returns
+returns c = grind (arith, common_steps, has_only)

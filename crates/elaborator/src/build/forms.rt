@@ -1,0 +1,185 @@
+//! Terms of each form.
+
+ghost use Rattle.std.specs.Prelude.{◌≡◌, IfOk, None, map};
+ghost use Rattle.design_model.specs.Tree as t;
+ghost use Rattle.design_model.specs.View.{term_view, terms_of};
+ghost use Rattle.flat_design.specs.Terms.{head_as};
+
+use cov_host::{NoMemory, Place};
+use design_model::{Form, Term};
+use elab_const::Shape;
+use four_state::{Binary, Four, Unary};
+use std::alloc::Global;
+
+/// Where a term stands, and the width and sign that its context gives it.
+#[derive(Clone, Copy)]
+pub(crate) struct Around {
+    pub(crate) place: Place,
+    pub(crate) shape: Shape,
+}
+
+impl Around {
+    /// A term of this form with this number as a counted node.
+    fn counted(self, node: Option<u32>, form: Form) -> Term
+        ensures { result ≡ record { place = self.place; width = self.shape.width; signed = self.shape.signed; node = node; form = form } }
+    {
+        Term {
+            place: self.place,
+            width: self.shape.width,
+            signed: self.shape.signed,
+            node,
+            form,
+        }
+    }
+
+    /// A term of this form, which is no counted node.
+    fn term(self, form: Form) -> Term
+        ensures { result ≡ record { place = self.place; width = self.shape.width; signed = self.shape.signed; node = None; form = form } }
+    {
+        self.counted(None, form)
+    }
+
+    /// A number.
+    pub(crate) fn number(self, value: Four) -> Term
+        ensures { term_view result ≡ t.number (head_as self.place self.shape None) value }
+    {
+        self.term(Form::Number(value))
+    }
+
+    /// A signal.
+    pub(crate) fn signal(self, signal: u32) -> Term
+        ensures { term_view result ≡ t.signal (head_as self.place self.shape None) signal }
+    {
+        self.term(Form::Signal(signal))
+    }
+
+    /// A word of a memory.
+    pub(crate) fn word(self, alloc: Global, memory: u32, index: Term) -> Result<Term, NoMemory>
+        ensures { IfOk result (λ x. term_view x ≡ t.word (head_as self.place self.shape None) memory (term_view index)) }
+    {
+        Ok(self.term(Form::Word {
+            memory,
+            index: Box::new(alloc, index)?,
+        }))
+    }
+
+    /// `of[index]`.
+    pub(crate) fn bit(self, alloc: Global, of: Term, index: Term) -> Result<Term, NoMemory>
+        ensures { IfOk result (λ x. term_view x ≡ t.bit (head_as self.place self.shape None) (term_view of) (term_view index)) }
+    {
+        Ok(self.term(Form::Bit {
+            of: Box::new(alloc, of)?,
+            index: Box::new(alloc, index)?,
+        }))
+    }
+
+    /// `of[high:low]`.
+    pub(crate) fn part(
+        self,
+        alloc: Global,
+        of: Term,
+        high: Term,
+        low: Term,
+    ) -> Result<Term, NoMemory>
+        ensures { IfOk result (λ x. term_view x ≡ t.part (head_as self.place self.shape None) (term_view of) (term_view high) (term_view low)) }
+    {
+        Ok(self.term(Form::Part {
+            of: Box::new(alloc, of)?,
+            high: Box::new(alloc, high)?,
+            low: Box::new(alloc, low)?,
+        }))
+    }
+
+    /// `of[base +: width]`, or where `up` is false `of[base -: width]`.
+    pub(crate) fn slide(
+        self,
+        alloc: Global,
+        of: Term,
+        base: Term,
+        width: Term,
+        up: bool,
+    ) -> Result<Term, NoMemory>
+        ensures { IfOk result (λ x. term_view x ≡ t.slide (head_as self.place self.shape None) (term_view of) (term_view base) (term_view width) up) }
+    {
+        Ok(self.term(Form::Slide {
+            of: Box::new(alloc, of)?,
+            base: Box::new(alloc, base)?,
+            width: Box::new(alloc, width)?,
+            up,
+        }))
+    }
+
+    /// An operator with one operand, and its number as a counted node.
+    pub(crate) fn unary(
+        self,
+        alloc: Global,
+        node: Option<u32>,
+        op: Unary,
+        operand: Term,
+    ) -> Result<Term, NoMemory>
+        ensures { IfOk result (λ x. term_view x ≡ t.unary (head_as self.place self.shape node) op (term_view operand)) }
+    {
+        let operand = Box::new(alloc, operand)?;
+        Ok(self.counted(node, Form::Unary(op, operand)))
+    }
+
+    /// An operator with two operands, and its number as a counted node.
+    pub(crate) fn binary(
+        self,
+        alloc: Global,
+        node: Option<u32>,
+        op: Binary,
+        left: Term,
+        right: Term,
+    ) -> Result<Term, NoMemory>
+        ensures { IfOk result (λ x. term_view x ≡ t.binary (head_as self.place self.shape node) op (term_view left) (term_view right)) }
+    {
+        let left = Box::new(alloc, left)?;
+        let right = Box::new(alloc, right)?;
+        Ok(self.counted(node, Form::Binary(op, left, right)))
+    }
+
+    /// `test ? yes : no`.
+    pub(crate) fn choice(
+        self,
+        alloc: Global,
+        test: Term,
+        yes: Term,
+        no: Term,
+    ) -> Result<Term, NoMemory>
+        ensures { IfOk result (λ x. term_view x ≡ t.choice (head_as self.place self.shape None) (term_view test) (term_view yes) (term_view no)) }
+    {
+        Ok(self.term(Form::Choice {
+            test: Box::new(alloc, test)?,
+            yes: Box::new(alloc, yes)?,
+            no: Box::new(alloc, no)?,
+        }))
+    }
+
+    /// A concatenation.
+    pub(crate) fn concat(self, parts: Vec<Term>) -> Term
+        ensures { term_view result ≡ t.concat (head_as self.place self.shape None) (terms_of (map term_view parts.items)) }
+    {
+        self.term(Form::Concat(parts))
+    }
+
+    /// A concatenation that is repeated.
+    pub(crate) fn repeat(
+        self,
+        alloc: Global,
+        count: Term,
+        parts: Vec<Term>,
+    ) -> Result<Term, NoMemory>
+        ensures { IfOk result (λ x. term_view x ≡ t.repeat (head_as self.place self.shape None) (term_view count) (terms_of (map term_view parts.items))) }
+    {
+        let count = Box::new(alloc, count)?;
+        Ok(self.term(Form::Repeat(count, parts)))
+    }
+
+    /// `$signed`, or where the flag is false `$unsigned`.
+    pub(crate) fn sign(self, alloc: Global, signed: bool, operand: Term) -> Result<Term, NoMemory>
+        ensures { IfOk result (λ x. term_view x ≡ t.sign (head_as self.place self.shape None) signed (term_view operand)) }
+    {
+        Ok(self.term(Form::Sign(signed, Box::new(alloc, operand)?)))
+    }
+}
