@@ -1,6 +1,7 @@
 # make example   builds the program, scores two dumps of the example, merges their databases and shows the report
 # make test      the gate: proves every crate, tries the edits that must fail, runs the tests and the program
-# make rows      runs the example cases of the stage that is reached, where they are at hand
+# make rows      builds the program and runs the example cases of the stage that is reached, where they are at hand
+# make built-rows   runs the same cases with the program that stands, as the gate leaves it
 # make install   puts the program into $(PREFIX)/bin and its man page into $(PREFIX)/share/man/man1
 
 PREFIX ?= /usr/local
@@ -10,7 +11,7 @@ STAGE = frontend
 AHEAD = merge-report pieces assigns
 ROWS ?= $(firstword $(wildcard ../*/rows))
 
-.PHONY: example test rows install
+.PHONY: example test rows built-rows install
 
 $(PROGRAM): FORCE
 	mkdir -p crates/covered/out && cd crates/covered && { rt run -- score > out/build.log 2>&1 || test -x out/covered; }
@@ -26,9 +27,11 @@ example: $(PROGRAM)
 test:
 	bash .ci/run
 
-rows:
+rows: $(PROGRAM) built-rows
+
+built-rows:
 	if test -f '$(ROWS)/run.py' && command -v python3 > /dev/null; then \
-	  $(MAKE) --no-print-directory $(PROGRAM) && python3 '$(ROWS)/run.py' $(PROGRAM) --stage $(STAGE) $(AHEAD:%=--ahead %); fi
+	  python3 '$(ROWS)/run.py' $(PROGRAM) --stage $(STAGE) $(AHEAD:%=--ahead %); fi
 
 install: $(PROGRAM)
 	install -D $(PROGRAM) $(DESTDIR)$(PREFIX)/bin/covered

@@ -17,9 +17,9 @@ use Rattle.flat_design.specs.Flat.{module_of}
 use Rattle.flat_design.specs.Identifiers.{is_among}
 use Rattle.elab_const.proofs.ScopeLemmas.{fun_ext}
 use Rattle.elaborator.specs.Modules.{first_places, module_faults, or_bound}
-use Rattle.elaborator.specs.NameMap.{with_binding}
-use Rattle.elaborator.specs.Tally.{Tally, after_faults}
-use Rattle.elaborator.proofs.ConnectionLemmas.{after_met, bytes_eq-sym}
+use Rattle.elab_scope.specs.NameMap.{with_binding}
+use Rattle.elab_scope.specs.Tally.{Tally, after_faults}
+use Rattle.elab_scope.proofs.ConnectionLemmas.{after_met, bytes_eq-sym}
 
 or_none : (o : Option ℕ) → option_or o None ≡ o
 or_none None = refl

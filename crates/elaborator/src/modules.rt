@@ -6,13 +6,10 @@ ghost use Rattle.flat_design.specs.Faults.{two_modules};
 ghost use Rattle.flat_design.specs.Flat.{module_of};
 ghost use Rattle.verilog_tree.specs.View.{module_view, modules_view};
 ghost use Rattle.elaborator.specs.Modules.{first_places, module_faults, or_bound};
-ghost use Rattle.elaborator.specs.NameMap.{bound_to};
-ghost use Rattle.elaborator.specs.Tally.{after_faults};
+ghost use Rattle.elab_scope.specs.NameMap.{bound_to};
+ghost use Rattle.elab_scope.specs.Tally.{after_faults};
 
-use crate::fault::FoundFault;
-use crate::name_map::NameMap;
-use crate::names::NameAt;
-use crate::tally::Tally;
+use elab_scope::{FoundFault, NameAt, NameMap, Tally};
 use cov_host::NoMemory;
 use flat_design::ElabKind;
 use std::alloc::Global;

@@ -1,10 +1,11 @@
 use Rattle.std.proofs.Common.{arith, ◌≡◌, ◌∙◌, ◌∷◌, ◌+◌, sym, ap, map, drop}
 use Rattle.std.proofs.lemmas.Grind.{common_steps}
 use Rattle.flat_design.specs.Identifiers.{is_among}
-use Rattle.elaborator.specs.NameSet.{has, name_faults}
-use Rattle.elaborator.specs.Tally.{after_faults}
-use Rattle.elaborator.specs.View.{connection_view, names_view}
-use Rattle.elaborator.proofs.ConnectionLemmas.{after_next, by_sets, faults_by}
+use Rattle.elab_scope.specs.NameSet.{has, name_faults}
+use Rattle.elab_scope.specs.Tally.{after_faults}
+use Rattle.elab_scope.specs.View.{names_view}
+use Rattle.elaborator.specs.ConnectionView.{connection_view}
+use Rattle.elab_scope.proofs.ConnectionLemmas.{after_next, by_sets, faults_by}
 use Rattle.elaborator.proofs.connections.check_names.Goals as goal
 
 pub loop-connection-preserved : goal.loop-connection-preserved

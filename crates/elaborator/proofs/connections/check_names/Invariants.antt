@@ -1,10 +1,11 @@
 use Rattle.std.proofs.Common.{◌≡◌, drop, map}
 use Rattle.std.specs.Prelude.{false}
 use Rattle.flat_design.specs.Identifiers.{is_among}
-use Rattle.elaborator.specs.NameSet.{has}
-use Rattle.elaborator.specs.Tally.{after_faults}
-use Rattle.elaborator.specs.View.{connection_view, names_view}
-use Rattle.elaborator.proofs.ConnectionLemmas.{faults_by}
+use Rattle.elab_scope.specs.NameSet.{has}
+use Rattle.elab_scope.specs.Tally.{after_faults}
+use Rattle.elab_scope.specs.View.{names_view}
+use Rattle.elaborator.specs.ConnectionView.{connection_view}
+use Rattle.elab_scope.proofs.ConnectionLemmas.{faults_by}
 use Rattle.elaborator.proofs.connections.check_names.Given as goal
 
 -- after the faults of the connections that are left it is as after all

@@ -1,7 +1,8 @@
 use Rattle.std.proofs.Common.{◌≡◌, ◌++◌, map, drop}
 use Rattle.flat_design.specs.Connections as spec
 use Rattle.verilog_tree.specs.View.{givens_view}
-use Rattle.elaborator.specs.View.{connection_view, name_view, names_view}
+use Rattle.elab_scope.specs.View.{name_view, names_view}
+use Rattle.elaborator.specs.ConnectionView.{connection_view}
 use Rattle.elaborator.proofs.connections.connections.Given as goal
 
 -- those so far, and those that the names and connections which are left make, are all

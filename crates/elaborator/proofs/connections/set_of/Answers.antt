@@ -1,6 +1,6 @@
 use Rattle.std.proofs.Common.{arith}
 use Rattle.std.proofs.lemmas.Grind.{common_steps}
-use Rattle.elaborator.proofs.ConnectionLemmas.{has_only}
+use Rattle.elab_scope.proofs.ConnectionLemmas.{has_only}
 use Rattle.elaborator.proofs.connections.set_of.Goals as goal
 
 pub loop-name-preserved : goal.loop-name-preserved

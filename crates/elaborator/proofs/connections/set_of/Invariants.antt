@@ -1,8 +1,8 @@
 use Rattle.std.proofs.Common.{◌≡◌, drop}
 use Rattle.std.specs.Prelude.{false}
-use Rattle.elaborator.specs.NameSet.{has}
-use Rattle.elaborator.specs.View.{names_view}
-use Rattle.elaborator.proofs.ConnectionLemmas.{with_names}
+use Rattle.elab_scope.specs.NameSet.{has}
+use Rattle.elab_scope.specs.View.{names_view}
+use Rattle.elab_scope.proofs.ConnectionLemmas.{with_names}
 use Rattle.elaborator.proofs.connections.set_of.Given as goal
 
 -- the set with the names that are left has all

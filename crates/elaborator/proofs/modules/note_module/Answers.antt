@@ -1,8 +1,8 @@
 use Rattle.std.proofs.Common.{◌≡◌, ◌∙◌, ap, sym, false}
 use Rattle.std.specs.Prelude.{is_some}
 use Rattle.verilog_tree.specs.View.{module_view}
-use Rattle.elaborator.specs.NameMap.{bound_to, with_binding}
-use Rattle.elaborator.proofs.NameSetLemmas.{copied_is_some}
+use Rattle.elab_scope.specs.NameMap.{bound_to, with_binding}
+use Rattle.elab_scope.proofs.NameSetLemmas.{copied_is_some}
 use Rattle.elaborator.proofs.ModuleLemmas.{noted}
 use Rattle.elaborator.proofs.modules.note_module.Goals as goal
 

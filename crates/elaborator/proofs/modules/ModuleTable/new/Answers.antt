@@ -2,8 +2,8 @@ use Rattle.std.proofs.Common.{◌≡◌, refl, ap, sym, ◌∙◌, ◌+◌, ◌�
 use Rattle.std.proofs.lemmas.Grind.{common_steps}
 use Rattle.verilog_tree.specs.View.{module_view, modules_view}
 use Rattle.elaborator.specs.Modules.{first_places, or_bound}
-use Rattle.elaborator.specs.NameMap.{bound_to}
-use Rattle.elaborator.specs.Tally.{after_faults}
+use Rattle.elab_scope.specs.NameMap.{bound_to}
+use Rattle.elab_scope.specs.Tally.{after_faults}
 use Rattle.elaborator.proofs.ModuleLemmas.{modules_by, places_next, after_next, or_nothing, by_places}
 use Rattle.elaborator.proofs.modules.ModuleTable.new.Goals as goal
 

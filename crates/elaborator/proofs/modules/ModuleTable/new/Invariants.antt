@@ -1,8 +1,8 @@
 use Rattle.std.proofs.Common.{◌≡◌, drop, None}
 use Rattle.verilog_tree.specs.View.{modules_view}
 use Rattle.elaborator.specs.Modules.{first_places, or_bound}
-use Rattle.elaborator.specs.NameMap.{bound_to}
-use Rattle.elaborator.specs.Tally.{after_faults}
+use Rattle.elab_scope.specs.NameMap.{bound_to}
+use Rattle.elab_scope.specs.Tally.{after_faults}
 use Rattle.elaborator.proofs.ModuleLemmas.{modules_by}
 use Rattle.elaborator.proofs.modules.ModuleTable.new.Given as goal
 

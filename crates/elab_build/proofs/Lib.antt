@@ -1,0 +1,5 @@
+pub mod SoundParts
+pub mod TermLists
+pub mod NumberTerms
+pub mod SoundTargets
+pub mod TargetLists

@@ -1,0 +1,16 @@
+//! The terms and targets of the flat design, built where no fault stands (IEEE 1364-2001 clauses 4 and 9).
+#![tactic(auto)]
+
+mod counted;
+mod counting;
+mod forms;
+mod indexes;
+mod names;
+mod shapes;
+mod targets;
+mod terms;
+
+pub use counting::pass_nodes;
+pub use shapes::shape_of;
+pub use targets::target;
+pub use terms::{alone, condition_term, right_side, term};

@@ -1,0 +1,9 @@
+pub mod CheckLemmas
+pub mod ConstantLemmas
+pub mod ExpressionLemmas
+pub mod RangeLemmas
+pub mod MetLemmas
+pub mod TargetLemmas
+pub mod RestoredLemmas
+pub mod TreeLemmas
+pub mod TurnLemmas

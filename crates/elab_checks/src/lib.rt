@@ -1,0 +1,18 @@
+//! The faults of expressions, targets, loops and event lists in a scope (IEEE 1364-2001 clauses 4, 6 and 9).
+#![tactic(auto)]
+
+mod expressions;
+mod indexes;
+mod loops;
+mod processes;
+mod selected;
+mod sizes;
+mod targets;
+mod undeclared;
+mod values;
+
+pub use expressions::{check, check_all, check_bound, check_constant};
+pub use loops::{put_back, turns, variable_name};
+pub use processes::check_when;
+pub use targets::check_target;
+pub use values::{bound, number, shape, size};

@@ -1,0 +1,5 @@
+pub mod ConflictsFound
+pub mod ConflictsKept
+pub mod ConflictsLists
+pub mod ConflictsOrder
+pub mod ConflictsPairs

@@ -1,0 +1,343 @@
+//! Writings of one signal or memory that are at odds: two drivers of a bit (IEEE 1364-2001 clause 6.1), two processes
+//! that write it, and blocking with nonblocking assignments (clause 9.2).
+
+ghost use Rattle.std.specs.Prelude.{◌≡◌, ◌+◌, ◌-◌, ◌^◌, ◌≤◌, ℕ, List, ◌∷◌, [], ◌++◌, ◌||◌, ◌==◌, not, map, All, IfOk, OnOk, if◌then◌else◌};
+ghost use Rattle.std.specs.List.{list_any};
+ghost use Rattle.std.specs.List.Sorted.{IsPermutation, IsSortedByKey};
+ghost use Rattle.std.specs.Option.{option_map};
+ghost use Rattle.elab_conflicts.specs.Conflicts.{Summarizes, at_odds, faults_at, first_of, has_other as has_other_process, kept_in, key, name_order, nothing};
+ghost use Rattle.elab_scope.specs.View.{IsWithin, name_view, writing_view};
+ghost use Rattle.flat_design.specs.Scope.{is_same_thing};
+ghost use Rattle.flat_design.specs.Processes.{conflicts, driver_faults, mixed_faults};
+
+use elab_scope::{NameAt, Written};
+use cov_host::NoMemory;
+use flat_design::{ElabKind, Thing};
+use std::alloc::Global;
+use std::cmp::Ordering;
+use std::collections::HashMap;
+
+/// In which way two writings of one signal or memory are at odds.
+#[derive(Clone, Copy)]
+enum Conflict {
+    /// One is blocking and the other is not.
+    Mixed,
+    /// Two continuous assignments drive one bit, or another process writes it too.
+    TwoDrivers,
+}
+
+/// The processes of some writings.
+#[derive(Clone, Copy)]
+enum Processes {
+    No,
+    One(u32),
+    Several,
+}
+
+/// What is kept of the writings of one signal or memory that stand before.
+#[derive(Clone, Copy)]
+struct Earlier {
+    blocking: bool,
+    nonblocking: bool,
+    /// The bits that continuous assignments drive.
+    driven: u128,
+    processes: Processes,
+    /// The processes that write it otherwise than by a continuous assignment.
+    procedural: Processes,
+}
+
+/// What is kept of the writings of each signal and memory.
+#[derive(Drop)]
+struct EarlierTable {
+    kept: HashMap<(bool, u32), Earlier>,
+}
+
+/// The first name in the text at which a second driver is met, of a bit of a net, or of a variable or memory.
+pub fn two_drivers<'a>(
+    alloc: Global,
+    writings: &[Written<'a>],
+) -> Result<Option<NameAt<'a>>, NoMemory>
+    requires { All IsWithin writings.now }
+    ensures { IfOk result (λ found. driver_faults (map writing_view writings.now) ≡ faults_at ElabKind.TwoDrivers found) }
+{
+    first_conflict(alloc, writings, Conflict::TwoDrivers)
+}
+
+/// The first name in the text at which both blocking and nonblocking assignments to one signal or memory are met.
+pub fn mixed<'a>(
+    alloc: Global,
+    writings: &[Written<'a>],
+) -> Result<Option<NameAt<'a>>, NoMemory>
+    requires { All IsWithin writings.now }
+    ensures { IfOk result (λ found. mixed_faults (map writing_view writings.now) ≡ faults_at ElabKind.MixedAssign found) }
+{
+    first_conflict(alloc, writings, Conflict::Mixed)
+}
+
+/// The first name in the text of a writing that is at odds with one that stands before it.
+fn first_conflict<'a>(
+    alloc: Global,
+    writings: &[Written<'a>],
+    conflict: Conflict,
+) -> Result<Option<NameAt<'a>>, NoMemory>
+    requires { All IsWithin writings.now }
+    ensures { IfOk result (λ found. option_map name_view found ≡ first_of (conflicts (at_odds conflict) (map writing_view writings.now))) }
+{
+    let sorted = in_text_order(alloc, writings)?;
+    let mut table = EarlierTable::new(alloc);
+    for written in &sorted {
+        let earlier = table.get(written.thing);
+        if earlier.is_at_odds(written, conflict) {
+            return Ok(Some(written.name));
+        }
+        table.set(written.thing, earlier.with(written))?;
+    }
+    Ok(None)
+}
+
+/// The writings by their names in the text.
+fn in_text_order<'a>(alloc: Global, writings: &[Written<'a>]) -> Result<Vec<Written<'a>>, NoMemory>
+    ensures permutation { IfOk result (λ sorted. IsPermutation writings.now sorted.items) }
+    ensures rising { IfOk result (λ sorted. IsSortedByKey (λ written. name_view written.name) name_order sorted.items) }
+{
+    let mut sorted = Vec::from_slice(alloc, writings)?;
+    sorted.sort_unstable_by(|a, b| order(a.name, b.name));
+    Ok(sorted)
+}
+
+/// How two names stand in the text, and at one place by their letters.
+fn order(x: NameAt, y: NameAt) -> Ordering
+    ensures { result ≡ name_order (name_view x.entry) (name_view y.entry) }
+{
+    let p = x.place;
+    let q = y.place;
+    (p.source, p.line, p.column, x.name).cmp(&(q.source, q.line, q.column, y.name))
+}
+
+/// Whether it is a memory, and its number.
+fn key_of(thing: Thing) -> (bool, u32)
+    ensures { result ≡ key thing }
+{
+    match thing {
+        Thing::Signal(number) => (false, number),
+        Thing::Memory(number) => (true, number),
+    }
+}
+
+impl EarlierTable {
+    /// No writings. It takes no memory.
+    fn new(alloc: Global) -> EarlierTable
+        ensures { (t : Thing) → kept_in result t ≡ nothing }
+    {
+        EarlierTable {
+            kept: HashMap::new(alloc),
+        }
+    }
+
+    /// What is kept of the writings of this signal or memory.
+    fn get(&self, thing: Thing) -> Earlier
+        ensures { result ≡ kept_in self.now thing }
+    {
+        self.kept
+            .get(&key_of(thing))
+            .copied()
+            .unwrap_or(Earlier::NONE)
+    }
+
+    /// Keeps this of the writings of a signal or memory, in the place of what was kept of them.
+    fn set(&mut self, thing: Thing, earlier: Earlier) -> Result<(), NoMemory>
+        ensures { OnOk result ((t : Thing) → kept_in self.new t ≡ (if is_same_thing thing t then earlier else kept_in self.old t)) }
+    {
+        let _ = self.kept.insert(key_of(thing), earlier)?;
+        Ok(())
+    }
+}
+
+impl Earlier {
+    /// No writings.
+    const NONE: Earlier = Earlier {
+        blocking: false,
+        nonblocking: false,
+        driven: 0,
+        processes: Processes::No,
+        procedural: Processes::No,
+    };
+
+    /// Whether a writing of the same signal or memory is at odds with one of these.
+    fn is_at_odds(&self, written: &Written, conflict: Conflict) -> bool
+        requires { IsWithin written.now }
+        ensures { (ws : List Written) → Summarizes self.now written.now.thing ws
+            → result ≡ list_any (λ w. at_odds conflict (writing_view written.now) (writing_view w)) ws }
+    {
+        match conflict {
+            Conflict::Mixed if written.blocking => self.nonblocking,
+            Conflict::Mixed => self.blocking,
+            Conflict::TwoDrivers if written.continuous => {
+                self.driven & bits_of(written) != 0 || self.procedural.has_other(written.process)
+            }
+            Conflict::TwoDrivers => self.processes.has_other(written.process),
+        }
+    }
+
+    /// These and one more.
+    fn with(self, written: &Written) -> Earlier
+        requires { IsWithin written.now }
+        ensures { (ws : List Written) → Summarizes self written.now.thing ws → Summarizes result written.now.thing (ws ++ written.now ∷ []) }
+    {
+        Earlier {
+            blocking: self.blocking || written.blocking,
+            nonblocking: self.nonblocking || !written.blocking,
+            driven: if written.continuous {
+                self.driven | bits_of(written)
+            } else {
+                self.driven
+            },
+            processes: self.processes.with(written.process),
+            procedural: if written.continuous {
+                self.procedural
+            } else {
+                self.procedural.with(written.process)
+            },
+        }
+    }
+}
+
+/// The bits that are written.
+fn bits_of(written: &Written) -> u128
+    requires { IsWithin written.now }
+    ensures { result ≡ 2 ^ (written.now.low + written.now.count) - 2 ^ written.now.low }
+{
+    ones(written.low + written.count) - ones(written.low)
+}
+
+/// So many ones.
+fn ones(count: u32) -> u128
+    requires { count ≤ 128 }
+    ensures { result ≡ 2 ^ count - 1 }
+{
+    if count == 128 {
+        u128::MAX
+    } else {
+        (1 << count) - 1
+    }
+}
+
+impl Processes {
+    /// Whether there is another process than this one.
+    fn has_other(self, process: u32) -> bool
+        ensures { result ≡ has_other_process self process }
+    {
+        match self {
+            Processes::No => false,
+            Processes::One(number) => process != number,
+            Processes::Several => true,
+        }
+    }
+
+    /// These and one more.
+    fn with(self, process: u32) -> Processes
+        ensures { (p : ℕ) → has_other_process result p ≡ (has_other_process self p || not (p == process)) }
+    {
+        match self {
+            Processes::No => Processes::One(process),
+            Processes::One(number) if number == process => self,
+            _ => Processes::Several,
+        }
+    }
+}
+
+#[cfg(test)]
+mod tests {
+    use super::*;
+    use cov_host::Place;
+    use std::process::Abort;
+
+    /// A continuous assignment to bits of signal 7.
+    fn drives(column: u32, low: u32, count: u32, process: u32) -> Written<'static>
+        requires { low + count ≤ 128 }
+        ensures { IsWithin result }
+    {
+        Written {
+            name: name(column),
+            thing: Thing::Signal(7),
+            low,
+            count,
+            blocking: true,
+            continuous: true,
+            process,
+        }
+    }
+
+    /// An assignment to signal 7 in an always block.
+    fn sets(column: u32, blocking: bool, process: u32) -> Written<'static>
+        ensures { IsWithin result }
+    {
+        Written {
+            name: name(column),
+            thing: Thing::Signal(7),
+            low: 0,
+            count: 4,
+            blocking,
+            continuous: false,
+            process,
+        }
+    }
+
+    fn name(column: u32) -> NameAt<'static> {
+        NameAt {
+            name: b"x",
+            place: Place {
+                source: 1,
+                line: 1,
+                column,
+            },
+        }
+    }
+
+    /// The column of the name that was found, and 0 for none.
+    fn column(rt: &impl Abort, found: Result<Option<NameAt>, NoMemory>) -> u32 {
+        match found.expect(rt, "memory") {
+            Some(name) => name.place.column,
+            None => 0,
+        }
+    }
+
+    #[test]
+    fn finds_the_second_driver_of_a_bit(rt: HostRuntime) {
+        let apart = [drives(9, 0, 4, 1), drives(5, 4, 4, 2), drives(7, 3, 0, 3)];
+        assert_eq!(rt; column(&rt, two_drivers(rt.alloc(), &apart)), 0);
+        let shared = [drives(9, 0, 4, 1), drives(5, 3, 4, 2), drives(7, 6, 2, 3)];
+        assert_eq!(rt; column(&rt, two_drivers(rt.alloc(), &shared)), 7);
+        let wide = [drives(3, 127, 1, 1), drives(2, 0, 128, 1)];
+        assert_eq!(rt; column(&rt, two_drivers(rt.alloc(), &wide)), 3);
+    }
+
+    #[test]
+    fn finds_a_second_process(rt: HostRuntime) {
+        let one = [sets(3, true, 1), sets(2, true, 1), sets(8, false, 1)];
+        assert_eq!(rt; column(&rt, two_drivers(rt.alloc(), &one)), 0);
+        let two = [sets(3, true, 1), sets(9, true, 2), sets(8, false, 2)];
+        assert_eq!(rt; column(&rt, two_drivers(rt.alloc(), &two)), 8);
+        let driven = [sets(3, true, 1), drives(2, 8, 0, 2)];
+        assert_eq!(rt; column(&rt, two_drivers(rt.alloc(), &driven)), 3);
+        let mut other = sets(9, true, 2);
+        other.thing = Thing::Memory(7);
+        assert_eq!(rt;
+            column(&rt, two_drivers(rt.alloc(), &[sets(3, true, 1), other])),
+            0
+        );
+    }
+
+    #[test]
+    fn finds_mixed_assignments(rt: HostRuntime) {
+        let same = [sets(3, false, 1), sets(2, false, 1)];
+        assert_eq!(rt; column(&rt, mixed(rt.alloc(), &same)), 0);
+        let both = [
+            sets(3, false, 1),
+            sets(2, false, 1),
+            sets(8, true, 1),
+            sets(6, true, 1),
+        ];
+        assert_eq!(rt; column(&rt, mixed(rt.alloc(), &both)), 6);
+    }
+}

@@ -1,0 +1,5 @@
+pub mod DeclarationTable
+pub mod DeclarationView
+pub mod ItemKind
+pub mod Typed
+pub mod Constants

@@ -1,0 +1,206 @@
+ghost use Rattle.std.specs.Prelude.{◌≡◌, All, OnOk, map};
+ghost use Rattle.std.specs.Option.{option_map};
+ghost use Rattle.elab_scope.specs.Tally as spec;
+ghost use Rattle.elab_scope.specs.View.{IsWithin, fault_view, writing_view};
+ghost use Rattle.flat_design.specs.Bodies.{met_fault, met_signal, met_words, met_process, met_instance, met_statement, met_writing};
+
+use crate::fault::FoundFault;
+use crate::names::NameAt;
+use cov_host::{NoMemory, Place};
+use flat_design::{Counts, DesignLimit, Thing};
+use std::alloc::Global;
+use std::marker::Model;
+
+/// A target of an assignment: the signal or memory that its name stands for, and which of its bits are written.
+#[derive(Clone, Copy, Drop)]
+pub struct Written<'a> {
+    pub name: NameAt<'a>,
+    pub thing: Thing,
+    /// How far the lowest bit that is written stands above the lowest bit.
+    pub low: u32,
+    /// The number of bits that are written.
+    pub count: u32,
+    pub blocking: bool,
+    pub continuous: bool,
+    pub process: u32,
+}
+
+/// What was met up to the first limit that is passed: the first fault, what the limits count, and what is written.
+#[derive(Drop)]
+pub struct Tally<'a> {
+    first: Option<FoundFault<'a>>,
+    counts: Counts,
+    ended: bool,
+    writings: Vec<Written<'a>>,
+}
+
+impl<'a> Model for Tally<'a> {
+    ghost use Rattle.std.specs.Prelude.{All, map, ◌≤◌};
+    ghost use Rattle.std.specs.Option.{option_map};
+    ghost use Rattle.elab_scope.specs.Tally as spec;
+    ghost use Rattle.elab_scope.specs.View.{IsWithin, fault_view, writing_view};
+
+    ghost Value = { spec.Tally };
+
+    ghost view = { λ t. record {
+      first = option_map fault_view t.first;
+      counts = t.counts;
+      ended = t.ended;
+      writings = map writing_view t.writings.items;
+    } };
+
+    ghost invariant = { λ t. (t.counts.signals ≤ 65536) × (t.counts.processes ≤ 65536) × (t.counts.words ≤ 262144) × (t.counts.instances ≤ 65536) × (t.counts.statements ≤ 1048576) × All IsWithin t.writings.items };
+}
+
+impl<'a> Tally<'a> {
+    /// Nothing is found yet. It takes no memory.
+    pub fn new(alloc: Global) -> Tally<'a>
+        ensures { result ≡ spec.nothing_found }
+    {
+        Tally {
+            first: None,
+            counts: Counts {
+                signals: 0,
+                processes: 0,
+                words: 0,
+                instances: 0,
+                statements: 0,
+            },
+            ended: false,
+            writings: Vec::new(alloc),
+        }
+    }
+
+    /// A fault.
+    pub fn fault(&mut self, fault: FoundFault<'a>)
+        ensures { self.new ≡ spec.after self.old (met_fault (fault_view fault.entry)) }
+    {
+        if self.ended {
+            return;
+        }
+        self.tell(fault);
+    }
+
+    /// A fault before any limit.
+    fn tell(&mut self, fault: FoundFault<'a>)
+        ensures { self.new ≡ spec.with_fault (fault_view fault.entry) self.old }
+    {
+        self.ended = fault.is_limit();
+        if self.tells(&fault) {
+            self.first = Some(fault);
+        }
+    }
+
+    /// Whether this fault is told and not the one found so far.
+    fn tells(&self, fault: &FoundFault) -> bool
+        ensures { result ≡ spec.tells self.now.first (fault_view fault.now) }
+    {
+        match &self.first {
+            Some(first) => fault.goes_before(first),
+            None => true,
+        }
+    }
+
+    /// A declared signal, whose item stands here.
+    pub fn signal(&mut self, place: Place)
+        ensures { self.new ≡ spec.after self.old (met_signal place) }
+    {
+        if self.ended {
+            return;
+        }
+        if self.counts.signals == 65_536 {
+            self.tell(FoundFault::limit(DesignLimit::Signals, place));
+        } else {
+            self.counts.signals += 1;
+        }
+    }
+
+    /// A memory of so many words, whose item stands here.
+    pub fn words(&mut self, place: Place, count: u32)
+        ensures { self.new ≡ spec.after self.old (met_words place count) }
+    {
+        if self.ended {
+            return;
+        }
+        if u64::from(self.counts.words) + u64::from(count) > 262_144 {
+            self.tell(FoundFault::limit(DesignLimit::Words, place));
+        } else {
+            self.counts.words += count;
+        }
+    }
+
+    /// A process, whose item stands here.
+    pub fn process(&mut self, place: Place)
+        ensures { self.new ≡ spec.after self.old (met_process place) }
+    {
+        if self.ended {
+            return;
+        }
+        if self.counts.processes == 65_536 {
+            self.tell(FoundFault::limit(DesignLimit::Processes, place));
+        } else {
+            self.counts.processes += 1;
+        }
+    }
+
+    /// An instance, whose item stands here.
+    pub fn instance(&mut self, place: Place)
+        ensures { self.new ≡ spec.after self.old (met_instance place) }
+    {
+        if self.ended {
+            return;
+        }
+        if self.counts.instances == 65_536 {
+            self.tell(FoundFault::limit(DesignLimit::Instances, place));
+        } else {
+            self.counts.instances += 1;
+        }
+    }
+
+    /// A statement that stands here.
+    pub fn statement(&mut self, place: Place)
+        ensures { self.new ≡ spec.after self.old (met_statement place) }
+    {
+        if self.ended {
+            return;
+        }
+        if self.counts.statements == 1_048_576 {
+            self.tell(FoundFault::limit(DesignLimit::Statements, place));
+        } else {
+            self.counts.statements += 1;
+        }
+    }
+
+    /// A target of an assignment.
+    pub fn writing(&mut self, written: Written<'a>) -> Result<(), NoMemory>
+        requires { IsWithin written }
+        ensures { OnOk result (self.new ≡ spec.after self.old (met_writing (writing_view written.entry))) }
+    {
+        if !self.ended {
+            self.writings.push(written)?;
+        }
+        Ok(())
+    }
+
+    /// Whether a limit is passed, so that nothing behind counts.
+    pub fn is_ended(&self) -> bool
+        ensures { result ≡ self.now.ended }
+    {
+        self.ended
+    }
+
+    /// The first fault, if one was found.
+    pub fn first(&self) -> Option<FoundFault<'a>>
+        ensures { option_map fault_view result ≡ self.now.first }
+    {
+        self.first
+    }
+
+    /// What is written.
+    pub fn writings(&self) -> &[Written<'a>]
+        ensures written { map writing_view result.now ≡ self.now.writings }
+        ensures within { All IsWithin result.now }
+    {
+        &self.writings
+    }
+}

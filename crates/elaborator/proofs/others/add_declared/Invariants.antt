@@ -1,9 +1,0 @@
-use Rattle.std.proofs.Common.{◌≡◌, drop, map}
-use Rattle.verilog_tree.specs.View.{declareds_view}
-use Rattle.flat_design.specs.Scope.{binding_of}
-use Rattle.elaborator.specs.Constants.{with_others}
-use Rattle.elaborator.proofs.others.add_declared.Given as goal
-
--- with the names that are left the scope is the last one
-abbrev pub invariant-loop-declared : goal.invariant-loop-declared
-invariant-loop-declared l = with_others (map (λ d. d.name) (declareds_view (drop l.declared-index l.names))) (binding_of l.scope) ≡ with_others (map (λ d. d.name) (declareds_view l.fn.names)) (binding_of l.fn.scope)

@@ -1,9 +1,0 @@
-use Rattle.std.proofs.Common.{◌≡◌, drop, map}
-use Rattle.verilog_tree.specs.View.{ones_view}
-use Rattle.flat_design.specs.Scope.{binding_of}
-use Rattle.elaborator.specs.Constants.{with_others}
-use Rattle.elaborator.proofs.others.add_ones.Given as goal
-
--- with the names that are left the scope is the last one
-abbrev pub invariant-loop-one : goal.invariant-loop-one
-invariant-loop-one l = with_others (map (λ d. d.name) (ones_view (drop l.one-index l.ones))) (binding_of l.scope) ≡ with_others (map (λ d. d.name) (ones_view l.fn.ones)) (binding_of l.fn.scope)

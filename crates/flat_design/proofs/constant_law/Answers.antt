@@ -1,5 +1,0 @@
-use Rattle.flat_design.proofs.ConstantTerms.{constant_value}
-use Rattle.flat_design.proofs.constant_law.Goals as goal
-
-pub returns : goal.returns
-returns c g e is_constant sound base d v n s = constant_value base d v g e is_constant sound n s

@@ -1,5 +1,0 @@
-use Rattle.flat_design.proofs.TurnNames.{turn_names}
-use Rattle.flat_design.proofs.turn_law.Goals as goal
-
-pub returns : goal.returns
-returns c g x y v = turn_names g x y v

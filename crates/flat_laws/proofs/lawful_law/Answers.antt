@@ -1,0 +1,57 @@
+use Rattle.flat_laws.proofs.LawfulEvents.{answered_wakes}
+use Rattle.flat_laws.proofs.LawfulLimits.{answered_small}
+use Rattle.flat_laws.proofs.LawfulLists.{answered_in_range}
+use Rattle.flat_laws.proofs.LawfulPaths.{answered_paths}
+use Rattle.flat_laws.proofs.LawfulWriters.{answered_writers}
+use Rattle.flat_laws.proofs.lawful_law.Goals as goal
+
+pub returns-clause-signals : goal.returns-clause-signals
+returns-clause-signals c ms top d e = (answered_in_range ms top d e).signals
+
+pub returns-clause-memories : goal.returns-clause-memories
+returns-clause-memories c ms top d e = (answered_in_range ms top d e).memories
+
+pub returns-clause-instances : goal.returns-clause-instances
+returns-clause-instances c ms top d e = (answered_in_range ms top d e).instances
+
+pub returns-clause-constants : goal.returns-clause-constants
+returns-clause-constants c ms top d e = (answered_in_range ms top d e).constants
+
+pub returns-clause-few_signals : goal.returns-clause-few_signals
+returns-clause-few_signals c ms top d e = (answered_small ms top d e).few_signals
+
+pub returns-clause-few_processes : goal.returns-clause-few_processes
+returns-clause-few_processes c ms top d e = (answered_small ms top d e).few_processes
+
+pub returns-clause-few_words : goal.returns-clause-few_words
+returns-clause-few_words c ms top d e = (answered_small ms top d e).few_words
+
+pub returns-clause-few_instances : goal.returns-clause-few_instances
+returns-clause-few_instances c ms top d e = (answered_small ms top d e).few_instances
+
+pub returns-clause-few_statements : goal.returns-clause-few_statements
+returns-clause-few_statements c ms top d e = (answered_small ms top d e).few_statements
+
+pub returns-clause-aliases : goal.returns-clause-aliases
+returns-clause-aliases c ms top d e = (answered_wakes ms top d e).aliases
+
+pub returns-clause-lists : goal.returns-clause-lists
+returns-clause-lists c ms top d e p = (answered_wakes ms top d e).lists p
+
+pub returns-clause-events : goal.returns-clause-events
+returns-clause-events c ms top d e p = (answered_wakes ms top d e).events p
+
+pub returns-clause-short_instances : goal.returns-clause-short_instances
+returns-clause-short_instances c ms top d tokens e = (answered_paths ms top d tokens e).short_instances
+
+pub returns-clause-short_paths : goal.returns-clause-short_paths
+returns-clause-short_paths c ms top d tokens e x h = (answered_paths ms top d tokens e).short_paths x h
+
+pub returns-clause-one_writer : goal.returns-clause-one_writer
+returns-clause-one_writer c ms top d tokens e p q x a b h k = (answered_writers ms top d tokens e).one_writer p q x a b h k
+
+pub returns-clause-comb_writes : goal.returns-clause-comb_writes
+returns-clause-comb_writes c ms top d tokens e p x k h = (answered_writers ms top d tokens e).comb_writes p x k h
+
+pub returns-clause-apart : goal.returns-clause-apart
+returns-clause-apart c ms top d tokens e p q x a h k = (answered_writers ms top d tokens e).apart p q x a h k
