@@ -23,7 +23,9 @@ use Rattle.elab_const.specs.declared.fault.ConstKind.TheVariants.{NotConstant}
 use Rattle.elab_const.specs.declared.width.Shape.{Shape}
 use Rattle.cov_host.specs.declared.place.Place.{Place}
 use Rattle.flat_design.specs.Numbering.{condition_nodes, is_counted_condition, nodes, one_if}
-use Rattle.flat_design.specs.Scope.{Scope, Entry, a_constant, a_turn, a_signal, a_memory, a_loop_variable, an_instance, no_constant, a_faulty_one, is_memory_name, look_up, names, names_thing, shape, value_entry}
+use Rattle.flat_design.specs.Scope.{Scope, is_memory_name, look_up, names, names_thing, shape, value_entry}
+use Rattle.flat_design.specs.declared.entry.Entry.{Entry}
+use Rattle.flat_design.specs.declared.entry.Entry.TheVariants.{Constant as a_constant, Turn as a_turn, Signal as a_signal, Memory as a_memory, LoopVariable as a_loop_variable, Instance as an_instance, NoConstant as no_constant, Faulty as a_faulty_one}
 use Rattle.flat_design.specs.Terms.{condition_as, counted_as, name_term, term, terms, word_or_bit}
 
 -- of two faults none is there

@@ -12,7 +12,9 @@ use Rattle.flat_design.specs.Flat.{join_signal, join_as, join_port, join_ports, 
 use Rattle.flat_design.specs.Instances.{Instantiation, Sofar, meet, add_process, opened, Context, context, is_input}
 use Rattle.flat_design.specs.Numbering.{form_lines, form_nodes, value_nodes}
 use Rattle.flat_design.specs.Processes.{Made}
-use Rattle.flat_design.specs.Scope.{Scope, Entry, a_constant, a_turn, a_signal, a_memory, a_loop_variable, an_instance, no_constant, a_faulty_one, look_up}
+use Rattle.flat_design.specs.Scope.{Scope, look_up}
+use Rattle.flat_design.specs.declared.entry.Entry.{Entry}
+use Rattle.flat_design.specs.declared.entry.Entry.TheVariants.{Constant as a_constant, Turn as a_turn, Signal as a_signal, Memory as a_memory, LoopVariable as a_loop_variable, Instance as an_instance, NoConstant as no_constant, Faulty as a_faulty_one}
 use Rattle.flat_laws.proofs.Freedom.{IsFree, free_parts}
 
 -- the second list begins with the first

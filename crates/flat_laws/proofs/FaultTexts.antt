@@ -8,7 +8,8 @@ use Rattle.four_state.specs.declared.operator.Unary.TheVariants as unary
 use Rattle.verilog_tree.specs.declared.item.When.TheVariants.{Star, Names, Edges}
 use Rattle.verilog_tree.specs.Tree.{literal, identifier, bit_select, part_select, unary_operator, binary_operator, concatenation, replication, no_exprs, an_expr, sequential_block, for_loop, assignment, no_statements, a_statement, port_item, net_item, variable_item, integer_item, parameter_item, continuous_item, always_item, instance_item, Module}
 use Rattle.elab_const.specs.declared.fault.ConstKind.TheVariants.{NotConstant, TooWide, LoopNotConstant, BadRange}
-use Rattle.flat_design.specs.Fault.{Fault, first_fault, of_constant, of_modules, NoModule, TwoModules, Recursion, Undeclared, TwiceDeclared, PortMismatch, TwoDrivers, MixedAssign, Incomplete, EventNotBit, SelfAssign, Limit, WrongTarget, WrongUse}
+use Rattle.flat_design.specs.Fault.{Fault, first_fault, of_constant, of_modules}
+use Rattle.flat_design.specs.declared.fault.ElabKind.TheVariants.{NoModule, TwoModules, Recursion, Undeclared, TwiceDeclared, PortMismatch, TwoDrivers, MixedAssign, Incomplete, EventNotBit, SelfAssign, Limit, WrongTarget, WrongUse}
 use Rattle.flat_design.specs.Faults.{faults_of}
 use Rattle.flat_design.specs.Identifiers.{named}
 use Rattle.flat_laws.proofs.TextParts.{declared_as, given_as, header_as, instance_as, item_as, module_as, one_as, param_as, port_as, range_as, vector_as}

@@ -8,7 +8,8 @@ use Rattle.design_model.specs.Design.{Design}
 use Rattle.verilog_tree.specs.Tree.{Module}
 use Rattle.flat_design.specs.Bodies.{Met, met_fault, met_signal, met_words, met_process, met_instance, met_statement, met_writing, met_faults}
 use Rattle.flat_design.specs.Fault.{Fault, fault_if}
-use Rattle.flat_design.specs.Faults.{Counts, nothing, told, two_modules, answer}
+use Rattle.flat_design.specs.Faults.{nothing, told, two_modules, answer}
+use Rattle.flat_design.specs.declared.counts.Counts.{Counts}
 use Rattle.flat_design.specs.Flat.{elaborated}
 use Rattle.flat_design.specs.Processes.{writings, driver_faults}
 use Rattle.flat_laws.proofs.First.{none_stands}

@@ -11,7 +11,9 @@ use Rattle.flat_design.specs.Declarations.{Override}
 use Rattle.flat_design.specs.Flat.{join_signal, join_as, join_port, join_ports, instantiation, is_declared_here, one_instance, all_instances, instances_of, module_of, net_value, net_values, item, items, instance, elaborated, elaborated_from, top_instance, start}
 use Rattle.flat_design.specs.Instances.{Instantiation, Sofar, meet, opened, Context, context, is_input, scope_of}
 use Rattle.flat_design.specs.Numbering.{form_lines, form_nodes, value_nodes}
-use Rattle.flat_design.specs.Scope.{Scope, Entry, a_constant, a_turn, a_signal, a_memory, a_loop_variable, an_instance, no_constant, a_faulty_one, look_up}
+use Rattle.flat_design.specs.Scope.{Scope, look_up}
+use Rattle.flat_design.specs.declared.entry.Entry.{Entry}
+use Rattle.flat_design.specs.declared.entry.Entry.TheVariants.{Constant as a_constant, Turn as a_turn, Signal as a_signal, Memory as a_memory, LoopVariable as a_loop_variable, Instance as an_instance, NoConstant as no_constant, Faulty as a_faulty_one}
 use Rattle.flat_laws.proofs.LawfulLimits.{base_of}
 
 -- equal signals, memories and instances

@@ -22,8 +22,11 @@ use Rattle.flat_design.specs.Loops as loops
 use Rattle.flat_design.specs.Numbering.{nodes, all_nodes, condition_nodes, statement_nodes, lines}
 use Rattle.verilog_tree.specs.declared.item.Named.{Named}
 use Rattle.flat_design.specs.Processes.{Made, self_faults, whole_writing, process_of, when_faults, mixed_faults, incomplete_faults, writings, mode_of, continuous, always, joined_input, joined_output}
-use Rattle.flat_design.specs.Scope.{Scope, SignalEntry, names_faulty}
-use Rattle.flat_design.specs.Targets.{Mode, Continuous, target_faults, leaves, writing_of}
+use Rattle.flat_design.specs.Scope.{Scope, names_faulty}
+use Rattle.flat_design.specs.declared.entry.SignalEntry.{SignalEntry}
+use Rattle.flat_design.specs.Targets.{target_faults, leaves, writing_of}
+use Rattle.flat_design.specs.declared.entry.Mode.{Mode}
+use Rattle.flat_design.specs.declared.entry.Mode.TheVariants.{Continuous}
 use Rattle.flat_laws.proofs.Freedom.{signal_count, process_count, word_count, instance_count, statement_count}
 use Rattle.flat_laws.proofs.Members.{both_true}
 

@@ -25,7 +25,9 @@ use Rattle.flat_design.specs.Faults.{answer}
 use Rattle.flat_design.specs.Flat.{start, elaborated, top_instance}
 use Rattle.flat_design.specs.Instances.{Instantiation, Sofar, add_process, opened, context, declared, alias_number, alias_of, alias_to, signal_of, is_own}
 use Rattle.flat_design.specs.Processes.{Made, process_of, when_faults, edge_faults, signal_numbers, events}
-use Rattle.flat_design.specs.Scope.{Scope, Entry, a_constant, a_turn, a_signal, a_memory, a_loop_variable, an_instance, no_constant, a_faulty_one, look_up, range_width}
+use Rattle.flat_design.specs.Scope.{Scope, look_up, range_width}
+use Rattle.flat_design.specs.declared.entry.Entry.{Entry}
+use Rattle.flat_design.specs.declared.entry.Entry.TheVariants.{Constant as a_constant, Turn as a_turn, Signal as a_signal, Memory as a_memory, LoopVariable as a_loop_variable, Instance as an_instance, NoConstant as no_constant, Faulty as a_faulty_one}
 use Rattle.flat_laws.proofs.Freedom.{IsFree, IsSound, answered_sound, both_empty, free_parts, free_faults, not_told}
 use Rattle.flat_laws.proofs.LawfulLimits.{base_of, answered_keeps, answered_design}
 use Rattle.flat_laws.proofs.LawfulScope.{HasAliases, ScopeMatches, EntryMatches, aliases_match, found_passes, same_bytes, bytes_same, scope_matches}

@@ -18,7 +18,9 @@ use Rattle.flat_design.specs.Flat.{elaborated}
 use Rattle.flat_design.specs.Faults.{answer}
 use Rattle.flat_design.specs.Instances.{Instantiation, Sofar, context, add_process, opened, declared, constants, constant_of, memory_of, signal_of, is_own, is_memory, is_memory_sort, is_signal, is_signal_sort, sort_words}
 use Rattle.flat_design.specs.Processes.{Made, process_of}
-use Rattle.flat_design.specs.Scope.{Scope, Entry, a_constant, a_turn, a_signal, a_memory, a_loop_variable, an_instance, no_constant, a_faulty_one, range_or, range_width, is_ranged}
+use Rattle.flat_design.specs.Scope.{Scope, range_or, range_width, is_ranged}
+use Rattle.flat_design.specs.declared.entry.Entry.{Entry}
+use Rattle.flat_design.specs.declared.entry.Entry.TheVariants.{Constant as a_constant, Turn as a_turn, Signal as a_signal, Memory as a_memory, LoopVariable as a_loop_variable, Instance as an_instance, NoConstant as no_constant, Faulty as a_faulty_one}
 use Rattle.flat_laws.proofs.Continues.{Continues}
 use Rattle.flat_laws.proofs.Freedom.{IsSound, answered_sound}
 use Rattle.flat_laws.proofs.LawfulDeclared.{FewWords, declared_has_range}

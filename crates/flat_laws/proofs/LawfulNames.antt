@@ -9,7 +9,9 @@ use Rattle.verilog_tree.specs.Tree.{Param, ItemForm, initial_item, port_item, ne
 use Rattle.flat_design.specs.Declarations.{Declaration, Override, Sort, a_net, a_variable, words_from, an_integer, a_parameter, some_instance, faulty, declaration, item_declarations, all_declarations, param_entry, with_param, constants_from}
 use Rattle.flat_design.specs.Identifiers.{names_of, declared_names, params_of, item_params}
 use Rattle.flat_design.specs.Instances.{Instantiation, constants, constant_scope, other_names, declared, other_entry, signal_entry, entries, scope_of, is_signal, alias_number}
-use Rattle.flat_design.specs.Scope.{Scope, Bindings, binding_of, entry_or, with_bindings, look_up, Entry, a_constant, a_turn, a_signal, a_memory, a_loop_variable, an_instance, no_constant, a_faulty_one}
+use Rattle.flat_design.specs.Scope.{Scope, Bindings, binding_of, entry_or, with_bindings, look_up}
+use Rattle.flat_design.specs.declared.entry.Entry.{Entry}
+use Rattle.flat_design.specs.declared.entry.Entry.TheVariants.{Constant as a_constant, Turn as a_turn, Signal as a_signal, Memory as a_memory, LoopVariable as a_loop_variable, Instance as an_instance, NoConstant as no_constant, Faulty as a_faulty_one}
 use Rattle.flat_laws.proofs.LawfulDeclared.{from_all}
 use Rattle.flat_laws.proofs.LawfulScope.{same_bytes, IsConstantOrFaulty, constants_constant}
 use Rattle.flat_laws.proofs.LawfulSound.{entries_all}

@@ -19,7 +19,11 @@ use Rattle.flat_design.specs.Declarations.{Declaration, Override, Sort, a_net, a
 use Rattle.flat_design.specs.Identifiers.{params_of}
 use Rattle.flat_design.specs.Instances.{Instantiation, Sofar, PortAliases, opened, Context, context, constants, other_names, declared, declared_entry, other_entry, entries, alias_number, is_own, is_memory, is_signal, is_input, signal_entry, signal_of, memory_of, sort_words, is_memory_sort}
 use Rattle.flat_design.specs.Numbering.{one_if}
-use Rattle.flat_design.specs.Scope.{Scope, Bindings, binding_of, entry_or, look_up, Entry, a_constant, a_turn, a_signal, a_memory, a_loop_variable, an_instance, no_constant, a_faulty_one, SignalEntry, MemoryEntry, range_or, range_width, with_bindings, names_faulty, constant}
+use Rattle.flat_design.specs.Scope.{Scope, Bindings, binding_of, entry_or, look_up, range_or, range_width, with_bindings, names_faulty, constant}
+use Rattle.flat_design.specs.declared.entry.Entry.{Entry}
+use Rattle.flat_design.specs.declared.entry.Entry.TheVariants.{Constant as a_constant, Turn as a_turn, Signal as a_signal, Memory as a_memory, LoopVariable as a_loop_variable, Instance as an_instance, NoConstant as no_constant, Faulty as a_faulty_one}
+use Rattle.flat_design.specs.declared.entry.SignalEntry.{SignalEntry}
+use Rattle.flat_design.specs.declared.entry.MemoryEntry.{MemoryEntry}
 use Rattle.flat_design.specs.Fault.{none}
 use Rattle.flat_laws.proofs.Continues.{Begins, begins_more, begins_twice, Continues}
 use Rattle.flat_laws.proofs.Members.{in_flat_map}

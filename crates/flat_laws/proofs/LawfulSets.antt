@@ -12,7 +12,8 @@ use Rattle.flat_design.specs.Expressions.{faults, all_faults}
 use Rattle.flat_design.specs.Loops as loops
 use Rattle.flat_design.specs.Numbering.{nodes, all_nodes, condition_nodes, statement_nodes, lines}
 use Rattle.flat_design.specs.Scope.{Scope, shape}
-use Rattle.flat_design.specs.Targets.{Mode, target, target_faults}
+use Rattle.flat_design.specs.Targets.{target, target_faults}
+use Rattle.flat_design.specs.declared.entry.Mode.{Mode}
 use Rattle.flat_design.specs.Terms.{right_side}
 use Rattle.flat_laws.proofs.Freedom.{IsFree, both_empty, free_parts, free_faults}
 use Rattle.flat_laws.proofs.Members.{in_left, in_right}

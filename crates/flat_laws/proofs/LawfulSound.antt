@@ -14,7 +14,9 @@ use Rattle.flat_design.specs.Fault.{none}
 use Rattle.flat_design.specs.Identifiers.{identifiers, is_among, params_of, item_params, names_of}
 use Rattle.flat_design.specs.Instances.{Instantiation, constants, constant_scope, other_names, declared, declaration_faults, range_faults, PortAliases, entries, declared_entry, other_entry, signal_entry, is_own, is_memory, is_signal, is_signal_sort, alias_number, scope_of}
 use Rattle.flat_design.specs.Numbering.{one_if}
-use Rattle.flat_design.specs.Scope.{Scope, Bindings, binding_of, entry_or, with_bindings, look_up, names_faulty, is_faulty_entry, Entry, a_constant, no_constant, a_faulty_one, constant}
+use Rattle.flat_design.specs.Scope.{Scope, Bindings, binding_of, entry_or, with_bindings, look_up, names_faulty, is_faulty_entry, constant}
+use Rattle.flat_design.specs.declared.entry.Entry.{Entry}
+use Rattle.flat_design.specs.declared.entry.Entry.TheVariants.{Constant as a_constant, NoConstant as no_constant, Faulty as a_faulty_one}
 use Rattle.flat_laws.proofs.Freedom.{both_empty}
 use Rattle.flat_laws.proofs.LawfulDeclared.{from_all}
 use Rattle.flat_laws.proofs.LawfulEvents.{each_empty}

@@ -16,8 +16,13 @@ use Rattle.flat_design.specs.Identifiers.{base_name}
 use Rattle.flat_design.specs.Instances.{Instantiation, Sofar, opened, opening_met, context}
 use Rattle.flat_design.specs.Loops as loops
 use Rattle.flat_design.specs.Numbering.{nodes}
-use Rattle.flat_design.specs.Scope.{Scope, Entry, a_constant, a_turn, a_signal, a_memory, a_loop_variable, an_instance, no_constant, a_faulty_one, SignalEntry, MemoryEntry, look_up, is_faulty_entry, thing_of, thing_number, is_memory_name}
-use Rattle.flat_design.specs.Targets.{Mode, target, targets, leaves, all_leaves, leaf_faults, signal_target_faults, memory_target_faults, target_faults, all_target_faults}
+use Rattle.flat_design.specs.Scope.{Scope, look_up, is_faulty_entry, thing_of, thing_number, is_memory_name}
+use Rattle.flat_design.specs.declared.entry.Entry.{Entry}
+use Rattle.flat_design.specs.declared.entry.Entry.TheVariants.{Constant as a_constant, Turn as a_turn, Signal as a_signal, Memory as a_memory, LoopVariable as a_loop_variable, Instance as an_instance, NoConstant as no_constant, Faulty as a_faulty_one}
+use Rattle.flat_design.specs.declared.entry.SignalEntry.{SignalEntry}
+use Rattle.flat_design.specs.declared.entry.MemoryEntry.{MemoryEntry}
+use Rattle.flat_design.specs.Targets.{target, targets, leaves, all_leaves, leaf_faults, signal_target_faults, memory_target_faults, target_faults, all_target_faults}
+use Rattle.flat_design.specs.declared.entry.Mode.{Mode}
 use Rattle.flat_design.specs.Tokens.{AreOfTokens}
 use Rattle.flat_laws.proofs.Continues.{Continues}
 use Rattle.flat_laws.proofs.Freedom.{IsFree, both_empty}

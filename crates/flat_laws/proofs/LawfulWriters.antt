@@ -15,15 +15,22 @@ use Rattle.verilog_tree.specs.declared.item.When.TheVariants.{Star, Names, Edges
 use Rattle.verilog_tree.specs.Tree.{Expr, Module, Statement, Item, InstanceItem, One}
 use Rattle.flat_design.specs.Bodies.{Met, met_writing, met_writings, met_faults, met_process, met, statement}
 use Rattle.std.specs.Prelude.{bytes_eq}
-use Rattle.flat_design.specs.Fault.{Fault, ElabKind, none, TwoDrivers}
+use Rattle.flat_design.specs.Fault.{Fault, none}
+use Rattle.flat_design.specs.declared.fault.ElabKind.{ElabKind}
+use Rattle.flat_design.specs.declared.fault.ElabKind.TheVariants.{TwoDrivers}
 use Rattle.flat_design.specs.Faults.{answer}
 use Rattle.flat_design.specs.Flat.{elaborated}
 use Rattle.flat_design.specs.Identifiers.{base_name}
 use Rattle.flat_design.specs.Instances.{opened, Instantiation, Sofar, context, add_process}
 use Rattle.flat_design.specs.Expressions.{faults}
 use Rattle.flat_design.specs.Processes.{self_faults, whole_writing, Made, process_of, mode_of, when_faults, mixed_faults, incomplete_faults, writings, writing_met, conflicts, fault_at_first, have_common, are_two_drivers, later_of, always}
-use Rattle.flat_design.specs.Scope.{SignalEntry, Scope, look_up, names_faulty, Thing, the_signal, the_memory, thing_of, is_same_thing}
-use Rattle.flat_design.specs.Targets.{target, Continuous, Mode, leaves, Writing, writing_of, target_faults, memory_target_faults}
+use Rattle.flat_design.specs.Scope.{Scope, look_up, names_faulty, thing_of, is_same_thing}
+use Rattle.flat_design.specs.declared.entry.SignalEntry.{SignalEntry}
+use Rattle.flat_design.specs.declared.entry.Thing.{Thing}
+use Rattle.flat_design.specs.declared.entry.Thing.TheVariants.{Signal as the_signal, Memory as the_memory}
+use Rattle.flat_design.specs.Targets.{target, leaves, Writing, writing_of, target_faults, memory_target_faults}
+use Rattle.flat_design.specs.declared.entry.Mode.TheVariants.{Continuous}
+use Rattle.flat_design.specs.declared.entry.Mode.{Mode}
 use Rattle.flat_design.specs.Tokens.{AreOfTokens}
 use Rattle.flat_laws.proofs.Continues.{Continues, continues_opened, continues_twice}
 use Rattle.flat_laws.proofs.Freedom.{free_faults, IsFree, IsSound, answered_sound, free_parts, both_empty}

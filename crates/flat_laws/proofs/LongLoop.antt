@@ -5,7 +5,8 @@ use Rattle.verilog_tree.specs.Tree.{Header, literal, identifier}
 use Rattle.elab_const.specs.declared.fault.ConstKind.TheVariants.{LoopTooLong}
 use Rattle.flat_design.specs.Fault.{of_constant}
 use Rattle.flat_design.specs.Loops.{turn_faults}
-use Rattle.flat_design.specs.Scope.{Scope, a_loop_variable, no_names, with_entry}
+use Rattle.flat_design.specs.Scope.{Scope, no_names, with_entry}
+use Rattle.flat_design.specs.declared.entry.Entry.TheVariants.{LoopVariable as a_loop_variable}
 use Rattle.flat_laws.proofs.ExampleParts.{at, known}
 
 -- for (i = 0; 1; i = i)

@@ -9,12 +9,16 @@ use Rattle.verilog_tree.specs.declared.item.When.{When}
 use Rattle.verilog_tree.specs.Tree.{Expr, Statement, One, InstanceItem, Declared, ItemForm, initial_item, port_item, net_item, variable_item, integer_item, parameter_item, continuous_item, always_item, instance_item, Item, Module, identifier}
 use Rattle.flat_design.specs.Bodies.{Met, met_fault, met_faults}
 use Rattle.flat_design.specs.Connections.{Joined, as_alias, by_assignment, not_joined, joining, JoinedPort, joined_ports, port_faults, given_faults, overrides, override_faults, are_sound_overrides}
-use Rattle.flat_design.specs.Fault.{Fault, fault_at, Recursion}
+use Rattle.flat_design.specs.Fault.{Fault, fault_at}
+use Rattle.flat_design.specs.declared.fault.ElabKind.TheVariants.{Recursion}
 use Rattle.flat_design.specs.Flat.{start, top_instance, elaborated_from, join_as, join_port, join_ports, instantiation, replaced, is_declared_here, one_instance, all_instances, instances_of, module_of, net_value, net_values, item, items, instance}
 use Rattle.flat_design.specs.Instances.{Instantiation, Sofar, meet, add_process, opened, opening_met, Context, context, is_input}
 use Rattle.flat_design.specs.Numbering.{form_lines, form_nodes, value_nodes}
 use Rattle.flat_design.specs.Processes.{Made, continuous, always, joined_input, joined_output}
-use Rattle.flat_design.specs.Scope.{Entry, a_constant, a_turn, a_signal, a_memory, a_loop_variable, an_instance, no_constant, a_faulty_one, SignalEntry, look_up}
+use Rattle.flat_design.specs.Scope.{look_up}
+use Rattle.flat_design.specs.declared.entry.Entry.{Entry}
+use Rattle.flat_design.specs.declared.entry.Entry.TheVariants.{Constant as a_constant, Turn as a_turn, Signal as a_signal, Memory as a_memory, LoopVariable as a_loop_variable, Instance as an_instance, NoConstant as no_constant, Faulty as a_faulty_one}
+use Rattle.flat_design.specs.declared.entry.SignalEntry.{SignalEntry}
 use Rattle.flat_laws.proofs.Freedom.{IsFree, free_parts, free_faults}
 use Rattle.flat_laws.proofs.Continues.{Continues, continues_same, continues_twice, continues_meet, free_before, join_port_continues, join_ports_continues, one_continues, all_continue, net_value_continues, net_values_continue, item_continues, items_continue, instance_continues}
 
