@@ -8,8 +8,8 @@ ghost use Rattle.verilog_tree.specs.View.{expr_view, exprs_view};
 
 use crate::counted::take_if;
 use crate::names::{is_counted_condition, one_names_thing};
-use elab_scope::{Scope, names_thing};
 use cov_host::NoMemory;
+use elab_scope::{Scope, names_thing};
 use verilog_tree::{Expr, ExprForm};
 
 /// Passes the numbers of the counted nodes of an expression.

@@ -12,9 +12,9 @@ ghost use Rattle.flat_design.specs.Terms.{name_term, head_as};
 ghost use Rattle.verilog_tree.specs.View.{expr_view};
 
 use crate::forms::Around;
-use elab_scope::{Scope, names_thing};
 use cov_host::Name;
 use design_model::Term;
+use elab_scope::{Scope, names_thing};
 use flat_design::Entry;
 use verilog_tree::{Expr, ExprForm};
 

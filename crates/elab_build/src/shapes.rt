@@ -8,8 +8,8 @@ ghost use Rattle.flat_design.specs.Scope as spec;
 ghost use Rattle.flat_design.specs.Scope.{binding_of};
 ghost use Rattle.verilog_tree.specs.View.{expr_view};
 
-use elab_scope::Scope;
 use elab_const::Shape;
+use elab_scope::Scope;
 use four_state::{Binary, Unary};
 use verilog_tree::Expr;
 

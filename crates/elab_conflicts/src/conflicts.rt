@@ -10,8 +10,8 @@ ghost use Rattle.elab_scope.specs.View.{IsWithin, name_view, writing_view};
 ghost use Rattle.flat_design.specs.Scope.{is_same_thing};
 ghost use Rattle.flat_design.specs.Processes.{conflicts, driver_faults, mixed_faults};
 
-use elab_scope::{NameAt, Written};
 use cov_host::NoMemory;
+use elab_scope::{NameAt, Written};
 use flat_design::{ElabKind, Thing};
 use std::alloc::Global;
 use std::cmp::Ordering;
@@ -64,10 +64,7 @@ pub fn two_drivers<'a>(
 }
 
 /// The first name in the text at which both blocking and nonblocking assignments to one signal or memory are met.
-pub fn mixed<'a>(
-    alloc: Global,
-    writings: &[Written<'a>],
-) -> Result<Option<NameAt<'a>>, NoMemory>
+pub fn mixed<'a>(alloc: Global, writings: &[Written<'a>]) -> Result<Option<NameAt<'a>>, NoMemory>
     requires { All IsWithin writings.now }
     ensures { IfOk result (λ found. mixed_faults (map writing_view writings.now) ≡ faults_at ElabKind.MixedAssign found) }
 {

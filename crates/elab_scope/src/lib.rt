@@ -11,6 +11,9 @@ mod tally;
 pub use fault::{FoundFault, is_before_or};
 pub use name_map::NameMap;
 pub use name_set::NameSet;
-pub use names::{NameAt, base_name, is_memory_name, names_constants, names_faulty, names_no_constant, names_thing};
+pub use names::{
+    NameAt, base_name, is_memory_name, names_constants, names_faulty, names_no_constant,
+    names_thing,
+};
 pub use scope::{Scope, range_or, span};
 pub use tally::{Tally, Written};

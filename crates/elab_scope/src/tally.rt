@@ -1,4 +1,4 @@
-ghost use Rattle.std.specs.Prelude.{◌≡◌, All, OnOk, map};
+ghost use Rattle.std.specs.Prelude.{◌≡◌, ◌≤◌, All, OnOk, map};
 ghost use Rattle.std.specs.Option.{option_map};
 ghost use Rattle.elab_scope.specs.Tally as spec;
 ghost use Rattle.elab_scope.specs.View.{IsWithin, fault_view, writing_view};
@@ -187,6 +187,16 @@ impl<'a> Tally<'a> {
         ensures { result ≡ self.now.ended }
     {
         self.ended
+    }
+
+    /// What the limits count so far.
+    pub fn counts(&self) -> Counts
+        ensures counts { result ≡ self.now.counts }
+        ensures signals { result.signals ≤ 65536 }
+        ensures processes { result.processes ≤ 65536 }
+        ensures words { result.words ≤ 262144 }
+    {
+        self.counts
     }
 
     /// The first fault, if one was found.

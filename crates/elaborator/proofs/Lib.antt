@@ -1,1 +1,3 @@
 pub mod ModuleLemmas
+pub mod WalkLemmas
+pub mod StepLemmas

@@ -1,2 +1,3 @@
 pub mod ConnectionView
 pub mod Modules
+pub mod Walk

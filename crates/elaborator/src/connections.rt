@@ -10,8 +10,8 @@ ghost use Rattle.elab_scope.specs.Tally.{after_faults};
 ghost use Rattle.elab_scope.specs.View.{name_view, names_view};
 ghost use Rattle.elaborator.specs.ConnectionView.{connection_view};
 
-use elab_scope::{FoundFault, NameAt, NameSet, Tally};
 use cov_host::NoMemory;
+use elab_scope::{FoundFault, NameAt, NameSet, Tally};
 use flat_design::ElabKind;
 use std::alloc::Global;
 use verilog_tree::{Expr, Given, Named};

@@ -9,8 +9,8 @@ ghost use Rattle.elaborator.specs.Modules.{first_places, module_faults, or_bound
 ghost use Rattle.elab_scope.specs.NameMap.{bound_to};
 ghost use Rattle.elab_scope.specs.Tally.{after_faults};
 
-use elab_scope::{FoundFault, NameAt, NameMap, Tally};
 use cov_host::NoMemory;
+use elab_scope::{FoundFault, NameAt, NameMap, Tally};
 use flat_design::ElabKind;
 use std::alloc::Global;
 use verilog_tree::Module;
