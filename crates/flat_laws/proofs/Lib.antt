@@ -33,3 +33,9 @@ pub mod LawfulSets
 pub mod LawfulNames
 pub mod LawfulTargets
 pub mod LawfulWriters
+pub mod Once
+pub mod TextLines
+pub mod FewerNodes
+pub mod TextNodes
+pub mod NodesInText
+pub mod LawfulNumbers
