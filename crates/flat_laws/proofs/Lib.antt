@@ -39,3 +39,6 @@ pub mod FewerNodes
 pub mod TextNodes
 pub mod NodesInText
 pub mod LawfulNumbers
+pub mod Distinct
+pub mod DeclaredOnce
+pub mod LawfulDistinct

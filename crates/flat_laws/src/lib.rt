@@ -3,7 +3,7 @@
 
 ghost use Rattle.std.specs.Prelude.{ℕ, ◌≡◌, ◌<◌, ◌≤◌, ◌==◌, ◌&&◌, nat_lt, true, List, length, sum_by, Ok, Err};
 ghost use Rattle.std.specs.List.{list_all};
-ghost use Rattle.design_model.specs.Design.{Design, In, IsAssign, IsComb, body_at, is_number, path_of, process_at, signal_at};
+ghost use Rattle.design_model.specs.Design.{AreDistinct, Design, In, IsAssign, IsComb, body_at, is_number, names_of, path_of, process_at, signal_at};
 ghost use Rattle.design_model.specs.Lawful.{instance_of, is_alias, is_instance, is_memory_of, is_signal, size_of, span, wakes_of};
 ghost use Rattle.design_model.specs.Machine.{events_of};
 ghost use Rattle.design_model.specs.Mentions.{body_assigns};
@@ -44,6 +44,7 @@ pub fn lawful_law()
     ensures comb_writes { (ms : List Module) (top : List ℕ) (d : Design) → AreOfTokens ms → answer ms top ≡ Ok d → (p x : ℕ) → IsComb (process_at d p) → body_assigns x (body_at d p) ≡ true → x < length d.signals }
     ensures lines_once { (ms : List Module) (top : List ℕ) (d : Design) → answer ms top ≡ Ok d → (p q : ℕ) (x y : LineAt) → In x (lines_of (process_at d p)) → In y (lines_of (process_at d q)) → instance_of (process_at d p) ≡ instance_of (process_at d q) → x.line ≡ y.line → (p ≡ q) × (x ≡ y) }
     ensures nodes_once { (ms : List Module) (top : List ℕ) (d : Design) → answer ms top ≡ Ok d → (p q : ℕ) (x y : NodeAt) → In x (nodes_of (process_at d p)) → In y (nodes_of (process_at d q)) → instance_of (process_at d p) ≡ instance_of (process_at d q) → x.node ≡ y.node → (p ≡ q) × (x ≡ y) }
+    ensures names { (ms : List Module) (top : List ℕ) (d : Design) → answer ms top ≡ Ok d → AreDistinct (names_of d) }
 {}
 
 /// The line points of a flat statement have the numbers from the first on, as many as the statement has line points.

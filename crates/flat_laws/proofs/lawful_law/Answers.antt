@@ -1,3 +1,4 @@
+use Rattle.flat_laws.proofs.LawfulDistinct.{answered_names}
 use Rattle.flat_laws.proofs.LawfulEvents.{answered_wakes}
 use Rattle.flat_laws.proofs.LawfulLimits.{answered_small}
 use Rattle.flat_laws.proofs.LawfulLists.{answered_in_range}
@@ -62,3 +63,6 @@ returns-clause-lines_once c ms top d e p q x y h k i same = (answered_numbers ms
 
 pub returns-clause-nodes_once : goal.returns-clause-nodes_once
 returns-clause-nodes_once c ms top d e p q x y h k i same = (answered_numbers ms top d e).nodes_once p q x y h k i same
+
+pub returns-clause-names : goal.returns-clause-names
+returns-clause-names c ms top d e = (answered_names ms top d e).names
