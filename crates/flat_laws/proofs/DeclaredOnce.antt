@@ -71,14 +71,14 @@ abbrev pub is_plain : Sort → Bool
 is_plain s = not (is_net s || is_variable s)
 
 -- none of the declarations is faulty
-record AreSound (ds : List Declaration) : Type 0 where
-  sound : (d : Declaration) → In d ds → is_faulty d.sort ≡ false
+pub record AreSound (ds : List Declaration) : Type 0 where
+  pub sound : (d : Declaration) → In d ds → is_faulty d.sort ≡ false
 
 completed_sound : (b : Bool) → is_faulty (if b then a_variable else a_net) ≡ false
 completed_sound true = refl
 completed_sound false = refl
 
-added_sound : (cs : List Declaration) (d : Declaration) → AreSound cs → is_faulty d.sort ≡ false → AreSound (add_declaration cs d)
+pub added_sound : (cs : List Declaration) (d : Declaration) → AreSound cs → is_faulty d.sort ≡ false → AreSound (add_declaration cs d)
 added_sound cs d h here = record { sound = λ x k. added_all (λ y. is_faulty y.sort ≡ false) (λ c e l m. completed_sound (is_variable c.sort || is_variable e.sort)) cs d h.sound here x k }
 
 not_net : (a b : Bool) → not (a || b) ≡ true → (a || b) ≡ false
@@ -109,7 +109,7 @@ none_passes p (y ∷ ys) x h (inl e) = subst (λ z. p z ≡ false) e (neither (p
 none_passes p (y ∷ ys) x h (inr k) = none_passes p ys x (neither (p y) (list_any p ys) h).1 k
 
 -- what is neither net nor variable is not declared again
-not_again : (sofar : List Declaration) (c d : Declaration) → AreSound sofar → is_faulty d.sort ≡ false → is_plain d.sort ≡ true → is_declared_again sofar d ≡ false → In c sofar → name_of c ≡ name_of d → ⊥
+pub not_again : (sofar : List Declaration) (c d : Declaration) → AreSound sofar → is_faulty d.sort ≡ false → is_plain d.sort ≡ true → is_declared_again sofar d ≡ false → In c sofar → name_of c ≡ name_of d → ⊥
 not_again sofar c d sound here plain once c_in same =
     by_test (bytes_eq c.name.name d.name.name) (completes c d) (is_faulty c.sort) (is_faulty d.sort) (bytes_same c.name.name d.name.name same) (λ h. plain_second c d plain h) (sound.sound c c_in) here
     (none_passes (λ x. bytes_eq x.name.name d.name.name && not (completes x d || is_faulty x.sort || is_faulty d.sort)) sofar c once c_in)
@@ -158,7 +158,7 @@ from_in sofar (e ∷ ds) once sound all d plain h =
         inl (subst (λ z. In z (add_declaration sofar e)) same (added_in sofar e (λ c c_in named. not_again sofar c e sound (all.sound e (inl refl)) (subst (λ z. is_plain z.sort ≡ true) (sym same) plain) new c_in named)))
     by_place new (inr (inr k)) = inr k
 
-all_sound : (os : List Override) (m : Module) → declaration_faults os m ≡ [] → AreSound (all_declarations (constant_scope os m) m)
+pub all_sound : (os : List Override) (m : Module) → declaration_faults os m ≡ [] → AreSound (all_declarations (constant_scope os m) m)
 all_sound os m e = record { sound = λ d k. (declarations_fine m (constant_scope os m) (constant_scope_sound os m e) (no_declaration_faults os m e).ranges d k).sound }
 
 -- a declaration that nothing completes is one of the declared names

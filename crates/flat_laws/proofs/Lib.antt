@@ -42,3 +42,5 @@ pub mod LawfulNumbers
 pub mod Distinct
 pub mod DeclaredOnce
 pub mod LawfulDistinct
+pub mod InstancesOnce
+pub mod LawfulInstances

@@ -1,5 +1,6 @@
 use Rattle.flat_laws.proofs.LawfulDistinct.{answered_names}
 use Rattle.flat_laws.proofs.LawfulEvents.{answered_wakes}
+use Rattle.flat_laws.proofs.LawfulInstances.{answered_instances}
 use Rattle.flat_laws.proofs.LawfulLimits.{answered_small}
 use Rattle.flat_laws.proofs.LawfulLists.{answered_in_range}
 use Rattle.flat_laws.proofs.LawfulNumbers.{answered_numbers}
@@ -66,3 +67,6 @@ returns-clause-nodes_once c ms top d e p q x y h k i same = (answered_numbers ms
 
 pub returns-clause-names : goal.returns-clause-names
 returns-clause-names c ms top d e = (answered_names ms top d e).names
+
+pub returns-clause-instance_paths : goal.returns-clause-instance_paths
+returns-clause-instance_paths c ms top d tokens e = (answered_instances ms top d tokens e).instance_paths
