@@ -290,7 +290,7 @@ pub others_met : (f : Met → ℕ) → ((m : Met) → is_told m ≡ true → f m
 others_met f h k l i [] = refl
 others_met f h k l i (d ∷ ds) = omega (arith, sum_by-append f (declared_met i d) (flat_map (declared_met i) ds), other_met f h k l i d (is_own i.aliases i.of_module d) (is_memory d), others_met f h k l i ds)
 
-own_no_memory : (i : Instantiation) (d : Declaration) → is_own i.aliases i.of_module d ≡ true → is_memory d ≡ false
+pub own_no_memory : (i : Instantiation) (d : Declaration) → is_own i.aliases i.of_module d ≡ true → is_memory d ≡ false
 own_no_memory i d h = not_both_sorts i.of_module d.name.name d.sort (and_parts (is_signal i.of_module d) _ h).0
 
 abbrev words_in : Memory → ℕ

@@ -109,7 +109,7 @@ completed_has_range c d h k = record { bits = λ e. h.bits (completes_sound c d 
     either false = tt
 
 -- what a completed declaration keeps
-added_all : (P : Declaration → Type 0) → ((c d : Declaration) → P c → completes c d ≡ true → P (completed c d)) → (cs : List Declaration) (d : Declaration) → ((x : Declaration) → In x cs → P x) → P d → (x : Declaration) → In x (add_declaration cs d) → P x
+pub added_all : (P : Declaration → Type 0) → ((c d : Declaration) → P c → completes c d ≡ true → P (completed c d)) → (cs : List Declaration) (d : Declaration) → ((x : Declaration) → In x cs → P x) → P d → (x : Declaration) → In x (add_declaration cs d) → P x
 added_all P keeps [] d all here x (inl e) = subst P e here
 added_all P keeps [] d all here x (inr h) = absurd h
 added_all P keeps (c ∷ cs) d all here x h = by_name (added_all P keeps cs d (λ y l. all y (inr l)) here x) (bytes_eq c.name.name d.name.name) h

@@ -158,7 +158,7 @@ pub instance_here : (i : Instantiation) (before now : Sofar) → Continues (open
 instance_here i before now h =
     omega (arith, ap length h.instances.whole, length-append (opened i before).design.instances h.instances.rest, length-append before.design.instances (record { path = i.path; «module» = i.of_module.name.name } ∷ []))
 
-process_instance : (g : Scope) (i : ℕ) (w : When) (s : Stmt) → instance_of (process_of g i w s) ≡ i
+pub process_instance : (g : Scope) (i : ℕ) (w : When) (s : Stmt) → instance_of (process_of g i w s) ≡ i
 process_instance g i Star s = refl
 process_instance g i (Names xs) s = refl
 process_instance g i (Edges xs) s = refl

@@ -324,7 +324,7 @@ found_passes p (y ∷ ys) x h = by_test (found_passes p ys x) (p y) refl h
     by_test rest false is e = rest e
 
 -- an alias that is found is that of a port
-alias_found : (g : Scope) (js : List JoinedPort) (x : List ℕ) (n : ℕ) → alias_number (flat_map (port_alias g) js) x ≡ Some n →
+pub alias_found : (g : Scope) (js : List JoinedPort) (x : List ℕ) (n : ℕ) → alias_number (flat_map (port_alias g) js) x ≡ Some n →
     (j : JoinedPort) × In j js × (x ≡ j.port.name.name) × (joining g j.port j.label j.value ≡ as_alias n)
 alias_found g [] x n h = absurd cc
 alias_found g (j ∷ js) x n h = by_joining (alias_found g js x n) (joining g j.port j.label j.value) refl h

@@ -167,7 +167,7 @@ item_fine m g h x x_in (continuous_item y v) is e d k = absurd k
 item_fine m g h x x_in (always_item y v) is e d k = absurd k
 item_fine m g h x x_in (initial_item v) is e d k = absurd k
 
-declarations_fine : (m : Module) (g : Scope) → IsSoundScope g → range_faults g m ≡ [] → (d : Declaration) → In d (all_declarations g m) → IsFine m d
+pub declarations_fine : (m : Module) (g : Scope) → IsSoundScope g → range_faults g m ≡ [] → (d : Declaration) → In d (all_declarations g m) → IsFine m d
 declarations_fine m g h e d k = by_part (in_append d (map (λ p. declaration p.name.place a_parameter None false None p.name) m.params) _ k)
   where
     by_part : In d (map (λ p. declaration p.name.place a_parameter None false None p.name) m.params) ⊎ In d (flat_map (λ i. item_declarations g i.place i.form) m.items) → IsFine m d

@@ -33,3 +33,14 @@ pub mod LawfulSets
 pub mod LawfulNames
 pub mod LawfulTargets
 pub mod LawfulWriters
+pub mod Once
+pub mod TextLines
+pub mod FewerNodes
+pub mod TextNodes
+pub mod NodesInText
+pub mod LawfulNumbers
+pub mod Distinct
+pub mod DeclaredOnce
+pub mod LawfulDistinct
+pub mod InstancesOnce
+pub mod LawfulInstances

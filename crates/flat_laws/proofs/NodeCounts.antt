@@ -12,10 +12,10 @@ same_any : (g h : Scope) → HaveSameThings g h → (xs : List Named) → list_a
 same_any g h s [] = refl
 same_any g h s (x ∷ xs) = rw (s x.name, same_any g h s xs)
 
-same_things : (g h : Scope) → HaveSameThings g h → (e : Expr) → names_thing g e ≡ names_thing h e
+pub same_things : (g h : Scope) → HaveSameThings g h → (e : Expr) → names_thing g e ≡ names_thing h e
 same_things g h s e = same_any g h s (identifiers e)
 
-same_condition : (g h : Scope) → HaveSameThings g h → (e : Expr) → is_counted_condition g e ≡ is_counted_condition h e
+pub same_condition : (g h : Scope) → HaveSameThings g h → (e : Expr) → is_counted_condition g e ≡ is_counted_condition h e
 same_condition g h s e = ap (λ b. not (is_operator (bare e)) && b) (same_things g h s e)
 
 mutual

@@ -1,6 +1,9 @@
+use Rattle.flat_laws.proofs.LawfulDistinct.{answered_names}
 use Rattle.flat_laws.proofs.LawfulEvents.{answered_wakes}
+use Rattle.flat_laws.proofs.LawfulInstances.{answered_instances}
 use Rattle.flat_laws.proofs.LawfulLimits.{answered_small}
 use Rattle.flat_laws.proofs.LawfulLists.{answered_in_range}
+use Rattle.flat_laws.proofs.LawfulNumbers.{answered_numbers}
 use Rattle.flat_laws.proofs.LawfulPaths.{answered_paths}
 use Rattle.flat_laws.proofs.LawfulWriters.{answered_writers}
 use Rattle.flat_laws.proofs.lawful_law.Goals as goal
@@ -55,3 +58,15 @@ returns-clause-comb_writes c ms top d tokens e p x k h = (answered_writers ms to
 
 pub returns-clause-apart : goal.returns-clause-apart
 returns-clause-apart c ms top d tokens e p q x a h k = (answered_writers ms top d tokens e).apart p q x a h k
+
+pub returns-clause-lines_once : goal.returns-clause-lines_once
+returns-clause-lines_once c ms top d e p q x y h k i same = (answered_numbers ms top d e).lines_once p q x y h k i same
+
+pub returns-clause-nodes_once : goal.returns-clause-nodes_once
+returns-clause-nodes_once c ms top d e p q x y h k i same = (answered_numbers ms top d e).nodes_once p q x y h k i same
+
+pub returns-clause-names : goal.returns-clause-names
+returns-clause-names c ms top d e = (answered_names ms top d e).names
+
+pub returns-clause-instance_paths : goal.returns-clause-instance_paths
+returns-clause-instance_paths c ms top d tokens e = (answered_instances ms top d tokens e).instance_paths
