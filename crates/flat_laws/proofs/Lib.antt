@@ -33,3 +33,7 @@ pub mod LawfulSets
 pub mod LawfulNames
 pub mod LawfulTargets
 pub mod LawfulWriters
+pub mod LawfulPorts
+pub mod LawfulSources
+pub mod LawfulInputs
+pub mod LawfulMixed

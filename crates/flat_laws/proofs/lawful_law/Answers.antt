@@ -1,6 +1,8 @@
 use Rattle.flat_laws.proofs.LawfulEvents.{answered_wakes}
+use Rattle.flat_laws.proofs.LawfulInputs.{answered_inputs}
 use Rattle.flat_laws.proofs.LawfulLimits.{answered_small}
 use Rattle.flat_laws.proofs.LawfulLists.{answered_in_range}
+use Rattle.flat_laws.proofs.LawfulMixed.{answered_mixed}
 use Rattle.flat_laws.proofs.LawfulPaths.{answered_paths}
 use Rattle.flat_laws.proofs.LawfulWriters.{answered_writers}
 use Rattle.flat_laws.proofs.lawful_law.Goals as goal
@@ -55,3 +57,9 @@ returns-clause-comb_writes c ms top d tokens e p x k h = (answered_writers ms to
 
 pub returns-clause-apart : goal.returns-clause-apart
 returns-clause-apart c ms top d tokens e p q x a h k = (answered_writers ms top d tokens e).apart p q x a h k
+
+pub returns-clause-no_input : goal.returns-clause-no_input
+returns-clause-no_input c ms top d tokens e p s h = (answered_inputs ms top d tokens e).no_input p s h
+
+pub returns-clause-not_both : goal.returns-clause-not_both
+returns-clause-not_both c ms top d tokens e p q x h k = (answered_mixed ms top d tokens e).not_both p q x h k
