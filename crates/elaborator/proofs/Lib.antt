@@ -1,3 +1,4 @@
 pub mod ModuleLemmas
 pub mod WalkLemmas
 pub mod StepLemmas
+pub mod InstanceLemmas

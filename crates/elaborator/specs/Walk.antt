@@ -5,7 +5,10 @@ use Rattle.design_model.specs.Tree as t
 use Rattle.design_model.specs.View.{design_view}
 use Rattle.design_model.specs.declared.design.Design.{Design}
 use Rattle.flat_design.specs.Bodies.{Met}
-use Rattle.flat_design.specs.Instances.{Instantiation, Sofar, declared, is_memory, opened, opening_met}
+use Rattle.verilog_tree.specs.Tree.{Item}
+use Rattle.flat_design.specs.Numbering.{form_lines, form_nodes}
+use Rattle.flat_design.specs.Scope.{Scope}
+use Rattle.flat_design.specs.Instances.{Context, Instantiation, Sofar, declared, is_memory, opened, opening_met}
 use Rattle.elab_scope.specs.Tally.{Tally, after_all}
 use Rattle.elaborator.specs.declared.walk.Numbers.{Numbers}
 use Rattle.elaborator.specs.declared.walk.Walk.{Walk}
@@ -48,20 +51,20 @@ pub record IsAmong (before : Tally) (base b : ℕ) (w : Walk) (numbers : Numbers
   pub at : IsAt before base b w st
   pub numbered : (d : Design) → IsBuilding base b w d → (numbers.instance ≡ i) × (numbers.line ≡ l) × (numbers.node ≡ n)
 
+-- where the later walk builds a design and nothing was told, so it was before
+abbrev pub Remains : Walk → Walk → Type 0
+Remains w later = (d : Design) → later.draft ≡ Some d → IsClean later.tally → (o : Design) × (w.draft ≡ Some o) × IsClean w.tally
+
 -- from one moment to the next the walk in an instance goes by this step, which takes so many line points and counted nodes
 abbrev pub GoesBy : ℕ → Walk → Numbers → Walk → Numbers → (ℕ → ℕ → ℕ → ℕ → Sofar → Sofar) → ℕ → ℕ → Type 0
 GoesBy base w numbers later others f lines nodes =
-    (before : Tally) (b : ℕ) (st : Sofar) (i l n : ℕ) → IsAmong before base b w numbers st i l n → IsAmong before base b later others (f b i l n st) i (l + lines) (n + nodes)
+    (before : Tally) (b : ℕ) (st : Sofar) (i l n : ℕ) → IsAmong before base b w numbers st i l n → IsAmong before base b later others (f b i l n st) i (l + lines) (n + nodes) × Remains w later
 
 -- this was met, and the process added to the design, if one is built and nothing was told
 pub record Adds (w later : Walk) (ms : List Met) (p : t.Process) : Type 0 where
   pub met : later.tally ≡ after_all w.tally ms
   pub memories : later.memories ≡ w.memories
   pub draft : (d : Design) → later.draft ≡ Some d → IsClean later.tally → (o : Design) × (w.draft ≡ Some o) × (design_view d ≡ with_process p (design_view o))
-
--- where the later walk builds a design and nothing was told, so it was before
-abbrev pub Remains : Walk → Walk → Type 0
-Remains w later = (d : Design) → later.draft ≡ Some d → IsClean later.tally → (o : Design) × (w.draft ≡ Some o) × IsClean w.tally
 
 -- from one moment to the next the walk goes by this step
 abbrev pub WalksBy : ℕ → Walk → Walk → (ℕ → Sofar → Sofar) → Type 0
@@ -78,3 +81,17 @@ pub record Opens (w later : Walk) (numbers : Numbers) (i : Instantiation) : Type
   pub draft : (d : Design) → later.draft ≡ Some d → IsClean later.tally → (o : Design) × (w.draft ≡ Some o) × (design_view d ≡ opened_design i (design_view o)) × (numbers.instance ≡ length (design_view o).instances)
   pub line : numbers.line ≡ 1
   pub node : numbers.node ≡ 1
+
+-- what is around the items of an instance of this number in this scope
+abbrev pub around_here : ℕ → Instantiation → ℕ → Scope → Context
+around_here base i n g = record { given = i; number = n; scope = g; base = base }
+
+-- the line points of items
+abbrev pub items_lines : List Item → ℕ
+items_lines [] = 0
+items_lines (x ∷ xs) = form_lines x.form + items_lines xs
+
+-- the counted nodes of items
+abbrev pub items_nodes : Scope → List Item → ℕ
+items_nodes g [] = 0
+items_nodes g (x ∷ xs) = form_nodes g x.form + items_nodes g xs

@@ -1,6 +1,12 @@
 //! A walk over the instances of modules, and what it has come to.
 
-use design_model::Design;
+ghost use Rattle.std.specs.Prelude.{◌≡◌, Some, true, false, OnOk};
+ghost use Rattle.design_model.specs.View.{design_view, process_view};
+ghost use Rattle.design_model.specs.declared.design.Design as the;
+ghost use Rattle.elaborator.specs.Walk.{IsClean, with_process};
+
+use cov_host::NoMemory;
+use design_model::{Design, Process};
 use elab_scope::Tally;
 
 /// A walk over the instances of modules.
@@ -20,4 +26,27 @@ pub(crate) struct Numbers {
     pub(crate) instance: u32,
     pub(crate) line: u32,
     pub(crate) node: u32,
+}
+
+impl<'a> Walk<'a> {
+    /// Whether a design is built: one is wanted, and nothing was found.
+    pub(crate) fn builds(&self) -> bool
+        ensures clean { result ≡ true → IsClean self.now.tally }
+        ensures drafted { result ≡ true → (d : the.Design) × (self.now.draft ≡ Some d) }
+        ensures not { result ≡ false → (d : the.Design) → self.now.draft ≡ Some d → IsClean self.now.tally → ⊥ }
+    {
+        self.draft.is_some() && !self.tally.is_ended() && self.tally.first().is_none()
+    }
+
+    /// Adds a process to the design.
+    pub(crate) fn add(&mut self, process: Process) -> Result<(), NoMemory>
+        ensures tally { OnOk result (self.new.tally ≡ self.old.tally) }
+        ensures memories { OnOk result (self.new.memories ≡ self.old.memories) }
+        ensures draft { OnOk result ((d : the.Design) → self.new.draft ≡ Some d → (o : the.Design) × (self.old.draft ≡ Some o) × (design_view d ≡ with_process (process_view process) (design_view o))) }
+    {
+        if let Some(draft) = &mut self.draft {
+            draft.processes.push(process)?;
+        }
+        Ok(())
+    }
 }
