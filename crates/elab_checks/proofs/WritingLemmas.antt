@@ -2,11 +2,12 @@
 use Rattle.std.proofs.Common.{◌≡◌, ◌≤◌, ◌<◌, refl, sym, ap, ◌∙◌, ℕ, ◌+◌, Bool, true, false, not, ◌&&◌, ◌||◌, if◌then◌else◌, List, [], ◌∷◌, ◌++◌, map, length, drop, get_or, drop-cons, add-one, append_assoc, Option, Some, None}
 use Rattle.std.specs.List.{list_any}
 use Rattle.std.proofs.lemmas.List.{map-append}
-use Rattle.verilog_tree.specs.Tree.{Expr, concatenation, Exprs, an_expr}
+use Rattle.cov_host.specs.declared.place.Place.{Place}
+use Rattle.verilog_tree.specs.Tree.{Expr, concatenation, Exprs, no_exprs, an_expr}
 use Rattle.flat_design.specs.Bodies.{Met, met_writing, met_writings}
 use Rattle.flat_design.specs.Expressions.{faults}
 use Rattle.flat_design.specs.Fault.{Fault, none}
-use Rattle.flat_design.specs.Identifiers.{all_identifiers, base_name}
+use Rattle.flat_design.specs.Identifiers.{identifiers, all_identifiers, base_name}
 use Rattle.flat_design.specs.Processes.{is_signal_entry}
 use Rattle.flat_design.specs.Scope.{Scope, is_faulty_entry, look_up, names_faulty}
 use Rattle.flat_design.specs.Targets.{Writing, all_leaves, all_target_faults, fixed_faults, leaf_faults, leaves, target_faults, writing_of}
@@ -17,8 +18,8 @@ use Rattle.flat_design.specs.declared.entry.Mode.TheVariants.{Continuous, Combin
 use Rattle.elab_scope.specs.Tally.{Tally, after, after_all}
 use Rattle.elab_scope.specs.View.{writing_view}
 use Rattle.elab_scope.specs.declared.tally.Written.{Written}
-use Rattle.elab_checks.specs.Writings.{AreTargets, HasSoundSignal, IsTarget}
-use Rattle.flat_design.proofs.NoConstFaults.{both_none}
+use Rattle.elab_checks.specs.Writings.{EachTarget, HasSoundSignal, IsTarget, is_single}
+use Rattle.flat_design.proofs.NoConstFaults.{both_none, neither}
 
 -- what a list has behind a fault that does not hold
 none_unless : (b : Bool) (f : Fault) (xs : List Fault) → none (if b then f ∷ [] else xs) ≡ true → none xs ≡ true
@@ -33,24 +34,24 @@ signal_leaf g Combinational (Some (Signal s)) e is f = none_unless (s.input || s
 signal_leaf g Clocked (Some (Signal s)) e is f = none_unless (s.input || s.net) _ _ f
 signal_leaf g mode (Some _) e is f = absurd cc
 
--- no parts side by side
-abbrev pub is_one : Expr → Bool
-is_one (concatenation p es) = false
-is_one e = true
+pub single_target : (g : Scope) (e : Expr) → is_single e ≡ true → IsTarget g e → HasSoundSignal g e
+single_target g (concatenation p es) one t = absurd cc
+single_target g e one t = λ is. signal_leaf g t.0.0 (look_up g (base_name e).name) e is t.0.1
 
-pub one_target : (g : Scope) (e : Expr) → is_one e ≡ true → IsTarget g e → HasSoundSignal g e
-one_target g (concatenation p es) one t = absurd cc
-one_target g e one t = λ is. signal_leaf g t.0 (look_up g (base_name e).name) e is t.1
+single_leaf : (e : Expr) → is_single e ≡ true → leaves e ≡ e ∷ []
+single_leaf (concatenation p es) one = absurd cc
+single_leaf e one = refl
 
-pub one_leaf : (e : Expr) → is_one e ≡ true → leaves e ≡ e ∷ []
-one_leaf (concatenation p es) one = absurd cc
-one_leaf e one = refl
-
--- the first of targets, and the others
-pub first_target : (g : Scope) (e : Expr) (es all : Exprs) → all ≡ an_expr e es → AreTargets g all → IsTarget g e × AreTargets g es
-first_target g e es all is t =
-    let both = both_none (target_faults g t.0 e) (all_target_faults g t.0 es) (rw is at t.1) in
-    ((t.0, both.0), (t.0, both.1))
+-- the parts of a concatenation without a fault have none
+pub joined_targets : (g : Scope) (p : Place) (es : Exprs) → IsTarget g (concatenation p es) → EachTarget g es
+joined_targets g p es t = go es (both_none (all_target_faults g t.0.0 es) _ t.0.1).0 t.1
+  where
+    go : (es : Exprs) → none (all_target_faults g t.0.0 es) ≡ true → list_any (λ x. is_faulty_entry (look_up g x.name)) (all_identifiers es) ≡ false → EachTarget g es
+    go no_exprs f n = tt
+    go (an_expr e es) f n =
+        let sound = both_none (target_faults g t.0.0 e) (all_target_faults g t.0.0 es) f in
+        let known = neither (λ x. is_faulty_entry (look_up g x.name)) (identifiers e) (all_identifiers es) n in
+        (((t.0.0, sound.0), known.0), go es sound.1 known.1)
 
 -- what is written so far, with one target more
 pub more_written : (f : Expr → Writing) (before now whole : List Writing) (e : Expr) (es all : Exprs) → all ≡ an_expr e es → before ++ map f (all_leaves all) ≡ whole → now ≡ before ++ map f (leaves e) → now ++ map f (all_leaves es) ≡ whole
@@ -78,3 +79,7 @@ met_none g mode b c k e test = rw test refl
 -- one writing more
 pub met_next : (t u : Tally) (ws : List Written) (i : ℕ) (w : Written) → i < length ws → w ≡ get_or ws i w → u ≡ after t (met_writing (writing_view w)) → after_all u (all_met (drop (i + 1) ws)) ≡ after_all t (all_met (drop i ws))
 met_next t u ws i w within is e = rw (drop-cons ws i w within, add-one i, ← is, e) refl
+
+-- what is written with one target without concatenation more
+pub pushed : (f : Expr → Writing) (ws new : List Written) (w : Written) (e : Expr) → is_single e ≡ true → new ≡ ws ++ w ∷ [] → writing_view w ≡ f e → map writing_view new ≡ map writing_view ws ++ map f (leaves e)
+pushed f ws new w e one is view = ap (map writing_view) is ∙ map-append writing_view ws (w ∷ []) ∙ ap (λ x. map writing_view ws ++ x ∷ []) view ∙ ap (λ es. map writing_view ws ++ map f es) (sym (single_leaf e one))

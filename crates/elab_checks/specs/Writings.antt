@@ -1,13 +1,13 @@
 -- The bits that targets may write.
 use Rattle.std.specs.Prelude.{◌≡◌, ◌+◌, ◌≤◌, ℕ, Bool, true, false, List}
 use Rattle.std.specs.List.{range_with_len}
-use Rattle.verilog_tree.specs.Tree.{Expr, Exprs}
+use Rattle.verilog_tree.specs.Tree.{Expr, concatenation, Exprs, no_exprs, an_expr}
 use Rattle.flat_design.specs.Expressions.{faults}
 use Rattle.flat_design.specs.Fault.{none}
 use Rattle.flat_design.specs.Identifiers.{base_name}
 use Rattle.flat_design.specs.Processes.{is_signal_entry}
-use Rattle.flat_design.specs.Scope.{Scope, look_up}
-use Rattle.flat_design.specs.Targets.{target_faults, all_target_faults}
+use Rattle.flat_design.specs.Scope.{Scope, look_up, names_faulty}
+use Rattle.flat_design.specs.Targets.{target_faults}
 use Rattle.flat_design.specs.declared.entry.Mode.{Mode}
 use Rattle.elab_checks.specs.declared.offsets.Bits.{Bits}
 
@@ -23,10 +23,16 @@ IsWithinWord b = b.low + b.count ≤ 128
 abbrev pub HasSoundSignal : Scope → Expr → Type 0
 HasSoundSignal g e = is_signal_entry (look_up g (base_name e).name) ≡ true → none (faults g e) ≡ true
 
--- a target without a fault, in an assignment of some kind
+-- no parts side by side
+abbrev pub is_single : Expr → Bool
+is_single (concatenation p es) = false
+is_single e = true
+
+-- a target without a fault, in an assignment of some kind, that names nothing whose declaration has one
 abbrev pub IsTarget : Scope → Expr → Type 0
-IsTarget g e = (mode : Mode) × (none (target_faults g mode e) ≡ true)
+IsTarget g e = ((mode : Mode) × (none (target_faults g mode e) ≡ true)) × (names_faulty g e ≡ false)
 
 -- the same of each
-abbrev pub AreTargets : Scope → Exprs → Type 0
-AreTargets g es = (mode : Mode) × (none (all_target_faults g mode es) ≡ true)
+abbrev pub EachTarget : Scope → Exprs → Type 0
+EachTarget g no_exprs = Unit {0}
+EachTarget g (an_expr e es) = IsTarget g e × EachTarget g es

@@ -1,18 +1,15 @@
 //! The bits that targets of assignments may write (IEEE 1364-2001 clauses 6.1 and 9.2).
 
-ghost use Rattle.std.specs.Prelude.{◌≡◌, ◌++◌, All, IfOk, OnOk, false, map};
-ghost use Rattle.std.specs.List.{list_any};
-ghost use Rattle.elab_checks.specs.Writings.{AreTargets, HasSoundSignal, IsTarget};
+ghost use Rattle.std.specs.Prelude.{◌≡◌, ◌++◌, All, IfOk, OnOk, false, map, true};
+ghost use Rattle.elab_checks.specs.Writings.{HasSoundSignal, IsTarget, is_single};
 ghost use Rattle.elab_scope.specs.Tally.{after_all};
 ghost use Rattle.elab_scope.specs.View.{IsWithin, writing_view};
 ghost use Rattle.flat_design.specs.Bodies.{met_writings};
 ghost use Rattle.flat_design.specs.Fault.{none};
 ghost use Rattle.flat_design.specs.Scope as of;
-ghost use Rattle.flat_design.specs.Identifiers.{all_identifiers};
-ghost use Rattle.flat_design.specs.Scope.{binding_of, is_faulty_entry, look_up};
-ghost use Rattle.flat_design.specs.Targets.{all_leaves, leaves, target_faults, writing_of};
-ghost use Rattle.verilog_tree.specs.Tree.{exprs_of};
-ghost use Rattle.verilog_tree.specs.View.{expr_view, exprs_view};
+ghost use Rattle.flat_design.specs.Scope.{binding_of};
+ghost use Rattle.flat_design.specs.Targets.{leaves, target_faults, writing_of};
+ghost use Rattle.verilog_tree.specs.View.{expr_view};
 
 use crate::offsets::{Bits, bits_of};
 use elab_scope::{Scope, Tally, Written, base_name, names_faulty};
@@ -64,8 +61,7 @@ pub fn target_writings<'a>(
     writer: Writer,
     expr: &'a Expr,
 ) -> Result<Vec<Written<'a>>, NoMemory>
-    requires sound { IsTarget (binding_of scope.now) (expr_view expr.now) }
-    requires known { of.names_faulty (binding_of scope.now) (expr_view expr.now) ≡ false }
+    requires { IsTarget (binding_of scope.now) (expr_view expr.now) }
     ensures value { IfOk result (λ all. map writing_view all.items ≡ map (writing_of (binding_of scope.now) writer.blocking writer.continuous writer.process) (leaves (expr_view expr.now))) }
     ensures within { IfOk result (λ all. All IsWithin all.items) }
 {
@@ -75,45 +71,40 @@ pub fn target_writings<'a>(
 }
 
 /// Adds what the parts of a target write.
-#[cycle(add_writings)]
 fn add_writings<'a>(
     scope: &Scope,
     writer: Writer,
     expr: &'a Expr,
     all: &mut Vec<Written<'a>>,
 ) -> Result<(), NoMemory>
-    requires sound { IsTarget (binding_of scope.now) (expr_view expr.now) }
-    requires known { of.names_faulty (binding_of scope.now) (expr_view expr.now) ≡ false }
+    requires target { IsTarget (binding_of scope.now) (expr_view expr.now) }
     requires within { All IsWithin all.old.items }
     ensures value { OnOk result (map writing_view all.new.items ≡ map writing_view all.old.items ++ map (writing_of (binding_of scope.now) writer.blocking writer.continuous writer.process) (leaves (expr_view expr.now))) }
     ensures within { OnOk result (All IsWithin all.new.items) }
 {
-    match &expr.form {
-        ExprForm::Concat(parts) => add_all_writings(scope, writer, parts, all),
-        _ => {
-            all.push(written_by(scope, writer, expr))?;
-            Ok(())
-        }
+    let ExprForm::Concat(parts) = &expr.form else {
+        return add_writing(scope, writer, expr, all);
+    };
+    for part in parts {
+        add_writings(scope, writer, part, all)?;
     }
+    Ok(())
 }
 
-/// Adds what targets write, in order.
-#[cycle(add_writings)]
-fn add_all_writings<'a>(
+/// Adds what a target without concatenation writes.
+fn add_writing<'a>(
     scope: &Scope,
     writer: Writer,
-    exprs: &'a [Expr],
+    expr: &'a Expr,
     all: &mut Vec<Written<'a>>,
 ) -> Result<(), NoMemory>
-    requires sound { AreTargets (binding_of scope.now) (exprs_of (exprs_view exprs.now)) }
-    requires known { list_any (λ x. is_faulty_entry (look_up (binding_of scope.now) x.name)) (all_identifiers (exprs_of (exprs_view exprs.now))) ≡ false }
+    requires single { is_single (expr_view expr.now) ≡ true }
+    requires target { IsTarget (binding_of scope.now) (expr_view expr.now) }
     requires within { All IsWithin all.old.items }
-    ensures value { OnOk result (map writing_view all.new.items ≡ map writing_view all.old.items ++ map (writing_of (binding_of scope.now) writer.blocking writer.continuous writer.process) (all_leaves (exprs_of (exprs_view exprs.now)))) }
+    ensures value { OnOk result (map writing_view all.new.items ≡ map writing_view all.old.items ++ map (writing_of (binding_of scope.now) writer.blocking writer.continuous writer.process) (leaves (expr_view expr.now))) }
     ensures within { OnOk result (All IsWithin all.new.items) }
 {
-    for expr in exprs {
-        add_writings(scope, writer, expr, all)?;
-    }
+    all.push(written_by(scope, writer, expr))?;
     Ok(())
 }
 
