@@ -13,7 +13,6 @@ ghost use Rattle.flat_design.specs.Scope.{binding_of, names, names_constants, na
 ghost use Rattle.verilog_tree.specs.Tree.{exprs_of, bit_select, part_select, indexed_part, concatenation, place_of};
 ghost use Rattle.verilog_tree.specs.View.{expr_view, exprs_view};
 
-use elab_scope::{FoundFault, NameAt, Scope, Tally, base_name, names_constants, names_no_constant};
 use crate::indexes::{check_bounds, check_index, check_slid};
 use crate::selected::{Selected, memory_named, selection};
 use crate::sizes::{check_bound_number, check_copies, check_known, check_size, check_width_number};
@@ -21,6 +20,7 @@ use crate::undeclared::check_declared;
 use crate::values::{number, one_names_faulty, total_width};
 use cov_host::Place;
 use elab_const::ConstKind;
+use elab_scope::{FoundFault, NameAt, Scope, Tally, base_name, names_constants, names_no_constant};
 use flat_design::{ElabKind, Entry};
 use four_state::Index;
 use verilog_tree::{Expr, ExprForm};
@@ -171,12 +171,7 @@ pub(crate) fn check_number<'a>(scope: &Scope, expr: &'a Expr, tally: &mut Tally<
 
 /// Tells the faults of a bound of a range or part with this bracket. Whether it has none.
 #[cycle(check)]
-pub fn check_bound<'a>(
-    scope: &Scope,
-    bracket: Place,
-    expr: &'a Expr,
-    tally: &mut Tally<'a>,
-) -> bool
+pub fn check_bound<'a>(scope: &Scope, bracket: Place, expr: &'a Expr, tally: &mut Tally<'a>) -> bool
     ensures met { tally.new ≡ after_faults tally.old (spec.bound_faults (binding_of scope.now) bracket (expr_view expr.now) (faults (binding_of scope.now) (expr_view expr.now))) }
     ensures sound { result ≡ none (spec.bound_faults (binding_of scope.now) bracket (expr_view expr.now) (faults (binding_of scope.now) (expr_view expr.now))) }
 {

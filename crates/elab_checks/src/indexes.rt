@@ -10,10 +10,10 @@ ghost use Rattle.flat_design.specs.Fault.{none};
 ghost use Rattle.flat_design.specs.Scope.{binding_of, names_constants, natural_number};
 ghost use Rattle.verilog_tree.specs.View.{expr_view};
 
-use elab_scope::{Scope, Tally, names_constants};
 use crate::selected::Selected;
 use crate::values::{bound, number, size};
 use cov_host::Place;
+use elab_scope::{Scope, Tally, names_constants};
 use verilog_tree::Expr;
 
 /// Tells an index of such bits that is constant and not of their range, where it is known that the index has no fault.

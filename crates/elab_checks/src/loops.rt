@@ -14,11 +14,13 @@ ghost use Rattle.flat_design.specs.Scope.{binding_of, names};
 ghost use Rattle.verilog_tree.specs.View.{expr_view, loop_view};
 
 use crate::expressions::check;
-use elab_scope::{FoundFault, Scope, Tally, base_name, names_constants, names_faulty, names_no_constant};
 use crate::targets::is_name;
 use crate::undeclared::check_declared;
 use cov_host::{Name, NoMemory, Place};
 use elab_const::{ConstFault, ConstKind, Turns};
+use elab_scope::{
+    FoundFault, Scope, Tally, base_name, names_constants, names_faulty, names_no_constant,
+};
 use flat_design::{ElabKind, Entry};
 use four_state::{Bit, Four};
 use std::alloc::Global;
@@ -90,11 +92,7 @@ pub fn variable_name(alloc: Global, header: &For) -> Result<Name, NoMemory>
 }
 
 /// Lets a name stand for what it stood for before.
-pub fn put_back(
-    scope: &mut Scope,
-    name: &Name,
-    before: Option<Entry>,
-) -> Result<(), NoMemory>
+pub fn put_back(scope: &mut Scope, name: &Name, before: Option<Entry>) -> Result<(), NoMemory>
     requires { IfSome before IsEntry }
     ensures { OnOk result (binding_of scope.new ≡ restored name.now before (binding_of scope.old)) }
 {

@@ -15,10 +15,10 @@ ghost use Rattle.flat_design.specs.Scope.{binding_of, is_memory_name, look_up};
 ghost use Rattle.flat_design.specs.declared.entry.Entry.TheVariants.{Memory};
 ghost use Rattle.verilog_tree.specs.View.{expr_view};
 
-use elab_scope::{FoundFault, NameAt, Scope, Tally, base_name};
 use crate::sizes::check_size;
 use cov_host::Place;
 use design_model::Range;
+use elab_scope::{FoundFault, NameAt, Scope, Tally, base_name};
 use flat_design::{ElabKind, Entry, MemoryEntry};
 use four_state::Index;
 use verilog_tree::{Expr, ExprForm};

@@ -8,9 +8,9 @@ ghost use Rattle.elab_const.specs.Faults.{bound_from, is_no_number, size_from};
 ghost use Rattle.elab_const.specs.declared.fault.ConstKind.TheVariants.{NotConstant};
 ghost use Rattle.flat_design.specs.Fault.{answer_faults, fault_if, none, of_constant};
 
-use elab_scope::{FoundFault, Tally};
 use cov_host::Place;
 use elab_const::ConstKind;
+use elab_scope::{FoundFault, Tally};
 use four_state::Index;
 
 /// Tells a width of less than one bit, or of more than 128. Whether it is neither.

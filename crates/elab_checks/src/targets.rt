@@ -13,20 +13,15 @@ ghost use Rattle.verilog_tree.specs.Tree.{exprs_of};
 ghost use Rattle.verilog_tree.specs.View.{expr_view, exprs_view};
 
 use crate::expressions::{check, check_number};
-use elab_scope::{FoundFault, Scope, Tally, base_name};
 use cov_host::Place;
 use elab_const::ConstKind;
+use elab_scope::{FoundFault, Scope, Tally, base_name};
 use flat_design::{ElabKind, Entry, Mode, SignalEntry};
 use verilog_tree::{Expr, ExprForm};
 
 /// The faults of a target; whether it has none.
 #[cycle(targets)]
-pub fn check_target<'a>(
-    scope: &Scope,
-    mode: Mode,
-    expr: &'a Expr,
-    tally: &mut Tally<'a>,
-) -> bool
+pub fn check_target<'a>(scope: &Scope, mode: Mode, expr: &'a Expr, tally: &mut Tally<'a>) -> bool
     ensures met { tally.new ≡ after_faults tally.old (spec.target_faults (binding_of scope.now) mode (expr_view expr.now)) }
     ensures sound { result ≡ none (spec.target_faults (binding_of scope.now) mode (expr_view expr.now)) }
 {

@@ -14,8 +14,8 @@ ghost use Rattle.flat_design.specs.Scope.{binding_of, is_faulty_entry, look_up, 
 ghost use Rattle.verilog_tree.specs.Tree.{exprs_of, concatenation};
 ghost use Rattle.verilog_tree.specs.View.{expr_view, exprs_view};
 
-use elab_scope::{Scope, names_faulty};
 use elab_const::Shape;
+use elab_scope::{Scope, names_faulty};
 use four_state::Index;
 use verilog_tree::Expr;
 
