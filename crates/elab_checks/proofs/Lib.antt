@@ -9,3 +9,5 @@ pub mod RestoredLemmas
 pub mod TreeLemmas
 pub mod TurnLemmas
 pub mod WritingLemmas
+pub mod StatementLemmas
+pub mod StatementViews
