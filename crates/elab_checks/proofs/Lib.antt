@@ -3,7 +3,11 @@ pub mod ConstantLemmas
 pub mod ExpressionLemmas
 pub mod RangeLemmas
 pub mod MetLemmas
+pub mod OffsetLemmas
 pub mod TargetLemmas
 pub mod RestoredLemmas
 pub mod TreeLemmas
 pub mod TurnLemmas
+pub mod WritingLemmas
+pub mod StatementLemmas
+pub mod StatementViews

@@ -1,3 +1,4 @@
 pub mod Selected
 pub mod Turns
 pub mod Widths
+pub mod Writings

@@ -4,15 +4,20 @@
 mod expressions;
 mod indexes;
 mod loops;
+mod offsets;
 mod processes;
 mod selected;
 mod sizes;
+mod statements;
 mod targets;
 mod undeclared;
 mod values;
+mod writings;
 
 pub use expressions::{check, check_all, check_bound, check_constant};
-pub use loops::{put_back, turns, variable_name};
+pub use loops::{put_back, turn_values, turns, variable_name};
 pub use processes::check_when;
+pub use statements::check_statement;
 pub use targets::check_target;
 pub use values::{bound, number, shape, size};
+pub use writings::{Writer, push_writings, target_writings, written_by};

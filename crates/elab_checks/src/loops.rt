@@ -43,6 +43,14 @@ pub fn turns<'a>(
     found_turns(alloc, scope, header, tally)
 }
 
+/// The same values, where what is wrong with the header is told elsewhere.
+pub fn turn_values(alloc: Global, scope: &mut Scope, header: &For) -> Result<Turns, NoMemory>
+    ensures values { IfOk result (λ values. values ≡ spec.turns (binding_of scope.old) (loop_view header.now).0) }
+    ensures kept { OnOk result (binding_of scope.new ≡ binding_of scope.old) }
+{
+    turns(alloc, scope, header, &mut Tally::new(alloc))
+}
+
 /// The faults of the names of a header; whether it has none and names nothing that has one.
 fn check_header<'a>(
     alloc: Global,
