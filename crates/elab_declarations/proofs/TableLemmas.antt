@@ -3,10 +3,12 @@ use Rattle.std.proofs.Common.{◌≡◌, ℕ, Bool, true, false, ◌||◌, List,
 use Rattle.std.specs.Prelude.{bytes_eq, ◌&&◌, if◌then◌else◌}
 use Rattle.std.specs.Borrow.{Bor}
 use Rattle.std.specs.List.{list_any}
+use Rattle.std.specs.Option.{option_copied, option_map}
 use Rattle.std.specs.Map.{lookup}
 use Rattle.std.proofs.lemmas.Bool.{cases_Bool}
 use Rattle.std.proofs.lemmas.Slice.Eq.{bytes_eq-Decides}
 use Rattle.indexmap.specs.IndexMap.{insert_entry}
+use Rattle.flat_design.specs.Connections.{declaration_of}
 use Rattle.flat_design.specs.Declarations as spec
 use Rattle.elab_declarations.specs.DeclarationView.{declaration_view}
 use Rattle.elab_declarations.specs.DeclarationTable.{Table, declarations_in, AreByName}
@@ -47,6 +49,22 @@ any_named P x (e ∷ es) h =
           rw (same, by_name x e h.0, same, rest) (or_false (P (declaration_view e.1)))
       | inr other ↦ rw (by_name x e h.0, other) (any_named P x es h.2)
     ]
+
+-- what is found by a name is the declaration of that name
+found_named : (x : List ℕ) (es : Table) → AreByName es → option_map declaration_view (found x es) ≡ declaration_of (declarations_in es) x
+found_named x [] h = refl
+found_named x (e ∷ es) h =
+    elim (cases_Bool (bytes_eq x e.0.now)) [
+      | inl same ↦ rw (same, by_name x e h.0, same) refl
+      | inr other ↦ rw (other, by_name x e h.0, other) (found_named x es h.2)
+    ]
+
+viewed : (r : Option (Bor Declaration)) → option_map (λ d. declaration_view d.now) r ≡ option_map declaration_view (option_copied r)
+viewed None = refl
+viewed (Some d) = refl
+
+pub declaration_found : (x : List ℕ) (es : Table) (r : Option (Bor Declaration)) → AreByName es → option_copied r ≡ found x es → option_map (λ d. declaration_view d.now) r ≡ declaration_of (declarations_in es) x
+declaration_found x es r h is = viewed r ∙ ap (option_map declaration_view) is ∙ found_named x es h
 
 -- an insertion of what was found, with one more
 pub added : (x : Bor (List ℕ)) (new : Declaration) (d : spec.Declaration) (es : Table) → AreByName es → d.name.name ≡ x.now → declaration_view new ≡ merged (found x.now es) d →

@@ -104,7 +104,7 @@ impl<'a> Declaration<'a> {
 }
 
 /// Equal ranges, or none on both sides.
-fn is_same_range(a: Option<Range>, b: Option<Range>) -> bool
+pub fn is_same_range(a: Option<Range>, b: Option<Range>) -> bool
     ensures { result ≡ spec.same_range a b }
 {
     match (a, b) {

@@ -1,6 +1,8 @@
 ghost use Rattle.std.specs.Prelude.{◌≡◌, ◌++◌, [], IfOk, OnOk};
+ghost use Rattle.std.specs.Option.{option_map};
 ghost use Rattle.elab_declarations.specs.DeclarationView.{declaration_view, declarations_view};
 ghost use Rattle.elab_scope.specs.Tally.{after_faults};
+ghost use Rattle.flat_design.specs.Connections.{declaration_of};
 ghost use Rattle.flat_design.specs.Declarations as spec;
 ghost use Rattle.flat_design.specs.Instances.{range_faults};
 ghost use Rattle.flat_design.specs.Scope.{binding_of};
@@ -42,6 +44,13 @@ impl<'a> Declarations<'a> {
         Declarations {
             found: IndexMap::new(alloc),
         }
+    }
+
+    /// The declaration of a name.
+    pub fn find(&self, name: &[u8]) -> Option<&Declaration<'a>>
+        ensures { option_map (λ found. declaration_view found.now) result ≡ declaration_of self.now name.now }
+    {
+        self.found.get(name)
     }
 
     /// Adds a declaration. A name that is there keeps its place.

@@ -10,5 +10,6 @@ mod parameters;
 mod range;
 
 pub use constants::{BoundParam, Constants, Override, check_constants};
-pub use declaration::{Declaration, Sort};
+pub use declaration::{Declaration, Sort, is_same_range};
 pub use declarations::{Declarations, check_declarations};
+pub use range::constant_value;

@@ -147,7 +147,7 @@ fn bound_number(alloc: Global, scope: &Scope, bracket: Place, bound: &Expr) -> u
 }
 
 /// The value of a constant expression without a fault.
-pub(crate) fn constant_value(alloc: Global, scope: &Scope, expr: &Expr) -> Four
+pub fn constant_value(alloc: Global, scope: &Scope, expr: &Expr) -> Four
     requires constants { of.names_constants (binding_of scope.now) (expr_view expr.now) ≡ true }
     requires sound { none (faults (binding_of scope.now) (expr_view expr.now)) ≡ true }
     ensures { result ≡ of.constant (binding_of scope.now) (expr_view expr.now) }
