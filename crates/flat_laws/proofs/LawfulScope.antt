@@ -66,7 +66,7 @@ abbrev pub HasAliases : List Signal → Instantiation → Type 0
 HasAliases xs i =
     (x : List ℕ) (d : Declaration) (n : ℕ) → declaration_of (declared i.overrides i.of_module) x ≡ Some d → alias_number i.aliases d.name.name ≡ Some n → MatchesSignal xs (seen_as n d)
 
-matches_more : (xs ys : List Signal) (s : SignalEntry) → Begins xs ys → MatchesSignal xs s → MatchesSignal ys s
+pub matches_more : (xs ys : List Signal) (s : SignalEntry) → Begins xs ys → MatchesSignal xs s → MatchesSignal ys s
 matches_more xs ys s b h =
     subst (λ zs. MatchesSignal zs s) (sym b.whole)
     (let same : slice_index_or (xs ++ b.rest) s.number no_signal ≡ slice_index_or xs s.number no_signal = get_or_append_left xs b.rest no_signal s.number h.number in
@@ -93,11 +93,11 @@ bytes_apart xs ys h = by_test (bytes_eq ys xs) refl
     by_test true is = absurd (false≢true (sym h ∙ bytes_same xs ys (sym (same_bytes ys xs is))))
 
 -- one more element, where the test holds
-step_whole : {A B : Type 0} (f : A → B) (b : Bool) (x : A) (zs : List A) (fs rs : List B) → fs ++ (map f (cond b (x ∷ zs) zs) ++ rs) ≡ (fs ++ map f (cond b (x ∷ []) [])) ++ (map f zs ++ rs)
+pub step_whole : {A B : Type 0} (f : A → B) (b : Bool) (x : A) (zs : List A) (fs rs : List B) → fs ++ (map f (cond b (x ∷ zs) zs) ++ rs) ≡ (fs ++ map f (cond b (x ∷ []) [])) ++ (map f zs ++ rs)
 step_whole f true x zs fs rs = sym (append_assoc fs (f x ∷ []) (map f zs ++ rs))
 step_whole f false x zs fs rs = ap (λ l. l ++ (map f zs ++ rs)) (sym (append-nil fs))
 
-step_length : {A B : Type 0} (f : A → B) (b : Bool) (x : A) (fs : List B) → length (fs ++ map f (cond b (x ∷ []) [])) ≡ length fs + one_if b
+pub step_length : {A B : Type 0} (f : A → B) (b : Bool) (x : A) (fs : List B) → length (fs ++ map f (cond b (x ∷ []) [])) ≡ length fs + one_if b
 step_length f true x fs = length-append fs (f x ∷ [])
 step_length f false x fs = length-append fs []
 

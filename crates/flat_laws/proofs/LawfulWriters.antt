@@ -96,12 +96,12 @@ written_process base m st here h = record { written = λ p y less assigns. by_pl
         (subst (λ n. IsWritten base st.design.signals (st.met ++ m.met) n y m.process) last
         (record { writing = w.writing; writing_in = in_right (met_writing w.writing) st.met m.met w.writing_in; process = w.process; driver = w.driver; thing = w.thing }))
 
-body_of : (g : Scope) (i : ℕ) (w : When) (s : Stmt) → body (process_of g i w s) ≡ s
+pub body_of : (g : Scope) (i : ℕ) (w : When) (s : Stmt) → body (process_of g i w s) ≡ s
 body_of g i Star s = refl
 body_of g i (Names xs) s = refl
 body_of g i (Edges es) s = refl
 
-no_assign_of : (g : Scope) (i : ℕ) (w : When) (s : Stmt) → is_assign (process_of g i w s) ≡ false
+pub no_assign_of : (g : Scope) (i : ℕ) (w : When) (s : Stmt) → is_assign (process_of g i w s) ≡ false
 no_assign_of g i Star s = refl
 no_assign_of g i (Names xs) s = refl
 no_assign_of g i (Edges es) s = refl
@@ -112,7 +112,7 @@ no_memory g h i (Names xs) s e free is = cc
 no_memory g h i (Edges es) s e free is = is
 
 -- the writing of a part of a target without fault was met
-writing_there : (g : Scope) → IsSoundScope g → (mode : Mode) (blocking continuous : Bool) (k : ℕ) (x e : Expr) → target_faults g mode x ≡ [] → In e (leaves x) → In (met_writing (writing_of g blocking continuous k e)) (met_writings g mode blocking continuous k x)
+pub writing_there : (g : Scope) → IsSoundScope g → (mode : Mode) (blocking continuous : Bool) (k : ℕ) (x e : Expr) → target_faults g mode x ≡ [] → In e (leaves x) → In (met_writing (writing_of g blocking continuous k e)) (met_writings g mode blocking continuous k x)
 writing_there g sound mode blocking continuous k x e free e_in = by_test (none (target_faults g mode x) && not (names_faulty g x)) (rw (ap none free, names_sound g sound x) refl)
   where
     by_test : (b : Bool) → b ≡ true → In (met_writing (writing_of g blocking continuous k e)) (if b then map (λ x. met_writing (writing_of g blocking continuous k x)) (leaves x) else [])
@@ -245,7 +245,7 @@ answered_written ms top tokens sound =
     (λ m found. (known_top top m, found_in (λ z. bytes_eq z.name.name top) ms m found)) (record { written = λ p y less. absurd (omega arith) }) sound
 
 -- what no two drivers means
-one_first : (k : ElabKind) (xs : List Named) → fault_at_first k xs ≡ [] → xs ≡ []
+pub one_first : (k : ElabKind) (xs : List Named) → fault_at_first k xs ≡ [] → xs ≡ []
 one_first k [] e = refl
 one_first k (x ∷ xs) e = absurd cc
 
@@ -256,7 +256,7 @@ not_at_odds r a b e = by_test (r a b) e
     by_test true e = absurd cc
     by_test false e = refl
 
-no_conflict : (r : Writing → Writing → Bool) (ws : List Writing) → conflicts r ws ≡ [] → (a b : Writing) → In a ws → In b ws → (a ≡ b) ⊎ ((r a b ≡ false) ⊎ (r b a ≡ false))
+pub no_conflict : (r : Writing → Writing → Bool) (ws : List Writing) → conflicts r ws ≡ [] → (a b : Writing) → In a ws → In b ws → (a ≡ b) ⊎ ((r a b ≡ false) ⊎ (r b a ≡ false))
 no_conflict r [] e a b h k = absurd h
 no_conflict r (w ∷ ws) e a b h k =
     let q = both_empty (flat_map (λ z. if r w z then later_of w.name z.name ∷ [] else []) ws) (conflicts r ws) e in
@@ -268,7 +268,7 @@ no_conflict r (w ∷ ws) e a b h k =
     by_place none_of rest (inr x) (inl y) = inr (inr (subst (λ z. r z a ≡ false) y (not_at_odds r w a (each_empty _ ws a none_of x))))
     by_place none_of rest (inr x) (inr y) = rest x y
 
-writing_in_writings : (ms : List Met) (w : Writing) → In (met_writing w) ms → In w (writings ms)
+pub writing_in_writings : (ms : List Met) (w : Writing) → In (met_writing w) ms → In w (writings ms)
 writing_in_writings ms w h = in_flat_map_back writing_met (met_writing w) ms w h (inl refl)
 
 -- not two drivers, of which one is no continuous assignment
@@ -282,7 +282,7 @@ same_process a b same no_driver e = eqb-true a.process b.process (by_test (is_sa
     by_test false c t h k l = absurd (false≢true h)
 
 -- two things by one number are one
-same_number : (base count y : ℕ) (a b : Thing) → base ≡ count → ((a ≡ the_signal y) × (y < count)) ⊎ ((m : ℕ) × (a ≡ the_memory m) × (base + m ≡ y) × Unit {0}) → ((b ≡ the_signal y) × (y < count)) ⊎ ((m : ℕ) × (b ≡ the_memory m) × (base + m ≡ y) × Unit {0}) → is_same_thing a b ≡ true
+pub same_number : (base count y : ℕ) (a b : Thing) → base ≡ count → ((a ≡ the_signal y) × (y < count)) ⊎ ((m : ℕ) × (a ≡ the_memory m) × (base + m ≡ y) × Unit {0}) → ((b ≡ the_signal y) × (y < count)) ⊎ ((m : ℕ) × (b ≡ the_memory m) × (base + m ≡ y) × Unit {0}) → is_same_thing a b ≡ true
 same_number base count y a b is (inl p) (inl q) = rw (p.0, q.0) (eq-eqb y y refl)
 same_number base count y a b is (inl p) (inr q) = let less : y < count = p.1 in let more : base + q.0 ≡ y = q.2 in absurd (omega arith)
 same_number base count y a b is (inr p) (inl q) = let less : y < count = q.1 in let more : base + p.0 ≡ y = p.2 in absurd (omega arith)
@@ -313,7 +313,7 @@ not_assign (assign i x t counted) h = absurd (h tt)
 not_assign (comb i wakes s) h = refl
 not_assign (clocked i es s) h = refl
 
-is_then : (x : Process) → is_assign x ≡ true → IsAssign x
+pub is_then : (x : Process) → is_assign x ≡ true → IsAssign x
 is_then (assign i x t counted) h = tt
 is_then (comb i wakes s) h = absurd (false≢true h)
 is_then (clocked i es s) h = absurd (false≢true h)

@@ -44,3 +44,7 @@ pub mod DeclaredOnce
 pub mod LawfulDistinct
 pub mod InstancesOnce
 pub mod LawfulInstances
+pub mod LawfulPorts
+pub mod LawfulSources
+pub mod LawfulInputs
+pub mod LawfulMixed

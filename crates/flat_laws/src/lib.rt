@@ -1,12 +1,12 @@
 //! What holds of the flat design of modules, and of its faults (IEEE 1364-2001 clause 12).
 #![tactic(auto)]
 
-ghost use Rattle.std.specs.Prelude.{ℕ, ◌≡◌, ◌<◌, ◌≤◌, ◌==◌, ◌&&◌, nat_lt, true, List, length, map, sum_by, Ok, Err};
+ghost use Rattle.std.specs.Prelude.{ℕ, ◌≡◌, ◌<◌, ◌≤◌, ◌==◌, ◌&&◌, nat_lt, true, List, length, map, sum_by, Ok, Err, false};
 ghost use Rattle.std.specs.List.{list_all};
 ghost use Rattle.design_model.specs.Design.{AreDistinct, Design, In, IsAssign, IsComb, body_at, is_number, names_of, path_of, process_at, signal_at};
 ghost use Rattle.design_model.specs.Lawful.{instance_of, is_alias, is_instance, is_memory_of, is_signal, size_of, span, wakes_of};
 ghost use Rattle.design_model.specs.Machine.{events_of};
-ghost use Rattle.design_model.specs.Mentions.{body_assigns};
+ghost use Rattle.design_model.specs.Mentions.{body_assigns, body_blocks, body_queues};
 ghost use Rattle.design_model.specs.Numbered.{LineAt, NodeAt, lines_of, nodes_of};
 ghost use Rattle.verilog_tree.specs.Tree.{Expr, Module, Statement};
 ghost use Rattle.flat_design.specs.Fault.{Fault, IsFirst};
@@ -46,6 +46,8 @@ pub fn lawful_law()
     ensures nodes_once { (ms : List Module) (top : List ℕ) (d : Design) → answer ms top ≡ Ok d → (p q : ℕ) (x y : NodeAt) → In x (nodes_of (process_at d p)) → In y (nodes_of (process_at d q)) → instance_of (process_at d p) ≡ instance_of (process_at d q) → x.node ≡ y.node → (p ≡ q) × (x ≡ y) }
     ensures names { (ms : List Module) (top : List ℕ) (d : Design) → answer ms top ≡ Ok d → AreDistinct (names_of d) }
     ensures instance_paths { (ms : List Module) (top : List ℕ) (d : Design) → AreOfTokens ms → answer ms top ≡ Ok d → AreDistinct (map (λ i. i.path) d.instances) }
+    ensures no_input { (ms : List Module) (top : List ℕ) (d : Design) → AreOfTokens ms → answer ms top ≡ Ok d → (p s : ℕ) → body_assigns s (body_at d p) ≡ true → (signal_at d s).input ≡ false }
+    ensures not_both { (ms : List Module) (top : List ℕ) (d : Design) → AreOfTokens ms → answer ms top ≡ Ok d → (p q x : ℕ) → body_blocks x (body_at d p) ≡ true → body_queues x (body_at d q) ≡ true → ⊥ }
 {}
 
 /// The line points of a flat statement have the numbers from the first on, as many as the statement has line points.

@@ -4,6 +4,8 @@ use Rattle.flat_laws.proofs.LawfulInstances.{answered_instances}
 use Rattle.flat_laws.proofs.LawfulLimits.{answered_small}
 use Rattle.flat_laws.proofs.LawfulLists.{answered_in_range}
 use Rattle.flat_laws.proofs.LawfulNumbers.{answered_numbers}
+use Rattle.flat_laws.proofs.LawfulInputs.{answered_inputs}
+use Rattle.flat_laws.proofs.LawfulMixed.{answered_mixed}
 use Rattle.flat_laws.proofs.LawfulPaths.{answered_paths}
 use Rattle.flat_laws.proofs.LawfulWriters.{answered_writers}
 use Rattle.flat_laws.proofs.lawful_law.Goals as goal
@@ -70,3 +72,9 @@ returns-clause-names c ms top d e = (answered_names ms top d e).names
 
 pub returns-clause-instance_paths : goal.returns-clause-instance_paths
 returns-clause-instance_paths c ms top d tokens e = (answered_instances ms top d tokens e).instance_paths
+
+pub returns-clause-no_input : goal.returns-clause-no_input
+returns-clause-no_input c ms top d tokens e p s h = (answered_inputs ms top d tokens e).no_input p s h
+
+pub returns-clause-not_both : goal.returns-clause-not_both
+returns-clause-not_both c ms top d tokens e p q x h k = (answered_mixed ms top d tokens e).not_both p q x h k
