@@ -12,7 +12,7 @@ ghost use Rattle.verilog_tree.specs.View.{expr_view};
 
 use crate::forms::Around;
 use crate::shapes::shape_of;
-use crate::terms::{alone, term};
+use crate::terms::alone;
 use cov_host::NoMemory;
 use design_model::{Range, Term};
 use elab_const::Shape;
@@ -42,38 +42,7 @@ fn unsigned(width: u8) -> Shape
     }
 }
 
-/// An expression that is no wider than 127 bits, or its lowest 127 bits.
-#[tactic(auto, using(elab_const::proofs::ViewLemmas::place_is))]
-fn lowest_bits(
-    alloc: Global,
-    base: u32,
-    scope: &Scope,
-    expr: &Expr,
-    nodes: &mut u32,
-) -> Result<Term, NoMemory>
-    requires base { base ≤ 65536 }
-    requires sound { IsSound (binding_of scope.now) (expr_view expr.now) }
-    ensures built { IfOk result (λ x. term_view x ≡ spec.lowest_bits base (binding_of scope.now) (expr_view expr.now) nodes.old) }
-    ensures counted { OnOk result (nodes.new ≡ nodes.old + count.nodes (binding_of scope.now) (expr_view expr.now)) }
-{
-    let place = expr.place;
-    let own = shape_of(scope, expr);
-    let all = alone(alloc, base, scope, expr, nodes)?;
-    if own.width < 128 {
-        return Ok(all);
-    }
-    let bound = Around {
-        place,
-        shape: unsigned(8),
-    };
-    let around = Around {
-        place,
-        shape: unsigned(127),
-    };
-    around.part(alloc, all, number_term(bound, 126), number_term(bound, 0))
-}
-
-/// The same with a 0 bit before it.
+/// An expression with a 0 bit before it.
 #[tactic(auto, using(elab_const::proofs::ViewLemmas::place_is))]
 fn behind_zero(
     alloc: Global,
@@ -89,48 +58,46 @@ fn behind_zero(
 {
     let place = expr.place;
     let own = shape_of(scope, expr);
-    let lowest = lowest_bits(alloc, base, scope, expr, nodes)?;
+    let all = alone(alloc, base, scope, expr, nodes)?;
     let zero = Around {
         place,
         shape: unsigned(1),
     };
     let mut parts = Vec::new(alloc);
     parts.push(number_term(zero, 0))?;
-    parts.push(lowest)?;
+    parts.push(all)?;
     let around = Around {
         place,
-        shape: unsigned(own.width.min(127) + 1),
+        shape: unsigned(own.width + 1),
     };
     Ok(around.concat(parts))
 }
 
-/// An unsigned expression as a signed term of so many bits.
-#[tactic(auto, using(elab_const::proofs::ViewLemmas::place_is))]
+/// An expression whose highest bit is its sign: one without sign has a 0 bit before it, unless that is the highest of
+/// 128 bits.
 fn with_sign_bit(
     alloc: Global,
     base: u32,
     scope: &Scope,
-    width: u8,
     expr: &Expr,
     nodes: &mut u32,
 ) -> Result<Term, NoMemory>
     requires base { base ≤ 65536 }
     requires sound { IsSound (binding_of scope.now) (expr_view expr.now) }
-    ensures built { IfOk result (λ x. term_view x ≡ spec.with_sign_bit base (binding_of scope.now) width (expr_view expr.now) nodes.old) }
+    ensures built { IfOk result (λ x. term_view x ≡ spec.with_sign_bit base (binding_of scope.now) (expr_view expr.now) nodes.old) }
     ensures counted { OnOk result (nodes.new ≡ nodes.old + count.nodes (binding_of scope.now) (expr_view expr.now)) }
 {
-    let around = Around {
-        place: expr.place,
-        shape: Shape {
-            width,
-            signed: true,
-        },
-    };
-    let behind = behind_zero(alloc, base, scope, expr, nodes)?;
-    around.sign(alloc, true, behind)
+    let own = shape_of(scope, expr);
+    if own.width < 128 && !own.signed {
+        behind_zero(alloc, base, scope, expr, nodes)
+    } else {
+        alone(alloc, base, scope, expr, nodes)
+    }
 }
 
-/// An expression as a signed term of so many bits.
+/// The number of an expression as a signed term of so many bits. What gives it has its own width, whatever stands
+/// around it.
+#[tactic(auto, using(elab_const::proofs::ViewLemmas::place_is))]
 pub(crate) fn signed_term(
     alloc: Global,
     base: u32,
@@ -144,14 +111,15 @@ pub(crate) fn signed_term(
     ensures built { IfOk result (λ x. term_view x ≡ spec.signed_term base (binding_of scope.now) width (expr_view expr.now) nodes.old) }
     ensures counted { OnOk result (nodes.new ≡ nodes.old + count.nodes (binding_of scope.now) (expr_view expr.now)) }
 {
-    if !shape_of(scope, expr).signed {
-        return with_sign_bit(alloc, base, scope, width, expr, nodes);
-    }
-    let shape = Shape {
-        width,
-        signed: true,
+    let around = Around {
+        place: expr.place,
+        shape: Shape {
+            width,
+            signed: true,
+        },
     };
-    term(alloc, base, scope, expr, nodes, shape)
+    let own = with_sign_bit(alloc, base, scope, expr, nodes)?;
+    around.sign(alloc, true, own)
 }
 
 /// The bits of an index that is moved: so many that it does not wrap.

@@ -25,7 +25,7 @@ use Rattle.flat_design.specs.Numbering.{nodes}
 use Rattle.flat_design.specs.Scope.{Scope, Entry, a_constant, a_turn, a_signal, a_memory, a_loop_variable, an_instance, no_constant, SignalEntry, look_up, names, shape, whole_number, natural_number, names_constants, is_memory_name, range_or, range_width, Thing, thing_of, thing_number}
 pub use Rattle.flat_design.specs.declared.entry.Mode.{Mode}
 pub use Rattle.flat_design.specs.declared.entry.Mode.TheVariants.{Continuous, Combinational, Clocked}
-use Rattle.flat_design.specs.Terms.{term, alone, head_as}
+use Rattle.flat_design.specs.Terms.{alone, head_as}
 
 -- the range of the signal that a name stands for
 abbrev pub declared_range : Option Entry → Range
@@ -36,23 +36,18 @@ declared_range _ = record { high = 0; low = 0 }
 abbrev pub number_term : Place → Shape → ℕ → Term
 number_term p s k = t.number (head_as p s None) (record { bits = low_bits s.width k; signed = s.signed })
 
--- an expression that is no wider than 127 bits, or its lowest 127 bits
-abbrev pub lowest_bits : ℕ → Scope → Expr → ℕ → Term
-lowest_bits base g e n =
-    if nat_lt (shape g e).width 128 then alone base g e n else t.part (head_as (place_of e) (shape_as 127 false) None) (alone base g e n) (number_term (place_of e) (shape_as 8 false) 126) (number_term (place_of e) (shape_as 8 false) 0)
-
--- the same with a 0 bit before it
+-- an expression with a 0 bit before it
 abbrev pub behind_zero : ℕ → Scope → Expr → ℕ → Term
 behind_zero base g e n =
-    t.concat (head_as (place_of e) (shape_as (min 127 (shape g e).width + 1) false) None) (a_term (number_term (place_of e) (shape_as 1 false) 0) (a_term (lowest_bits base g e n) no_terms))
+    t.concat (head_as (place_of e) (shape_as ((shape g e).width + 1) false) None) (a_term (number_term (place_of e) (shape_as 1 false) 0) (a_term (alone base g e n) no_terms))
 
--- an unsigned expression as a signed term of so many bits
-abbrev pub with_sign_bit : ℕ → Scope → ℕ → Expr → ℕ → Term
-with_sign_bit base g w e n = t.sign (head_as (place_of e) (shape_as w true) None) true (behind_zero base g e n)
+-- an expression whose highest bit is its sign: one without sign has a 0 bit before it, unless that is the highest of 128 bits
+abbrev pub with_sign_bit : ℕ → Scope → Expr → ℕ → Term
+with_sign_bit base g e n = if nat_lt (shape g e).width 128 && not (shape g e).signed then behind_zero base g e n else alone base g e n
 
--- an expression as a signed term of so many bits
+-- the number of an expression as a signed term of so many bits; what gives it has its own width, whatever stands around it
 abbrev pub signed_term : ℕ → Scope → ℕ → Expr → ℕ → Term
-signed_term base g w e n = if (shape g e).signed then term base g e n (shape_as w true) else with_sign_bit base g w e n
+signed_term base g w e n = t.sign (head_as (place_of e) (shape_as w true) None) true (with_sign_bit base g e n)
 
 -- the bits of an index that is moved: so many that it does not wrap
 abbrev pub moved_width : Scope → Expr → ℕ

@@ -6,7 +6,8 @@ use Rattle.design_model.specs.Design.{Design}
 use Rattle.design_model.specs.Mentions.{blank}
 use Rattle.design_model.specs.Shape.{is_alone}
 use Rattle.design_model.specs.Value.{value}
-use Rattle.verilog_tree.specs.Tree.{Expr, literal}
+use Rattle.four_state.specs.declared.operator.Binary.TheVariants.{Add}
+use Rattle.verilog_tree.specs.Tree.{Expr, binary_operator, literal}
 use Rattle.flat_design.specs.Scope.{no_names}
 use Rattle.flat_design.specs.Targets.{moved_index}
 use Rattle.flat_laws.proofs.ExampleParts.{at, known}
@@ -31,6 +32,14 @@ down_1 = refl
 -- up from 4'sb1111
 up_signed : number_of true 3 (base 4 15 true) ≡ Some (pos 2)
 up_signed = refl
+
+-- down from 4'sd7 + 4'sd7 + 4'sd7, which has 4 bits and so is 5
+wrapping : Expr
+wrapping = binary_operator (at 1 1) Add (binary_operator (at 1 1) Add (base 4 7 true) (base 4 7 true)) (base 4 7 true)
+
+down_wrapping : number_of false 1 wrapping ≡ Some (pos 4)
+unfolding wrapping
+down_wrapping = refl
 
 -- with 128 bits, of which the highest is 0 or 1
 up_wide : number_of true 3 (base 128 7 false) ≡ Some (pos 10)

@@ -5,6 +5,7 @@ use Rattle.std.specs.Prelude.{bytes_eq, unwrap_or}
 use Rattle.std.proofs.Math.Seq.{get_or-append_seam}
 use Rattle.cov_host.specs.declared.place.Place.{Place}
 use Rattle.design_model.specs.Design.{In, no_signal}
+use Rattle.design_model.specs.declared.design.Range.{Range}
 use Rattle.design_model.specs.declared.design.Signal.{Signal}
 use Rattle.verilog_tree.specs.declared.item.Named.{Named}
 use Rattle.verilog_tree.specs.Tree.{Expr, InstanceItem, Item, Module, One}
@@ -27,7 +28,7 @@ pub record IsOwn (xs : List Signal) (first : ℕ) (e : SignalEntry) : Type 0 whe
   pub from : first ≤ e.number
   pub no_input : (slice_index_or xs e.number no_signal).input ≡ false
 
-other_no_signal : (k : ℕ) (d : Declaration) (s : Sort) (e : SignalEntry) → Some (other_entry k d s) ≡ Some (a_signal e) → ⊥
+pub other_no_signal : (k : ℕ) (d : Declaration) (s : Sort) (e : SignalEntry) → Some (other_entry k d s) ≡ Some (a_signal e) → ⊥
 other_no_signal k d (words_from r) e h = cc
 other_no_signal k d a_net e h = cc
 other_no_signal k d a_variable e h = cc
@@ -42,6 +43,13 @@ signal_number n d e h = ap number_in h
     number_in : Option Entry → ℕ
     number_in (Some (a_signal s)) = s.number
     number_in _ = 0
+
+pub signal_range : (n : ℕ) (d : Declaration) (e : SignalEntry) → Some (signal_entry n d) ≡ Some (a_signal e) → d.range ≡ e.range
+signal_range n d e h = ap range_in h
+  where
+    range_in : Option Entry → Option Range
+    range_in (Some (a_signal s)) = s.range
+    range_in _ = None
 
 own_first : (number : ℕ) (d : Declaration) (xs fs rs : List Signal) → xs ≡ fs ++ (signal_of number false d ∷ rs) → (slice_index_or xs (length fs) no_signal).input ≡ false
 own_first number d xs fs rs e = ap (λ x. x.input) (ap (λ l. slice_index_or l (length fs) no_signal) e ∙ get_or-append_seam fs (signal_of number false d) rs no_signal)
@@ -71,7 +79,7 @@ entries_own aliases m number first (d ∷ ds) xs fs rs s k x e whole s_is h no_a
     by_name rest false is same = rest same
     by_name rest true is same = by_signal (subst (λ z. alias_number aliases z ≡ None) (same_bytes x d.name.name is) no_alias) (is_signal m d) refl same
 
-declared_signal : (a b : Option Entry) (e : SignalEntry) → IsConstantOrFaulty a → entry_or a (entry_or b None) ≡ Some (a_signal e) → b ≡ Some (a_signal e)
+pub declared_signal : (a b : Option Entry) (e : SignalEntry) → IsConstantOrFaulty a → entry_or a (entry_or b None) ≡ Some (a_signal e) → b ≡ Some (a_signal e)
 declared_signal None None e h k = absurd cc
 declared_signal None (Some y) e h k = k
 declared_signal (Some (a_constant v)) b e h k = absurd cc

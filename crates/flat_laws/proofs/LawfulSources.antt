@@ -29,6 +29,7 @@ use Rattle.flat_design.specs.Terms.{head_as, right_side}
 use Rattle.flat_design.specs.Tokens.{AreOfTokens}
 use Rattle.flat_laws.proofs.Continues.{Begins, Continues, begins_same, continues_opened, continues_twice}
 use Rattle.flat_laws.proofs.Freedom.{IsFree, IsSound, both_empty, free_faults, free_parts}
+use Rattle.flat_laws.proofs.LawfulBounds.{HasBoundedSignals, scope_bounded}
 use Rattle.flat_laws.proofs.LawfulEvents.{known_top}
 use Rattle.flat_laws.proofs.LawfulLimits.{answered_keeps, base_of}
 use Rattle.flat_laws.proofs.LawfulPaths.{found_in}
@@ -63,6 +64,7 @@ part_right xs ys zs h = record { before = zs ++ h.before; after = h.after; whole
 pub record IsContinuous (base : ℕ) (xs : List Signal) (ys : List Memory) (ms : List Met) (k : ℕ) (x : Process) : Type 0 where
   pub scope : Scope
   pub good : IsGoodScope xs ys scope
+  pub bounded : HasBoundedSignals scope
   pub to : Expr
   pub value : Expr
   pub node : ℕ
@@ -92,6 +94,7 @@ pub record IsInput (base : ℕ) (xs : List Signal) (ys : List Memory) (ms : List
 pub record IsOutput (base : ℕ) (xs : List Signal) (ys : List Memory) (ms : List Met) (k : ℕ) (x : Process) : Type 0 where
   pub scope : Scope
   pub good : IsGoodScope xs ys scope
+  pub bounded : HasBoundedSignals scope
   pub port : SignalEntry
   pub to : Expr
   pub instance : ℕ
@@ -164,6 +167,7 @@ source_more : (all : List Module) (base : ℕ) (xs zs : List Signal) (ys ws : Li
 source_more all base xs zs ys ws ms ns k x b c part (of_assign s) = of_assign (record {
   scope = s.scope;
   good = good_more xs zs ys ws s.scope b c s.good;
+  bounded = s.bounded;
   to = s.to;
   value = s.value;
   node = s.node;
@@ -191,6 +195,7 @@ source_more all base xs zs ys ws ms ns k x b c part (of_input s) = of_input (rec
 source_more all base xs zs ys ws ms ns k x b c part (of_output s) = of_output (record {
   scope = s.scope;
   good = good_more xs zs ys ws s.scope b c s.good;
+  bounded = s.bounded;
   port = s.port;
   to = s.to;
   instance = s.instance;
@@ -285,7 +290,7 @@ made_steps base all tokens = record {
       let a = free_parts (met_faults fs ++ ws) (met_faults (self_faults g y v)) rest in
       let b = both_empty (target_faults g Continuous y) (faults g v) (free_faults fs (free_parts (met_faults fs) ws a.0).0) in
       made_process all base (made_assign base i before st x.place y v n) st
-      (of_assign (record { scope = g; good = good; to = y; value = v; node = n; instance = length before.design.instances; is = refl; target_sound = b.0; value_sound = b.1; no_self = free_faults (self_faults g y v) a.1; writings = assign_parts (met_process x.place) (met_faults fs) ws (met_faults (self_faults g y v)) })) h;
+      (of_assign (record { scope = g; good = good; bounded = scope_bounded i (length before.design.signals) (length before.design.memories); to = y; value = v; node = n; instance = length before.design.instances; is = refl; target_sound = b.0; value_sound = b.1; no_self = free_faults (self_faults g y v) a.1; writings = assign_parts (met_process x.place) (met_faults fs) ws (met_faults (self_faults g y v)) })) h;
   runs = λ depth i before st here x x_in w s l n form free h.
       let g = (context base i before).scope in
       let number = length before.design.instances in
@@ -319,7 +324,7 @@ made_steps base all tokens = record {
       let ws = met_writings g Continuous true true p j.value in
       let rest : IsFree (met_faults fs ++ ws) = record { no_fault = free.no_fault } in
       made_process all base (made_output base i before st x.place j s) st
-      (of_output (record { scope = g; good = good; port = s; to = j.value; instance = length before.design.instances; is = refl; matches = matches; above = outer_below all base i before at st x k m o s (record { opening = inside.outer.opening; known = inside.outer.known; continues = inside.outer.continues }) own; target_sound = free_faults fs (free_parts (met_faults fs) ws rest).0; writings = output_parts (met_process x.place) (met_faults fs) ws })) h;
+      (of_output (record { scope = g; good = good; bounded = scope_bounded i (length before.design.signals) (length before.design.memories); port = s; to = j.value; instance = length before.design.instances; is = refl; matches = matches; above = outer_below all base i before at st x k m o s (record { opening = inside.outer.opening; known = inside.outer.known; continues = inside.outer.continues }) own; target_sound = free_faults fs (free_parts (met_faults fs) ws rest).0; writings = output_parts (met_process x.place) (met_faults fs) ws })) h;
   below = λ depth i before st here h x k m o under. known_in_below base all depth i before st here x k m o under;
 }
 

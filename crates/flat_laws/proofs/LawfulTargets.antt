@@ -95,7 +95,7 @@ abbrev pub IsLeaf : Scope → ℕ → Mode → ℕ → Expr → Type 0
 IsLeaf g base mode y e =
     ((s : SignalEntry) × (look_up g (base_name e).name ≡ Some (a_signal s)) × (s.number ≡ y) × (signal_target_faults g mode s e ≡ [])) ⊎ ((m : MemoryEntry) × (look_up g (base_name e).name ≡ Some (a_memory m)) × (base + m.number ≡ y) × (memory_target_faults g mode e ≡ []))
 
-leaf_set : (xs : List Signal) (ys : List Memory) (g : Scope) → IsGoodScope xs ys g → (base : ℕ) (mode : Mode) (y : ℕ) (e : Expr) (o : Option Entry) → look_up g (base_name e).name ≡ o → thing_number base (thing_of o) ≡ y → leaf_faults g mode o e ≡ [] → IsLeaf g base mode y e
+pub leaf_set : (xs : List Signal) (ys : List Memory) (g : Scope) → IsGoodScope xs ys g → (base : ℕ) (mode : Mode) (y : ℕ) (e : Expr) (o : Option Entry) → look_up g (base_name e).name ≡ o → thing_number base (thing_of o) ≡ y → leaf_faults g mode o e ≡ [] → IsLeaf g base mode y e
 leaf_set xs ys g good base mode y e (Some (a_signal s)) is same free = inl (s, is, same, free)
 leaf_set xs ys g good base mode y e (Some (a_memory m)) is same free = inr (m, is, same, free)
 leaf_set xs ys g good base mode y e None is same free = absurd cc
@@ -107,7 +107,7 @@ leaf_set xs ys g good base mode y e (Some no_constant) is same free = absurd (fa
 leaf_set xs ys g good base mode y e (Some a_faulty_one) is same free = absurd (false≢true (sym (good.sound.sound (base_name e).name) ∙ ap is_faulty_entry is))
 
 -- what begins with no name is no target
-no_leaf : (g : Scope) (mode : Mode) (e : Expr) (o : Option Entry) → o ≡ None → leaf_faults g mode o e ≡ [] → ⊥
+pub no_leaf : (g : Scope) (mode : Mode) (e : Expr) (o : Option Entry) → o ≡ None → leaf_faults g mode o e ≡ [] → ⊥
 no_leaf g mode e None is free = cc
 no_leaf g mode e (Some x) is free = cc
 

@@ -48,3 +48,9 @@ pub mod LawfulPorts
 pub mod LawfulSources
 pub mod LawfulInputs
 pub mod LawfulMixed
+pub mod WholeCuts
+pub mod IndexValues
+pub mod LawfulBounds
+pub mod LawfulOffsets
+pub mod LawfulConstants
+pub mod LawfulDrivers

@@ -22,7 +22,7 @@ use Rattle.flat_design.specs.Loops as loops
 use Rattle.flat_design.specs.Loops.{in_some_turn}
 use Rattle.flat_design.specs.Numbering.{bare, is_operator, one_if, nodes, all_nodes, is_counted_condition, condition_nodes, statement_nodes, lines}
 use Rattle.flat_design.specs.Scope.{Scope, look_up, names_thing, is_memory_name, shape, natural_number}
-use Rattle.flat_design.specs.Targets.{target, targets, declared_range, number_term, lowest_bits, with_sign_bit, signed_term, moved_width, moved_term, highest_bit, guarded_term, moved_index, lowest_index}
+use Rattle.flat_design.specs.Targets.{target, targets, declared_range, number_term, behind_zero, signed_term, moved_width, moved_term, highest_bit, guarded_term, moved_index, lowest_index}
 use Rattle.flat_design.specs.declared.entry.Entry.{Entry}
 use Rattle.flat_design.specs.declared.entry.Entry.TheVariants.{Constant as a_constant, Turn as a_turn, Signal as a_signal, Memory as a_memory, LoopVariable as a_loop_variable, Instance as an_instance, NoConstant as no_constant, Faulty as a_faulty_one}
 use Rattle.flat_design.specs.Terms.{head_as, number_if, counted_as, condition_as, condition_term, name_term, word_or_bit, term, terms, alone, right_side}
@@ -222,16 +222,10 @@ module _ (base : ℕ) (g : Scope) (e : Expr) (n : ℕ) where
   base_among : Among (nodes_in (subterms (alone base g e n))) (text_nodes g e n)
   base_among = nodes_in_text base g e n (shape g e)
 
-  lowest_bits_among : Among (nodes_in (subterms (lowest_bits base g e n))) (text_nodes g e n)
-  lowest_bits_among =
-      either_among (nat_lt (shape g e).width 128) (alone base g e n) _ (text_nodes g e n) base_among
-      (both_among (subterms (alone base g e n) ++ number_term (place_of e) (shape_as 8 false) 126 ∷ []) (number_term (place_of e) (shape_as 8 false) 0 ∷ []) (text_nodes g e n)
-      (both_among (subterms (alone base g e n)) (number_term (place_of e) (shape_as 8 false) 126 ∷ []) (text_nodes g e n) base_among (none_among _)) (none_among _))
-
   signed_among : (w : ℕ) → Among (nodes_in (subterms (signed_term base g w e n))) (text_nodes g e n)
   signed_among w =
-      either_among (shape g e).signed (term base g e n (shape_as w true)) (with_sign_bit base g w e n) (text_nodes g e n) (nodes_in_text base g e n (shape_as w true))
-      (both_among (subterms (lowest_bits base g e n)) [] (text_nodes g e n) lowest_bits_among (none_among _))
+      either_among (nat_lt (shape g e).width 128 && not (shape g e).signed) (behind_zero base g e n) (alone base g e n) (text_nodes g e n)
+      (both_among (subterms (alone base g e n)) [] (text_nodes g e n) base_among (none_among _)) base_among
 
   moved_among : (up : Bool) (by : ℕ) → Among (nodes_in (subterms (moved_term base g up by e n))) (text_nodes g e n)
   moved_among up by =

@@ -1,13 +1,14 @@
 //! What holds of the flat design of modules, and of its faults (IEEE 1364-2001 clause 12).
 #![tactic(auto)]
 
-ghost use Rattle.std.specs.Prelude.{ℕ, ◌≡◌, ◌<◌, ◌≤◌, ◌==◌, ◌&&◌, nat_lt, true, false, List, length, map, sum_by, Ok, Err};
+ghost use Rattle.std.specs.Prelude.{ℕ, ◌≡◌, ◌<◌, ◌≤◌, ◌==◌, ◌&&◌, nat_lt, true, List, length, map, sum_by, Ok, Err, false};
 ghost use Rattle.std.specs.List.{list_all};
 ghost use Rattle.design_model.specs.Design.{AreDistinct, Design, In, IsAssign, IsComb, body_at, is_number, names_of, path_of, process_at, signal_at};
 ghost use Rattle.design_model.specs.Lawful.{instance_of, is_alias, is_instance, is_memory_of, is_signal, size_of, span, wakes_of};
 ghost use Rattle.design_model.specs.Machine.{events_of};
+ghost use Rattle.design_model.specs.Mentions.{body_assigns, body_blocks, body_queues, any_set, may_write};
 ghost use Rattle.design_model.specs.Numbered.{LineAt, NodeAt, lines_of, nodes_of};
-ghost use Rattle.design_model.specs.Mentions.{body_assigns, body_blocks, body_queues};
+ghost use Rattle.event_machine.specs.Cell.{Cell};
 ghost use Rattle.verilog_tree.specs.Tree.{Expr, Module, Statement};
 ghost use Rattle.flat_design.specs.Fault.{Fault, IsFirst};
 ghost use Rattle.flat_design.specs.Faults.{Stands, answer, faults_of};
@@ -48,6 +49,7 @@ pub fn lawful_law()
     ensures instance_paths { (ms : List Module) (top : List ℕ) (d : Design) → AreOfTokens ms → answer ms top ≡ Ok d → AreDistinct (map (λ i. i.path) d.instances) }
     ensures no_input { (ms : List Module) (top : List ℕ) (d : Design) → AreOfTokens ms → answer ms top ≡ Ok d → (p s : ℕ) → body_assigns s (body_at d p) ≡ true → (signal_at d s).input ≡ false }
     ensures not_both { (ms : List Module) (top : List ℕ) (d : Design) → AreOfTokens ms → answer ms top ≡ Ok d → (p q x : ℕ) → body_blocks x (body_at d p) ≡ true → body_queues x (body_at d q) ≡ true → ⊥ }
+    ensures one_driver { (ms : List Module) (top : List ℕ) (d : Design) → AreOfTokens ms → answer ms top ≡ Ok d → (p q : ℕ) (c : Cell) → IsAssign (process_at d p) → IsAssign (process_at d q) → any_set (λ b x t. may_write d x c) (body_at d p) ≡ true → any_set (λ b x t. may_write d x c) (body_at d q) ≡ true → p ≡ q }
 {}
 
 /// The line points of a flat statement have the numbers from the first on, as many as the statement has line points.

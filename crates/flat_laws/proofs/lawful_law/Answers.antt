@@ -1,4 +1,5 @@
 use Rattle.flat_laws.proofs.LawfulDistinct.{answered_names}
+use Rattle.flat_laws.proofs.LawfulDrivers.{answered_drivers}
 use Rattle.flat_laws.proofs.LawfulEvents.{answered_wakes}
 use Rattle.flat_laws.proofs.LawfulInstances.{answered_instances}
 use Rattle.flat_laws.proofs.LawfulLimits.{answered_small}
@@ -78,3 +79,6 @@ returns-clause-no_input c ms top d tokens e p s h = (answered_inputs ms top d to
 
 pub returns-clause-not_both : goal.returns-clause-not_both
 returns-clause-not_both c ms top d tokens e p q x h k = (answered_mixed ms top d tokens e).not_both p q x h k
+
+pub returns-clause-one_driver : goal.returns-clause-one_driver
+returns-clause-one_driver c ms top d tokens e p q x a b h k = (answered_drivers ms top d tokens e).one_driver p q x a b h k
