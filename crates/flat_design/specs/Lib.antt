@@ -13,4 +13,5 @@ pub mod Instances
 pub mod Connections
 pub mod Flat
 pub mod Faults
+pub mod Literals
 pub mod Tokens

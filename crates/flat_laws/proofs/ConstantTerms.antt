@@ -129,15 +129,15 @@ counted true false n m h = refl
 counted true true n m h = absurd (false≢true (sym h))
 counted false b n m h = absurd (false≢true (sym h))
 
-number_natural : (s : Bool) (bs : List Bit) → is_below_one (index_of (index s bs)) ≡ false → natural bs ≡ count_of (index_of (index s bs))
+pub number_natural : (s : Bool) (bs : List Bit) → is_below_one (index_of (index s bs)) ≡ false → natural bs ≡ count_of (index_of (index s bs))
 number_natural s bs h = counted (all_known bs) (s && is_one (top bs)) (natural bs) (natural (map not_bit bs)) h
 
-no_fault : (b : Bool) (k : ConstKind) (p : Place) → fault_if b k p ≡ None → b ≡ false
+pub no_fault : (b : Bool) (k : ConstKind) (p : Place) → fault_if b k p ≡ None → b ≡ false
 no_fault true k p e = absurd cc
 no_fault false k p e = refl
 
 -- a count without a fault is a number from 1 on, and has no fault as an expression
-count_sound : (g : Scope) (p : Place) (e : Expr) → const.is_constant (names g) e ≡ true → count_fault (names g) p e (fault_of (names g) e) ≡ None → (fault_of (names g) e
+pub count_sound : (g : Scope) (p : Place) (e : Expr) → const.is_constant (names g) e ≡ true → count_fault (names g) p e (fault_of (names g) e) ≡ None → (fault_of (names g) e
     ≡ None) × (is_below_one (number_of (names g) e) ≡ false)
 count_sound g p e c h =
     let q = none_in_turn (number_fault (names g) e (fault_of (names g) e)) _ h in

@@ -32,7 +32,7 @@ pub record HasRange (d : Declaration) : Type 0 where
 small_span : (k : ℕ) (b : Bool) (n : ℕ) (f : Fault) → b ≡ true → fault_if (b && nat_lt k n) f ≡ [] → n ≤ k
 small_span k b n f sound h = ltb-false k n (not_told (nat_lt k n) f (subst (λ c. fault_if (c && nat_lt k n) f ≡ []) sound h))
 
-sound_width : (g : Scope) (r : Option RangeExpr) → is_sound_vector g r ≡ true → range_width (range_value g r) ≤ 128
+pub sound_width : (g : Scope) (r : Option RangeExpr) → is_sound_vector g r ≡ true → range_width (range_value g r) ≤ 128
 sound_width g None h = omega arith
 sound_width g (Some r) h =
     let p = and_parts (none (vector_faults g (Some r))) (is_sound_range g r) h in

@@ -55,7 +55,7 @@ ranged_bits : (r : Option Range) → range_width r ≤ 128 → HasBits (range_wi
 ranged_bits None h = record { above = refl; below = refl; as_range = refl; or_one = refl }
 ranged_bits (Some r) h = record { above = le-leb 1 (span r.high r.low) (omega arith); below = le-leb (span r.high r.low) 128 h; as_range = eq-eqb (span r.high r.low) (span r.high r.low) refl; or_one = refl }
 
-signal_sort_sound : (m : Module) (x : List ℕ) (s : Sort) → is_signal_sort m x s ≡ true → is_faulty s ≡ false
+pub signal_sort_sound : (m : Module) (x : List ℕ) (s : Sort) → is_signal_sort m x s ≡ true → is_faulty s ≡ false
 signal_sort_sound m x a_net h = refl
 signal_sort_sound m x a_variable h = refl
 signal_sort_sound m x (words_from r) h = refl

@@ -160,7 +160,7 @@ always_written base xs fs gs ms m p y x h = record {
   thing = h.thing;
 }
 
-free_body : (fs gs : List Fault) (ms : List Met) (m : Met) → IsFree (met_faults fs ++ ms ++ met_faults gs ++ m ∷ []) → IsFree ms
+pub free_body : (fs gs : List Fault) (ms : List Met) (m : Met) → IsFree (met_faults fs ++ ms ++ met_faults gs ++ m ∷ []) → IsFree ms
 free_body fs gs ms m h = (free_parts (met_faults fs) ms (free_parts (met_faults fs ++ ms) (met_faults gs) (free_parts (met_faults fs ++ ms ++ met_faults gs) (m ∷ []) h).0).0).1
 
 -- what a continuous assignment assigns it drives

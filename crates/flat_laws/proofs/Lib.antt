@@ -54,3 +54,13 @@ pub mod LawfulBounds
 pub mod LawfulOffsets
 pub mod LawfulConstants
 pub mod LawfulDrivers
+pub mod EntryWidths
+pub mod TakenOperands
+pub mod OwnShapes
+pub mod ShapedTerms
+pub mod ShapedIndexes
+pub mod ShapedTargets
+pub mod UncountedTerms
+pub mod LiteralFits
+pub mod ShapedBodies
+pub mod LawfulBodies

@@ -9,6 +9,7 @@ ghost use Rattle.design_model.specs.Machine.{events_of};
 ghost use Rattle.design_model.specs.Mentions.{body_assigns, body_blocks, body_queues, any_set, may_write};
 ghost use Rattle.design_model.specs.Numbered.{LineAt, NodeAt, lines_of, nodes_of};
 ghost use Rattle.event_machine.specs.Cell.{Cell};
+ghost use Rattle.design_model.specs.Shape.{is_body};
 ghost use Rattle.verilog_tree.specs.Tree.{Expr, Module, Statement};
 ghost use Rattle.flat_design.specs.Fault.{Fault, IsFirst};
 ghost use Rattle.flat_design.specs.Faults.{Stands, answer, faults_of};
@@ -50,6 +51,7 @@ pub fn lawful_law()
     ensures no_input { (ms : List Module) (top : List ℕ) (d : Design) → AreOfTokens ms → answer ms top ≡ Ok d → (p s : ℕ) → body_assigns s (body_at d p) ≡ true → (signal_at d s).input ≡ false }
     ensures not_both { (ms : List Module) (top : List ℕ) (d : Design) → AreOfTokens ms → answer ms top ≡ Ok d → (p q x : ℕ) → body_blocks x (body_at d p) ≡ true → body_queues x (body_at d q) ≡ true → ⊥ }
     ensures one_driver { (ms : List Module) (top : List ℕ) (d : Design) → AreOfTokens ms → answer ms top ≡ Ok d → (p q : ℕ) (c : Cell) → IsAssign (process_at d p) → IsAssign (process_at d q) → any_set (λ b x t. may_write d x c) (body_at d p) ≡ true → any_set (λ b x t. may_write d x c) (body_at d q) ≡ true → p ≡ q }
+    ensures bodies { (ms : List Module) (top : List ℕ) (d : Design) → AreOfTokens ms → answer ms top ≡ Ok d → (p : ℕ) → is_body d (body_at d p) ≡ true }
 {}
 
 /// The line points of a flat statement have the numbers from the first on, as many as the statement has line points.

@@ -1,3 +1,4 @@
+use Rattle.flat_laws.proofs.LawfulBodies.{answered_bodies}
 use Rattle.flat_laws.proofs.LawfulDistinct.{answered_names}
 use Rattle.flat_laws.proofs.LawfulDrivers.{answered_drivers}
 use Rattle.flat_laws.proofs.LawfulEvents.{answered_wakes}
@@ -82,3 +83,6 @@ returns-clause-not_both c ms top d tokens e p q x h k = (answered_mixed ms top d
 
 pub returns-clause-one_driver : goal.returns-clause-one_driver
 returns-clause-one_driver c ms top d tokens e p q x a b h k = (answered_drivers ms top d tokens e).one_driver p q x a b h k
+
+pub returns-clause-bodies : goal.returns-clause-bodies
+returns-clause-bodies c ms top d tokens e p = (answered_bodies ms top d tokens e).bodies p
