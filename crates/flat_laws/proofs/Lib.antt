@@ -54,3 +54,4 @@ pub mod LawfulBounds
 pub mod LawfulOffsets
 pub mod LawfulConstants
 pub mod LawfulDrivers
+pub mod LawfulDrivenOnce

@@ -1,4 +1,5 @@
 use Rattle.flat_laws.proofs.LawfulDistinct.{answered_names}
+use Rattle.flat_laws.proofs.LawfulDrivenOnce.{answered_targets}
 use Rattle.flat_laws.proofs.LawfulDrivers.{answered_drivers}
 use Rattle.flat_laws.proofs.LawfulEvents.{answered_wakes}
 use Rattle.flat_laws.proofs.LawfulInstances.{answered_instances}
@@ -82,3 +83,6 @@ returns-clause-not_both c ms top d tokens e p q x h k = (answered_mixed ms top d
 
 pub returns-clause-one_driver : goal.returns-clause-one_driver
 returns-clause-one_driver c ms top d tokens e p q x a b h k = (answered_drivers ms top d tokens e).one_driver p q x a b h k
+
+pub returns-clause-targets : goal.returns-clause-targets
+returns-clause-targets c ms top d tokens e p = (answered_targets ms top d tokens e).targets p
