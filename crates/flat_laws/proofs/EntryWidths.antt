@@ -368,7 +368,7 @@ connection_given label xs (d ∷ cs) c h = by_name (connection_given label xs cs
     further r = (r.0, inr r.1, r.2)
 
     by_name : (In c (connections label xs cs) → (e : Given) × In e cs × (e.value ≡ c.value)) → ((ys : List Named) → In c (connections label ys cs) → (e : Given) × In e cs × (e.value ≡ c.value)) → (o : Option Named) (zs : List Named) →
-        In c (elim o [ | Some x ↦ connection x.name x d.value ∷ connections label xs cs | None ↦ elim zs [ [] ↦ connections label [] cs | x ∷ ys ↦ connection x.name label d.value ∷ connections label ys cs ] ]) → (e : Given) × In e (d ∷ cs) × (e.value ≡ c.value)
+        In c (elim o [ Some x ↦ connection x.name x d.value ∷ connections label xs cs | None ↦ elim zs [ [] ↦ connections label [] cs | x ∷ ys ↦ connection x.name label d.value ∷ connections label ys cs ] ]) → (e : Given) × In e (d ∷ cs) × (e.value ≡ c.value)
     by_name rest more (Some x) zs (inl e) = (d, inl refl, ap (λ z. z.value) e)
     by_name rest more (Some x) zs (inr k) = further (rest k)
     by_name rest more None [] k = further (more [] k)

@@ -249,7 +249,7 @@ pub one_first : (k : ElabKind) (xs : List Named) → fault_at_first k xs ≡ [] 
 one_first k [] e = refl
 one_first k (x ∷ xs) e = absurd cc
 
-not_at_odds : (r : Writing → Writing → Bool) (a b : Writing) → (if r a b then later_of a.name b.name ∷ [] else []) ≡ [] → r a b ≡ false
+pub not_at_odds : (r : Writing → Writing → Bool) (a b : Writing) → (if r a b then later_of a.name b.name ∷ [] else []) ≡ [] → r a b ≡ false
 not_at_odds r a b e = by_test (r a b) e
   where
     by_test : (t : Bool) → (if t then later_of a.name b.name ∷ [] else []) ≡ [] → t ≡ false
