@@ -43,7 +43,7 @@ use Rattle.flat_design.specs.declared.entry.SignalEntry.{SignalEntry}
 use Rattle.flat_design.specs.declared.fault.ElabKind.TheVariants.{TwoDrivers}
 use Rattle.flat_design.specs.Targets.{Writing, all_leaves, all_target_faults, declared_range, leaves, lowest_index, target, target_faults, targets, writing_of}
 use Rattle.flat_design.specs.Terms.{alone}
-use Rattle.flat_design.specs.Tokens.{AreOfTokens, are_blocking, arms_are_blocking, has_edges, is_blocking}
+use Rattle.flat_laws.specs.Tokens.{AreOfTokens, are_blocking, arms_are_blocking, has_edges, is_blocking}
 use Rattle.flat_design.proofs.NoConstFaults.{both_none, four_none, number_clean, true_both}
 use Rattle.flat_laws.proofs.Freedom.{IsSound, answered_sound, both_empty}
 use Rattle.flat_laws.proofs.LawfulBase.{base_is}

@@ -41,7 +41,7 @@ use Rattle.flat_design.specs.declared.entry.Thing.TheVariants.{Signal as the_sig
 use Rattle.flat_design.specs.declared.fault.ElabKind.TheVariants.{TwoDrivers, WrongTarget}
 use Rattle.flat_design.specs.Targets.{Writing, all_leaves, all_target_faults, declared_range, fixed_faults, leaf_faults, leaves, lowest_index, memory_target_faults, offsets, offsets_from, signal_target_faults, target, target_faults, targets, writing_of}
 use Rattle.flat_design.specs.Terms.{alone}
-use Rattle.flat_design.specs.Tokens.{AreOfTokens}
+use Rattle.flat_laws.specs.Tokens.{AreOfTokens}
 use Rattle.flat_design.proofs.NoConstFaults.{both_none, constant_not_faulty, constant_there, four_none, no_const_fault, number_clean, true_both, width_clean}
 use Rattle.flat_laws.proofs.Freedom.{IsSound, answered_sound, both_empty, not_told}
 use Rattle.flat_laws.proofs.IndexValues.{IsNumber, alone_index}

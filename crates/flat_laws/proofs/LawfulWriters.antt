@@ -31,7 +31,7 @@ use Rattle.flat_design.specs.declared.entry.Thing.TheVariants.{Signal as the_sig
 use Rattle.flat_design.specs.Targets.{target, leaves, Writing, writing_of, target_faults, memory_target_faults}
 use Rattle.flat_design.specs.declared.entry.Mode.TheVariants.{Continuous}
 use Rattle.flat_design.specs.declared.entry.Mode.{Mode}
-use Rattle.flat_design.specs.Tokens.{AreOfTokens}
+use Rattle.flat_laws.specs.Tokens.{AreOfTokens}
 use Rattle.flat_laws.proofs.Continues.{Continues, continues_opened, continues_twice}
 use Rattle.flat_laws.proofs.Freedom.{free_faults, IsFree, IsSound, answered_sound, free_parts, both_empty}
 use Rattle.flat_laws.proofs.LawfulBase.{base_is}

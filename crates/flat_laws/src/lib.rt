@@ -15,7 +15,7 @@ ghost use Rattle.flat_design.specs.Fault.{Fault, IsFirst};
 ghost use Rattle.flat_design.specs.Faults.{Stands, answer, faults_of};
 ghost use Rattle.flat_laws.specs.Laws.{ConstantLaw, LineLaw, NodeLaw, TurnLaw};
 ghost use Rattle.flat_design.specs.Scope.{Scope};
-ghost use Rattle.flat_design.specs.Tokens.{AreOfTokens};
+ghost use Rattle.flat_laws.specs.Tokens.{AreOfTokens};
 
 /// A design is answered only where no fault stands; a fault that is answered stands, and none that stands goes before
 /// it in the text.
