@@ -1,2 +1,1 @@
-pub mod ConnectionView
 pub mod Modules

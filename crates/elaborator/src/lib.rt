@@ -1,5 +1,4 @@
 //! From modules to one flat design (IEEE 1364-2001 clause 12).
 #![tactic(auto)]
 
-mod connections;
 mod modules;
