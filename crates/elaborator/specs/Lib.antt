@@ -1,3 +1,2 @@
-pub mod ConnectionView
 pub mod Modules
 pub mod Walk

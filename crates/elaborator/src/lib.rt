@@ -1,6 +1,5 @@
 //! From modules to one flat design (IEEE 1364-2001 clause 12).
 #![tactic(auto)]
 
-mod connections;
 mod modules;
 mod walk;

@@ -1,0 +1,5 @@
+pub mod AliasLemmas
+pub mod FirstBoundLemmas
+pub mod JoiningLemmas
+pub mod OutputLemmas
+pub mod OverrideLemmas

@@ -1,0 +1,4 @@
+pub mod ConnectionView
+pub mod FirstBound
+pub mod Outputs
+pub mod PortView
