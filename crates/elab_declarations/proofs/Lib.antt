@@ -6,3 +6,4 @@ pub mod TypedLemmas
 pub mod BoundLemmas
 pub mod OthersLemmas
 pub mod ConstantsLemmas
+pub mod SmallRanges

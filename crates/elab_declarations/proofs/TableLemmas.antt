@@ -1,5 +1,5 @@
 -- The table of declared names, as the list of declarations.
-use Rattle.std.proofs.Common.{◌≡◌, ℕ, Bool, true, false, ◌||◌, List, [], ◌∷◌, Option, None, Some, refl, sym, ap, ◌∙◌, inl, inr}
+use Rattle.std.proofs.Common.{◌≡◌, ℕ, Bool, true, false, ◌||◌, List, [], ◌∷◌, map, Option, None, Some, refl, sym, ap, ◌∙◌, inl, inr}
 use Rattle.std.specs.Prelude.{bytes_eq, ◌&&◌, if◌then◌else◌}
 use Rattle.std.specs.Borrow.{Bor}
 use Rattle.std.specs.List.{list_any}
@@ -10,7 +10,7 @@ use Rattle.std.proofs.lemmas.Slice.Eq.{bytes_eq-Decides}
 use Rattle.indexmap.specs.IndexMap.{insert_entry}
 use Rattle.flat_design.specs.Connections.{declaration_of}
 use Rattle.flat_design.specs.Declarations as spec
-use Rattle.elab_declarations.specs.DeclarationView.{declaration_view}
+use Rattle.elab_declarations.specs.DeclarationView.{declaration_view, declarations_view}
 use Rattle.elab_declarations.specs.DeclarationTable.{Table, declarations_in, AreByName}
 use Rattle.elab_declarations.specs.declared.declaration.Declaration.{Declaration}
 use Rattle.elab_scope.proofs.ConnectionLemmas.{bytes_eq-sym}
@@ -133,3 +133,8 @@ inserted_by_name x new (e ∷ es) named h =
 -- the same for what is looked up by an equal name
 pub any_named_at : (P : spec.Declaration → Bool) (x : List ℕ) (es : Table) → AreByName es → (y : List ℕ) → y ≡ x → list_any (λ c. bytes_eq c.name.name x && P c) (declarations_in es) ≡ holds_of P (found y es)
 any_named_at P x es h y one = any_named P x es h ∙ ap (λ n. holds_of P (found n es)) (sym one)
+
+-- the declarations of the table, without their names
+pub declarations_of_values : (es : Table) → declarations_view (map (λ e. e.1) es) ≡ declarations_in es
+declarations_of_values [] = refl
+declarations_of_values (e ∷ es) = ap (λ ds. declaration_view e.1 ∷ ds) (declarations_of_values es)

@@ -1,3 +1,4 @@
+pub mod DeclarationBounds
 pub mod DeclarationTable
 pub mod DeclarationView
 pub mod ItemKind

@@ -1,5 +1,6 @@
-ghost use Rattle.std.specs.Prelude.{◌≡◌, ◌++◌, [], IfOk, OnOk};
+ghost use Rattle.std.specs.Prelude.{◌≡◌, ◌++◌, [], All, IfOk, OnOk};
 ghost use Rattle.std.specs.Option.{option_map};
+ghost use Rattle.elab_declarations.specs.DeclarationBounds.{IsInBounds};
 ghost use Rattle.elab_declarations.specs.DeclarationView.{declaration_view, declarations_view};
 ghost use Rattle.elab_scope.specs.Tally.{after_faults};
 ghost use Rattle.flat_design.specs.Connections.{declaration_of};
@@ -64,6 +65,13 @@ impl<'a> Declarations<'a> {
         };
         let _ = self.found.insert(name, whole)?;
         Ok(())
+    }
+
+    /// The names in their order.
+    pub fn as_slice(&self) -> &[Declaration<'a>]
+        ensures { declarations_view result.now ≡ self.now }
+    {
+        self.found.values().as_slice()
     }
 
     /// Whether a name is declared again, other than as the net or variable of a port.
@@ -147,6 +155,7 @@ pub fn check_declarations<'a>(
     tally: &mut Tally<'a>,
 ) -> Result<Declarations<'a>, NoMemory>
     ensures names { IfOk result (λ d. d ≡ spec.declarations (binding_of scope.now) (module_view module.now)) }
+    ensures within { IfOk result (All IsInBounds) }
     ensures met { OnOk result (tally.new ≡ after_faults tally.old (range_faults (binding_of scope.now) (module_view module.now) ++ spec.twice_faults [] (spec.all_declarations (binding_of scope.now) (module_view module.now)) ++ spec.listed_twice [] module.now.ports ++ spec.direction_faults (spec.declarations (binding_of scope.now) (module_view module.now)) module.now.ports)) }
 {
     let all = all_declarations(alloc, scope, module, tally)?;

@@ -31,9 +31,10 @@ replaced_goes {base = base} {later = later} {numbers = numbers} ms depth given g
     let second = walks_go {numbers = numbers} child before b met n (l + 0) (k + 0) first.0 in
     let third = joins before b (instance b ms depth i met) n (l + 0 + 0) (k + 0 + 0) second.0 in
     let there : inside ≡ (context b i met).scope = found before b met first.0.at in
-    let end = subst (λ x. IsAmong before base b later numbers (join_ports (around_here b given n g) p x js (instance b ms depth i met)) n (l + 0 + 0 + 0) (k + 0 + 0 + 0)) there third.0 in
-    (record { at = end.at; numbered = λ d building. let is = end.numbered d building in (is.0, omega (arith, is.1), omega (arith, is.2)) },
-    λ d some clean. let c = third.1 d some clean in let o = second.1 c.0 c.1 c.2 in first.1 o.0 o.1 o.2)
+    let end = subst (λ x. IsAmong before base b later numbers (join_ports (around_here b given n g) p x js (instance b ms depth i met)) n (l + 0 + 0 + 0) (k + 0 + 0 + 0)) there third.0 in (
+      record { at = end.at; numbered = λ d building. let is = end.numbered d building in (is.0, omega (arith, is.1), omega (arith, is.2)) },
+      λ d some clean. let c = third.1 d some clean in let o = second.1 c.0 c.1 c.2 in first.1 o.0 o.1 o.2,
+    )
 
 -- the same where a limit is passed on the way
 pub replaced_ends : {base : ℕ} {w told below : Walk} {numbers : Numbers} (ms : List Module) (depth : ℕ) (given : Instantiation) (g : Scope) (p : Place) (i : Instantiation) (js : List JoinedPort) (fs : List Fault) →
@@ -45,7 +46,7 @@ replaced_ends {base = base} {below = below} {numbers = numbers} ms depth given g
     let met : Sofar = meet (met_faults fs) st in
     let second = child before b met first.0.at in
     let third = ended_walks {base = base} {w = below} {later = below} (λ b st'. join_ports (around_here b given n g) p (context b i met).scope js st') refl ended
-        (λ b st'. join_ports_continues (around_here b given n g) p (context b i met).scope js st') before b (instance b ms depth i met) second.0 in
+    (λ b st'. join_ports_continues (around_here b given n g) p (context b i met).scope js st') before b (instance b ms depth i met) second.0 in
     let never : IsClean below.tally → ⊥ = λ c. false≢true (sym c.open' ∙ ended) in
     (record { at = third.0; numbered = λ d building. absurd (never building.clean) }, λ d some clean. absurd (never clean))
 
@@ -58,9 +59,10 @@ pub instance_walks : {base : ℕ} {w open' later : Walk} {numbers others : Numbe
 instance_walks {base = base} {w = w} {open' = open'} {later = later} ms depth i g was here opens still goes before b st at =
     let start = opened_among i opens still at in
     let end = goes before b (opened i st) (length st.design.instances) 1 1 start in
-    let scope : g ≡ (context b i st).scope = here ∙ scope_numbers i at was in
-    (subst (λ x. IsAt before base b later (items (instance b ms depth) b ms (around_here b i (length st.design.instances) x) i.of_module.items 1 1 (opened i st))) scope end.0.at,
-    λ d some clean. let c = end.1 d some clean in let o = opens.draft c.0 c.1 c.2 in (o.0, o.1, (was_clean w open' (opening_met i) opens.met c.2).0))
+    let scope : g ≡ (context b i st).scope = here ∙ scope_numbers i at was in (
+      subst (λ x. IsAt before base b later (items (instance b ms depth) b ms (around_here b i (length st.design.instances) x) i.of_module.items 1 1 (opened i st))) scope end.0.at,
+      λ d some clean. let c = end.1 d some clean in let o = opens.draft c.0 c.1 c.2 in (o.0, o.1, (was_clean w open' (opening_met i) opens.met c.2).0),
+    )
 
 -- an instance with which a limit is passed when it is opened
 pub instance_ends : {base : ℕ} {w open' : Walk} {numbers : Numbers} (ms : List Module) (depth : ℕ) (i : Instantiation) → Opens w open' numbers i → open'.tally.ended ≡ true →

@@ -29,32 +29,33 @@ module _ {base : ℕ} {w later : Walk} {numbers others : Numbers} (lines nodes :
       Adds w later (made 0 0 w.tally.counts.processes 0 0).met (made base numbers.instance 0 numbers.line numbers.node).process →
       ((d : Design) → later.draft ≡ Some d → IsClean later.tally → (others.instance ≡ numbers.instance) × (others.line ≡ numbers.line + lines) × (others.node ≡ numbers.node + nodes)) →
       GoesBy base w numbers later others (λ b i l n st. add_process (made b i (length st.design.processes) l n) st) lines nodes
-  process_goes met_is process_is adds added counted before b st i l n among =
-      (record {
-        at =
-            record {
-              stands = stands;
-              built = λ d building.
-                  let o = added.draft d building.draft building.clean in
-                  let earlier : IsBuilding base b w o.0 = record { same = building.same; draft = o.1; clean = (was_clean w later (made 0 0 w.tally.counts.processes 0 0).met added.met building.clean).0 } in
-                  let is = among.numbered o.0 earlier in
-                  let k : ℕ = length st.design.processes in
-                  let process : (made base numbers.instance 0 numbers.line numbers.node).process ≡ (made b i k l n).process =
-                  ap (λ j. (made base j 0 numbers.line numbers.node).process) is.0
-                  ∙ ap (λ m. (made base i 0 m numbers.node).process) is.1
-                  ∙ ap (λ m. (made base i 0 l m).process) is.2
-                  ∙ ap (λ m. (made m i 0 l n).process) (sym building.same)
-                  ∙ sym (process_is b i k l n) in
-                  o.2 ∙ ap (with_process _) (among.at.built o.0 earlier) ∙ ap (λ p. with_process p st.design) process;
-            };
-        numbered = λ d building.
-            let o = added.draft d building.draft building.clean in
-            let earlier : IsBuilding base b w o.0 = record { same = building.same; draft = o.1; clean = (was_clean w later (made 0 0 w.tally.counts.processes 0 0).met added.met building.clean).0 } in
-            let is = among.numbered o.0 earlier in
-            let c = counted d building.draft building.clean in
-            (c.0 ∙ is.0, c.1 ∙ ap (λ m. m + lines) is.1, c.2 ∙ ap (λ m. m + nodes) is.2);
-      },
-      λ d some clean. let o = added.draft d some clean in (o.0, o.1, (was_clean w later (made 0 0 w.tally.counts.processes 0 0).met added.met clean).0))
+  process_goes met_is process_is adds added counted before b st i l n among = (
+    record {
+      at =
+          record {
+            stands = stands;
+            built = λ d building.
+                let o = added.draft d building.draft building.clean in
+                let earlier : IsBuilding base b w o.0 = record { same = building.same; draft = o.1; clean = (was_clean w later (made 0 0 w.tally.counts.processes 0 0).met added.met building.clean).0 } in
+                let is = among.numbered o.0 earlier in
+                let k : ℕ = length st.design.processes in
+                let process : (made base numbers.instance 0 numbers.line numbers.node).process ≡ (made b i k l n).process =
+                ap (λ j. (made base j 0 numbers.line numbers.node).process) is.0
+                ∙ ap (λ m. (made base i 0 m numbers.node).process) is.1
+                ∙ ap (λ m. (made base i 0 l m).process) is.2
+                ∙ ap (λ m. (made m i 0 l n).process) (sym building.same)
+                ∙ sym (process_is b i k l n) in
+                o.2 ∙ ap (with_process _) (among.at.built o.0 earlier) ∙ ap (λ p. with_process p st.design) process;
+          };
+      numbered = λ d building.
+          let o = added.draft d building.draft building.clean in
+          let earlier : IsBuilding base b w o.0 = record { same = building.same; draft = o.1; clean = (was_clean w later (made 0 0 w.tally.counts.processes 0 0).met added.met building.clean).0 } in
+          let is = among.numbered o.0 earlier in
+          let c = counted d building.draft building.clean in
+          (c.0 ∙ is.0, c.1 ∙ ap (λ m. m + lines) is.1, c.2 ∙ ap (λ m. m + nodes) is.2);
+    },
+    λ d some clean. let o = added.draft d some clean in (o.0, o.1, (was_clean w later (made 0 0 w.tally.counts.processes 0 0).met added.met clean).0),
+  )
     where
       k : ℕ
       k = length st.design.processes
@@ -78,9 +79,10 @@ pub goes_twice : {base : ℕ} {w next later : Walk} {numbers between others : Nu
     GoesBy base w numbers later others (λ b i l n st. g b i (l + lines) (n + nodes) (f b i l n st)) (lines + more_lines) (nodes + more_nodes)
 goes_twice {f = f} lines more_lines nodes more_nodes first second before b st i l n among =
     let one = first before b st i l n among in
-    let two = second before b (f b i l n st) i (l + lines) (n + nodes) one.0 in
-    (record { at = two.0.at; numbered = λ d building. let is = two.0.numbered d building in (is.0, omega (arith, is.1), omega (arith, is.2)) },
-    λ d some clean. let o = two.1 d some clean in one.1 o.0 o.1 o.2)
+    let two = second before b (f b i l n st) i (l + lines) (n + nodes) one.0 in (
+      record { at = two.0.at; numbered = λ d building. let is = two.0.numbered d building in (is.0, omega (arith, is.1), omega (arith, is.2)) },
+      λ d some clean. let o = two.1 d some clean in one.1 o.0 o.1 o.2,
+    )
 
 -- faults that are told, where no design is built any more
 pub faults_walk : {base : ℕ} {w later : Walk} (fs : List Fault) → later.tally ≡ after_all w.tally (met_faults fs) → later.memories ≡ w.memories → later.draft ≡ w.draft → WalksBy base w later (λ b st. meet (met_faults fs) st)
@@ -107,15 +109,16 @@ ended_walks {w = w} {later = later} f same ended continues before b st at =
 -- a walk below an instance keeps the numbers in it
 pub walks_go : {base : ℕ} {w later : Walk} {numbers : Numbers} {f : ℕ → Sofar → Sofar} → WalksBy base w later f → GoesBy base w numbers later numbers (λ b i l n st. f b st) 0 0
 walks_go walks before b st i l n among =
-    let end = walks before b st among.at in
-    (record {
-      at = end.0;
-      numbered = λ d building.
-          let o = end.1 d building.draft building.clean in
-          let is = among.numbered o.0 (record { same = building.same; draft = o.1; clean = o.2 }) in
-          (is.0, omega (arith, is.1), omega (arith, is.2));
-    },
-    end.1)
+    let end = walks before b st among.at in (
+      record {
+        at = end.0;
+        numbered = λ d building.
+            let o = end.1 d building.draft building.clean in
+            let is = among.numbered o.0 (record { same = building.same; draft = o.1; clean = o.2 }) in
+            (is.0, omega (arith, is.1), omega (arith, is.2));
+      },
+      end.1,
+    )
 
 -- one walk behind the other
 pub walks_twice : {base : ℕ} {w next later : Walk} {f g : ℕ → Sofar → Sofar} → WalksBy base w next f → WalksBy base next later g → WalksBy base w later (λ b st. g b (f b st))

@@ -1,11 +1,14 @@
-use Rattle.std.proofs.Common.{◌≡◌, [], sym, ap, ◌∙◌}
+use Rattle.std.proofs.Common.{◌≡◌, [], sym, ap, subst, ◌∙◌}
+use Rattle.std.specs.Prelude.{All}
 use Rattle.verilog_tree.specs.View.{module_view}
 use Rattle.flat_design.specs.Declarations.{all_declarations, declarations, declarations_from, direction_faults, listed_twice, twice_faults}
 use Rattle.flat_design.specs.Instances.{range_faults}
 use Rattle.flat_design.specs.Scope.{binding_of}
+use Rattle.elab_declarations.specs.DeclarationBounds.{IsInBounds}
 use Rattle.elab_declarations.specs.DeclarationView.{declarations_view}
 use Rattle.elab_scope.specs.Tally.{Tally, after_faults}
 use Rattle.elab_declarations.proofs.AfterFaults.{after_faults-append_four}
+use Rattle.elab_declarations.proofs.SmallRanges.{declared_within}
 use Rattle.elab_declarations.proofs.declarations.check_declarations.Goals as goal
 
 pub returns : goal.returns
@@ -23,5 +26,6 @@ returns c =
     let four : c.check_directions.new.tally ≡ after_faults third (direction_faults (declarations g m) ports) = c.check_directions.ensures ∙ ap (λ t. after_faults t (direction_faults c.in_ok-declared.declared c.as_slice-2.result.now)) three ∙ ap (λ ps. after_faults third (direction_faults c.in_ok-declared.declared ps)) c.as_slice-2.ensures ∙ ap (λ ds. after_faults third (direction_faults ds ports)) names in
     record {
       names = names;
+      within = subst (All IsInBounds) (sym names) (declared_within g m);
       met = four ∙ sym (after_faults-append_four (range_faults g m) (twice_faults [] (all_declarations g m)) (listed_twice [] ports) (direction_faults (declarations g m) ports) c.args.tally.now);
     }

@@ -1,0 +1,29 @@
+use Rattle.std.proofs.Common.{◌+◌, ◌++◌, ap, drop, refl}
+use Rattle.elab_const.proofs.ViewLemmas.{repeat_view}
+use Rattle.elab_checks.proofs.ExpressionLemmas.{next_is}
+use Rattle.flat_design.specs.Identifiers.{all_identifiers, identifiers}
+use Rattle.verilog_tree.specs.Tree.{exprs_of}
+use Rattle.verilog_tree.specs.View.{expr_view, exprs_view}
+use Rattle.elab_scope.specs.NameSet.{has}
+use Rattle.elab_instances.proofs.NamesLemmas.{names_next, names_then}
+use Rattle.elab_instances.proofs.identifiers.+add_expr.Goals as goal
+
+pub add_expr-returns-in_ok-add_expr-in-Repeat : goal.add_expr-returns-in_ok-add_expr-in-Repeat
+add_expr-returns-in_ok-add_expr-in-Repeat t c =
+    let one = rw c.deref-in-Repeat.ensures at c.in_ok-add_expr-in-Repeat.ensures in
+    let others = rw c.deref-in-Repeat-2.ensures.value at c.add_exprs-in-Repeat.ensures in
+    names_then c.add_exprs-in-Repeat.result (has c.args.names.now) (has c.add_expr.new.names) (has c.add_exprs-in-Repeat.new.names) (identifiers (expr_view c.in-Repeat.count.value)) (all_identifiers (exprs_of (exprs_view c.in-Repeat.parts.items))) _ (ap identifiers (repeat_view c.args.expr.now c.in-Repeat.count c.in-Repeat.parts c.in-Repeat.is)) one others
+
+pub add_exprs-loop-expr-preserved : goal.add_exprs-loop-expr-preserved
+add_exprs-loop-expr-preserved t c =
+    let e = expr_view c.expr-item.result in
+    let others = exprs_of (exprs_view (drop (c.loop-expr.expr-index + 1) c.args.exprs.now)) in
+    names_next (has c.loop-expr.names) (has c.add_expr.new.names) _ _ (identifiers e) (all_identifiers others) (ap all_identifiers (next_is c.args.exprs.now c.loop-expr.expr-index c.expr-item.result c.loop-expr-test.true c.expr-item.is)) c.loop-expr.invariant c.in_ok-add_expr.ensures
+
+pub add_two-returns : goal.add_two-returns
+add_two-returns t c =
+    names_then c.add_expr-2.result (has c.args.names.now) (has c.add_expr.new.names) (has c.add_expr-2.new.names) (identifiers (expr_view c.args.a.now)) (identifiers (expr_view c.args.b.now)) _ refl c.in_ok-add_expr.ensures c.add_expr-2.ensures
+
+pub add_three-returns : goal.add_three-returns
+add_three-returns t c =
+    names_then c.add_expr.result (has c.args.names.now) (has c.add_two.new.names) (has c.add_expr.new.names) (identifiers (expr_view c.args.a.now) ++ identifiers (expr_view c.args.b.now)) (identifiers (expr_view c.args.c.now)) _ refl c.in_ok-add_two.ensures c.add_expr.ensures

@@ -1,0 +1,11 @@
+use Rattle.std.proofs.Common.{◌≡◌, drop}
+use Rattle.std.specs.Prelude.{flat_map}
+use Rattle.flat_design.specs.Identifiers.{option_identifiers}
+use Rattle.verilog_tree.specs.View.{declareds_view}
+use Rattle.elab_scope.specs.NameSet.{has}
+use Rattle.elab_instances.specs.Names.{with_names}
+use Rattle.elab_instances.proofs.identifiers.add_values.Given as goal
+
+-- the set with the names of the rest has those of all
+abbrev pub invariant-loop-one : goal.invariant-loop-one
+invariant-loop-one l = with_names (flat_map (λ d. option_identifiers d.value) (declareds_view (drop l.one-index l.declared))) (has l.names) ≡ with_names (flat_map (λ d. option_identifiers d.value) (declareds_view l.fn.declared)) (has l.fn.names)
