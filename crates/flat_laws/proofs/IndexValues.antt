@@ -41,11 +41,26 @@ bits_of g e = (constant g e).bits
 known_bits : (g : Scope) (e : Expr) (z : ℤ) → IsNumber g e z → (all_known (bits_of g e) ≡ true) × (whole (shape g e).signed (bits_of g e) ≡ z)
 known_bits g e z h = index_whole (shape g e).signed (bits_of g e) z h.number
 
+whole_natural : (signed : Bool) (bs : List Bit) (k : ℕ) → whole signed bs ≡ pos k → natural bs ≡ k
+whole_natural signed bs k h = by_sign (signed && is_one (top bs)) h
+  where
+    by_sign : (t : Bool) → (if t then negsuc (natural (map not_bit bs)) else pos (natural bs)) ≡ pos k → natural bs ≡ k
+    by_sign true e = absurd (omega (arith, ints))
+    by_sign false e = omega (arith, ints)
+
 width_of : (g : Scope) (e : Expr) → length (bits_of g e) ≡ (shape g e).width
 width_of g e = length-fit (shape g e).width _ _
 
 alone_value : (base : ℕ) (d : Design) (v : Values Bit) (g : Scope) (e : Expr) (z : ℤ) → IsNumber g e z → (n : ℕ) → value d v (alone base g e n) ≡ bits_of g e
 alone_value base d v g e z h n = constant_value base d v g e h.is_constant h.no_fault n (shape g e)
+
+-- the index of a constant, which may be no number
+pub alone_whole : (base : ℕ) (d : Design) (v : Values Bit) (g : Scope) (e : Expr) → const.is_constant (names g) e ≡ true → fault_of (names g) e ≡ None → (n : ℕ) → index (head (alone base g e n)).signed (value d v (alone base g e n)) ≡ whole_number g e
+alone_whole base d v g e a b n = rw (term_signed base g e n (shape g e), constant_value base d v g e a b n (shape g e)) refl
+
+-- the number that its bits say, where it is one from 0 on
+pub alone_natural : (base : ℕ) (d : Design) (v : Values Bit) (g : Scope) (e : Expr) (k : ℕ) → IsNumber g e (pos k) → (n : ℕ) → natural (value d v (alone base g e n)) ≡ k
+alone_natural base d v g e k h n = ap natural (alone_value base d v g e (pos k) h n) ∙ whole_natural (shape g e).signed (bits_of g e) k (known_bits g e (pos k) h).1
 
 -- the base itself
 pub alone_index : (base : ℕ) (d : Design) (v : Values Bit) (g : Scope) (e : Expr) (z : ℤ) → IsNumber g e z → (n : ℕ) → index (head (alone base g e n)).signed (value d v (alone base g e n)) ≡ Some z

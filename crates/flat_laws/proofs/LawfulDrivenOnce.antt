@@ -11,13 +11,12 @@ use Rattle.four_state.specs.Parts.{within}
 use Rattle.four_state.specs.Vector.{fill}
 use Rattle.four_state.specs.declared.bit.Bit.{Bit}
 use Rattle.four_state.specs.declared.bit.Bit.TheVariants.{X}
-use Rattle.four_state.specs.declared.edge.Edge.{Edge}
 use Rattle.four_state.specs.Parts.{index}
-use Rattle.design_model.specs.Assignment.{bit_writes, bit_writes_option, option_cell, signal_range, target_width, target_writes, targets_width, targets_writes, writes_to}
+use Rattle.design_model.specs.Assignment.{bit_writes, bit_writes_option, option_cell, signal_range, target_width, targets_width, targets_writes, writes_to}
 use Rattle.design_model.specs.Design.{Design, In, cell, no_process, process_at, signal_at}
 use Rattle.design_model.specs.Lawful.{are_fixed_targets, each_once, is_fixed_target, target_once}
 use Rattle.design_model.specs.Mentions.{any_set, any_set_in, any_set_of, blank, has_cell, static_writes}
-use Rattle.design_model.specs.Tree.{Arms, Process, Stmt, Stmts, Target, Term, a_stmt, a_target, all_of, bits_of, no_stmts, several, word_of}
+use Rattle.design_model.specs.Tree.{Process, Stmt, Target, Term, bits_of, word_of}
 use Rattle.design_model.specs.Value.{head, offset_option, value}
 use Rattle.design_model.proofs.Named.{WritesCell-from, cell_halves, writes_named, all_named}
 use Rattle.verilog_tree.specs.declared.item.Named.{Named}
@@ -48,13 +47,13 @@ use Rattle.flat_design.proofs.NoConstFaults.{both_none, four_none, number_clean,
 use Rattle.flat_laws.proofs.Freedom.{IsSound, answered_sound, both_empty}
 use Rattle.flat_laws.proofs.LawfulBase.{base_is}
 use Rattle.flat_laws.proofs.LawfulConstants.{constant_term, lowest_constant}
-use Rattle.flat_laws.proofs.LawfulDrivers.{Drives, IsDriven, IsPlaced, driven_leaf, leaf_driver, may_drive, some_drive, sound_number, two_drivers}
+use Rattle.flat_laws.proofs.LawfulDrivers.{IsPlaced, driven_leaf, leaf_driver, may_drive, some_drive, sound_number, two_drivers}
 use Rattle.flat_laws.proofs.LawfulEvents.{each_empty}
 use Rattle.flat_laws.proofs.LawfulLimits.{answered_design, base_of}
 use Rattle.flat_laws.proofs.LawfulNames.{in_map_back}
 use Rattle.flat_laws.proofs.LawfulOffsets.{IsAt, bits_at}
 use Rattle.flat_laws.proofs.LawfulSound.{names_sound}
-use Rattle.flat_laws.proofs.LawfulSources.{AreMade, IsBlock, IsPart, Source, elaborated_made, of_assign, of_block, of_input, of_output, source_at}
+use Rattle.flat_laws.proofs.LawfulSources.{IsPart, Source, elaborated_made, of_assign, of_block, of_input, of_output, source_at}
 use Rattle.flat_laws.proofs.LawfulTargets.{no_leaf}
 use Rattle.flat_laws.proofs.LawfulWriters.{not_at_odds, one_first}
 

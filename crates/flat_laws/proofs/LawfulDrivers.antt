@@ -13,8 +13,6 @@ use Rattle.design_model.specs.Value.{head, offset_option, slide_offset, value}
 use Rattle.design_model.specs.declared.design.Range.{Range}
 use Rattle.design_model.proofs.Named.{WritesCell-from}
 use Rattle.verilog_tree.specs.declared.item.Named.{Named}
-use Rattle.verilog_tree.specs.declared.item.When.{When}
-use Rattle.verilog_tree.specs.declared.item.When.TheVariants.{Edges, Names, Star}
 use Rattle.verilog_tree.specs.Tree.{Expr, Exprs, Module, an_expr, binary_operator, bit_select, concatenation, conditional, identifier, indexed_part, literal, no_exprs, parentheses, part_select, replication, sign_cast, unary_operator}
 use Rattle.cov_host.specs.declared.place.Place.{Place}
 use Rattle.four_state.specs.declared.index.Index.{Index}
@@ -23,7 +21,7 @@ use Rattle.elab_const.specs.Meaning.{count_of, number_of}
 use Rattle.elab_const.specs.Scope as const_scope
 use Rattle.elab_const.specs.Scope.{or_else}
 use Rattle.elab_const.specs.declared.fault.ConstKind.TheVariants.{BadRange, TooWide}
-use Rattle.flat_design.specs.Bodies.{Met, met_writing, met_writings, statement}
+use Rattle.flat_design.specs.Bodies.{Met, met_writing, met_writings}
 use Rattle.flat_design.specs.Expressions.{Selected, bits_in, bound_faults, faults, is_inside, is_sound_constant, number_faults, select_faults, selected, selected_name, selected_of, selected_word, slide_faults, some_offset, width_faults}
 use Rattle.flat_design.specs.Fault.{fault_at, none}
 use Rattle.flat_design.specs.Faults.{answer}
@@ -31,7 +29,7 @@ use Rattle.flat_design.specs.Flat.{elaborated}
 use Rattle.flat_design.specs.Identifiers.{base_name, named}
 use Rattle.flat_design.specs.Instances.{Sofar}
 use Rattle.flat_design.specs.Numbering.{nodes}
-use Rattle.flat_design.specs.Processes.{are_two_drivers, conflicts, have_common, process_of, whole_writing, writings}
+use Rattle.flat_design.specs.Processes.{are_two_drivers, conflicts, have_common, whole_writing, writings}
 use Rattle.flat_design.specs.Scope.{Scope, is_memory_name, look_up, names, names_constants, names_faulty, natural_number, range_or, range_width, shape, thing_number, thing_of, whole_number}
 use Rattle.flat_design.specs.declared.entry.Entry.{Entry}
 use Rattle.flat_design.specs.declared.entry.Entry.TheVariants.{Signal as a_signal}
@@ -52,7 +50,7 @@ use Rattle.flat_laws.proofs.LawfulLimits.{answered_design, base_of}
 use Rattle.flat_laws.proofs.LawfulOffsets.{in_range, lowest_offset, written_offset}
 use Rattle.flat_laws.proofs.LawfulScope.{EntryMatches, MatchesSignal}
 use Rattle.flat_laws.proofs.LawfulSound.{IsSoundScope, names_sound}
-use Rattle.flat_laws.proofs.LawfulSources.{AreMade, IsPart, Source, elaborated_made, of_assign, of_block, of_input, of_output, part_in, source_at}
+use Rattle.flat_laws.proofs.LawfulSources.{AreMade, block_no_assign, IsPart, Source, elaborated_made, of_assign, of_block, of_input, of_output, part_in, source_at}
 use Rattle.flat_laws.proofs.LawfulTargets.{IsGoodScope, IsLeaf, leaf_set, no_leaf}
 use Rattle.flat_laws.proofs.LawfulWriters.{no_conflict, one_first, writing_in_writings, writing_there}
 use Rattle.flat_laws.proofs.Members.{in_left, in_right}
@@ -116,7 +114,7 @@ range_is d s m = ap (λ z. two z (signal_at d s.number).low) m.high ∙ ap (two 
     two x y = record { high = x; low = y }
 
 -- the whole signal
-drives_all : (d : Design) (s : SignalEntry) → MatchesSignal d.signals s → (c : Cell) → may_write d (all_of s.number) c ≡ true → (s.number ≡ c.thing) × In c.place (range_with_len 0 (range_width s.range))
+pub drives_all : (d : Design) (s : SignalEntry) → MatchesSignal d.signals s → (c : Cell) → may_write d (all_of s.number) c ≡ true → (s.number ≡ c.thing) × In c.place (range_with_len 0 (range_width s.range))
 drives_all d s m c h =
     let p = and_parts (c.thing == s.number) (nat_lt c.place (signal_at d s.number).width) h in
     let less : c.place < range_width s.range = subst (λ w. c.place < w) m.width (ltb-true _ _ p.1) in
@@ -266,7 +264,7 @@ mutual
 
 -- ---- one driver
 
-common : (i : ℕ) (xs ys : List ℕ) → In i xs → In i ys → have_common xs ys ≡ true
+pub common : (i : ℕ) (xs ys : List ℕ) → In i xs → In i ys → have_common xs ys ≡ true
 common i [] ys h k = absurd h
 common i (x ∷ xs) ys (inl e) k = or_left _ (have_common xs ys) (here ys (subst (λ z. In z ys) (sym e) k))
   where
@@ -322,12 +320,7 @@ source_driven all base d ms p x is (of_input s) c a write =
       process = refl;
       driver = record { thing = ap the_signal q.0; bit = q.1; continuous = refl };
     }
-source_driven all base d ms p x is (of_block s) c a write = absurd (no_assign_here s.when (subst IsAssign s.is a))
-  where
-    no_assign_here : (w : When) → IsAssign (process_of s.scope s.instance w (statement base s.scope s.body s.line s.node)) → ⊥
-    no_assign_here Star k = k
-    no_assign_here (Names xs) k = k
-    no_assign_here (Edges es) k = k
+source_driven all base d ms p x is (of_block s) c a write = absurd (block_no_assign all base d.signals d.memories ms p x s a)
 
 -- no two continuous assignments drive one bit
 pub record HasOneDriver (d : Design) : Type 0 where

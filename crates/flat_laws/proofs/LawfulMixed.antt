@@ -9,7 +9,7 @@ use Rattle.design_model.specs.declared.design.Memory.{Memory}
 use Rattle.design_model.specs.declared.design.Signal.{Signal}
 use Rattle.design_model.proofs.Lawful.{any_weaker}
 use Rattle.verilog_tree.specs.Tree.{Expr, Module}
-use Rattle.flat_design.specs.Bodies.{Met, met, statement}
+use Rattle.flat_design.specs.Bodies.{Met, met, met_writing, statement}
 use Rattle.flat_design.specs.Faults.{answer}
 use Rattle.flat_design.specs.Flat.{elaborated}
 use Rattle.flat_design.specs.Identifiers.{base_name}
@@ -66,7 +66,7 @@ set_in_block all base xs ys st k x s b y h =
     let r = target_set xs ys f.scope f.known base (mode_of s.when) y f.to f.node p.1 f.target_sound in
     record {
       writing = writing_of f.scope f.blocking false k r.0;
-      writing_in = writing_in_writings _ _ (f.writings _ (writing_there f.scope f.known.sound (mode_of s.when) f.blocking false k f.to r.0 f.target_sound r.1));
+      writing_in = writing_in_writings (met s.scope (mode_of s.when) k s.body) (writing_of f.scope f.blocking false k r.0) (f.writings (met_writing (writing_of f.scope f.blocking false k r.0)) (writing_there f.scope f.known.sound (mode_of s.when) f.blocking false k f.to r.0 f.target_sound r.1));
       blocking = same_true b f.blocking p.0;
       thing = leaf_thing xs ys f.scope f.known base (mode_of s.when) y r.0 r.2;
     }

@@ -3,12 +3,13 @@ use Rattle.std.proofs.Common.{◌≡◌, ◌⊎◌, inl, inr, ℕ, ◌+◌, ◌<
 use Rattle.std.proofs.lemmas.Bool.{cases_lt}
 use Rattle.std.proofs.lemmas.List.{get_or_append_left, get_or_past}
 use Rattle.std.proofs.Math.Seq.{get_or-append_seam}
-use Rattle.design_model.specs.Design.{In, no_memory, no_process, no_signal}
+use Rattle.design_model.specs.Design.{In, IsAssign, no_memory, no_process, no_signal}
 use Rattle.design_model.specs.Tree.{Process, assign, all_of, signal}
 use Rattle.design_model.specs.declared.design.Memory.{Memory}
 use Rattle.design_model.specs.declared.design.Signal.{Signal}
 use Rattle.verilog_tree.specs.declared.item.Named.{Named}
 use Rattle.verilog_tree.specs.declared.item.When.{When}
+use Rattle.verilog_tree.specs.declared.item.When.TheVariants.{Edges, Names, Star}
 use Rattle.verilog_tree.specs.Tree.{Expr, InstanceItem, Item, Module, One, Statement, always_item, place_of}
 use Rattle.elab_const.specs.Meaning.{shape_as}
 use Rattle.flat_design.specs.Bodies.{Met, met, met_faults, met_process, met_writing, met_writings, statement}
@@ -341,3 +342,12 @@ source_at all base st h p = by_place (cases_lt p (length st.design.processes))
     by_place : (p < length st.design.processes) ⊎ (length st.design.processes ≤ p) → Source all base st.design.signals st.design.memories st.met p (slice_index_or st.design.processes p no_process) ⊎ (slice_index_or st.design.processes p no_process ≡ no_process)
     by_place (inl less) = inl (h.made p less)
     by_place (inr more) = inr (get_or_past st.design.processes p no_process more)
+
+-- an always block is no assignment
+pub block_no_assign : (all : List Module) (base : ℕ) (xs : List Signal) (ys : List Memory) (ms : List Met) (k : ℕ) (x : Process) → IsBlock all base xs ys ms k x → IsAssign x → ⊥
+block_no_assign all base xs ys ms k x s a = by_list s.when (subst IsAssign s.is a)
+  where
+    by_list : (w : When) → IsAssign (process_of s.scope s.instance w (statement base s.scope s.body s.line s.node)) → ⊥
+    by_list Star h = h
+    by_list (Names xs) h = h
+    by_list (Edges es) h = h

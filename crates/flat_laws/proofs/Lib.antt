@@ -65,3 +65,5 @@ pub mod LiteralFits
 pub mod ShapedBodies
 pub mod LawfulBodies
 pub mod LawfulDrivenOnce
+pub mod LawfulMentions
+pub mod LawfulReads

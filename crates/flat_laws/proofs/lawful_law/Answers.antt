@@ -10,6 +10,7 @@ use Rattle.flat_laws.proofs.LawfulNumbers.{answered_numbers}
 use Rattle.flat_laws.proofs.LawfulInputs.{answered_inputs}
 use Rattle.flat_laws.proofs.LawfulMixed.{answered_mixed}
 use Rattle.flat_laws.proofs.LawfulPaths.{answered_paths}
+use Rattle.flat_laws.proofs.LawfulReads.{answered_reads}
 use Rattle.flat_laws.proofs.LawfulWriters.{answered_writers}
 use Rattle.flat_laws.proofs.lawful_law.Goals as goal
 
@@ -90,3 +91,6 @@ returns-clause-bodies c ms top d tokens e p = (answered_bodies ms top d tokens e
 
 pub returns-clause-targets : goal.returns-clause-targets
 returns-clause-targets c ms top d tokens e p = (answered_targets ms top d tokens e).targets p
+
+pub returns-clause-reads_no_own : goal.returns-clause-reads_no_own
+returns-clause-reads_no_own c ms top d tokens e p x a = (answered_reads ms top d tokens e).reads_no_own p x a
