@@ -1,6 +1,6 @@
 -- What names stand for has from 1 to 128 bits, and so has each expression without fault.
-use Rattle.std.proofs.Common.{◌≡◌, ◌⊎◌, inl, inr, ℕ, zero, suc, ◌+◌, ◌≤◌, max, Bool, true, false, not, ◌&&◌, cond, if◌then◌else◌, List, [], ◌∷◌, ◌++◌, Option, Some, None, Result, Ok, Err, refl, sym, ap, ◌∙◌, subst, length, arith}
-use Rattle.std.specs.List.{find, flat_map}
+use Rattle.std.proofs.Common.{◌≡◌, inl, inr, ℕ, zero, suc, ◌≤◌, max, Bool, true, false, not, ◌&&◌, cond, if◌then◌else◌, List, [], ◌∷◌, ◌++◌, Option, Some, None, Result, Ok, Err, refl, sym, ap, subst, length, arith}
+use Rattle.std.specs.List.{find}
 use Rattle.std.specs.Prelude.{bytes_eq, is_none, unwrap_or}
 use Rattle.std.proofs.lemmas.Bool.{false≢true, and_parts}
 use Rattle.cov_host.specs.declared.place.Place.{Place}
@@ -12,26 +12,26 @@ use Rattle.design_model.specs.Design.{In}
 use Rattle.design_model.specs.Shape.{is_wide_unary}
 use Rattle.design_model.specs.declared.design.Range.{Range}
 use Rattle.verilog_tree.specs.declared.item.Named.{Named}
-use Rattle.verilog_tree.specs.Tree.{Expr, literal, identifier, bit_select, part_select, indexed_part, unary_operator, binary_operator, conditional, concatenation, replication, sign_cast, parentheses, Exprs, Given, Header, Module, Param, RangeExpr}
+use Rattle.verilog_tree.specs.Tree.{Expr, literal, identifier, bit_select, part_select, indexed_part, unary_operator, binary_operator, conditional, concatenation, replication, sign_cast, parentheses, Given, Header, Module, Param, RangeExpr}
 use Rattle.elab_const.specs.Calls as const
 use Rattle.elab_const.specs.Faults.{fault_of, first_fault, size_fault, bound_fault, number_fault, count_fault}
-use Rattle.elab_const.specs.Loops.{begins, integer_answer, integer_value, more_if, turn_before, turns_answer, turns_by, turns_from, turns_over, variable_of, is_over}
-use Rattle.elab_const.specs.Meaning.{count_of, entry_shape, indexed_shape, meaning, number_of, one_bit, binary_shape, parts_of, part_width, falls, select_shape, vector_in, unary_shape}
+use Rattle.elab_const.specs.Loops.{begins, integer_answer, integer_value, more_if, turn_before, turns_answer, turns_by, turns_from, variable_of, is_over}
+use Rattle.elab_const.specs.Meaning.{count_of, entry_shape, indexed_shape, meaning, number_of, one_bit, binary_shape, parts_of, part_width, falls, select_shape}
 use Rattle.elab_const.specs.declared.fault.ConstKind.TheVariants.{LoopNotConstant, LoopTooLong}
 use Rattle.elab_const.specs.declared.width.Shape.{Shape}
-use Rattle.elab_const.specs.Scope.{Names, IsWidth, earlier, fault_at, on_ok, or_else, unless, with_turn}
+use Rattle.elab_const.specs.Scope.{Names, IsWidth, earlier, fault_at, on_ok, unless, with_turn}
 use Rattle.elab_const.specs.declared.fault.ConstFault.{ConstFault}
 use Rattle.elab_const.proofs.AnswerLemmas.{none_in_turn, width_within}
 use Rattle.elab_const.proofs.ContextLemmas.{length-fit}
 use Rattle.flat_design.specs.Bodies.{in_turn}
-use Rattle.flat_design.specs.Connections.{Connection, connection, connections, free_names, override_of, override_value_faults, override_faults, overrides, are_sound_overrides, given_faults, value_names_faulty}
+use Rattle.flat_design.specs.Connections.{Connection, connection, connections, free_names, override_of, override_value_faults, override_faults, overrides, are_sound_overrides, given_faults}
 use Rattle.flat_design.specs.Declarations.{Declaration, Override, Sort, a_net, a_variable, words_from, an_integer, a_parameter, some_instance, faulty, is_faulty, is_sound_vector, override_or, overridden, param_entry, param_faults, range_value, ranged_value, typed_value, vector_faults, with_param, constants_from}
 use Rattle.flat_design.specs.Expressions.{constant_faults, faults}
 use Rattle.flat_design.specs.Fault.{none}
 use Rattle.flat_design.specs.Identifiers.{base_name, is_among, names_of, params_of}
 use Rattle.flat_design.specs.Instances.{Instantiation, PortAliases, alias_number, constants, declared, declared_entry, entries, is_signal, other_entry, other_names, scope_of, signal_entry}
 use Rattle.flat_design.specs.Loops as loops
-use Rattle.flat_design.specs.Scope.{Scope, Bindings, binding_of, constant, entry_or, look_up, names, names_faulty, range_or, range_width, shape, value_entry, with_bindings}
+use Rattle.flat_design.specs.Scope.{Scope, Bindings, binding_of, constant, entry_or, look_up, names, names_faulty, range_width, shape, value_entry, with_bindings}
 use Rattle.flat_laws.specs.Literals.{literals, given_literals, option_literals}
 use Rattle.flat_design.specs.declared.entry.Entry.{Entry}
 use Rattle.flat_design.specs.declared.entry.Entry.TheVariants.{Constant as a_constant, Turn as a_turn, Signal as a_signal, Memory as a_memory, LoopVariable as a_loop_variable, Instance as an_instance, NoConstant as no_constant, Faulty as a_faulty_one}

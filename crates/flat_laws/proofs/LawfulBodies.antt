@@ -1,34 +1,30 @@
 -- Each term of a design that is answered has its shape.
-use Rattle.std.proofs.Common.{◌≡◌, ◌⊎◌, inl, inr, ℕ, zero, suc, ◌+◌, ◌&&◌, max, true, List, [], ◌∷◌, ◌++◌, Some, None, Ok, refl, sym, ap, ◌∙◌, subst, length, arith}
+use Rattle.std.proofs.Common.{◌≡◌, ◌⊎◌, inl, inr, ℕ, ◌+◌, ◌&&◌, max, true, List, [], ◌∷◌, ◌++◌, None, Ok, refl, sym, ap, ◌∙◌, subst, length, arith}
 use Rattle.std.specs.Prelude.{bytes_eq}
 use Rattle.std.proofs.lemmas.Bool.{lt-ltb}
-use Rattle.cov_host.specs.declared.place.Place.{Place}
 use Rattle.design_model.specs.Assignment.{target_width}
-use Rattle.design_model.specs.Design.{Design, In, body, body_at, no_process, signal_at}
-use Rattle.design_model.specs.Shape.{has_shape, is_body, is_shaped, is_target, own_sign, own_width}
+use Rattle.design_model.specs.Design.{Design, In, body, body_at, signal_at}
+use Rattle.design_model.specs.Shape.{is_body, is_shaped, is_target, own_sign, own_width}
 use Rattle.design_model.specs.Tree as t
 use Rattle.design_model.specs.Tree.{Process, Term, all_of}
-use Rattle.verilog_tree.specs.Tree.{Expr, InstanceItem, Item, Module, One, Statement, always_item, instance_item, place_of}
+use Rattle.verilog_tree.specs.Tree.{Expr, InstanceItem, Item, Module, One, Statement, always_item, place_of}
 use Rattle.verilog_tree.specs.declared.item.When.{When}
 use Rattle.elab_const.specs.Meaning.{shape_as}
 use Rattle.elab_const.specs.Scope.{IsWidth}
-use Rattle.elab_const.specs.declared.width.Shape.{Shape}
 use Rattle.flat_design.specs.Bodies.{met, met_faults, met_process, met_writing, met_writings, statement}
 use Rattle.flat_design.specs.Connections.{JoinedPort}
 use Rattle.flat_design.specs.Expressions.{faults}
 use Rattle.flat_design.specs.Fault.{none}
 use Rattle.flat_design.specs.Faults.{answer}
-use Rattle.flat_design.specs.Flat.{elaborated, start}
-use Rattle.flat_design.specs.Identifiers.{params_of}
-use Rattle.flat_design.specs.Instances.{Context, Instantiation, Sofar, add_process, context, opened, opening_met}
+use Rattle.flat_design.specs.Flat.{elaborated}
+use Rattle.flat_design.specs.Instances.{Instantiation, Sofar, add_process, context}
 use Rattle.flat_design.specs.Numbering.{nodes}
 use Rattle.flat_design.specs.Processes.{Made, incomplete_faults, mixed_faults, mode_of, self_faults, uncounted, when_faults, whole_writing, writings}
-use Rattle.flat_design.specs.Scope.{Scope, look_up, range_width, shape}
+use Rattle.flat_design.specs.Scope.{Scope, range_width, shape}
 use Rattle.flat_design.specs.Targets.{target, target_faults}
 use Rattle.flat_design.specs.Terms.{head_as, right_side}
 use Rattle.flat_laws.specs.Literals.{item_literals, literals}
 use Rattle.flat_laws.specs.Tokens.{AreOfTokens}
-use Rattle.flat_design.specs.declared.entry.Entry.TheVariants.{Signal as a_signal}
 use Rattle.flat_design.specs.declared.entry.Mode.TheVariants.{Continuous}
 use Rattle.flat_design.specs.declared.entry.SignalEntry.{SignalEntry}
 use Rattle.flat_laws.proofs.Continues.{Continues, continues_meet, continues_opened, continues_process, continues_same, continues_twice}

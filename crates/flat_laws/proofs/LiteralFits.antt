@@ -1,18 +1,18 @@
 -- The literals that stand in the expressions of a module have from 1 to 128 bits.
-use Rattle.std.proofs.Common.{◌≡◌, ◌⊎◌, inl, inr, ℕ, Bool, true, false, if◌then◌else◌, List, [], ◌∷◌, ◌++◌, Option, Some, None, refl, sym, ap, ◌∙◌, subst}
+use Rattle.std.proofs.Common.{◌≡◌, ◌⊎◌, inl, inr, ℕ, Bool, true, false, if◌then◌else◌, List, [], Option, Some, None, refl, sym, ap, ◌∙◌, subst}
 use Rattle.std.specs.List.{flat_map}
 use Rattle.std.specs.Prelude.{bytes_eq}
-use Rattle.four_state.specs.Vector.{HasWidth, Vector}
+use Rattle.four_state.specs.Vector.{HasWidth}
 use Rattle.design_model.specs.Design.{In}
 use Rattle.verilog_tree.specs.declared.item.Named.{Named}
 use Rattle.verilog_tree.specs.Tree.{Declared, Expr, Given, InstanceItem, Item, ItemForm, initial_item, port_item, net_item, variable_item, integer_item, parameter_item, continuous_item, always_item, instance_item, Module, One, Param}
-use Rattle.flat_design.specs.Connections.{Connection, JoinedPort, connections, connection_of, declaration_of, declared_port, is_sound_port, joined_port, joined_ports, with_connection, with_value}
-use Rattle.flat_design.specs.Declarations.{Declaration, Override}
+use Rattle.flat_design.specs.Connections.{Connection, JoinedPort, connections, connection_of, declaration_of, declared_port, is_sound_port, joined_port, with_connection, with_value}
+use Rattle.flat_design.specs.Declarations.{Declaration}
 use Rattle.flat_design.specs.Identifiers.{item_params, params_of}
-use Rattle.flat_design.specs.Instances.{Context, declared}
-use Rattle.flat_laws.specs.Literals.{given_literals, item_literals, literals, literals_of, option_literals}
+use Rattle.flat_design.specs.Instances.{Context}
+use Rattle.flat_laws.specs.Literals.{given_literals, item_literals, literals, option_literals}
 use Rattle.flat_laws.specs.Tokens.{AreOfTokens}
-use Rattle.flat_laws.proofs.EntryWidths.{AreFit, connection_given, fit_left, fit_right}
+use Rattle.flat_laws.proofs.EntryWidths.{AreFit, connection_given, fit_left}
 use Rattle.flat_laws.proofs.LawfulPaths.{found_in}
 use Rattle.flat_laws.proofs.Members.{in_append, in_left, in_right, in_flat_map, in_flat_map_back}
 use Rattle.flat_laws.proofs.Steps.{IsAssigned, ports_of}

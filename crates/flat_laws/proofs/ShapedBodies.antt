@@ -1,25 +1,23 @@
 -- Each term of a flat body has its shape.
-use Rattle.std.proofs.Common.{◌≡◌, ℕ, ◌+◌, max, Bool, true, false, ◌&&◌, List, [], ◌∷◌, ◌++◌, length, inl, inr, Some, None, Ok, refl, sym, ap, ◌∙◌, subst}
-use Rattle.std.specs.Prelude.{Result}
+use Rattle.std.proofs.Common.{◌≡◌, ℕ, ◌+◌, max, Bool, true, false, ◌&&◌, List, [], ◌∷◌, ◌++◌, length, inl, inr, Ok, refl, sym, ap, ◌∙◌, subst}
 use Rattle.four_state.specs.Vector.{Vector}
 use Rattle.design_model.specs.Assignment.{target_width}
 use Rattle.design_model.specs.Design.{Design, In}
-use Rattle.design_model.specs.Shape.{are_bodies, are_shaped, all_signed, all_signed_of, is_alone, is_arms, is_body, is_shaped, is_target, own_sign, own_width, widest, widest_of}
+use Rattle.design_model.specs.Shape.{are_bodies, are_shaped, all_signed, all_signed_of, is_arms, is_body, is_shaped, is_target, own_sign, own_width, widest, widest_of}
 use Rattle.design_model.specs.Tree.{Arms, Stmt, Term}
 use Rattle.verilog_tree.specs.Tree.{Expr, Exprs, no_exprs, an_expr, Statement, sequential_block, if_statement, case_statement, for_loop, assignment, system_task, null_statement, Statements, no_statements, a_statement, CaseItems, no_items, case_item}
-use Rattle.elab_const.specs.Calls.{told}
-use Rattle.elab_const.specs.Cases.{case_answer, with_arms, with_labels}
+use Rattle.elab_const.specs.Cases.{with_arms, with_labels}
 use Rattle.elab_const.specs.Meaning.{common_shape, shape_as}
 use Rattle.elab_const.specs.Scope.{IsWidth}
 use Rattle.elab_const.specs.declared.width.Shape.{Shape}
-use Rattle.flat_design.specs.Bodies.{Met, met_faults, met_statement, met_turns, met_writings, in_turn, met, all_met, items_met, statement, statements, arms, turn_stmts, case_shape, label_terms, shape_of}
+use Rattle.flat_design.specs.Bodies.{Met, met_faults, met_statement, met_turns, met_writings, in_turn, met, all_met, items_met, statement, statements, arms, turn_stmts, case_shape, label_terms}
 use Rattle.flat_design.specs.Expressions.{all_faults, faults}
 use Rattle.flat_design.specs.Fault.{none}
 use Rattle.flat_design.specs.Loops as loops
 use Rattle.flat_design.specs.Numbering.{nodes, all_nodes, condition_nodes, statement_nodes, lines}
 use Rattle.flat_design.specs.Scope.{Scope, names, shape}
 use Rattle.flat_design.specs.Targets.{target, target_faults}
-use Rattle.flat_design.specs.Terms.{alone, right_side, term}
+use Rattle.flat_design.specs.Terms.{right_side, term}
 use Rattle.flat_laws.specs.Literals.{all_literals, bodies_literals, body_literals, items_literals, literals}
 use Rattle.flat_design.specs.declared.entry.Mode.{Mode}
 use Rattle.flat_design.proofs.NoConstFaults.{both_none, no_const_fault}

@@ -1,14 +1,14 @@
 -- The index of the lowest bit of an indexed part of a target has its shape alone.
-use Rattle.std.proofs.Common.{◌≡◌, ℕ, zero, suc, ◌+◌, ◌-◌, ◌/◌, ◌≤◌, ◌<◌, ◌==◌, ◌||◌, ◌&&◌, not, max, min, nat_lt, nat_le, Bool, true, false, if◌then◌else◌, List, length, None, refl, sym, ap, ◌∙◌, subst, arith}
+use Rattle.std.proofs.Common.{◌≡◌, ℕ, zero, suc, ◌+◌, ◌-◌, ◌/◌, ◌≤◌, ◌<◌, ◌==◌, ◌||◌, ◌&&◌, not, max, nat_lt, nat_le, Bool, true, false, if◌then◌else◌, length, None, refl, ap, ◌∙◌, subst, arith}
 use Rattle.std.proofs.lemmas.Bool.{and_parts, ltb-false, ltb-true}
 use Rattle.std.proofs.lemmas.List.{length-replicate}
 use Rattle.cov_host.specs.declared.place.Place.{Place}
 use Rattle.four_state.specs.Arithmetic.{low_bits}
 use Rattle.four_state.specs.Vector.{fill}
 use Rattle.four_state.specs.declared.bit.Bit.TheVariants.{X}
-use Rattle.four_state.specs.declared.operator.Binary.TheVariants.{Add, ShiftRight, Subtract}
+use Rattle.four_state.specs.declared.operator.Binary.TheVariants.{Add, Subtract}
 use Rattle.design_model.specs.Design.{Design}
-use Rattle.design_model.specs.Shape.{has_shape, is_alone, is_shaped, own_sign, own_width, same_bool}
+use Rattle.design_model.specs.Shape.{has_shape, is_alone, is_shaped, own_width, same_bool}
 use Rattle.design_model.specs.Tree as t
 use Rattle.design_model.specs.Tree.{Term, no_terms, a_term}
 use Rattle.design_model.specs.declared.design.Range.{Range}

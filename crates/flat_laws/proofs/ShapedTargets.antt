@@ -1,25 +1,20 @@
 -- A flat target names signals and memories of the design, has the width of its expression, and its indexes have their shapes.
-use Rattle.std.proofs.Common.{◌≡◌, ◌⊎◌, inl, inr, ℕ, ◌+◌, ◌≤◌, ◌<◌, Bool, true, false, not, ◌&&◌, ◌||◌, nat_lt, nat_le, if◌then◌else◌, List, [], ◌∷◌, ◌++◌, length, Option, Some, None, refl, sym, ap, ◌∙◌, subst}
+use Rattle.std.proofs.Common.{◌≡◌, ◌⊎◌, inl, inr, ℕ, ◌+◌, Bool, true, false, not, ◌||◌, nat_lt, if◌then◌else◌, List, [], ◌∷◌, ◌++◌, length, Option, Some, None, refl, sym, ap, ◌∙◌, subst}
 use Rattle.std.proofs.lemmas.Bool.{false≢true, le-leb, lt-ltb}
 use Rattle.design_model.specs.Assignment.{target_width, targets_width}
 use Rattle.design_model.specs.Design.{Design}
 use Rattle.design_model.specs.Shape.{is_target, are_targets}
-use Rattle.design_model.specs.Tree.{Term, all_of, bits_of, word_of}
-use Rattle.design_model.specs.declared.design.Range.{Range}
+use Rattle.design_model.specs.Tree.{all_of, bits_of, word_of}
 use Rattle.cov_host.specs.declared.place.Place.{Place}
-use Rattle.verilog_tree.specs.declared.item.Named.{Named}
 use Rattle.verilog_tree.specs.Tree.{Expr, literal, identifier, bit_select, part_select, indexed_part, unary_operator, binary_operator, conditional, concatenation, replication, sign_cast, parentheses, Exprs, no_exprs, an_expr}
-use Rattle.elab_const.specs.Calls.{told}
 use Rattle.elab_const.specs.Faults.{fault_of, first_fault}
 use Rattle.elab_const.specs.Meaning.{entry_shape, one_bit, parts_of, select_shape}
-use Rattle.elab_const.specs.declared.width.Shape.{Shape}
 use Rattle.flat_design.specs.Expressions.{bound_faults, faults, joined_faults, select_faults, selected, use_faults, width_faults}
 use Rattle.flat_design.specs.Fault.{Fault, none}
 use Rattle.flat_design.specs.Identifiers.{base_name, named}
-use Rattle.flat_design.specs.Loops.{is_identifier}
 use Rattle.flat_design.specs.Numbering.{nodes}
 use Rattle.flat_design.specs.Scope.{Scope, is_faulty_entry, is_memory_entry, is_memory_name, look_up, names, natural_number, shape, thing_of, thing_number, value_entry}
-use Rattle.flat_design.specs.Targets.{all_target_faults, declared_range, have_shapes, has_shape, is_part_of_word, leaf_faults, lowest_index, memory_target_faults, signal_target_faults, target, target_faults, targets}
+use Rattle.flat_design.specs.Targets.{all_target_faults, declared_range, have_shapes, is_part_of_word, leaf_faults, memory_target_faults, signal_target_faults, target, target_faults, targets}
 use Rattle.flat_design.specs.Terms.{alone, head_as}
 use Rattle.flat_laws.specs.Literals.{all_literals, literals}
 use Rattle.flat_design.specs.declared.entry.Entry.{Entry}
@@ -29,7 +24,7 @@ use Rattle.flat_design.specs.declared.entry.Mode.TheVariants.{Continuous, Combin
 use Rattle.flat_design.specs.declared.entry.SignalEntry.{SignalEntry}
 use Rattle.flat_design.specs.declared.entry.MemoryEntry.{MemoryEntry}
 use Rattle.flat_design.proofs.NoConstFaults.{answer_none, both_none, bound_clean, four_none, no_const_fault, number_clean}
-use Rattle.flat_laws.proofs.EntryWidths.{AreFit, HasWidths, fit_first, fit_left, fit_right, fit_second, fit_third}
+use Rattle.flat_laws.proofs.EntryWidths.{AreFit, HasWidths, fit_left, fit_right, fit_second, fit_third}
 use Rattle.flat_laws.proofs.LawfulScope.{EntryMatches}
 use Rattle.flat_laws.proofs.LawfulSound.{names_sound}
 use Rattle.flat_laws.proofs.LawfulTargets.{IsGoodScope}

@@ -1,14 +1,13 @@
 -- Each flat term has the width and sign that its context gives it, and so have the terms in it.
-use Rattle.std.proofs.Common.{◌≡◌, inl, inr, ℕ, ◌+◌, ◌<◌, ◌≤◌, ◌==◌, max, Bool, true, false, not, ◌&&◌, if◌then◌else◌, nat_le, List, ◌++◌, length, Option, Some, None, refl, sym, ap, ◌∙◌, subst, arith}
+use Rattle.std.proofs.Common.{◌≡◌, inl, inr, ℕ, ◌+◌, max, Bool, true, false, ◌&&◌, if◌then◌else◌, List, ◌++◌, length, Option, Some, None, refl, sym, ◌∙◌, subst}
 use Rattle.std.proofs.lemmas.Bool.{false≢true, eq-eqb, le-leb, lt-ltb}
 use Rattle.cov_host.specs.declared.place.Place.{Place}
 use Rattle.four_state.specs.declared.operator.Binary.{Binary}
 use Rattle.design_model.specs.Design.{Design, is_memory}
 use Rattle.design_model.specs.Mentions.{is_constant, are_constant}
-use Rattle.design_model.specs.Shape.{are_alone, has_shape, is_alone, is_logic, is_shaped, is_shift, is_wide_binary, is_wide_unary, own_sign, own_width, same_bool}
+use Rattle.design_model.specs.Shape.{are_alone, has_shape, is_alone, is_shaped, is_wide_unary, own_sign, own_width, same_bool}
 use Rattle.design_model.specs.Tree as t
 use Rattle.design_model.specs.Tree.{Head, Term}
-use Rattle.verilog_tree.specs.declared.item.Named.{Named}
 use Rattle.verilog_tree.specs.Tree.{Expr, literal, identifier, bit_select, part_select, indexed_part, unary_operator, binary_operator, conditional, concatenation, replication, sign_cast, parentheses, Exprs, no_exprs, an_expr}
 use Rattle.elab_const.specs.Faults as const
 use Rattle.elab_const.specs.Meaning.{common_shape, operand_shape, operand_shapes, operands_of}

@@ -1,5 +1,5 @@
 -- How each operator takes its two operands, and the shape that it gives.
-use Rattle.std.proofs.Common.{◌≡◌, ◌⊎◌, inl, inr, Bool, true, false, refl}
+use Rattle.std.proofs.Common.{◌≡◌, ◌⊎◌, inl, inr, true, false, refl}
 use Rattle.four_state.specs.declared.operator.Binary.{Binary}
 use Rattle.four_state.specs.declared.operator.Binary.TheVariants as op
 use Rattle.design_model.specs.Shape.{is_wide_binary, is_shift, is_logic}

@@ -1,5 +1,5 @@
 -- A term without counted nodes has the values and shapes of the term.
-use Rattle.std.proofs.Common.{◌≡◌, ◌&&◌, max, Bool, ℕ, List, refl}
+use Rattle.std.proofs.Common.{◌≡◌, ◌&&◌, max, Bool, ℕ, refl}
 use Rattle.event_machine.specs.Cell.{Values}
 use Rattle.four_state.specs.declared.bit.Bit.{Bit}
 use Rattle.design_model.specs.Design.{Design}
