@@ -46,7 +46,7 @@ use Rattle.flat_design.specs.declared.entry.SignalEntry.{SignalEntry}
 use Rattle.flat_design.specs.declared.fault.ElabKind.TheVariants.{SelfAssign}
 use Rattle.flat_design.specs.Targets.{Writing, leaves, offsets_from, offsets_if, target, target_faults, writing_of}
 use Rattle.flat_design.specs.Terms.{alone, condition_as, counted_as, head_as, name_term, right_side, term, terms, word_or_bit}
-use Rattle.flat_design.specs.Tokens.{AreOfTokens}
+use Rattle.flat_laws.specs.Tokens.{AreOfTokens}
 use Rattle.flat_design.proofs.NoConstFaults.{bound_clean, constant_not_faulty, constant_there, four_none, no_const_fault, number_clean, true_both, width_clean}
 use Rattle.flat_laws.proofs.Freedom.{IsSound, answered_sound, both_empty, not_told}
 use Rattle.flat_laws.proofs.IndexValues.{IsNumber, alone_natural, alone_whole}

@@ -67,3 +67,4 @@ pub mod LawfulBodies
 pub mod LawfulDrivenOnce
 pub mod LawfulMentions
 pub mod LawfulReads
+pub mod LawfulDesigns
