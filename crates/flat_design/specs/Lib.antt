@@ -13,5 +13,4 @@ pub mod Instances
 pub mod Connections
 pub mod Flat
 pub mod Faults
-pub mod Literals
 pub mod Tokens

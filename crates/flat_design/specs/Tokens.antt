@@ -1,14 +1,12 @@
--- What the parser gives of modules: of the names of modules and instances, of the assignments in processes, and of literals.
+-- What the parser gives of modules: of the names of modules and instances, and of the assignments in processes.
 use Rattle.std.specs.Prelude.{◌≡◌, ◌==◌, ◌&&◌, ℕ, Bool, true, false, List, []}
 use Rattle.std.specs.List.{list_any}
-use Rattle.four_state.specs.Vector.{Vector, HasWidth}
 use Rattle.design_model.specs.Design.{In}
 use Rattle.verilog_tree.specs.declared.item.Named.{Named}
 use Rattle.verilog_tree.specs.declared.item.When.{When}
 use Rattle.verilog_tree.specs.declared.item.When.TheVariants.{Edges}
 use Rattle.verilog_tree.specs.Tree.{CaseItems, InstanceItem, Item, Module, One, Statement, Statements, a_statement, always_item, assignment, case_item, case_statement, for_loop, if_statement, instance_item, no_items, no_statements, null_statement, sequential_block, system_task}
 use Rattle.flat_design.specs.Identifiers.{names_of}
-use Rattle.flat_design.specs.Literals.{literals_of}
 
 -- a dot stands in the name
 abbrev pub has_dot : List ℕ → Bool
@@ -38,10 +36,9 @@ abbrev pub has_edges : When → Bool
 has_edges (Edges es) = true
 has_edges _ = false
 
--- no dot stands in the name of a module or of an instance, no declared name is empty, only under edges there are nonblocking assignments, and each literal has from 1 to 128 bits
+-- no dot stands in the name of a module or of an instance, no declared name is empty, and only under edges there are nonblocking assignments
 pub record AreOfTokens (ms : List Module) : Type 0 where
   pub modules : (m : Module) → In m ms → has_dot m.name.name ≡ false  -- for the names in a path
   pub instances : (m : Module) → In m ms → (x : Item) → In x m.items → (k : InstanceItem) → x.form ≡ instance_item k → (o : One) → In o k.ones → has_dot o.name.name ≡ false  -- the same
   pub names : (m : Module) → In m ms → (x : Named) → In x (names_of m) → x.name ≡ [] → ⊥  -- for targets: what begins with no name names nothing
   pub blocking : (m : Module) → In m ms → (x : Item) → In x m.items → (w : When) (s : Statement) → x.form ≡ always_item w s → has_edges w ≡ false → is_blocking s ≡ true  -- for what is combinational: the grammar's body without edges has no `<=`
-  pub literals : (m : Module) → In m ms → (v : Vector) → In v (literals_of m) → HasWidth v  -- for the widths of terms

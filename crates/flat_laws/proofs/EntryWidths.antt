@@ -32,7 +32,7 @@ use Rattle.flat_design.specs.Identifiers.{base_name, is_among, names_of, params_
 use Rattle.flat_design.specs.Instances.{Instantiation, PortAliases, alias_number, constants, declared, declared_entry, entries, is_signal, other_entry, other_names, scope_of, signal_entry}
 use Rattle.flat_design.specs.Loops as loops
 use Rattle.flat_design.specs.Scope.{Scope, Bindings, binding_of, constant, entry_or, look_up, names, names_faulty, range_or, range_width, shape, value_entry, with_bindings}
-use Rattle.flat_design.specs.Literals.{literals, given_literals, option_literals}
+use Rattle.flat_laws.specs.Literals.{literals, given_literals, option_literals}
 use Rattle.flat_design.specs.declared.entry.Entry.{Entry}
 use Rattle.flat_design.specs.declared.entry.Entry.TheVariants.{Constant as a_constant, Turn as a_turn, Signal as a_signal, Memory as a_memory, LoopVariable as a_loop_variable, Instance as an_instance, NoConstant as no_constant, Faulty as a_faulty_one}
 use Rattle.flat_design.proofs.NoConstFaults.{both_none, constant_clean, no_const_fault}
@@ -368,7 +368,7 @@ connection_given label xs (d ∷ cs) c h = by_name (connection_given label xs cs
     further r = (r.0, inr r.1, r.2)
 
     by_name : (In c (connections label xs cs) → (e : Given) × In e cs × (e.value ≡ c.value)) → ((ys : List Named) → In c (connections label ys cs) → (e : Given) × In e cs × (e.value ≡ c.value)) → (o : Option Named) (zs : List Named) →
-        In c (elim o [ | Some x ↦ connection x.name x d.value ∷ connections label xs cs | None ↦ elim zs [ [] ↦ connections label [] cs | x ∷ ys ↦ connection x.name label d.value ∷ connections label ys cs ] ]) → (e : Given) × In e (d ∷ cs) × (e.value ≡ c.value)
+        In c (elim o [ Some x ↦ connection x.name x d.value ∷ connections label xs cs | None ↦ elim zs [ [] ↦ connections label [] cs | x ∷ ys ↦ connection x.name label d.value ∷ connections label ys cs ] ]) → (e : Given) × In e (d ∷ cs) × (e.value ≡ c.value)
     by_name rest more (Some x) zs (inl e) = (d, inl refl, ap (λ z. z.value) e)
     by_name rest more (Some x) zs (inr k) = further (rest k)
     by_name rest more None [] k = further (more [] k)

@@ -26,8 +26,8 @@ use Rattle.flat_design.specs.Processes.{Made, incomplete_faults, mixed_faults, m
 use Rattle.flat_design.specs.Scope.{Scope, look_up, range_width, shape}
 use Rattle.flat_design.specs.Targets.{target, target_faults}
 use Rattle.flat_design.specs.Terms.{head_as, right_side}
-use Rattle.flat_design.specs.Literals.{item_literals, literals}
-use Rattle.flat_design.specs.Tokens.{AreOfTokens}
+use Rattle.flat_laws.specs.Literals.{item_literals, literals}
+use Rattle.flat_laws.specs.Tokens.{AreOfTokens}
 use Rattle.flat_design.specs.declared.entry.Entry.TheVariants.{Signal as a_signal}
 use Rattle.flat_design.specs.declared.entry.Mode.TheVariants.{Continuous}
 use Rattle.flat_design.specs.declared.entry.SignalEntry.{SignalEntry}

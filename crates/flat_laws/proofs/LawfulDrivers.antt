@@ -41,7 +41,7 @@ use Rattle.flat_design.specs.declared.entry.Thing.TheVariants.{Signal as the_sig
 use Rattle.flat_design.specs.declared.fault.ElabKind.TheVariants.{TwoDrivers, WrongTarget}
 use Rattle.flat_design.specs.Targets.{Writing, all_leaves, all_target_faults, declared_range, fixed_faults, leaf_faults, leaves, lowest_index, memory_target_faults, offsets, offsets_from, signal_target_faults, target, target_faults, targets, writing_of}
 use Rattle.flat_design.specs.Terms.{alone}
-use Rattle.flat_design.specs.Tokens.{AreOfTokens}
+use Rattle.flat_laws.specs.Tokens.{AreOfTokens}
 use Rattle.flat_design.proofs.NoConstFaults.{both_none, constant_not_faulty, constant_there, four_none, no_const_fault, number_clean, true_both, width_clean}
 use Rattle.flat_laws.proofs.Freedom.{IsSound, answered_sound, both_empty, not_told}
 use Rattle.flat_laws.proofs.IndexValues.{IsNumber, alone_index}
@@ -86,11 +86,11 @@ sound_number g sound e h =
     (constant_number g e c.0 c.1 c.2, c.0)
 
 -- a target of a continuous assignment without concatenation is a signal, and its index is a constant number
-record IsDriven (g : Scope) (e : Expr) : Type 0 where
-  entry : SignalEntry
-  found : look_up g (base_name e).name ≡ Some (a_signal entry)
-  sound : faults g e ≡ []
-  fixed : fixed_faults g e ≡ []
+pub record IsDriven (g : Scope) (e : Expr) : Type 0 where
+  pub entry : SignalEntry
+  pub found : look_up g (base_name e).name ≡ Some (a_signal entry)
+  pub sound : faults g e ≡ []
+  pub fixed : fixed_faults g e ≡ []
 
 driven_signal : (g : Scope) (s : SignalEntry) (e : Expr) → signal_target_faults g Continuous s e ≡ [] → (faults g e ≡ []) × (fixed_faults g e ≡ [])
 driven_signal g s e h = by_test (s.input || not s.net) h
@@ -99,14 +99,14 @@ driven_signal g s e h = by_test (s.input || not s.net) h
     by_test true k = absurd cc
     by_test false k = both_empty (faults g e) (fixed_faults g e) k
 
-driven_leaf : (d : Design) (base : ℕ) (g : Scope) → IsPlaced d base g → (e : Expr) → leaf_faults g Continuous (look_up g (base_name e).name) e ≡ [] → IsDriven g e
+pub driven_leaf : (d : Design) (base : ℕ) (g : Scope) → IsPlaced d base g → (e : Expr) → leaf_faults g Continuous (look_up g (base_name e).name) e ≡ [] → IsDriven g e
 driven_leaf d base g h e free = by_leaf (leaf_set d.signals d.memories g h.good base Continuous _ e _ refl refl free)
   where
     by_leaf : IsLeaf g base Continuous (thing_number base (thing_of (look_up g (base_name e).name))) e → IsDriven g e
     by_leaf (inl a) = let q = driven_signal g a.0 e a.3 in record { entry = a.0; found = a.1; sound = q.0; fixed = q.1 }
     by_leaf (inr a) = absurd (let no : memory_target_faults g Continuous e ≡ [] = a.3 in cc)
 
-matches_of : (d : Design) (base : ℕ) (g : Scope) → IsPlaced d base g → (x : List ℕ) (s : SignalEntry) → look_up g x ≡ Some (a_signal s) → MatchesSignal d.signals s
+pub matches_of : (d : Design) (base : ℕ) (g : Scope) → IsPlaced d base g → (x : List ℕ) (s : SignalEntry) → look_up g x ≡ Some (a_signal s) → MatchesSignal d.signals s
 matches_of d base g h x s found = subst (EntryMatches d.signals d.memories) found (h.good.matches x)
 
 pub range_is : (d : Design) (s : SignalEntry) → MatchesSignal d.signals s → signal_range d s.number ≡ range_or s.range

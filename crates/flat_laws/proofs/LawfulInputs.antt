@@ -22,7 +22,7 @@ use Rattle.flat_design.specs.declared.entry.Mode.TheVariants.{Clocked, Combinati
 use Rattle.flat_design.specs.declared.entry.SignalEntry.{SignalEntry}
 use Rattle.flat_design.specs.declared.fault.ElabKind.TheVariants.{WrongTarget}
 use Rattle.flat_design.specs.Targets.{fixed_faults, signal_target_faults, target, target_faults}
-use Rattle.flat_design.specs.Tokens.{AreOfTokens}
+use Rattle.flat_laws.specs.Tokens.{AreOfTokens}
 use Rattle.flat_laws.proofs.Freedom.{IsSound, answered_sound}
 use Rattle.flat_laws.proofs.LawfulBase.{base_is}
 use Rattle.flat_laws.proofs.LawfulLimits.{answered_design, base_of}

@@ -9,7 +9,7 @@ use Rattle.verilog_tree.specs.Tree.{InstanceItem, ItemForm, initial_item, port_i
 use Rattle.flat_design.specs.Faults.{answer}
 use Rattle.flat_design.specs.Flat.{elaborated}
 use Rattle.flat_design.specs.Instances.{Instantiation, Sofar, context, dotted, opened}
-use Rattle.flat_design.specs.Tokens.{has_dot, AreOfTokens}
+use Rattle.flat_laws.specs.Tokens.{has_dot, AreOfTokens}
 use Rattle.flat_laws.proofs.Distinct.{distinct_join}
 use Rattle.flat_laws.proofs.Freedom.{IsSound, answered_sound, neither}
 use Rattle.flat_laws.proofs.InstancesOnce.{one_name, instances_distinct}

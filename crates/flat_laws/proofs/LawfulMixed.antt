@@ -21,7 +21,7 @@ use Rattle.flat_design.specs.declared.entry.Thing.{Thing}
 use Rattle.flat_design.specs.declared.entry.Thing.TheVariants.{Memory as the_memory, Signal as the_signal}
 use Rattle.flat_design.specs.declared.fault.ElabKind.TheVariants.{MixedAssign}
 use Rattle.flat_design.specs.Targets.{Writing, writing_of}
-use Rattle.flat_design.specs.Tokens.{AreOfTokens}
+use Rattle.flat_laws.specs.Tokens.{AreOfTokens}
 use Rattle.flat_laws.proofs.Freedom.{IsSound, answered_sound}
 use Rattle.flat_laws.proofs.LawfulBase.{base_is}
 use Rattle.flat_laws.proofs.LawfulLimits.{answered_design, base_of}

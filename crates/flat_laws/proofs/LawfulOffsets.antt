@@ -44,18 +44,18 @@ in_filter_back p x (y ∷ ys) h k = by_test (in_filter_back p x ys) (p y) refl h
     by_test rest false is (inr l) = rest l k
 
 -- a bit that is written: so far above the first offset, and below the width
-record IsAt (s n : ℕ) (from : ℤ) (w : ℕ) (c : Cell) : Type 0 where
-  step : ℕ
-  step_in : step < w
-  place : from +ℤ pos step ≡ pos c.place
-  thing : c.thing ≡ s
-  inside : c.place < n
+pub record IsAt (s n : ℕ) (from : ℤ) (w : ℕ) (c : Cell) : Type 0 where
+  pub step : ℕ
+  pub step_in : step < w
+  pub place : from +ℤ pos step ≡ pos c.place
+  pub thing : c.thing ≡ s
+  pub inside : c.place < n
 
 at_next : (s n : ℕ) (from : ℤ) (w : ℕ) (c : Cell) → IsAt s n (from +ℤ pos 1) w c → IsAt s n from (suc w) c
 at_next s n (pos m) w c h = record { step = suc h.step; step_in = omega (arith, h.step_in); place = (let e = h.place in omega (arith, ints)); thing = h.thing; inside = h.inside }
 at_next s n (negsuc m) w c h = record { step = suc h.step; step_in = omega (arith, h.step_in); place = (let e = h.place in omega (arith, ints)); thing = h.thing; inside = h.inside }
 
-bits_at : (s n : ℕ) (from : ℤ) (bs : List Bit) (c : Cell) → WritesCell (bit_writes s n from bs) c → IsAt s n from (length bs) c
+pub bits_at : (s n : ℕ) (from : ℤ) (bs : List Bit) (c : Cell) → WritesCell (bit_writes s n from bs) c → IsAt s n from (length bs) c
 bits_at s n from [] c h = absurd h
 bits_at s n from (b ∷ bs) c h = by_sign from (bits_at s n (from +ℤ pos 1) bs c) h
   where

@@ -20,7 +20,7 @@ use Rattle.flat_design.specs.Fault.{Fault, limit_fault}
 use Rattle.flat_design.specs.Faults.{answer}
 use Rattle.flat_design.specs.Flat.{elaborated, module_of}
 use Rattle.flat_design.specs.Instances.{Instantiation, Sofar, opened, opening_met, declared, declared_met, named_met, declaration_faults, path_faults, dotted, is_own, is_memory, signal_of, memory_of, words_of}
-use Rattle.flat_design.specs.Tokens.{has_dot, AreOfTokens}
+use Rattle.flat_laws.specs.Tokens.{has_dot, AreOfTokens}
 use Rattle.flat_laws.proofs.Freedom.{IsFree, IsSound, answered_sound, both_empty, free_parts, free_faults, not_told}
 use Rattle.flat_laws.proofs.LawfulLimits.{base_of, answered_keeps, answered_design}
 use Rattle.flat_laws.proofs.LawfulScope.{same_bytes, found_passes}

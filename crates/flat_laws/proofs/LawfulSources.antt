@@ -26,7 +26,7 @@ use Rattle.flat_design.specs.declared.entry.Mode.TheVariants.{Continuous}
 use Rattle.flat_design.specs.declared.entry.SignalEntry.{SignalEntry}
 use Rattle.flat_design.specs.Targets.{target, target_faults}
 use Rattle.flat_design.specs.Terms.{head_as, right_side}
-use Rattle.flat_design.specs.Tokens.{AreOfTokens}
+use Rattle.flat_laws.specs.Tokens.{AreOfTokens}
 use Rattle.flat_laws.proofs.Continues.{Begins, Continues, begins_same, continues_opened, continues_twice}
 use Rattle.flat_laws.proofs.Freedom.{IsFree, IsSound, both_empty, free_faults, free_parts}
 use Rattle.flat_laws.proofs.LawfulBounds.{HasBoundedSignals, scope_bounded}

@@ -23,7 +23,7 @@ use Rattle.flat_design.specs.declared.entry.SignalEntry.{SignalEntry}
 use Rattle.flat_design.specs.declared.entry.MemoryEntry.{MemoryEntry}
 use Rattle.flat_design.specs.Targets.{target, targets, leaves, all_leaves, leaf_faults, signal_target_faults, memory_target_faults, target_faults, all_target_faults}
 use Rattle.flat_design.specs.declared.entry.Mode.{Mode}
-use Rattle.flat_design.specs.Tokens.{AreOfTokens}
+use Rattle.flat_laws.specs.Tokens.{AreOfTokens}
 use Rattle.flat_laws.proofs.Continues.{Continues}
 use Rattle.flat_laws.proofs.Freedom.{IsFree, both_empty}
 use Rattle.flat_laws.proofs.LawfulNames.{is_no_constant_entry, scope_told, scope_not_empty}

@@ -31,7 +31,7 @@ use Rattle.flat_design.specs.declared.entry.Thing.TheVariants.{Signal as the_sig
 use Rattle.flat_design.specs.Targets.{target, leaves, Writing, writing_of, target_faults, memory_target_faults}
 use Rattle.flat_design.specs.declared.entry.Mode.TheVariants.{Continuous}
 use Rattle.flat_design.specs.declared.entry.Mode.{Mode}
-use Rattle.flat_design.specs.Tokens.{AreOfTokens}
+use Rattle.flat_laws.specs.Tokens.{AreOfTokens}
 use Rattle.flat_laws.proofs.Continues.{Continues, continues_opened, continues_twice}
 use Rattle.flat_laws.proofs.Freedom.{free_faults, IsFree, IsSound, answered_sound, free_parts, both_empty}
 use Rattle.flat_laws.proofs.LawfulBase.{base_is}
@@ -249,7 +249,7 @@ pub one_first : (k : ElabKind) (xs : List Named) → fault_at_first k xs ≡ [] 
 one_first k [] e = refl
 one_first k (x ∷ xs) e = absurd cc
 
-not_at_odds : (r : Writing → Writing → Bool) (a b : Writing) → (if r a b then later_of a.name b.name ∷ [] else []) ≡ [] → r a b ≡ false
+pub not_at_odds : (r : Writing → Writing → Bool) (a b : Writing) → (if r a b then later_of a.name b.name ∷ [] else []) ≡ [] → r a b ≡ false
 not_at_odds r a b e = by_test (r a b) e
   where
     by_test : (t : Bool) → (if t then later_of a.name b.name ∷ [] else []) ≡ [] → t ≡ false

@@ -64,3 +64,4 @@ pub mod UncountedTerms
 pub mod LiteralFits
 pub mod ShapedBodies
 pub mod LawfulBodies
+pub mod LawfulDrivenOnce

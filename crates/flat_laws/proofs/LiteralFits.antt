@@ -10,8 +10,8 @@ use Rattle.flat_design.specs.Connections.{Connection, JoinedPort, connections, c
 use Rattle.flat_design.specs.Declarations.{Declaration, Override}
 use Rattle.flat_design.specs.Identifiers.{item_params, params_of}
 use Rattle.flat_design.specs.Instances.{Context, declared}
-use Rattle.flat_design.specs.Literals.{given_literals, item_literals, literals, literals_of, option_literals}
-use Rattle.flat_design.specs.Tokens.{AreOfTokens}
+use Rattle.flat_laws.specs.Literals.{given_literals, item_literals, literals, literals_of, option_literals}
+use Rattle.flat_laws.specs.Tokens.{AreOfTokens}
 use Rattle.flat_laws.proofs.EntryWidths.{AreFit, connection_given, fit_left, fit_right}
 use Rattle.flat_laws.proofs.LawfulPaths.{found_in}
 use Rattle.flat_laws.proofs.Members.{in_append, in_left, in_right, in_flat_map, in_flat_map_back}

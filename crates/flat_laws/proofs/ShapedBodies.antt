@@ -20,7 +20,7 @@ use Rattle.flat_design.specs.Numbering.{nodes, all_nodes, condition_nodes, state
 use Rattle.flat_design.specs.Scope.{Scope, names, shape}
 use Rattle.flat_design.specs.Targets.{target, target_faults}
 use Rattle.flat_design.specs.Terms.{alone, right_side, term}
-use Rattle.flat_design.specs.Literals.{all_literals, bodies_literals, body_literals, items_literals, literals}
+use Rattle.flat_laws.specs.Literals.{all_literals, bodies_literals, body_literals, items_literals, literals}
 use Rattle.flat_design.specs.declared.entry.Mode.{Mode}
 use Rattle.flat_design.proofs.NoConstFaults.{both_none, no_const_fault}
 use Rattle.flat_laws.proofs.EntryWidths.{AreFit, HasWidths, expr_width, fit_first, fit_left, fit_right, fit_second, fit_third, max_width, turn_width, turn_widths}

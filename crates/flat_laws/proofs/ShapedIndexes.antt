@@ -21,7 +21,7 @@ use Rattle.flat_design.specs.Fault.{none}
 use Rattle.flat_design.specs.Scope.{Scope, shape}
 use Rattle.flat_design.specs.Targets.{number_term, behind_zero, with_sign_bit, signed_term, moved_width, moved_term, highest_bit, guarded_term, moved_index, lowest_index}
 use Rattle.flat_design.specs.Terms.{alone, head_as, term}
-use Rattle.flat_design.specs.Literals.{literals}
+use Rattle.flat_laws.specs.Literals.{literals}
 use Rattle.flat_laws.proofs.EntryWidths.{AreFit, HasWidths}
 use Rattle.flat_laws.proofs.Freedom.{neither}
 use Rattle.flat_laws.proofs.LawfulTargets.{IsGoodScope}

@@ -21,7 +21,7 @@ use Rattle.flat_design.specs.Numbering.{nodes}
 use Rattle.flat_design.specs.Scope.{Scope, is_faulty_entry, is_memory_entry, is_memory_name, look_up, names, natural_number, shape, thing_of, thing_number, value_entry}
 use Rattle.flat_design.specs.Targets.{all_target_faults, declared_range, have_shapes, has_shape, is_part_of_word, leaf_faults, lowest_index, memory_target_faults, signal_target_faults, target, target_faults, targets}
 use Rattle.flat_design.specs.Terms.{alone, head_as}
-use Rattle.flat_design.specs.Literals.{all_literals, literals}
+use Rattle.flat_laws.specs.Literals.{all_literals, literals}
 use Rattle.flat_design.specs.declared.entry.Entry.{Entry}
 use Rattle.flat_design.specs.declared.entry.Entry.TheVariants.{Constant as a_constant, Turn as a_turn, Signal as a_signal, Memory as a_memory, LoopVariable as a_loop_variable, Instance as an_instance, NoConstant as no_constant, Faulty as a_faulty_one}
 use Rattle.flat_design.specs.declared.entry.Mode.{Mode}

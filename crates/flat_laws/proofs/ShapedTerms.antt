@@ -20,7 +20,7 @@ use Rattle.flat_design.specs.Identifiers.{base_name}
 use Rattle.flat_design.specs.Numbering.{condition_nodes, is_counted_condition, nodes, one_if}
 use Rattle.flat_design.specs.Scope.{Scope, is_memory_entry, is_memory_name, look_up, names, names_thing, shape, thing_of, thing_number, value_entry}
 use Rattle.flat_design.specs.Terms.{alone, condition_as, condition_term, counted_as, head_as, name_term, number_if, term, terms, word_or_bit}
-use Rattle.flat_design.specs.Literals.{all_literals, literals}
+use Rattle.flat_laws.specs.Literals.{all_literals, literals}
 use Rattle.flat_design.specs.declared.entry.Entry.{Entry}
 use Rattle.flat_design.specs.declared.entry.Entry.TheVariants.{Constant as a_constant, Turn as a_turn, Signal as a_signal, Memory as a_memory, LoopVariable as a_loop_variable, Instance as an_instance, NoConstant as no_constant, Faulty as a_faulty_one}
 use Rattle.flat_design.proofs.NoConstFaults.{both_none, bound_clean, constant_there, four_none, no_const_fault, number_clean, three_none, width_clean}

@@ -4,7 +4,7 @@
 ghost use Rattle.std.specs.Prelude.{ℕ, ◌≡◌, ◌<◌, ◌≤◌, ◌==◌, ◌&&◌, nat_lt, true, List, length, map, sum_by, Ok, Err, false};
 ghost use Rattle.std.specs.List.{list_all};
 ghost use Rattle.design_model.specs.Design.{AreDistinct, Design, In, IsAssign, IsComb, body_at, is_number, names_of, path_of, process_at, signal_at};
-ghost use Rattle.design_model.specs.Lawful.{instance_of, is_alias, is_instance, is_memory_of, is_signal, size_of, span, wakes_of};
+ghost use Rattle.design_model.specs.Lawful.{instance_of, is_alias, is_instance, is_memory_of, is_signal, size_of, span, target_once, wakes_of};
 ghost use Rattle.design_model.specs.Machine.{events_of};
 ghost use Rattle.design_model.specs.Mentions.{body_assigns, body_blocks, body_queues, any_set, may_write};
 ghost use Rattle.design_model.specs.Numbered.{LineAt, NodeAt, lines_of, nodes_of};
@@ -15,7 +15,7 @@ ghost use Rattle.flat_design.specs.Fault.{Fault, IsFirst};
 ghost use Rattle.flat_design.specs.Faults.{Stands, answer, faults_of};
 ghost use Rattle.flat_laws.specs.Laws.{ConstantLaw, LineLaw, NodeLaw, TurnLaw};
 ghost use Rattle.flat_design.specs.Scope.{Scope};
-ghost use Rattle.flat_design.specs.Tokens.{AreOfTokens};
+ghost use Rattle.flat_laws.specs.Tokens.{AreOfTokens};
 
 /// A design is answered only where no fault stands; a fault that is answered stands, and none that stands goes before
 /// it in the text.
@@ -52,6 +52,7 @@ pub fn lawful_law()
     ensures not_both { (ms : List Module) (top : List ℕ) (d : Design) → AreOfTokens ms → answer ms top ≡ Ok d → (p q x : ℕ) → body_blocks x (body_at d p) ≡ true → body_queues x (body_at d q) ≡ true → ⊥ }
     ensures one_driver { (ms : List Module) (top : List ℕ) (d : Design) → AreOfTokens ms → answer ms top ≡ Ok d → (p q : ℕ) (c : Cell) → IsAssign (process_at d p) → IsAssign (process_at d q) → any_set (λ b x t. may_write d x c) (body_at d p) ≡ true → any_set (λ b x t. may_write d x c) (body_at d q) ≡ true → p ≡ q }
     ensures bodies { (ms : List Module) (top : List ℕ) (d : Design) → AreOfTokens ms → answer ms top ≡ Ok d → (p : ℕ) → is_body d (body_at d p) ≡ true }
+    ensures targets { (ms : List Module) (top : List ℕ) (d : Design) → AreOfTokens ms → answer ms top ≡ Ok d → (p : ℕ) → target_once (process_at d p) d ≡ true }
 {}
 
 /// The line points of a flat statement have the numbers from the first on, as many as the statement has line points.

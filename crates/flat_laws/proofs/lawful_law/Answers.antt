@@ -1,5 +1,6 @@
 use Rattle.flat_laws.proofs.LawfulBodies.{answered_bodies}
 use Rattle.flat_laws.proofs.LawfulDistinct.{answered_names}
+use Rattle.flat_laws.proofs.LawfulDrivenOnce.{answered_targets}
 use Rattle.flat_laws.proofs.LawfulDrivers.{answered_drivers}
 use Rattle.flat_laws.proofs.LawfulEvents.{answered_wakes}
 use Rattle.flat_laws.proofs.LawfulInstances.{answered_instances}
@@ -86,3 +87,6 @@ returns-clause-one_driver c ms top d tokens e p q x a b h k = (answered_drivers 
 
 pub returns-clause-bodies : goal.returns-clause-bodies
 returns-clause-bodies c ms top d tokens e p = (answered_bodies ms top d tokens e).bodies p
+
+pub returns-clause-targets : goal.returns-clause-targets
+returns-clause-targets c ms top d tokens e p = (answered_targets ms top d tokens e).targets p
