@@ -1,2 +1,3 @@
+pub mod MetLemmas
 pub mod OverlapLemmas
 pub mod ReadLemmas

@@ -47,7 +47,7 @@ pub fn check_continuous<'a>(
         sound,
         tally,
     )?;
-    check_self_assign(alloc, scope, target, value, sound && known, tally)
+    check_self_assign(alloc, scope, target, value, sound & known, tally)
 }
 
 /// Tells the bits that an assignment both reads and drives, where it is known whether it has a fault.
@@ -71,6 +71,5 @@ fn check_self_assign<'a>(
         process: 0,
     };
     let driven = target_writings(alloc, scope, writer, target)?;
-    check_reads(scope, &driven, value, tally);
-    Ok(())
+    check_reads(alloc, scope, &driven, value, tally)
 }

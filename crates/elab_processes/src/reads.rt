@@ -1,102 +1,103 @@
 //! The bits that a continuous assignment drives and reads itself.
 
-ghost use Rattle.std.specs.Prelude.{◌≡◌, ◌&&◌, All, [], false, if◌then◌else◌, map, true};
+ghost use Rattle.std.specs.Prelude.{◌≡◌, ◌&&◌, ◌++◌, All, OnOk, [], flat_map, if◌then◌else◌, map};
 ghost use Rattle.std.specs.List.{list_any, range_with_len};
+ghost use Rattle.elab_processes.specs.Reads.{AreSound, IsSound, all_read_parts, parts_view, read_parts};
 ghost use Rattle.elab_scope.specs.Tally.{after_faults};
 ghost use Rattle.elab_scope.specs.View.{IsWithin, writing_view};
-ghost use Rattle.flat_design.specs.Expressions.{all_faults, faults};
-ghost use Rattle.flat_design.specs.Fault.{none};
-ghost use Rattle.flat_design.specs.Identifiers.{all_identifiers};
 ghost use Rattle.flat_design.specs.Identifiers.{base_name as spec_base_name};
 ghost use Rattle.flat_design.specs.Loops.{is_identifier};
 ghost use Rattle.flat_design.specs.Processes as spec;
-ghost use Rattle.flat_design.specs.Scope.{binding_of, is_faulty_entry, look_up, names_faulty};
+ghost use Rattle.flat_design.specs.Scope.{binding_of, look_up};
 ghost use Rattle.flat_design.specs.Scope.{is_same_thing as spec_is_same_thing};
 ghost use Rattle.verilog_tree.specs.Tree.{exprs_of};
 ghost use Rattle.verilog_tree.specs.View.{expr_view, exprs_view};
 
 use elab_checks::{Writer, written_by};
 use elab_scope::{FoundFault, Scope, Tally, Written, base_name};
+use cov_host::NoMemory;
 use flat_design::{ElabKind, Entry, Thing};
+use std::alloc::Global;
 use verilog_tree::{Expr, ExprForm};
 
-/// Tells the reads of an expression of bits that these targets drive.
-#[cycle(check_reads)]
+/// Tells the reads of an expression without a fault of bits that these targets drive.
 pub(crate) fn check_reads<'a>(
+    alloc: Global,
     scope: &Scope,
     driven: &[Written],
     expr: &'a Expr,
     tally: &mut Tally<'a>,
-)
+) -> Result<(), NoMemory>
     requires within { All IsWithin driven.now }
-    requires sound { none (faults (binding_of scope.now) (expr_view expr.now)) ≡ true }
-    requires known { names_faulty (binding_of scope.now) (expr_view expr.now) ≡ false }
-    ensures { tally.new ≡ after_faults tally.old (spec.self_reads (binding_of scope.now) (map writing_view driven.now) (expr_view expr.now)) }
+    requires sound { IsSound (binding_of scope.now) (expr_view expr.now) }
+    ensures { OnOk result (tally.new ≡ after_faults tally.old (spec.self_reads (binding_of scope.now) (map writing_view driven.now) (expr_view expr.now))) }
+{
+    let mut parts = Vec::new(alloc);
+    add_parts(expr, &mut parts)?;
+    check_each(scope, driven, &parts, tally);
+    Ok(())
+}
+
+/// Adds the parts of an expression that read a signal or a memory.
+#[cycle(add_parts)]
+fn add_parts<'a>(expr: &'a Expr, parts: &mut Vec<&'a Expr>) -> Result<(), NoMemory>
+    ensures { OnOk result (parts_view parts.new.items ≡ parts_view parts.old.items ++ read_parts (expr_view expr.now)) }
 {
     match &expr.form {
-        ExprForm::Number(_) => {}
-        ExprForm::Name(_) => check_read(scope, driven, expr, tally),
+        ExprForm::Number(_) => Ok(()),
+        ExprForm::Name(_) => {
+            parts.push(expr)?;
+            Ok(())
+        }
         ExprForm::Bit { of, index } => {
-            check_read(scope, driven, expr, tally);
-            check_inner(scope, driven, of, tally);
-            check_reads(scope, driven, index, tally);
+            parts.push(expr)?;
+            add_inner_parts(of, parts)?;
+            add_parts(index, parts)
         }
         ExprForm::Part { of, .. } => {
-            check_read(scope, driven, expr, tally);
-            check_inner(scope, driven, of, tally);
+            parts.push(expr)?;
+            add_inner_parts(of, parts)
         }
         ExprForm::Slide { of, base, .. } => {
-            check_read(scope, driven, expr, tally);
-            check_inner(scope, driven, of, tally);
-            check_reads(scope, driven, base, tally);
+            parts.push(expr)?;
+            add_inner_parts(of, parts)?;
+            add_parts(base, parts)
         }
         ExprForm::Binary(_, a, b) => {
-            check_reads(scope, driven, a, tally);
-            check_reads(scope, driven, b, tally);
+            add_parts(a, parts)?;
+            add_parts(b, parts)
         }
         ExprForm::Choice { test, yes, no } => {
-            check_reads(scope, driven, test, tally);
-            check_reads(scope, driven, yes, tally);
-            check_reads(scope, driven, no, tally);
+            add_parts(test, parts)?;
+            add_parts(yes, parts)?;
+            add_parts(no, parts)
         }
-        ExprForm::Concat(parts) | ExprForm::Repeat(_, parts) => {
-            check_all_reads(scope, driven, parts, tally);
-        }
-        ExprForm::Unary(_, a) | ExprForm::Sign(_, a) | ExprForm::Paren(a) => {
-            check_reads(scope, driven, a, tally);
-        }
+        ExprForm::Concat(all) => add_all_parts(all, parts),
+        ExprForm::Repeat(_, all) => add_all_parts(all, parts),
+        ExprForm::Unary(_, a) | ExprForm::Sign(_, a) | ExprForm::Paren(a) => add_parts(a, parts),
     }
 }
 
 /// The same of what is selected from, unless that is a name.
-#[cycle(check_reads)]
-fn check_inner<'a>(scope: &Scope, driven: &[Written], of: &'a Expr, tally: &mut Tally<'a>)
-    requires within { All IsWithin driven.now }
-    requires sound { is_identifier (expr_view of.now) ≡ false → none (faults (binding_of scope.now) (expr_view of.now)) ≡ true }
-    requires known { names_faulty (binding_of scope.now) (expr_view of.now) ≡ false }
-    ensures { tally.new ≡ after_faults tally.old (if is_identifier (expr_view of.now) then [] else spec.self_reads (binding_of scope.now) (map writing_view driven.now) (expr_view of.now)) }
+#[cycle(add_parts)]
+fn add_inner_parts<'a>(of: &'a Expr, parts: &mut Vec<&'a Expr>) -> Result<(), NoMemory>
+    ensures { OnOk result (parts_view parts.new.items ≡ parts_view parts.old.items ++ (if is_identifier (expr_view of.now) then [] else read_parts (expr_view of.now))) }
 {
-    if !is_name(of) {
-        check_reads(scope, driven, of, tally);
+    if is_name(of) {
+        return Ok(());
     }
+    add_parts(of, parts)
 }
 
 /// The same of all of them.
-#[cycle(check_reads)]
-fn check_all_reads<'a>(
-    scope: &Scope,
-    driven: &[Written],
-    exprs: &'a [Expr],
-    tally: &mut Tally<'a>,
-)
-    requires within { All IsWithin driven.now }
-    requires sound { none (all_faults (binding_of scope.now) (exprs_of (exprs_view exprs.now))) ≡ true }
-    requires known { list_any (λ x. is_faulty_entry (look_up (binding_of scope.now) x.name)) (all_identifiers (exprs_of (exprs_view exprs.now))) ≡ false }
-    ensures { tally.new ≡ after_faults tally.old (spec.all_self_reads (binding_of scope.now) (map writing_view driven.now) (exprs_of (exprs_view exprs.now))) }
+#[cycle(add_parts)]
+fn add_all_parts<'a>(exprs: &'a [Expr], parts: &mut Vec<&'a Expr>) -> Result<(), NoMemory>
+    ensures { OnOk result (parts_view parts.new.items ≡ parts_view parts.old.items ++ all_read_parts (exprs_of (exprs_view exprs.now))) }
 {
     for expr in exprs {
-        check_reads(scope, driven, expr, tally);
+        add_parts(expr, parts)?;
     }
+    Ok(())
 }
 
 /// Whether an expression is a plain name.
@@ -106,11 +107,26 @@ fn is_name(expr: &Expr) -> bool
     matches!(&expr.form, ExprForm::Name(_))
 }
 
+/// Tells the names and selects that read a bit that these targets drive.
+fn check_each<'a>(
+    scope: &Scope,
+    driven: &[Written],
+    parts: &[&'a Expr],
+    tally: &mut Tally<'a>,
+)
+    requires within { All IsWithin driven.now }
+    requires sound { AreSound (binding_of scope.now) (parts_view parts.now) }
+    ensures { tally.new ≡ after_faults tally.old (flat_map (spec.self_read (binding_of scope.now) (map writing_view driven.now)) (parts_view parts.now)) }
+{
+    for part in parts {
+        check_read(scope, driven, *part, tally);
+    }
+}
+
 /// Tells a name or a select that reads a bit that these targets drive.
 fn check_read<'a>(scope: &Scope, driven: &[Written], expr: &'a Expr, tally: &mut Tally<'a>)
     requires within { All IsWithin driven.now }
-    requires sound { none (faults (binding_of scope.now) (expr_view expr.now)) ≡ true }
-    requires known { names_faulty (binding_of scope.now) (expr_view expr.now) ≡ false }
+    requires sound { IsSound (binding_of scope.now) (expr_view expr.now) }
     ensures { tally.new ≡ after_faults tally.old (spec.self_read (binding_of scope.now) (map writing_view driven.now) (expr_view expr.now)) }
 {
     if reads_driven(scope, driven, expr) {
@@ -121,8 +137,7 @@ fn check_read<'a>(scope: &Scope, driven: &[Written], expr: &'a Expr, tally: &mut
 /// Whether a name or a select reads a bit that these targets drive.
 fn reads_driven(scope: &Scope, driven: &[Written], expr: &Expr) -> bool
     requires within { All IsWithin driven.now }
-    requires sound { none (faults (binding_of scope.now) (expr_view expr.now)) ≡ true }
-    requires known { names_faulty (binding_of scope.now) (expr_view expr.now) ≡ false }
+    requires sound { IsSound (binding_of scope.now) (expr_view expr.now) }
     ensures { result ≡ spec.reads_driven (binding_of scope.now) (map writing_view driven.now) (expr_view expr.now) }
 {
     if !names_signal(scope, expr) {
