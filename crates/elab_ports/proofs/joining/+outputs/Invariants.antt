@@ -1,4 +1,4 @@
-use Rattle.std.proofs.Common.{◌≡◌, ◌&&◌, ◌+◌, ◌*◌, drop}
+use Rattle.std.proofs.Common.{◌≡◌, ◌&&◌, drop}
 use Rattle.flat_design.specs.Fault.{none}
 use Rattle.flat_design.specs.Scope.{binding_of}
 use Rattle.verilog_tree.specs.Tree.{exprs_of}

@@ -1,4 +1,4 @@
-use Rattle.std.proofs.Common.{◌++◌, ◌+◌, List, ap, drop, map, ◌∙◌}
+use Rattle.std.proofs.Common.{◌++◌, ◌+◌, ap, drop, map, ◌∙◌}
 use Rattle.std.specs.Prelude.{flat_map}
 use Rattle.flat_design.specs.Connections.{Joined, JoinedPort, joining, port_faults}
 use Rattle.flat_design.specs.Scope.{binding_of}

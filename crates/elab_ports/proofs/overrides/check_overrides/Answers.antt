@@ -2,7 +2,7 @@ use Rattle.std.proofs.Common.{◌≡◌, false, ap, sym, ◌∙◌}
 use Rattle.std.specs.Prelude.{flat_map}
 use Rattle.std.specs.List.{list_any}
 use Rattle.verilog_tree.specs.View.{givens_view, module_view}
-use Rattle.flat_design.specs.Connections.{connections, free_names, given_faults, override_of, override_value_faults, value_names_faulty}
+use Rattle.flat_design.specs.Connections.{connections, given_faults, override_of, override_value_faults, value_names_faulty}
 use Rattle.flat_design.specs.Fault.{none}
 use Rattle.flat_design.specs.Scope.{binding_of}
 use Rattle.elab_declarations.specs.Constants.{overrides_view}

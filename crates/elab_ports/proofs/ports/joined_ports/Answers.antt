@@ -4,7 +4,7 @@ use Rattle.std.specs.Option.{option_to_list}
 use Rattle.std.proofs.lemmas.Grind.{common_steps}
 use Rattle.std.proofs.lemmas.List.{map-append}
 use Rattle.verilog_tree.specs.declared.item.Named.{Named}
-use Rattle.flat_design.specs.Connections.{JoinedPort, connection_of, declaration_of, declared_port, joined_port}
+use Rattle.flat_design.specs.Connections.{JoinedPort, declaration_of, declared_port, joined_port}
 use Rattle.elab_ports.specs.ConnectionView.{connections_view}
 use Rattle.elab_ports.specs.FirstBound.{connections_by}
 use Rattle.elab_ports.specs.PortView.{port_view, ports_view}
