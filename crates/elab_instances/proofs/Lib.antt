@@ -1,2 +1,6 @@
+pub mod BehindLemmas
+pub mod EnteringLemmas
 pub mod NamesLemmas
+pub mod OpeningLemmas
+pub mod RoleLemmas
 pub mod StatementViews

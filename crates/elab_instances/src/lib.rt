@@ -2,8 +2,16 @@
 //! them (IEEE 1364-2001 clauses 3 and 12).
 #![tactic(auto)]
 
+mod entries;
 mod identifiers;
+mod instantiation;
 mod loop_names;
+mod opening;
+mod roles;
 mod used;
 
+pub use entries::Inside;
+pub use instantiation::{Instantiation, Numbers, PortAlias};
+pub use opening::{Opened, open_instance};
+pub use roles::{Links, Role};
 pub use used::Uses;
