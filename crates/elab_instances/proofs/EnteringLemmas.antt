@@ -64,8 +64,8 @@ numbers_by_count i n [] = same_numbers _ _ _ _ (sym (add-zero n.signal)) (sym (a
 numbers_by_count i n (d ∷ ds) =
     numbers_by_count i (numbers_behind (role_of (linked_of i) d) n) ds
     ∙ same_numbers _ _ _ _
-      (ap (λ b. n.signal + one_if b + length (filter (is_own i.aliases i.of_module) ds)) (own_role i d) ∙ counted_one (is_own i.aliases i.of_module) d ds n.signal)
-      (ap (λ b. n.memory + one_if b + length (filter is_memory ds)) (memory_role (linked_of i) d) ∙ counted_one is_memory d ds n.memory)
+    (ap (λ b. n.signal + one_if b + length (filter (is_own i.aliases i.of_module) ds)) (own_role i d) ∙ counted_one (is_own i.aliases i.of_module) d ds n.signal)
+    (ap (λ b. n.memory + one_if b + length (filter is_memory ds)) (memory_role (linked_of i) d) ∙ counted_one is_memory d ds n.memory)
 
 -- numbers that are few were few before
 few_behind : (r : Role) (n : Numbers) → AreFew (numbers_behind r n) → AreFew n

@@ -70,8 +70,8 @@ module _ (n : Numbers) where
         | inl ended ↦ ended_counted (after t m) n (ap (λ u. u.ended) (after_ended t m ended) ∙ ended)
         | inr open' ↦
             λ still.
-              let P : Tally → Type 0 = λ u. AreWithin u.counts n in
-              subst P (sym (after_open t m open')) (kept_met m t (h open'))
+            let P : Tally → Type 0 = λ u. AreWithin u.counts n in
+            subst P (sym (after_open t m open')) (kept_met m t (h open'))
       ]
 
   pub counted_after_all : (t : Tally) (ms : List Met) → AreCounted t n → AreCounted (after_all t ms) n
@@ -95,14 +95,14 @@ counted_more t m n k more =
 signal_counted : (t : Tally) (p : Place) (n k : Numbers) → k.signal ≡ n.signal + 1 → k.memory ≡ n.memory → AreCounted t n → AreCounted (after t (met_signal p)) k
 signal_counted t p n k one none h =
     counted_more t (met_signal p) n k (λ open' still.
-      let old = h open' in
-      counted_if (t.counts.signals == 65536) (limit_fault Signals p) (record (t.counts) { signals = t.counts.signals + 1 }) t k refl (λ few. (omega (arith, old.0), not_full n t.counts.signals 65536 few old.1, omega (arith, old.2), old.3)) still)
+    let old = h open' in
+    counted_if (t.counts.signals == 65536) (limit_fault Signals p) (record (t.counts) { signals = t.counts.signals + 1 }) t k refl (λ few. (omega (arith, old.0), not_full n t.counts.signals 65536 few old.1, omega (arith, old.2), old.3)) still)
 
 words_counted : (t : Tally) (p : Place) (w : ℕ) (n k : Numbers) → 1 ≤ w → k.signal ≡ n.signal → k.memory ≡ n.memory + 1 → AreCounted t n → AreCounted (after t (met_words p w)) k
 words_counted t p w n k some none one h =
     counted_more t (met_words p w) n k (λ open' still.
-      let old = h open' in
-      counted_if (nat_lt 262144 (t.counts.words + w)) (limit_fault Words p) (record (t.counts) { words = t.counts.words + w }) t k refl (λ few. (omega (arith, old.0), old.1, omega (arith, old.2), ltb-false 262144 (t.counts.words + w) few)) still)
+    let old = h open' in
+    counted_if (nat_lt 262144 (t.counts.words + w)) (limit_fault Words p) (record (t.counts) { words = t.counts.words + w }) t k refl (λ few. (omega (arith, old.0), old.1, omega (arith, old.2), ltb-false 262144 (t.counts.words + w) few)) still)
 
 same_counted : (t : Tally) (n k : Numbers) → k.signal ≡ n.signal → k.memory ≡ n.memory → AreCounted t n → AreCounted t k
 same_counted t n k same none h open' = let old = h open' in (omega (arith, old.0), old.1, omega (arith, old.2), old.3)
@@ -168,7 +168,7 @@ opened_met i os g ds l t first second third last given scope names links one two
     let others : Scope → List Fault = λ h. range_faults h m ++ twice_faults [] (all_declarations h m) ++ listed_twice [] m.ports ++ direction_faults (declarations h m) m.ports in
     let to_second : second ≡ front = two ∙ ap (λ o. after_faults first (constants_faults (other_names m) o [] (params_of m))) given ∙ ap (λ u. after_faults u own) one in
     let to_third : third ≡ after_all t (opening_front i) =
-        three ∙ ap (λ u. after_faults u (others g)) to_second ∙ ap (λ h. after_faults front (others h)) scope ∙ faults_in_turn start path own (range_faults (constant_scope i.overrides m) m) (twice_faults [] (all_declarations (constant_scope i.overrides m) m)) (listed_twice [] m.ports) (direction_faults (declared i.overrides m) m.ports)
+    three ∙ ap (λ u. after_faults u (others g)) to_second ∙ ap (λ h. after_faults front (others h)) scope ∙ faults_in_turn start path own (range_faults (constant_scope i.overrides m) m) (twice_faults [] (all_declarations (constant_scope i.overrides m) m)) (listed_twice [] m.ports) (direction_faults (declared i.overrides m) m.ports)
     in
     four
     ∙ ap (λ u. after_all u (flat_map (λ d. role_met (role_of l d) i d) ds)) to_third

@@ -11,9 +11,9 @@ ghost use Rattle.flat_design.specs.declared.entry.Mode.TheVariants.{Continuous};
 ghost use Rattle.verilog_tree.specs.View.{expr_view};
 
 use crate::reads::check_reads;
+use cov_host::{NoMemory, Place};
 use elab_checks::{Writer, check, check_target, push_writings, target_writings};
 use elab_scope::{Scope, Tally, names_faulty};
-use cov_host::{NoMemory, Place};
 use flat_design::Mode;
 use std::alloc::Global;
 use verilog_tree::Expr;
@@ -38,15 +38,7 @@ pub fn check_continuous<'a>(
         continuous: true,
         process,
     };
-    push_writings(
-        alloc,
-        scope,
-        Mode::Continuous,
-        writer,
-        target,
-        sound,
-        tally,
-    )?;
+    push_writings(alloc, scope, Mode::Continuous, writer, target, sound, tally)?;
     check_self_assign(alloc, scope, target, value, sound & known, tally)
 }
 

@@ -8,9 +8,9 @@ ghost use Rattle.flat_design.specs.Processes as spec;
 ghost use Rattle.flat_design.specs.Scope.{binding_of};
 ghost use Rattle.verilog_tree.specs.View.{expr_view};
 
+use cov_host::{NoMemory, Place};
 use elab_checks::{Writer, check, check_target, push_writings};
 use elab_scope::{NameAt, Scope, Tally, Written, range_or, span};
-use cov_host::{NoMemory, Place};
 use flat_design::{Mode, SignalEntry, Thing};
 use std::alloc::Global;
 use verilog_tree::Expr;
@@ -61,13 +61,5 @@ pub fn check_joined_output<'a>(
         continuous: true,
         process,
     };
-    push_writings(
-        alloc,
-        scope,
-        Mode::Continuous,
-        writer,
-        value,
-        sound,
-        tally,
-    )
+    push_writings(alloc, scope, Mode::Continuous, writer, value, sound, tally)
 }

@@ -13,9 +13,9 @@ ghost use Rattle.flat_design.specs.Scope.{is_same_thing as spec_is_same_thing};
 ghost use Rattle.verilog_tree.specs.Tree.{exprs_of};
 ghost use Rattle.verilog_tree.specs.View.{expr_view, exprs_view};
 
+use cov_host::NoMemory;
 use elab_checks::{Writer, written_by};
 use elab_scope::{FoundFault, Scope, Tally, Written, base_name};
-use cov_host::NoMemory;
 use flat_design::{ElabKind, Entry, Thing};
 use std::alloc::Global;
 use verilog_tree::{Expr, ExprForm};
@@ -108,12 +108,7 @@ fn is_name(expr: &Expr) -> bool
 }
 
 /// Tells the names and selects that read a bit that these targets drive.
-fn check_each<'a>(
-    scope: &Scope,
-    driven: &[Written],
-    parts: &[&'a Expr],
-    tally: &mut Tally<'a>,
-)
+fn check_each<'a>(scope: &Scope, driven: &[Written], parts: &[&'a Expr], tally: &mut Tally<'a>)
     requires within { All IsWithin driven.now }
     requires sound { AreSound (binding_of scope.now) (parts_view parts.now) }
     ensures { tally.new ≡ after_faults tally.old (flat_map (spec.self_read (binding_of scope.now) (map writing_view driven.now)) (parts_view parts.now)) }

@@ -23,5 +23,5 @@ returns c =
     let x = expr_view c.args.target.now in
     let v = expr_view c.args.value.now in
     assignment_met c.check_self_assign.result c.args.tally.now c.process.new.self c.check_target-sound.new.tally c.check-known.new.tally c.push_writings.new.tally c.check_self_assign.new.tally
-        (met_process c.args.place) (target_faults g Continuous x) (faults g v) (self_faults g x v) (met_writings g Continuous true true c.args.process x)
-        c.process.ensures c.check_target-sound.ensures.met c.check-known.ensures.met c.in_ok-push_writings.ensures c.check_self_assign.ensures
+    (met_process c.args.place) (target_faults g Continuous x) (faults g v) (self_faults g x v) (met_writings g Continuous true true c.args.process x)
+    c.process.ensures c.check_target-sound.ensures.met c.check-known.ensures.met c.in_ok-push_writings.ensures c.check_self_assign.ensures

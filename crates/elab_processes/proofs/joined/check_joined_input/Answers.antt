@@ -18,7 +18,7 @@ returns c =
     let s = c.args.signal in
     let all : c.span.result ≡ range_width s.range = c.span.ensures ∙ ap (λ r. span r.high r.low) c.range_or.ensures in
     let IsToldWith : ℕ → Type 0 =
-        λ n. OnOk c.writing.result (c.writing.new.self ≡ after c.check.new.tally (met_writing (record { name = name_view c.args.label; thing = Signal s.number; offsets = range_with_len 0 n; blocking = true; continuous = true; process = c.args.process }))) in
+    λ n. OnOk c.writing.result (c.writing.new.self ≡ after c.check.new.tally (met_writing (record { name = name_view c.args.label; thing = Signal s.number; offsets = range_with_len 0 n; blocking = true; continuous = true; process = c.args.process }))) in
     process_met c.writing.result c.args.tally.now c.process.new.self c.check.new.tally c.writing.new.self
-        (met_process c.args.place) (faults (binding_of c.args.scope.now) (expr_view c.args.value.now)) (met_writing (whole_writing c.args.process (name_view c.args.label) s) ∷ [])
-        c.process.ensures c.check.ensures.met (subst IsToldWith all c.writing.ensures)
+    (met_process c.args.place) (faults (binding_of c.args.scope.now) (expr_view c.args.value.now)) (met_writing (whole_writing c.args.process (name_view c.args.label) s) ∷ [])
+    c.process.ensures c.check.ensures.met (subst IsToldWith all c.writing.ensures)
