@@ -2,5 +2,6 @@ pub mod BehindLemmas
 pub mod EnteringLemmas
 pub mod NamesLemmas
 pub mod OpeningLemmas
+pub mod PartLemmas
 pub mod RoleLemmas
 pub mod StatementViews

@@ -4,5 +4,6 @@ pub mod InstanceView
 pub mod Linked
 pub mod Names
 pub mod Opening
+pub mod Parts
 pub mod Roles
 pub mod Uses

@@ -7,11 +7,13 @@ mod identifiers;
 mod instantiation;
 mod loop_names;
 mod opening;
+mod parts;
 mod roles;
 mod used;
 
 pub use entries::Inside;
 pub use instantiation::{Instantiation, Numbers, PortAlias};
 pub use opening::{Opened, open_instance};
+pub use parts::{push_aliases, push_constants, push_memories, push_signals};
 pub use roles::{Links, Role};
 pub use used::Uses;
