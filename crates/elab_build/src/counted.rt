@@ -9,7 +9,7 @@ use cov_host::NoMemory;
 use design_model::Term;
 
 /// The next number. A number of 2^32 - 1 is want of memory.
-pub(crate) fn take(next: &mut u32) -> Result<u32, NoMemory>
+pub fn take(next: &mut u32) -> Result<u32, NoMemory>
     ensures value { IfOk result (λ number. number ≡ next.old) }
     ensures counted { OnOk result (next.new ≡ next.old + 1) }
 {

@@ -73,3 +73,15 @@ fn pass_all_nodes(scope: &Scope, parts: &[Expr], nodes: &mut u32) -> Result<(), 
     }
     Ok(())
 }
+
+/// The same of the condition of an `if` or a choice: a counted node of its own where it is no operator.
+pub fn pass_condition_nodes(
+    scope: &Scope,
+    condition: &Expr,
+    nodes: &mut u32,
+) -> Result<(), NoMemory>
+    ensures { OnOk result (nodes.new ≡ nodes.old + count.condition_nodes (binding_of scope.now) (expr_view condition.now)) }
+{
+    let _ = take_if(is_counted_condition(scope, condition), nodes)?;
+    pass_nodes(scope, condition, nodes)
+}

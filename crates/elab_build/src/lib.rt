@@ -10,7 +10,8 @@ mod shapes;
 mod targets;
 mod terms;
 
-pub use counting::pass_nodes;
+pub use counted::take;
+pub use counting::{pass_condition_nodes, pass_nodes};
 pub use shapes::shape_of;
 pub use targets::target;
 pub use terms::{alone, condition_term, right_side, term};

@@ -1,0 +1,7 @@
+pub mod UncountedTerms
+pub mod StatementViews
+pub mod FlatLists
+pub mod ClearTurns
+pub mod SoundLoops
+pub mod SoundCases
+pub mod SoundOfMet
