@@ -2,4 +2,5 @@
 #![tactic(auto)]
 
 mod modules;
+mod opening;
 mod walk;
