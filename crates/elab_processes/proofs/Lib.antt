@@ -1,2 +1,5 @@
+pub mod AlwaysLemmas
+pub mod LoopVariables
 pub mod OverlapLemmas
 pub mod ReadLemmas
+pub mod SignalLemmas
