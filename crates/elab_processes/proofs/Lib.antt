@@ -1,3 +1,6 @@
+pub mod AlwaysLemmas
+pub mod LoopVariables
 pub mod MetLemmas
 pub mod OverlapLemmas
 pub mod ReadLemmas
+pub mod SignalLemmas
