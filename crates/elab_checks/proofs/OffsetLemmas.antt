@@ -79,7 +79,7 @@ pub slide_value : (r s : Range) (up : Bool) (w v : ℕ) (o : Option ℤ) (n low 
     range_with_len low w ≡ offsets_from (span r.high r.low) w (slide_offset r up w o)
 slide_value r s up w v o n low range width is from h =
     let at : slide_offset r up w o ≡ Some (pos low) =
-        ap (slide_offset r up w) (index_at o n is) ∙ ap (λ x. slide_offset r up x (Some (pos n))) (sym width) ∙ ap (λ x. slide_offset x up v (Some (pos n))) (sym range) ∙ sym from in
+    ap (slide_offset r up w) (index_at o n is) ∙ ap (λ x. slide_offset r up x (Some (pos n))) (sym width) ∙ ap (λ x. slide_offset x up v (Some (pos n))) (sym range) ∙ sym from in
     (inside_offsets r (slide_offset r up w o) low w at h).0
 
 -- the bits from a constant index
@@ -122,10 +122,12 @@ module _ (g : Scope) (s : SignalEntry) where
   sound_bit p of i e h =
       let f = none_else (is_memory_name g of) (word_faults g (look_up g (base_name of).name) (base_name of) i (faults g i)) _ (not_memory g of s e) h in
       let q = four_none (faults g of) (select_faults (selected g of)) (faults g i) _ f in
-      let b = selected_bits g of s e q.1 in
-      (q.2, λ constant.
-          let inside = none_then (is_sound_constant g i (faults g i)) (range_faults (selected g of) 1 (λ r. some_offset r (whole_number g i))) [] (true_both _ _ constant q.2) q.3 in
-          not_outside _ _ (rw b.1 at inside))
+      let b = selected_bits g of s e q.1 in (
+        q.2,
+        λ constant.
+            let inside = none_then (is_sound_constant g i (faults g i)) (range_faults (selected g of) 1 (λ r. some_offset r (whole_number g i))) [] (true_both _ _ constant q.2) q.3 in
+            not_outside _ _ (rw b.1 at inside),
+      )
 
   -- what holds of a part without a fault
   pub record SoundPart (p : Place) (of h l : Expr) (k : Place) : Type 0 where

@@ -20,8 +20,8 @@ ghost use Rattle.four_state.specs.declared.index.Index.TheVariants.{At};
 ghost use Rattle.verilog_tree.specs.View.{expr_view};
 
 use crate::values::{bound, number, shape, size};
-use elab_scope::{Scope, names_constants, range_or, span};
 use design_model::Range;
+use elab_scope::{Scope, names_constants, range_or, span};
 use flat_design::SignalEntry;
 use four_state::Index;
 use verilog_tree::{Expr, ExprForm};

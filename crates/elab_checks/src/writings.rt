@@ -12,8 +12,8 @@ ghost use Rattle.flat_design.specs.Targets.{leaves, target_faults, writing_of};
 ghost use Rattle.verilog_tree.specs.View.{expr_view};
 
 use crate::offsets::{Bits, bits_of};
-use elab_scope::{Scope, Tally, Written, base_name, names_faulty};
 use cov_host::NoMemory;
+use elab_scope::{Scope, Tally, Written, base_name, names_faulty};
 use flat_design::{Entry, Mode, Thing};
 use std::alloc::Global;
 use verilog_tree::{Expr, ExprForm};

@@ -12,5 +12,5 @@ returns-clause-value c =
     let r = range_or c.args.signal.range in
     let l = expr_view c.args.low.now in
     let at : pos c.offset.result ≡ offset r (pos (natural_number g l)) =
-        c.offset.ensures ∙ ap (λ x. offset x (pos c.from.result)) c.range_or.ensures ∙ ap (λ n. offset r (pos n)) (c.from.ensures ∙ c.bound.ensures) in
+    c.offset.ensures ∙ ap (λ x. offset x (pos c.from.result)) c.range_or.ensures ∙ ap (λ n. offset r (pos n)) (c.from.ensures ∙ c.bound.ensures) in
     ap (range_with_len c.offset.result) c.from-2.ensures ∙ part_value r (whole_number g l) c.offset.result c.args.width c.requires.number at c.requires.inside

@@ -12,7 +12,7 @@ slide_offset-requires-clause-within c =
     let b = expr_view c.args.base.now in
     let constant : names_constants g b ≡ true = sym c.names_constants.ensures ∙ c.if-not-names_constants.false in
     slide_known (range_or c.args.signal.range) c.range_or.result c.args.up (natural_number g (expr_view c.args.width.now)) c.size-width.result (whole_number g b) c.in-At.number
-        c.range_or.ensures c.size-width.ensures c.requires.some.0 (sym c.number.ensures ∙ c.in-At.is) (c.requires.inside constant)
+    c.range_or.ensures c.size-width.ensures c.requires.some.0 (sym c.number.ensures ∙ c.in-At.is) (c.requires.inside constant)
 
 pub returns-in-At-clause-value : goal.returns-in-At-clause-value
 returns-in-At-clause-value c =
@@ -22,7 +22,7 @@ returns-in-At-clause-value c =
     let r = range_or c.args.signal.range in
     let constant : names_constants g b ≡ true = sym c.names_constants.ensures ∙ c.if-not-names_constants.false in
     let value = slide_value r c.range_or.result c.args.up w c.size-width.result (whole_number g b) c.in-At.number c.slide_offset.result
-        c.range_or.ensures c.size-width.ensures (sym c.number.ensures ∙ c.in-At.is) c.slide_offset.ensures (c.requires.inside constant) in
+    c.range_or.ensures c.size-width.ensures (sym c.number.ensures ∙ c.in-At.is) c.slide_offset.ensures (c.requires.inside constant) in
     ap (range_with_len c.slide_offset.result) (c.from.ensures ∙ c.size-width.ensures) ∙ value ∙ offsets_when (names_constants g b) c.args.signal w (slide_offset r c.args.up w (whole_number g b)) constant
 
 pub returns-in_default : goal.returns-in_default
