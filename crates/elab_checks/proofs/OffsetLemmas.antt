@@ -1,10 +1,9 @@
 -- The bits that a select without a fault names, by how far they stand above the lowest bit.
-use Rattle.std.proofs.Common.{◌≡◌, ◌≤◌, ◌<◌, ◌∙◌, refl, sym, ap, ℕ, zero, suc, ◌+◌, ◌-◌, nat_le, nat_lt, Bool, true, false, not, ◌&&◌, if◌then◌else◌, List, [], ◌∷◌, ◌++◌, ℤ, pos, negsuc, ◌+ℤ◌, ◌-ℤ◌, Option, Some, None, arith}
+use Rattle.std.proofs.Common.{◌≡◌, ◌≤◌, ◌∙◌, refl, sym, ap, ℕ, zero, suc, ◌+◌, nat_le, nat_lt, Bool, true, false, not, ◌&&◌, [], ◌∷◌, ℤ, pos, negsuc, Option, Some, None, arith}
 use Rattle.std.specs.Prelude.{filter}
 use Rattle.std.specs.List.{range_with_len}
 use Rattle.std.proofs.lemmas.Bool.{false≢true}
 use Rattle.std.proofs.lemmas.Bool.Decides.{nat_tests}
-use Rattle.std.proofs.lemmas.Int.{ints}
 use Rattle.cov_host.specs.declared.place.Place.{Place}
 use Rattle.design_model.specs.Lawful.{span}
 use Rattle.design_model.specs.Value.{offset, slide_offset}
@@ -17,7 +16,7 @@ use Rattle.elab_const.specs.Faults.{is_bad_bound}
 use Rattle.elab_const.specs.Meaning.{count_of, falls, number_of, part_width}
 use Rattle.elab_const.specs.Scope.{IsWidth}
 use Rattle.elab_const.proofs.AnswerLemmas.{width_within}
-use Rattle.flat_design.specs.Expressions.{Selected, faults, bound_faults, index_faults, is_inside, is_sound_constant, part_range_faults, range_faults, select_faults, selected, selected_of, size_faults, slide_faults, some_offset, width_faults, word_faults}
+use Rattle.flat_design.specs.Expressions.{Selected, faults, bound_faults, is_inside, is_sound_constant, part_range_faults, range_faults, select_faults, selected, selected_of, size_faults, slide_faults, some_offset, width_faults, word_faults}
 use Rattle.flat_design.specs.Fault.{Fault, fault_at, fault_if, none}
 use Rattle.flat_design.specs.declared.fault.ElabKind.TheVariants.{WrongUse}
 use Rattle.flat_design.specs.Identifiers.{base_name, identifiers, named}
@@ -29,7 +28,7 @@ use Rattle.elab_checks.specs.Selected.{contains, has_slide}
 use Rattle.elab_checks.proofs.CheckLemmas.{width_known}
 use Rattle.elab_checks.proofs.ExpressionLemmas.{bounds_sound}
 use Rattle.elab_checks.proofs.RangeLemmas.{part_inside, slide_inside}
-use Rattle.flat_design.proofs.NoConstFaults.{answer_none, both_none, both_true, bound_clean, four_none, neither_of_three, none_both, none_else, none_then, not_if, number_clean, true_both, width_clean}
+use Rattle.flat_design.proofs.NoConstFaults.{answer_none, both_none, both_true, bound_clean, four_none, neither_of_three, none_both, none_else, none_then, number_clean, true_both, width_clean}
 
 -- of numbers from k on that are all below the size, all stay
 below_stay : (size k w : ℕ) → k + w ≤ size → filter (λ i. nat_lt i size) (range_with_len k w) ≡ range_with_len k w

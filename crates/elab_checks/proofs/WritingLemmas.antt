@@ -1,7 +1,6 @@
 -- What the parts of a target write, one after another.
-use Rattle.std.proofs.Common.{◌≡◌, ◌≤◌, ◌<◌, refl, sym, ap, ◌∙◌, ℕ, ◌+◌, Bool, true, false, not, ◌&&◌, ◌||◌, if◌then◌else◌, List, [], ◌∷◌, ◌++◌, map, length, drop, get_or, drop-cons, add-one, append_assoc, Option, Some, None}
+use Rattle.std.proofs.Common.{◌≡◌, refl, sym, ap, ◌∙◌, ℕ, Bool, true, false, not, ◌||◌, if◌then◌else◌, List, [], ◌∷◌, map, Option, Some, None}
 use Rattle.std.specs.List.{list_any}
-use Rattle.std.proofs.lemmas.List.{map-append}
 use Rattle.cov_host.specs.declared.place.Place.{Place}
 use Rattle.verilog_tree.specs.Tree.{Expr, concatenation, Exprs, no_exprs, an_expr}
 use Rattle.flat_design.specs.Bodies.{Met, met_writing, met_writings}
@@ -10,12 +9,11 @@ use Rattle.flat_design.specs.Fault.{Fault, none}
 use Rattle.flat_design.specs.Identifiers.{identifiers, all_identifiers, base_name}
 use Rattle.flat_design.specs.Processes.{is_signal_entry}
 use Rattle.flat_design.specs.Scope.{Scope, is_faulty_entry, look_up, names_faulty}
-use Rattle.flat_design.specs.Targets.{Writing, all_leaves, all_target_faults, fixed_faults, leaf_faults, leaves, target_faults, writing_of}
+use Rattle.flat_design.specs.Targets.{Writing, all_target_faults, fixed_faults, leaf_faults, leaves, target_faults, writing_of}
 use Rattle.flat_design.specs.declared.entry.Entry.{Entry}
 use Rattle.flat_design.specs.declared.entry.Entry.TheVariants.{Signal}
 use Rattle.flat_design.specs.declared.entry.Mode.{Mode}
 use Rattle.flat_design.specs.declared.entry.Mode.TheVariants.{Continuous, Combinational, Clocked}
-use Rattle.elab_scope.specs.Tally.{Tally, after, after_all}
 use Rattle.elab_scope.specs.View.{writing_view}
 use Rattle.elab_scope.specs.declared.tally.Written.{Written}
 use Rattle.elab_checks.specs.Writings.{EachTarget, HasSoundSignal, IsTarget, is_single}
@@ -26,7 +24,7 @@ none_unless : (b : Bool) (f : Fault) (xs : List Fault) → none (if b then f ∷
 none_unless true f xs e = absurd cc
 none_unless false f xs e = e
 
--- a target that is a signal, or a select of one
+-- a target that is a signal, or a select of one, has no fault as an expression
 signal_leaf : (g : Scope) (mode : Mode) (o : Option Entry) (e : Expr) → is_signal_entry o ≡ true → none (leaf_faults g mode o e) ≡ true → none (faults g e) ≡ true
 signal_leaf g mode None e is f = absurd cc
 signal_leaf g Continuous (Some (Signal s)) e is f = (both_none (faults g e) (fixed_faults g e) (none_unless (s.input || not s.net) _ _ f)).0
@@ -38,10 +36,6 @@ pub single_target : (g : Scope) (e : Expr) → is_single e ≡ true → IsTarget
 single_target g (concatenation p es) one t = absurd cc
 single_target g e one t = λ is. signal_leaf g t.0.0 (look_up g (base_name e).name) e is t.0.1
 
-single_leaf : (e : Expr) → is_single e ≡ true → leaves e ≡ e ∷ []
-single_leaf (concatenation p es) one = absurd cc
-single_leaf e one = refl
-
 -- the parts of a concatenation without a fault have none
 pub joined_targets : (g : Scope) (p : Place) (es : Exprs) → IsTarget g (concatenation p es) → EachTarget g es
 joined_targets g p es t = go es (both_none (all_target_faults g t.0.0 es) _ t.0.1).0 t.1
@@ -52,11 +46,6 @@ joined_targets g p es t = go es (both_none (all_target_faults g t.0.0 es) _ t.0.
         let sound = both_none (target_faults g t.0.0 e) (all_target_faults g t.0.0 es) f in
         let known = neither (λ x. is_faulty_entry (look_up g x.name)) (identifiers e) (all_identifiers es) n in
         (((t.0.0, sound.0), known.0), go es sound.1 known.1)
-
--- what is written so far, with one target more
-pub more_written : (f : Expr → Writing) (before now whole : List Writing) (e : Expr) (es all : Exprs) → all ≡ an_expr e es → before ++ map f (all_leaves all) ≡ whole → now ≡ before ++ map f (leaves e) → now ++ map f (all_leaves es) ≡ whole
-more_written f before now whole e es all is h here =
-    ap (λ ws. ws ++ map f (all_leaves es)) here ∙ append_assoc before (map f (leaves e)) (map f (all_leaves es)) ∙ ap (λ ws. before ++ ws) (sym (map-append f (leaves e) (all_leaves es))) ∙ ap (λ xs. before ++ map f (all_leaves xs)) (sym is) ∙ h
 
 -- what is met of writings
 abbrev pub all_met : List Written → List Met
@@ -72,14 +61,3 @@ met_again f ws es e = map-twice writing_view met_writing ws ∙ ap (map met_writ
 -- what is met of a target without a fault
 pub met_is : (g : Scope) (mode : Mode) (b c : Bool) (k : ℕ) (e : Expr) (ws : List Written) → none (target_faults g mode e) ≡ true → names_faulty g e ≡ false → map writing_view ws ≡ map (writing_of g b c k) (leaves e) → all_met ws ≡ met_writings g mode b c k e
 met_is g mode b c k e ws sound known is = rw (sound, known) (met_again (writing_of g b c k) ws (leaves e) is)
-
-pub met_none : (g : Scope) (mode : Mode) (b c : Bool) (k : ℕ) (e : Expr) → (none (target_faults g mode e) && not (names_faulty g e)) ≡ false → met_writings g mode b c k e ≡ []
-met_none g mode b c k e test = rw test refl
-
--- one writing more
-pub met_next : (t u : Tally) (ws : List Written) (i : ℕ) (w : Written) → i < length ws → w ≡ get_or ws i w → u ≡ after t (met_writing (writing_view w)) → after_all u (all_met (drop (i + 1) ws)) ≡ after_all t (all_met (drop i ws))
-met_next t u ws i w within is e = rw (drop-cons ws i w within, add-one i, ← is, e) refl
-
--- what is written with one target without concatenation more
-pub pushed : (f : Expr → Writing) (ws new : List Written) (w : Written) (e : Expr) → is_single e ≡ true → new ≡ ws ++ w ∷ [] → writing_view w ≡ f e → map writing_view new ≡ map writing_view ws ++ map f (leaves e)
-pushed f ws new w e one is view = ap (map writing_view) is ∙ map-append writing_view ws (w ∷ []) ∙ ap (λ x. map writing_view ws ++ x ∷ []) view ∙ ap (λ es. map writing_view ws ++ map f es) (sym (single_leaf e one))

@@ -1,6 +1,6 @@
-use Rattle.std.proofs.Common.{◌≡◌, ◌++◌, map, sym, subst, ap, ◌∙◌}
+use Rattle.std.proofs.Common.{◌++◌, map, sym, subst, ap, ◌∙◌}
 use Rattle.verilog_tree.specs.Tree.{exprs_of}
-use Rattle.verilog_tree.specs.View.{expr_view, exprs_view}
+use Rattle.verilog_tree.specs.View.{exprs_view}
 use Rattle.flat_design.specs.Scope.{binding_of}
 use Rattle.flat_design.specs.Targets.{all_leaves, leaves, writing_of}
 use Rattle.elab_scope.specs.View.{writing_view}
