@@ -16,6 +16,7 @@ use Rattle.flat_design.specs.Numbering.{nodes, all_nodes, lines, statement_nodes
 use Rattle.flat_design.specs.Scope.{Scope, with_turn}
 use Rattle.flat_design.specs.Terms.{term}
 use Rattle.elab_build.proofs.TermLists.{terms_before, terms_before_one}
+use Rattle.elab_bodies.specs.Sound.{InTurns, IsSoundStatement}
 use Rattle.elab_bodies.specs.View.{arm_view}
 
 -- statements before others
@@ -90,6 +91,11 @@ next_labels base g w all new x rest later e n m whole r i v c h =
     let others : Terms = label_terms base g w later (n + nodes g e) in
     rw (i, map-append term_view all (x ∷ []), c) (terms_before_one xs (term_view x) others ∙ ap (λ y. terms_before xs (flat.a_term y others)) v ∙ ap (λ q. terms_before xs (label_terms base g w q n)) (sym r) ∙ h)
 
--- the turns, by equal values, names, bodies and lines
-pub same_turns : (base : ℕ) (vs ws : List Vector) (x y : List ℕ) (g : Scope) (s r : Statement) (l m n : ℕ) → vs ≡ ws → x ≡ y → s ≡ r → l ≡ m → turn_stmts vs (λ v. statement base (with_turn x v g) s l n) ≡ turn_stmts ws (λ v. statement base (with_turn y v g) r m n)
-same_turns base vs ws x y g s r l m n p q e f = rw (p, q, e, f) refl
+-- the turns, by equal values, names, scopes, bodies and lines
+pub same_turns : (base : ℕ) (vs ws : List Vector) (x y : List ℕ) (f g : Scope) (s r : Statement) (l m n : ℕ) → vs ≡ ws → x ≡ y → f ≡ g → s ≡ r → l ≡ m →
+    turn_stmts vs (λ v. statement base (with_turn x v f) s l n) ≡ turn_stmts ws (λ v. statement base (with_turn y v g) r m n)
+same_turns base vs ws x y f g s r l m n values name scope body line = rw (values, name, scope, body, line) refl
+
+-- the same that they are sound
+pub same_sound : (vs ws : List Vector) (x y : List ℕ) (f g : Scope) (s r : Statement) → vs ≡ ws → x ≡ y → f ≡ g → s ≡ r → InTurns ws (λ v. IsSoundStatement (with_turn y v g) r) → InTurns vs (λ v. IsSoundStatement (with_turn x v f) s)
+same_sound vs ws x y f g s r values name scope body sound = rw (values, name, scope, body) sound

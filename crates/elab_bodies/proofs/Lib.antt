@@ -1,7 +1,5 @@
 pub mod UncountedTerms
-pub mod StatementViews
 pub mod FlatLists
 pub mod ClearTurns
-pub mod SoundLoops
 pub mod SoundCases
 pub mod SoundOfMet

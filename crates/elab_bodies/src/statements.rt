@@ -1,13 +1,11 @@
 //! The flat statements that statements become (IEEE 1364-2001 clause 9).
 
-ghost use Rattle.std.specs.Prelude.{◌≡◌, ◌≤◌, ◌+◌, ℕ, List, IfOk, OnOk, bytes_eq, false, map, true};
+ghost use Rattle.std.specs.Prelude.{◌≡◌, ◌≤◌, ◌+◌, ℕ, List, IfOk, OnOk, bytes_eq, false, map};
 ghost use Rattle.design_model.specs.View.{arms_of as flat_arms_of, stmt_view, stmts_of, term_view, terms_of};
 ghost use Rattle.elab_bodies.specs.Sound.{IsSoundStatement, AreSoundStatements, AreSoundItems, InTurns};
 ghost use Rattle.elab_bodies.specs.View.{arm_view, else_view, other_view};
 ghost use Rattle.elab_build.specs.Sound.{IsClear, IsSound, AreSound, IsSoundTarget};
 ghost use Rattle.flat_design.specs.Bodies as spec;
-ghost use Rattle.flat_design.specs.Fault.{none};
-ghost use Rattle.flat_design.specs.Loops as loops;
 ghost use Rattle.flat_design.specs.Numbering as count;
 ghost use Rattle.flat_design.specs.Scope as of;
 ghost use Rattle.flat_design.specs.Scope.{binding_of, with_turn};
@@ -20,8 +18,8 @@ use crate::numbers::{pass_lines, pass_statement_nodes};
 use cov_host::{Name, NoMemory, Place};
 use design_model::{CaseArm, Stmt, Term};
 use elab_build::{condition_term, right_side, shape_of, take, target, term};
-use elab_checks::{put_back, variable_name};
-use elab_const::{ConstFault, Shape, Turns};
+use elab_checks::{put_back, turn_values, variable_name};
+use elab_const::Shape;
 use elab_scope::Scope;
 use flat_design::Entry;
 use four_state::{CaseKind, Four};
@@ -224,7 +222,7 @@ fn for_loop(
     ensures kept { OnOk result (binding_of scope.new ≡ binding_of scope.old) }
 {
     let number = take(line)?;
-    let values = turns_of(alloc, scope, header)?;
+    let values = turn_values(alloc, scope, header)?;
     let variable = variable_name(alloc, header)?;
     let before = scope.get(variable.as_slice()).copied();
     let values = values.as_slice();
@@ -338,18 +336,5 @@ fn case_shape(scope: &Scope, on: &Expr, arms: &[Arm]) -> Shape
     match elab_const::case_shape(on, arms, scope.values()) {
         Ok(shape) => shape,
         Err(_) => unreachable!(),
-    }
-}
-
-/// The values of a loop's variable, one for each turn.
-fn turns_of(alloc: Global, scope: &Scope, header: &For) -> Result<Turns, NoMemory>
-    requires clear { IsClear (binding_of scope.now) }
-    requires sound { none (loops.turn_faults (binding_of scope.now) (loop_view header.now).0) ≡ true }
-    ensures { IfOk result (λ values. values ≡ loops.turns (binding_of scope.now) (loop_view header.now).0) }
-{
-    match elab_const::turns(alloc, header, scope.values()) {
-        Ok(values) => Ok(values),
-        Err(ConstFault::NoMemory) => Err(NoMemory),
-        Err(ConstFault::At { .. }) => unreachable!(),
     }
 }

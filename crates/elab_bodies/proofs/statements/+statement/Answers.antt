@@ -13,13 +13,12 @@ use Rattle.flat_design.specs.Scope.{binding_of, with_turn}
 use Rattle.flat_design.specs.declared.entry.Entry.TheVariants.{Turn}
 use Rattle.elab_build.specs.Sound.{IsClear}
 use Rattle.elab_checks.proofs.RestoredLemmas.{SameBut, same_itself, same_with, with_same, restored_same}
+use Rattle.elab_checks.proofs.StatementViews.{body_view}
 use Rattle.elab_checks.proofs.TreeLemmas.{statements_from, arms_from}
 use Rattle.elab_bodies.specs.Sound.{IsSoundStatement, AreSoundStatements, AreSoundItems, InTurns}
 use Rattle.elab_bodies.specs.View.{arm_view, else_view}
 use Rattle.elab_bodies.proofs.ClearTurns.{clear_turn}
-use Rattle.elab_bodies.proofs.FlatLists.{values_from, stmts_before, stmts_before_none, next_stmts, next_turn, same_turns, arms_before, arms_before_none, next_arms}
-use Rattle.elab_bodies.proofs.SoundLoops.{same_sound}
-use Rattle.elab_bodies.proofs.StatementViews.{body_view}
+use Rattle.elab_bodies.proofs.FlatLists.{values_from, stmts_before, stmts_before_none, next_stmts, next_turn, same_turns, same_sound, arms_before, arms_before_none, next_arms}
 use Rattle.elab_bodies.proofs.statements.+statement.Goals as goal
 
 pub branch-otherwise-requires : goal.branch-otherwise-requires
@@ -107,25 +106,25 @@ case_arms-returns-clause-built t c =
 
 pub for_loop-turn_statements-requires : goal.for_loop-turn_statements-requires
 for_loop-turn_statements-requires t c =
-    let g = binding_of c.args.scope.now in
-    let values = c.as_slice-values.ensures ∙ c.in_ok-values.ensures in
+    let found = binding_of c.turn_values.new.scope in
+    let kept : found ≡ binding_of c.args.scope.now = c.in_ok-values.ensures.kept in
+    let values = c.as_slice-values.ensures ∙ c.in_ok-values.ensures.values in
     let body = ap statement_view c.deref.ensures ∙ sym (body_view c.args.header.now) in
-    (search (rules, the_lemmas), (c.requires.base, (c.requires.clear, same_sound _ _ _ _ g _ _ values c.in_ok-variable.ensures body c.requires.sound.1)))
+    (search (rules, the_lemmas), (c.requires.base, (subst (λ g. IsClear g) (sym kept) c.requires.clear, same_sound _ _ _ _ found _ _ _ values c.in_ok-variable.ensures kept body c.requires.sound.1)))
 
 pub for_loop-returns-clause-built : goal.for_loop-returns-clause-built
 for_loop-returns-clause-built t c =
-    let g = binding_of c.args.scope.now in
-    let values = c.as_slice-values.ensures ∙ c.in_ok-values.ensures in
+    let values = c.as_slice-values.ensures ∙ c.in_ok-values.ensures.values in
     let body = ap statement_view c.deref.ensures ∙ sym (body_view c.args.header.now) in
-    let turns = c.in_ok-turns.ensures.built ∙ same_turns c.args.base _ _ _ _ g _ _ _ _ c.args.nodes.now values c.in_ok-variable.ensures body c.in_ok-number.ensures.counted in
+    let turns = c.in_ok-turns.ensures.built ∙ same_turns c.args.base _ _ _ _ _ _ _ _ _ _ c.args.nodes.now values c.in_ok-variable.ensures c.in_ok-values.ensures.kept body c.in_ok-number.ensures.counted in
     c.unrolled.ensures ∙ ap (λ k. flat.turns c.args.place k (stmts_of (map stmt_view c.in_ok-turns.turns.items))) c.in_ok-number.ensures.value ∙ ap (flat.turns c.args.place c.args.line.now) turns
 
 pub for_loop-returns-clause-kept : goal.for_loop-returns-clause-kept
 for_loop-returns-clause-kept t c =
-    let g = binding_of c.args.scope.now in
     let x = c.in_ok-variable.variable in
-    let before = c.copied-before.ensures ∙ c.get.ensures.value ∙ ap g c.as_slice.ensures in
-    c.in_ok-put_back.ensures ∙ restored_same x c.copied-before.result (binding_of c.turn_statements.new.scope) g c.in_ok-turns.ensures.kept (sym before)
+    let found = binding_of c.turn_values.new.scope in
+    let before = c.copied-before.ensures ∙ c.get.ensures.value ∙ ap found c.as_slice.ensures in
+    c.in_ok-put_back.ensures ∙ restored_same x c.copied-before.result (binding_of c.turn_statements.new.scope) found c.in_ok-turns.ensures.kept (sym before) ∙ c.in_ok-values.ensures.kept
 
 pub for_loop-returns-clause-counted : goal.for_loop-returns-clause-counted
 for_loop-returns-clause-counted t c =
