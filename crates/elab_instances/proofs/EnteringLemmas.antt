@@ -22,7 +22,7 @@ use Rattle.elab_declarations.specs.declared.declaration.Declaration as code
 use Rattle.elab_instances.specs.Behind.{or_bound}
 use Rattle.elab_instances.specs.Entering.{AreFew, IsInside, numbers_behind, numbers_past, role_entries}
 use Rattle.elab_instances.specs.Linked.{Linked, linked_of}
-use Rattle.elab_instances.specs.Roles.{role_of, role_entry, is_own_role, is_memory_role}
+use Rattle.elab_instances.specs.Roles.{role_of}
 use Rattle.elab_instances.specs.declared.entries.Inside.{Inside}
 use Rattle.elab_instances.specs.declared.instantiation.Numbers.{Numbers}
 use Rattle.elab_instances.specs.declared.roles.Role.{Role}
@@ -64,8 +64,8 @@ numbers_by_count i n [] = same_numbers _ _ _ _ (sym (add-zero n.signal)) (sym (a
 numbers_by_count i n (d ∷ ds) =
     numbers_by_count i (numbers_behind (role_of (linked_of i) d) n) ds
     ∙ same_numbers _ _ _ _
-      (ap (λ b. n.signal + one_if b + length (filter (is_own i.aliases i.of_module) ds)) (own_role i d) ∙ counted_one (is_own i.aliases i.of_module) d ds n.signal)
-      (ap (λ b. n.memory + one_if b + length (filter is_memory ds)) (memory_role (linked_of i) d) ∙ counted_one is_memory d ds n.memory)
+    (ap (λ b. n.signal + one_if b + length (filter (is_own i.aliases i.of_module) ds)) (own_role i d) ∙ counted_one (is_own i.aliases i.of_module) d ds n.signal)
+    (ap (λ b. n.memory + one_if b + length (filter is_memory ds)) (memory_role (linked_of i) d) ∙ counted_one is_memory d ds n.memory)
 
 -- numbers that are few were few before
 few_behind : (r : Role) (n : Numbers) → AreFew (numbers_behind r n) → AreFew n

@@ -4,7 +4,7 @@ use Rattle.std.specs.Prelude.{bytes_eq, flat_map, OnOk}
 use Rattle.verilog_tree.specs.declared.item.Named.{Named}
 use Rattle.flat_design.specs.Identifiers.{is_among}
 use Rattle.elab_const.proofs.ScopeLemmas.{fun_ext}
-use Rattle.elab_scope.specs.NameSet.{has, with_name}
+use Rattle.elab_scope.specs.NameSet.{with_name}
 use Rattle.elab_instances.specs.Names.{with_names}
 
 -- the names of one list and then of another

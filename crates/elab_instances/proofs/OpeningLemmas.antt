@@ -1,11 +1,10 @@
 -- What is met while an instance is opened, and what it is counted as.
 use Rattle.std.proofs.Common.{◌≡◌, ℕ, ◌+◌, ◌≤◌, ◌==◌, Bool, true, false, List, [], ◌∷◌, ◌++◌, append_assoc, refl, sym, ap, subst, ◌∙◌, inl, inr, arith}
-use Rattle.std.specs.Prelude.{flat_map, if◌then◌else◌, nat_lt}
+use Rattle.std.specs.Prelude.{flat_map, nat_lt}
 use Rattle.std.proofs.lemmas.Bool.{cases_Bool, false≢true, ltb-false}
 use Rattle.std.proofs.lemmas.Bool.Decides.{nat_tests}
 use Rattle.cov_host.specs.declared.place.Place.{Place}
 use Rattle.design_model.specs.Lawful.{span}
-use Rattle.design_model.specs.declared.design.Range.{Range}
 use Rattle.flat_design.specs.Bodies.{Met, met_fault, met_signal, met_words, met_process, met_instance, met_statement, met_writing, met_faults}
 use Rattle.verilog_tree.specs.Tree.{Module}
 use Rattle.flat_design.specs.Declarations.{Declaration, Override, all_declarations, constants_faults, declarations, direction_faults, listed_twice, twice_faults}
@@ -18,7 +17,7 @@ use Rattle.flat_design.specs.declared.fault.DesignLimit.TheVariants.{Signals, Pr
 use Rattle.elab_const.proofs.ScopeLemmas.{fun_ext}
 use Rattle.elab_scope.specs.Tally.{Tally, after, after_all, after_faults, with_counts, with_fault, with_met}
 use Rattle.elab_scope.proofs.TallyLemmas.{after_all-append, after_ended, after_faults-append, after_open}
-use Rattle.elab_instances.specs.Entering.{numbers_after, numbers_behind, numbers_past}
+use Rattle.elab_instances.specs.Entering.{AreFew, numbers_after, numbers_behind, numbers_past}
 use Rattle.elab_instances.specs.Linked.{Linked, linked_of}
 use Rattle.elab_instances.specs.Opening.{AreCounted}
 use Rattle.elab_instances.specs.Roles.{role_met, role_of}
@@ -70,8 +69,8 @@ module _ (n : Numbers) where
         | inl ended ↦ ended_counted (after t m) n (ap (λ u. u.ended) (after_ended t m ended) ∙ ended)
         | inr open' ↦
             λ still.
-              let P : Tally → Type 0 = λ u. AreWithin u.counts n in
-              subst P (sym (after_open t m open')) (kept_met m t (h open'))
+            let P : Tally → Type 0 = λ u. AreWithin u.counts n in
+            subst P (sym (after_open t m open')) (kept_met m t (h open'))
       ]
 
   pub counted_after_all : (t : Tally) (ms : List Met) → AreCounted t n → AreCounted (after_all t ms) n
@@ -95,14 +94,14 @@ counted_more t m n k more =
 signal_counted : (t : Tally) (p : Place) (n k : Numbers) → k.signal ≡ n.signal + 1 → k.memory ≡ n.memory → AreCounted t n → AreCounted (after t (met_signal p)) k
 signal_counted t p n k one none h =
     counted_more t (met_signal p) n k (λ open' still.
-      let old = h open' in
-      counted_if (t.counts.signals == 65536) (limit_fault Signals p) (record (t.counts) { signals = t.counts.signals + 1 }) t k refl (λ few. (omega (arith, old.0), not_full n t.counts.signals 65536 few old.1, omega (arith, old.2), old.3)) still)
+    let old = h open' in
+    counted_if (t.counts.signals == 65536) (limit_fault Signals p) (record (t.counts) { signals = t.counts.signals + 1 }) t k refl (λ few. (omega (arith, old.0), not_full n t.counts.signals 65536 few old.1, omega (arith, old.2), old.3)) still)
 
 words_counted : (t : Tally) (p : Place) (w : ℕ) (n k : Numbers) → 1 ≤ w → k.signal ≡ n.signal → k.memory ≡ n.memory + 1 → AreCounted t n → AreCounted (after t (met_words p w)) k
 words_counted t p w n k some none one h =
     counted_more t (met_words p w) n k (λ open' still.
-      let old = h open' in
-      counted_if (nat_lt 262144 (t.counts.words + w)) (limit_fault Words p) (record (t.counts) { words = t.counts.words + w }) t k refl (λ few. (omega (arith, old.0), old.1, omega (arith, old.2), ltb-false 262144 (t.counts.words + w) few)) still)
+    let old = h open' in
+    counted_if (nat_lt 262144 (t.counts.words + w)) (limit_fault Words p) (record (t.counts) { words = t.counts.words + w }) t k refl (λ few. (omega (arith, old.0), old.1, omega (arith, old.2), ltb-false 262144 (t.counts.words + w) few)) still)
 
 same_counted : (t : Tally) (n k : Numbers) → k.signal ≡ n.signal → k.memory ≡ n.memory → AreCounted t n → AreCounted t k
 same_counted t n k same none h open' = let old = h open' in (omega (arith, old.0), old.1, omega (arith, old.2), old.3)
@@ -168,7 +167,7 @@ opened_met i os g ds l t first second third last given scope names links one two
     let others : Scope → List Fault = λ h. range_faults h m ++ twice_faults [] (all_declarations h m) ++ listed_twice [] m.ports ++ direction_faults (declarations h m) m.ports in
     let to_second : second ≡ front = two ∙ ap (λ o. after_faults first (constants_faults (other_names m) o [] (params_of m))) given ∙ ap (λ u. after_faults u own) one in
     let to_third : third ≡ after_all t (opening_front i) =
-        three ∙ ap (λ u. after_faults u (others g)) to_second ∙ ap (λ h. after_faults front (others h)) scope ∙ faults_in_turn start path own (range_faults (constant_scope i.overrides m) m) (twice_faults [] (all_declarations (constant_scope i.overrides m) m)) (listed_twice [] m.ports) (direction_faults (declared i.overrides m) m.ports)
+    three ∙ ap (λ u. after_faults u (others g)) to_second ∙ ap (λ h. after_faults front (others h)) scope ∙ faults_in_turn start path own (range_faults (constant_scope i.overrides m) m) (twice_faults [] (all_declarations (constant_scope i.overrides m) m)) (listed_twice [] m.ports) (direction_faults (declared i.overrides m) m.ports)
     in
     four
     ∙ ap (λ u. after_all u (flat_map (λ d. role_met (role_of l d) i d) ds)) to_third
@@ -176,3 +175,7 @@ opened_met i os g ds l t first second third last given scope names links one two
     ∙ ap (λ xs. after_all (after_all t (opening_front i)) (flat_map (λ d. role_met (role_of (linked_of i) d) i d) xs)) names
     ∙ ap (after_all (after_all t (opening_front i))) (all_met_by_role i (declared i.overrides m))
     ∙ sym (after_all-append t (opening_front i) (flat_map (declared_met i) (declared i.overrides m)))
+
+-- where no limit is passed, numbers that are counted are few
+pub few_counted : (t : Tally) (n : Numbers) → AreCounted t n → t.ended ≡ false → AreFew n
+few_counted t n h open' = let now = h open' in (omega (arith, now.0), omega (arith, now.2))

@@ -1,16 +1,13 @@
 -- What the declared names of an instance add to the lists of the design.
-use Rattle.std.proofs.Common.{◌≡◌, ℕ, Bool, true, false, cond, List, [], ◌∷◌, ◌++◌, map, Some, refl, sym, ap, ◌∙◌}
+use Rattle.std.proofs.Common.{◌≡◌, ℕ, Bool, true, false, cond, List, [], ◌∷◌, ◌++◌, map, Some, refl, ap, ◌∙◌}
 use Rattle.std.specs.Prelude.{filter, flat_map, if◌then◌else◌, Option, None}
 use Rattle.design_model.specs.declared.design.Range.{Range}
-use Rattle.design_model.specs.declared.design.Memory.{Memory}
-use Rattle.design_model.specs.declared.design.Signal.{Signal}
 use Rattle.flat_design.specs.Declarations.{Declaration, Sort, a_net, a_variable, words_from, an_integer, a_parameter, some_instance, faulty}
 use Rattle.flat_design.specs.Instances.{Instantiation, is_memory, is_own, memory_of, signal_of, sort_words}
 use Rattle.elab_instances.specs.Linked.{Linked, linked_of}
 use Rattle.elab_instances.specs.Parts.{own_memories, own_signals}
 use Rattle.elab_instances.specs.Roles.{role_of, signal_role, sort_role}
-use Rattle.elab_instances.specs.declared.roles.Role.{Role}
-use Rattle.elab_instances.specs.declared.roles.Role.TheVariants.{Own, Joined, Memory as a_memory, LoopVariable, Instance, Faulty}
+use Rattle.elab_instances.specs.declared.roles.Role.TheVariants.{Memory as a_memory}
 use Rattle.elab_instances.proofs.RoleLemmas.{memory_role, own_role}
 
 -- those that pass a test, one by one

@@ -3,7 +3,7 @@ use Rattle.std.proofs.Common.{◌≡◌, ℕ, Bool, true, false, not, ◌&&◌, 
 use Rattle.std.specs.Prelude.{is_some, unwrap_or}
 use Rattle.design_model.specs.Lawful.{span}
 use Rattle.verilog_tree.specs.Tree.{Module}
-use Rattle.flat_design.specs.Bodies.{Met, met_signal, met_words}
+use Rattle.flat_design.specs.Bodies.{met_signal, met_words}
 use Rattle.flat_design.specs.Declarations.{Declaration, Sort, a_net, a_variable, words_from, an_integer, a_parameter, some_instance, faulty}
 use Rattle.flat_design.specs.Instances.{Instantiation, PortAliases, alias_number, declared_entry, declared_met, is_memory, is_memory_sort, is_named_signal, is_own, is_signal_sort, named_met, other_entry, signal_entry, sort_words}
 use Rattle.elab_declarations.specs.DeclarationBounds.{AreFewWords, IsInBounds}

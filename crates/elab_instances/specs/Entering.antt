@@ -1,5 +1,5 @@
 -- How the scope of an instance is built, and which numbers come next.
-use Rattle.std.specs.Prelude.{◌≡◌, ℕ, ◌+◌, ◌≤◌, List, [], ◌∷◌, length, filter}
+use Rattle.std.specs.Prelude.{◌≡◌, ◌+◌, ◌≤◌, List, [], ◌∷◌, length, filter}
 use Rattle.flat_design.specs.Declarations.{Declaration}
 use Rattle.flat_design.specs.Instances.{Instantiation, declared, is_memory, is_own, scope_of}
 use Rattle.flat_design.specs.Numbering.{one_if}

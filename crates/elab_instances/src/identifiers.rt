@@ -119,10 +119,7 @@ fn add_statement<'a>(names: &mut NameSet<'a>, statement: &'a Statement) -> Resul
 
 /// Adds the names of several statements.
 #[cycle(add_statement)]
-fn add_statements<'a>(
-    names: &mut NameSet<'a>,
-    statements: &'a [Statement],
-) -> Result<(), NoMemory>
+fn add_statements<'a>(names: &mut NameSet<'a>, statements: &'a [Statement]) -> Result<(), NoMemory>
     ensures { OnOk result (has names.new ≡ with_names (spec.bodies_identifiers (statements_of (statements_view statements.now))) (has names.old)) }
 {
     for statement in statements {
@@ -229,7 +226,8 @@ pub(crate) fn add_item<'a>(names: &mut NameSet<'a>, form: &'a ItemForm) -> Resul
 {
     match form {
         ItemForm::Net {
-            names: declared, ..
+            names: declared,
+            ..
         } => add_values(names, declared.as_slice()),
         ItemForm::Assign { target, value } => add_two(names, target, value),
         ItemForm::Always { when, body } => {

@@ -37,10 +37,7 @@ fn add_loops<'a>(names: &mut NameSet<'a>, statement: &'a Statement) -> Result<()
 
 /// Adds the names over which several statements loop.
 #[cycle(add_loops)]
-fn add_all_loops<'a>(
-    names: &mut NameSet<'a>,
-    statements: &'a [Statement],
-) -> Result<(), NoMemory>
+fn add_all_loops<'a>(names: &mut NameSet<'a>, statements: &'a [Statement]) -> Result<(), NoMemory>
     ensures { OnOk result (has names.new ≡ with_names (spec.loops_names (statements_of (statements_view statements.now))) (has names.old)) }
 {
     for statement in statements {

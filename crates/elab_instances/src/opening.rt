@@ -20,7 +20,9 @@ use crate::entries::{Inside, enter};
 use crate::instantiation::{Instantiation, Numbers};
 use crate::roles::{Links, Role};
 use cov_host::{Name, NoMemory, Place};
-use elab_declarations::{Constants, Declaration, Declarations, check_constants, check_declarations};
+use elab_declarations::{
+    Constants, Declaration, Declarations, check_constants, check_declarations,
+};
 use elab_scope::{FoundFault, Tally, span};
 use flat_design::DesignLimit;
 use std::alloc::Global;
@@ -81,12 +83,7 @@ fn meet_instance(given: &Instantiation, tally: &mut Tally)
 }
 
 /// The signals and memories of an instance.
-fn meet_declared(
-    given: &Instantiation,
-    links: &Links,
-    declared: &[Declaration],
-    tally: &mut Tally,
-)
+fn meet_declared(given: &Instantiation, links: &Links, declared: &[Declaration], tally: &mut Tally)
     requires { All IsInBounds (declarations_view declared.now) }
     ensures { tally.new ≡ after_all tally.old (flat_map (λ d. role_met (role_of (links_view links.now) d) (instantiation_view given.now) d) (declarations_view declared.now)) }
 {

@@ -93,11 +93,8 @@ fn push_signal(
 {
     match links.role(declaration) {
         Role::Own => signals.push(own_signal(alloc, instance, is_top, declaration)?),
-        Role::Joined(_)
-        | Role::Memory(_)
-        | Role::LoopVariable
-        | Role::Instance
-        | Role::Faulty => Ok(()),
+        Role::Joined(_) | Role::Memory(_) | Role::LoopVariable | Role::Instance | Role::Faulty =>
+            Ok(()),
     }
 }
 
@@ -114,11 +111,7 @@ fn push_memory(
 {
     match links.role(declaration) {
         Role::Memory(words) => memories.push(own_memory(alloc, instance, words, declaration)?),
-        Role::Own
-        | Role::Joined(_)
-        | Role::LoopVariable
-        | Role::Instance
-        | Role::Faulty => Ok(()),
+        Role::Own | Role::Joined(_) | Role::LoopVariable | Role::Instance | Role::Faulty => Ok(()),
     }
 }
 

@@ -1,14 +1,11 @@
-use Rattle.std.proofs.Common.{◌≡◌, ◌+◌, ◌≤◌, List, [], ◌∷◌, drop, ap, sym, subst, ◌∙◌, arith}
+use Rattle.std.proofs.Common.{◌≡◌, ◌+◌, [], ◌∷◌, drop, ap, sym, subst, ◌∙◌, arith}
 use Rattle.std.proofs.lemmas.Grind.{common_steps}
-use Rattle.flat_design.specs.Declarations.{Declaration}
 use Rattle.flat_design.specs.Scope.{binding_of}
-use Rattle.elab_declarations.specs.DeclarationBounds.{IsInBounds}
 use Rattle.elab_declarations.specs.DeclarationView.{declaration_view, declarations_view}
 use Rattle.elab_instances.specs.Behind.{or_bound}
 use Rattle.elab_instances.specs.Entering.{AreFew, numbers_behind, numbers_past, role_entries}
 use Rattle.elab_instances.specs.Linked.{links_view}
 use Rattle.elab_instances.specs.Roles.{IsFewWords, role_entry, role_of}
-use Rattle.elab_instances.specs.declared.instantiation.Numbers.{Numbers}
 use Rattle.elab_instances.proofs.BehindLemmas.{or_append, or_none}
 use Rattle.elab_instances.proofs.EnteringLemmas.{few_past, rest_is, rest_within}
 use Rattle.elab_instances.proofs.RoleLemmas.{few_words}

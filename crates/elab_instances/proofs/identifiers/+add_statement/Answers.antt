@@ -1,4 +1,4 @@
-use Rattle.std.proofs.Common.{◌≡◌, ◌+◌, ◌++◌, Some, append-nil, drop, ap, sym, ◌∙◌}
+use Rattle.std.proofs.Common.{◌+◌, ◌++◌, append-nil, drop, ap, sym, ◌∙◌}
 use Rattle.elab_checks.proofs.TreeLemmas.{arms_from, statements_from}
 use Rattle.flat_design.specs.Identifiers.{all_identifiers, body_identifiers, bodies_identifiers, header_identifiers, identifiers, items_identifiers}
 use Rattle.verilog_tree.specs.Tree.{arms_of, exprs_of, statements_of}

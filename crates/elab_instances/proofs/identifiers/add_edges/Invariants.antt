@@ -1,5 +1,4 @@
 use Rattle.std.proofs.Common.{◌≡◌, drop, map}
-
 use Rattle.elab_scope.specs.NameSet.{has}
 use Rattle.elab_instances.specs.Names.{with_names}
 use Rattle.elab_instances.proofs.identifiers.add_edges.Given as goal

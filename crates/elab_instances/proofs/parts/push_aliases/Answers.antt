@@ -1,16 +1,13 @@
-use Rattle.std.proofs.Common.{◌≡◌, ◌++◌, ◌+◌, [], List, append-nil, ap, drop, sym, subst, ◌∙◌, arith}
-use Rattle.std.specs.Prelude.{flat_map, All}
+use Rattle.std.proofs.Common.{◌≡◌, ◌++◌, ◌+◌, [], List, append-nil, ap, drop, sym, ◌∙◌, arith}
+use Rattle.std.specs.Prelude.{flat_map}
 use Rattle.std.proofs.lemmas.Grind.{common_steps}
 use Rattle.design_model.specs.declared.design.Alias.{Alias}
 use Rattle.flat_design.specs.Declarations.{Declaration}
 use Rattle.flat_design.specs.Instances as of
-use Rattle.elab_declarations.specs.DeclarationBounds.{IsInBounds}
 use Rattle.elab_declarations.specs.DeclarationView.{declaration_view, declarations_view}
 use Rattle.elab_declarations.proofs.ListLemmas.{joined_more}
-use Rattle.elab_declarations.proofs.SmallRanges.{declared_within}
 use Rattle.elab_instances.specs.InstanceView.{instantiation_view}
-use Rattle.elab_instances.specs.Linked.{Linked, linked_of, links_view}
-use Rattle.elab_instances.proofs.EnteringLemmas.{rest_within}
+use Rattle.elab_instances.specs.Linked.{links_view}
 use Rattle.elab_instances.proofs.parts.push_aliases.Goals as goal
 
 pub loop-declaration-init : goal.loop-declaration-init

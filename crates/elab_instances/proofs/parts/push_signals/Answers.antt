@@ -9,7 +9,7 @@ use Rattle.elab_declarations.specs.DeclarationView.{declaration_view, declaratio
 use Rattle.elab_declarations.proofs.ListLemmas.{joined_more}
 use Rattle.elab_declarations.proofs.SmallRanges.{declared_within}
 use Rattle.elab_instances.specs.InstanceView.{instantiation_view}
-use Rattle.elab_instances.specs.Linked.{Linked, linked_of, links_view}
+use Rattle.elab_instances.specs.Linked.{links_view}
 use Rattle.elab_instances.proofs.EnteringLemmas.{rest_within}
 use Rattle.elab_instances.specs.Parts.{own_signals}
 use Rattle.elab_instances.proofs.PartLemmas.{all_signals}

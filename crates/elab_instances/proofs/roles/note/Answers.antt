@@ -1,8 +1,8 @@
-use Rattle.std.proofs.Common.{◌≡◌, Bool, true, false, ap, sym, ◌∙◌}
+use Rattle.std.proofs.Common.{◌≡◌, true, false, ap, sym, ◌∙◌}
 use Rattle.std.specs.Prelude.{is_some}
 use Rattle.elab_scope.specs.NameMap.{bound_to}
 use Rattle.elab_scope.proofs.NameSetLemmas.{copied_is_some}
-use Rattle.elab_instances.proofs.BehindLemmas.{bound_new, bound_old, bound_on_ok}
+use Rattle.elab_instances.proofs.BehindLemmas.{bound_old, bound_on_ok}
 use Rattle.elab_instances.proofs.roles.note.Goals as goal
 
 pub returns-then-is_some : goal.returns-then-is_some

@@ -1,11 +1,9 @@
-use Rattle.std.proofs.Common.{◌≡◌, sym, ap, subst, ◌∙◌}
+use Rattle.std.proofs.Common.{sym, ap, subst, ◌∙◌}
 use Rattle.std.specs.Prelude.{All}
-use Rattle.verilog_tree.specs.View.{module_view}
 use Rattle.flat_design.specs.Instances as of
-use Rattle.elab_declarations.specs.Constants.{bindings_view, overrides_view}
 use Rattle.elab_declarations.specs.DeclarationBounds.{IsInBounds}
 use Rattle.elab_declarations.proofs.SmallRanges.{declared_within}
-use Rattle.elab_instances.specs.Entering.{AreFew, numbers_after, numbers_past}
+use Rattle.elab_instances.specs.Entering.{AreFew, numbers_past}
 use Rattle.elab_instances.specs.InstanceView.{instantiation_view}
 use Rattle.elab_instances.specs.Linked.{linked_of, links_view}
 use Rattle.elab_instances.proofs.EnteringLemmas.{constants_within, is_inside, numbers_by_count}
