@@ -11,8 +11,8 @@ ghost use Rattle.verilog_tree.specs.View.{item_form_view, module_view, param_vie
 
 use crate::others::other_names;
 use crate::parameters::param_entry;
-use elab_scope::{Scope, Tally};
 use cov_host::{Name, NoMemory};
+use elab_scope::{Scope, Tally};
 use flat_design::Entry;
 use four_state::Four;
 use std::alloc::Global;

@@ -8,9 +8,9 @@ ghost use Rattle.flat_design.specs.Scope.{binding_of};
 ghost use Rattle.verilog_tree.specs.View.{module_view};
 
 use crate::declaration::Declaration;
-use elab_scope::{FoundFault, NameAt, NameSet, Scope, Tally};
 use crate::items::all_declarations;
 use cov_host::{Name, NoMemory};
+use elab_scope::{FoundFault, NameAt, NameSet, Scope, Tally};
 use flat_design::ElabKind;
 use indexmap::IndexMap;
 use std::alloc::Global;

@@ -12,9 +12,9 @@ ghost use Rattle.verilog_tree.specs.View.{declared_view, declareds_view, item_fo
 
 use crate::declaration::{Declaration, Sort};
 use crate::range::{VectorRange, vector_range, words_range};
-use elab_scope::{Scope, Tally};
 use cov_host::{NoMemory, Place};
 use design_model::Range;
+use elab_scope::{Scope, Tally};
 use std::alloc::Global;
 use verilog_tree::{Declared, Item, ItemForm, Module, Named, One, Param, Range as RangeExpr};
 

@@ -7,8 +7,8 @@ ghost use Rattle.flat_design.specs.Instances as of;
 ghost use Rattle.flat_design.specs.Scope.{binding_of};
 ghost use Rattle.verilog_tree.specs.View.{declareds_view, item_form_view, module_view, ones_view, params_view};
 
-use elab_scope::Scope;
 use cov_host::NoMemory;
+use elab_scope::Scope;
 use flat_design::Entry;
 use std::alloc::Global;
 use verilog_tree::{Declared, ItemForm, Module, Named, One, Param};

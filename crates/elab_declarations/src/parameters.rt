@@ -10,10 +10,10 @@ ghost use Rattle.flat_design.specs.Fault.{none};
 ghost use Rattle.flat_design.specs.Scope.{binding_of, names_faulty as spec_names_faulty};
 ghost use Rattle.verilog_tree.specs.View.{expr_view, param_view, range_option_view};
 
-use elab_checks::check_constant;
-use elab_scope::{Scope, Tally, names_faulty, span};
 use crate::range::{constant_value, vector_range};
 use design_model::Range;
+use elab_checks::check_constant;
+use elab_scope::{Scope, Tally, names_faulty, span};
 use flat_design::Entry;
 use four_state::Four;
 use std::alloc::Global;

@@ -11,11 +11,11 @@ ghost use Rattle.flat_design.specs.Scope as of;
 ghost use Rattle.flat_design.specs.Scope.{binding_of};
 ghost use Rattle.verilog_tree.specs.View.{expr_view, range_option_view, range_view};
 
-use elab_checks::check_bound;
-use elab_scope::{FoundFault, Scope, Tally, names_faulty, span};
 use cov_host::Place;
 use design_model::Range;
+use elab_checks::check_bound;
 use elab_const::{ConstKind, constant};
+use elab_scope::{FoundFault, Scope, Tally, names_faulty, span};
 use flat_design::DesignLimit;
 use four_state::{Four, Index};
 use std::alloc::Global;
