@@ -1,0 +1,61 @@
+//! The processes of items and of joined ports: what is met in them, and where nothing was found, their place in the
+//! design (IEEE 1364-2001 clauses 6.1, 9.7 and 12.3).
+
+ghost use Rattle.std.specs.Prelude.{◌≡◌, ◌≤◌, ◌+◌, length, OnOk};
+ghost use Rattle.elab_build.specs.Sound.{IsClear};
+ghost use Rattle.elab_scope.specs.Entries.{IsVectorRange};
+ghost use Rattle.elab_scope.specs.View.{name_view};
+ghost use Rattle.elaborator.specs.Walk.{GoesBy, IsClean};
+ghost use Rattle.flat_design.specs.Instances.{add_process};
+ghost use Rattle.flat_design.specs.Numbering as count;
+ghost use Rattle.flat_design.specs.Processes.{always, continuous, joined_input, joined_output};
+ghost use Rattle.flat_design.specs.Scope.{binding_of};
+ghost use Rattle.verilog_tree.specs.View.{expr_view, statement_view};
+
+use crate::ground::Ground;
+use crate::walk::{Numbers, Walk};
+use cov_host::{NoMemory, Place};
+use elab_bodies::{always_process, continuous_process, joined_input_process, joined_output_process};
+use elab_processes::{check_always, check_continuous, check_joined_input, check_joined_output};
+use elab_scope::{NameAt, Scope};
+use flat_design::SignalEntry;
+use verilog_tree::{Expr, Statement, When};
+
+/// `assign target = value` (IEEE 1364-2001, 6.1).
+pub(crate) fn walk_assign<'a>(
+    ground: Ground<'_, 'a>,
+    scope: &Scope,
+    place: Place,
+    target: &'a Expr,
+    value: &'a Expr,
+    numbers: &mut Numbers,
+    walk: &mut Walk<'a>,
+) -> Result<(), NoMemory>
+    requires base { ground.base ≤ 65536 }
+    requires clear { IsClean walk.old.tally → IsClear (binding_of scope.now) }
+    ensures { OnOk result (GoesBy ground.base walk.old numbers.old walk.new numbers.new (λ b i l n st. add_process (continuous b (binding_of scope.now) i (length st.design.processes) place (expr_view target.now) (expr_view value.now) n) st) 0 (count.nodes (binding_of scope.now) (expr_view target.now) + count.nodes (binding_of scope.now) (expr_view value.now))) }
+{
+    let process = walk.tally.counts().processes;
+    check_continuous(
+        ground.alloc,
+        scope,
+        process,
+        place,
+        target,
+        value,
+        &mut walk.tally,
+    )?;
+    if walk.builds() {
+        let made = continuous_process(
+            ground.alloc,
+            ground.base,
+            scope,
+            numbers.instance,
+            target,
+            value,
+            &mut numbers.node,
+        )?;
+        walk.add(made)?;
+    }
+    Ok(())
+}
