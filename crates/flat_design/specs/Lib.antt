@@ -13,4 +13,3 @@ pub mod Instances
 pub mod Connections
 pub mod Flat
 pub mod Faults
-pub mod Tokens
