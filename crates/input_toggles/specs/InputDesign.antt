@@ -1,9 +1,12 @@
 -- The designs that have inputs alone.
-use Rattle.std.specs.Prelude.{◌≡◌, ◌≢◌, ◌+◌, ◌-◌, ◌<◌, ◌≤◌, ◌^◌, min, max, true, [], ◌∷◌, length, All, AllPairs}
+use Rattle.std.specs.Prelude.{◌≡◌, ◌≢◌, ◌⊎◌, ℕ, ◌+◌, ◌-◌, ◌<◌, ◌≤◌, ◌^◌, min, max, true, List, [], length, slice_index_or, All, AllPairs, IsTrue}
 use Rattle.std.specs.Bool.{OnFalse}
-use Rattle.coverage_db.specs.Table.{IsIdentifier}
+use Rattle.coverage_db.specs.Table.{IsIdentifier, is_path}
+use Rattle.design_model.specs.Design.{no_instance}
 use Rattle.design_model.specs.declared.design.Design.{Design}
+use Rattle.design_model.specs.declared.design.Instance.{Instance}
 use Rattle.design_model.specs.declared.design.Signal.{Signal}
+use Rattle.input_toggles.specs.Binding.{is_below}
 
 -- an input of the top module, with as many bits as its range has
 pub record IsInput (signal : Signal) : Type 0 where
@@ -16,14 +19,22 @@ pub record IsInput (signal : Signal) : Type 0 where
   pub width : signal.width ≡ max signal.high signal.low - min signal.high signal.low + 1
   pub at_most : signal.width ≤ 128
 
--- a top module of inputs alone; their number is bounded, so that the points can be numbered by lines
+-- a place in the tree of instances: identifiers joined by dots, of which the first is the top; the module has a name
+pub record IsInstanceBelow (top : List ℕ) (i : Instance) : Type 0 where
+  pub path : IsTrue (is_path i.path)
+  pub below : (i.path ≡ top) ⊎ IsTrue (is_below top i.path)
+  pub of_module : IsIdentifier i.module
+
+-- instances of modules that have inputs of the top alone; their numbers are bounded, so that the points can be numbered by lines
 pub record IsInputDesign (design : Design) : Type 0 where
   pub top : IsIdentifier design.top
-  pub instances : design.instances ≡ record { path = design.top; «module» = design.top } ∷ []
+  pub first : (slice_index_or design.instances 0 no_instance).path ≡ design.top
+  pub some : 1 ≤ length design.instances
+  pub few : length design.instances ≤ 2 ^ 16
+  pub instances : All (IsInstanceBelow design.top) design.instances
+  pub paths : AllPairs (λ a b. a.path ≢ b.path) design.instances
   pub signals : All IsInput design.signals
   pub names : AllPairs (λ a b. a.name ≢ b.name) design.signals
   pub number : length design.signals ≤ 2 ^ 23
   pub memories : design.memories ≡ []
   pub processes : design.processes ≡ []
-  pub constants : design.constants ≡ []
-  pub aliases : design.aliases ≡ []

@@ -1,14 +1,17 @@
 -- What a table says of a design of inputs under a dump.
 use Rattle.std.specs.Prelude.{◌≡◌, ◌<◌, ◌≤◌, ◌↔◌, ℕ, Bool, true, Option, Some, None, IsSome, IfSome, IsSomeAnd, IsTrue, List, [], ◌∷◌, length, map, take, slice_index_or, All, Contains}
 use Rattle.std.specs.List.{list_any}
+use Rattle.std.specs.List.Sorted.{IsPermutation}
 use Rattle.coverage_db.specs.Table.{IsTable, is_file_name}
 use Rattle.coverage_db.specs.declared.address.Address.{Address}
 use Rattle.coverage_db.specs.declared.db.Db.{Db}
+use Rattle.coverage_db.specs.declared.db.DbInstance.{DbInstance}
 use Rattle.coverage_db.specs.declared.db.DbPoint.{DbPoint}
 use Rattle.coverage_db.specs.declared.verdict.DbVerdict.{DbVerdict}
 use Rattle.coverage_db.specs.declared.verdict.DbVerdict.TheVariants.{Hit, Missed, Undetermined}
 use Rattle.design_model.specs.Design.{no_signal}
 use Rattle.design_model.specs.declared.design.Design.{Design}
+use Rattle.design_model.specs.declared.design.Instance.{Instance}
 use Rattle.design_model.specs.declared.design.Signal.{Signal}
 use Rattle.four_state.specs.Vector.{Vector}
 use Rattle.vcd_reader.specs.Dump.{Dump, DumpStep, last_value, steps_of}
@@ -26,21 +29,21 @@ first_value (first ∷ steps) code = last_value code first.changes
 -- the instance is there, and each signal has a variable, and a value before the second time if there is one
 pub record IsBound (design : Design) (dump : Dump) (instance : List ℕ) : Type 0 where
   pub instance_is : list_any (stands_in instance) dump.vars ≡ true
-  pub variables : All (λ signal. IsSome (code_of dump.vars instance signal)) design.signals
-  pub first_values : 2 ≤ length dump.steps → All (λ signal. IfSome (code_of dump.vars instance signal) (λ code. IsSome (first_value dump.steps code))) design.signals
+  pub variables : All (λ signal. IsSome (code_of design dump.vars instance signal)) design.signals
+  pub first_values : 2 ≤ length dump.steps → All (λ signal. IfSome (code_of design dump.vars instance signal) (λ code. IsSome (first_value dump.steps code))) design.signals
 
 -- the signal has a variable with a value before the second time
-abbrev pub HasFirstValue : List Var → List ℕ → List DumpStep → Signal → Type 0
-HasFirstValue vars instance steps signal = IsSomeAnd (code_of vars instance signal) (λ code. IsSome (first_value steps code))
+abbrev pub HasFirstValue : Design → List Var → List ℕ → List DumpStep → Signal → Type 0
+HasFirstValue design vars instance steps signal = IsSomeAnd (code_of design vars instance signal) (λ code. IsSome (first_value steps code))
 
 -- the signals are bound, there is a second time, and the signal with this number is the first that has no value before it
-pub record HasNoBaseline (vars : List Var) (instance : List ℕ) (signals : List Signal) (entries : List Entry) (signal : ℕ) : Type 0 where
-  pub are_bound : AreBound vars instance signals
+pub record HasNoBaseline (design : Design) (vars : List Var) (instance : List ℕ) (signals : List Signal) (entries : List Entry) (signal : ℕ) : Type 0 where
+  pub are_bound : AreBound design vars instance signals
   pub second : 2 ≤ length (steps_of entries)
   pub listed : signal < length signals
-  pub earlier : All (HasFirstValue vars instance (steps_of entries)) (take signal signals)
+  pub earlier : All (HasFirstValue design vars instance (steps_of entries)) (take signal signals)
   pub code : ℕ
-  pub bound : code_of vars instance (slice_index_or signals signal no_signal) ≡ Some code
+  pub bound : code_of design vars instance (slice_index_or signals signal no_signal) ≡ Some code
   pub none : first_value (steps_of entries) code ≡ None
 
 -- the names of the files that a design is read from: one or more, and no more than 256
@@ -49,11 +52,15 @@ pub record AreSources (sources : List (List ℕ)) : Type 0 where
   pub at_least : 1 ≤ length sources
   pub at_most : length sources ≤ 256
 
--- the table is of the design's top module and of the sources of these names
+-- an instance of a design, as a table has it
+abbrev pub row_of : Instance → DbInstance
+row_of i = record { path = i.path; «module» = i.module }
+
+-- the table is of the design's top module, of the sources of these names, and of the design's instances
 pub record HasHead (design : Design) (names : List (List ℕ)) (db : Db) : Type 0 where
   pub top : db.top ≡ design.top
   pub sources : db.sources ≡ names
-  pub instances : db.instances ≡ record { path = design.top; «module» = design.top } ∷ []
+  pub instances : IsPermutation (map row_of design.instances) db.instances
 
 -- the addresses of the table are the toggle points of the design
 abbrev pub ListsTogglePoints : Design → Db → Type 0
@@ -74,7 +81,7 @@ pub record IsScored (design : Design) (dump : Dump) (instance : List ℕ) (point
   pub listed : Contains design.signals signal
   pub has_index : HasIndex signal index
   pub is : point.address ≡ toggle_address signal index rise
-  pub bound : code_of dump.vars instance signal ≡ Some code
+  pub bound : code_of design dump.vars instance signal ≡ Some code
   pub verdict : Tells point.verdict (TogglesIn dump.steps code (place_of signal index) rise)
 
 -- the table lists each toggle point of the design once, with the verdict of the dump
