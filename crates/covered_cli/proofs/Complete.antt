@@ -57,8 +57,8 @@ module _ (design : Design) (dump : Dump) (top instance text : List ℕ) (is : Is
   same_vars : (b : Body) → SaysBody text b → dump.vars ≡ b.vars
   same_vars b says = is.vars ∙ (goes_on b says).vars
 
-  has_variable : (b : Body) → SaysBody text b → (signal : ℕ) → signal < length design.signals → IsSome (code_of b.vars instance (slice_index_or design.signals signal no_signal))
-  has_variable b says signal listed = subst (λ vars. IsSome (code_of vars instance (slice_index_or design.signals signal no_signal))) (same_vars b says) (bound.variables signal no_signal listed)
+  has_variable : (b : Body) → SaysBody text b → (signal : ℕ) → signal < length design.signals → IsSome (code_of design b.vars instance (slice_index_or design.signals signal no_signal))
+  has_variable b says signal listed = subst (λ vars. IsSome (code_of design vars instance (slice_index_or design.signals signal no_signal))) (same_vars b says) (bound.variables signal no_signal listed)
 
   not_refused : (r : DumpRefusal) → IsDumpRefusal design top instance text r → ⊥
   not_refused (refusal.At kind byte) (inl found, binds) = fault_excludes text (At kind byte) found is.ends.means is.ends.word is.ends.stands
@@ -77,7 +77,7 @@ module _ (design : Design) (dump : Dump) (top instance text : List ℕ) (is : Is
       let further = goes_on some.0 some.1 in
       let stays = first_stays some.0.items further.more lacks.second in
       let steps : dump.steps ≡ steps_of (some.0.items ++ further.more) = is.steps ∙ ap steps_of further.items in
-      let code = subst (λ vars. code_of vars instance (slice_index_or design.signals signal no_signal) ≡ Some lacks.code) (sym (same_vars some.0 some.1)) lacks.bound in
+      let code = subst (λ vars. code_of design vars instance (slice_index_or design.signals signal no_signal) ≡ Some lacks.code) (sym (same_vars some.0 some.1)) lacks.bound in
       let value = first_of _ lacks.code (λ code. IsSome (first_value dump.steps code)) (bound.first_values (subst (λ ss. 2 ≤ length ss) (sym steps) stays.0) signal no_signal lacks.listed) code in
       some_or_none _ value (ap (λ ss. first_value ss lacks.code) steps ∙ stays.1 lacks.code ∙ lacks.none)
 
@@ -139,12 +139,12 @@ module _ (score : ScoreValues) (before : Outside) (design : Design) (text : List
       r refused.refused
 
   -- where the header is read and binds nothing, the refusal is one of the binding
-  of_binding : (b : Body) → SaysBody text b → (AreBound b.vars score.instance design.signals → ⊥) → (r : DumpRefusal) → IsRefusedDump score before r → IsOfBinding r
+  of_binding : (b : Body) → SaysBody text b → (AreBound design b.vars score.instance design.signals → ⊥) → (r : DumpRefusal) → IsRefusedDump score before r → IsOfBinding r
   of_binding b says unbound r refused =
       go r (subst (λ d. IsDumpRefusal d score.top score.instance text r) (sym (design_found refused.sources refused.design refused.has_design)) (subst (λ t. IsDumpRefusal refused.design score.top score.instance t r) (sym (same_text refused.text refused.is)) refused.refused))
     where
-      not_bound : (other : Body) → SaysBody text other → AreBound other.vars score.instance design.signals → ⊥
-      not_bound other said bound = unbound (subst (λ vars. AreBound vars score.instance design.signals) (sym (one_header text other b said says)) bound)
+      not_bound : (other : Body) → SaysBody text other → AreBound design other.vars score.instance design.signals → ⊥
+      not_bound other said bound = unbound (subst (λ vars. AreBound design vars score.instance design.signals) (sym (one_header text other b said says)) bound)
 
       go : (r : DumpRefusal) → IsDumpRefusal design score.top score.instance text r → IsOfBinding r
       go (refusal.At kind byte) (first, inl none) = none b says
@@ -179,7 +179,7 @@ unbound_is_bad score before u = record {
   texts = u.texts;
   refused = λ dump is bound.
       let same : dump.vars ≡ u.b.vars = is.vars ∙ one_header u.text u.b is.b u.says (inr is.ends) in
-      u.refused (subst (λ vars. AreBound vars score.instance u.design.signals) same (record { instance_is = bound.instance_is; variables = bound.variables }));
+      u.refused (subst (λ vars. AreBound u.design vars score.instance u.design.signals) same (record { instance_is = bound.instance_is; variables = bound.variables }));
 }
 
 source_or_dump : (g : SourceFault) → source_status g ≡ dump_status → ⊥

@@ -60,7 +60,7 @@ pub record HasUnboundDump (score : ScoreValues) (before : Outside) : Type 0 wher
   pub b : Body
   pub texts : HaveTexts score before design text
   pub says : SaysBody text b
-  pub refused : AreBound b.vars score.instance design.signals → ⊥
+  pub refused : AreBound design b.vars score.instance design.signals → ⊥
 
 -- the refusal is one of the binding
 abbrev pub IsOfBinding : DumpRefusal → Type 0

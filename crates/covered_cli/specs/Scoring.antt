@@ -69,9 +69,9 @@ abbrev pub IsDumpRefusal : Design → List ℕ → List ℕ → List ℕ → Dum
 IsDumpRefusal design top instance text (refusal.At kind byte) = IsDumpFault design instance text (At kind byte)
 IsDumpRefusal design top instance text (refusal.NoInstance path) = (path.now ≡ instance) × SaysSome text (λ b. list_any (stands_in instance) b.vars ≡ false)
 IsDumpRefusal design top instance text (refusal.InputNotDumped outer name) =
-    (outer.now ≡ top) × ((signal : ℕ) × IsNamed design signal name × SaysSome text (λ b. IsNotDumped b.vars instance design.signals signal))
+    (outer.now ≡ top) × ((signal : ℕ) × IsNamed design signal name × SaysSome text (λ b. IsNotDumped design b.vars instance design.signals signal))
 IsDumpRefusal design top instance text (refusal.NoBaseline outer name) =
-    (outer.now ≡ top) × ((signal : ℕ) × IsNamed design signal name × SaysSome text (λ b. HasNoBaseline b.vars instance design.signals b.items signal))
+    (outer.now ≡ top) × ((signal : ℕ) × IsNamed design signal name × SaysSome text (λ b. HasNoBaseline design b.vars instance design.signals b.items signal))
 
 -- the sources stand for a design, and the dump is refused for it
 pub record IsRefusedDump (score : ScoreValues) (before : Outside) (refusal : DumpRefusal) : Type 0 where

@@ -6,6 +6,10 @@ use Rattle.source_design.specs.declared.fault.SourceKind.{SourceKind}
 use Rattle.source_design.specs.declared.fault.SourceKind.TheVariants as kind
 use Rattle.source_design.specs.declared.fault.SourceRefusal.{SourceRefusal}
 use Rattle.source_design.specs.declared.fault.SourceSpot.{SourceSpot}
+use Rattle.elab_const.specs.declared.fault.ConstKind.{ConstKind}
+use Rattle.elab_const.specs.declared.fault.ConstKind.TheVariants.{NotConstant, TooWide, LoopNotConstant, LoopTooLong, BadRange}
+use Rattle.flat_design.specs.declared.fault.ElabKind.{ElabKind}
+use Rattle.flat_design.specs.declared.fault.ElabKind.TheVariants.{NoModule, TwoModules, Recursion, Undeclared, TwiceDeclared, PortMismatch, TwoDrivers, MixedAssign, Incomplete, EventNotBit, SelfAssign, Limit, WrongTarget, WrongUse}
 use Rattle.verilog_lexer.specs.declared.fault.LexKind.{LexKind}
 use Rattle.verilog_lexer.specs.declared.fault.LexKind.TheVariants.{BadByte, BadNumber, OpenComment, OpenCondition, UnknownDirective, UnknownMacro, MacroDepth, TooManyTokens, IncludeMissing, SourcesTooLong, TooManySources}
 use Rattle.verilog_parser.specs.declared.fault.ParseKind.{ParseKind}
@@ -43,9 +47,37 @@ parse_text EarlyEnd = codes "parse 2 EarlyEnd"
 parse_text TooDeep = codes "parse 3 TooDeep"
 parse_text LeftOut = codes "parse 4 LeftOut"
 
+-- the same of constants
+abbrev pub const_text : ConstKind → List ℕ
+const_text NotConstant = codes "const 1 NotConstant"
+const_text TooWide = codes "const 2 TooWide"
+const_text LoopNotConstant = codes "const 3 LoopNotConstant"
+const_text LoopTooLong = codes "const 4 LoopTooLong"
+const_text BadRange = codes "const 5 BadRange"
+
+-- the same of elaboration
+abbrev pub elab_text : ElabKind → List ℕ
+elab_text NoModule = codes "elab 1 NoModule"
+elab_text TwoModules = codes "elab 2 TwoModules"
+elab_text Recursion = codes "elab 3 Recursion"
+elab_text Undeclared = codes "elab 4 Undeclared"
+elab_text TwiceDeclared = codes "elab 5 TwiceDeclared"
+elab_text PortMismatch = codes "elab 6 PortMismatch"
+elab_text TwoDrivers = codes "elab 7 TwoDrivers"
+elab_text MixedAssign = codes "elab 8 MixedAssign"
+elab_text Incomplete = codes "elab 9 Incomplete"
+elab_text EventNotBit = codes "elab 10 EventNotBit"
+elab_text SelfAssign = codes "elab 11 SelfAssign"
+elab_text Limit = codes "elab 12 Limit"
+elab_text WrongTarget = codes "elab 13 WrongTarget"
+elab_text WrongUse = codes "elab 14 WrongUse"
+
+-- the stage, the number and the name of a fault
 abbrev pub kind_text : SourceKind → List ℕ
 kind_text (kind.Lex k) = lex_text k
 kind_text (kind.Parse k) = parse_text k
+kind_text (kind.Const k) = const_text k
+kind_text (kind.Elab k) = elab_text k
 
 -- a space and the detail, where there is one
 abbrev pub detail_text : Option (List ℕ) → List ℕ

@@ -2,11 +2,13 @@ ghost use Rattle.std.specs.Prelude.{◌≡◌, ◌++◌, codes, decimal};
 ghost use Rattle.cov_host.specs.Outside.{KeepsFiles};
 ghost use Rattle.whole_files.specs.Effects.{CountsUp};
 ghost use Rattle.covered_cli.specs.Effects.{WarnsLine};
-ghost use Rattle.covered_cli.specs.SourceMessage.{kind_text, lex_text, parse_text, refusal_line, source_line, source_status, spot_text};
+ghost use Rattle.covered_cli.specs.SourceMessage.{const_text, elab_text, kind_text, lex_text, parse_text, refusal_line, source_line, source_status, spot_text};
 
 use crate::Status;
 use crate::pieces::warn_pieces;
 use cov_host::Host;
+use elab_const::ConstKind;
+use flat_design::ElabKind;
 use itoa::Buffer;
 use source_design::{SourceFault, SourceKind, SourceRefusal, SourceSpot};
 use verilog_lexer::LexKind;
@@ -152,6 +154,8 @@ fn text_of(kind: SourceKind) -> &'static str
     match kind {
         SourceKind::Lex(kind) => lex_text(kind),
         SourceKind::Parse(kind) => parse_text(kind),
+        SourceKind::Const(kind) => const_text(kind),
+        SourceKind::Elab(kind) => elab_text(kind),
     }
 }
 
@@ -183,5 +187,40 @@ fn parse_text(kind: ParseKind) -> &'static str
         ParseKind::EarlyEnd => "parse 2 EarlyEnd",
         ParseKind::TooDeep => "parse 3 TooDeep",
         ParseKind::LeftOut => "parse 4 LeftOut",
+    }
+}
+
+/// The number and the name of a fault of a constant, behind its stage.
+fn const_text(kind: ConstKind) -> &'static str
+    ensures { result.now ≡ const_text kind }
+{
+    match kind {
+        ConstKind::NotConstant => "const 1 NotConstant",
+        ConstKind::TooWide => "const 2 TooWide",
+        ConstKind::LoopNotConstant => "const 3 LoopNotConstant",
+        ConstKind::LoopTooLong => "const 4 LoopTooLong",
+        ConstKind::BadRange => "const 5 BadRange",
+    }
+}
+
+/// The number and the name of a fault of elaboration, behind its stage.
+fn elab_text(kind: ElabKind) -> &'static str
+    ensures { result.now ≡ elab_text kind }
+{
+    match kind {
+        ElabKind::NoModule => "elab 1 NoModule",
+        ElabKind::TwoModules => "elab 2 TwoModules",
+        ElabKind::Recursion => "elab 3 Recursion",
+        ElabKind::Undeclared => "elab 4 Undeclared",
+        ElabKind::TwiceDeclared => "elab 5 TwiceDeclared",
+        ElabKind::PortMismatch => "elab 6 PortMismatch",
+        ElabKind::TwoDrivers => "elab 7 TwoDrivers",
+        ElabKind::MixedAssign => "elab 8 MixedAssign",
+        ElabKind::Incomplete => "elab 9 Incomplete",
+        ElabKind::EventNotBit => "elab 10 EventNotBit",
+        ElabKind::SelfAssign => "elab 11 SelfAssign",
+        ElabKind::Limit => "elab 12 Limit",
+        ElabKind::WrongTarget => "elab 13 WrongTarget",
+        ElabKind::WrongUse => "elab 14 WrongUse",
     }
 }

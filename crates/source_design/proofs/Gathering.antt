@@ -25,13 +25,19 @@ use Rattle.source_files.specs.declared.fault.JoinFault.TheVariants as join_fault
 use Rattle.source_files.specs.declared.fault.RootFault.{RootFault}
 use Rattle.source_files.proofs.Contents.{call_earlier, file_as_before, joins_earlier, joins_within}
 use Rattle.source_files.proofs.MissingNames.{TellsFile, missing_tells}
-use Rattle.source_design.specs.Accepted.{StandFor}
+use Rattle.elaborator.specs.Answered.{IsAnsweredFault}
+use Rattle.flat_design.specs.Fault.{Fault, of_constant, of_modules, told}
+use Rattle.flat_design.specs.Faults.{answer}
+use Rattle.flat_design.specs.declared.fault.ElabFault.{ElabFault}
+use Rattle.verilog_tree.specs.Tree as t
+use Rattle.source_design.specs.Accepted.{AreAccepted, StandFor}
 use Rattle.source_design.specs.Reading.{DoesNotFit, HasBegun, HasFullInclude, HasNoForm, HasSources, IsIncludeFault, IsSourceFault}
-use Rattle.source_design.specs.Refusals.{AreRefused}
-use Rattle.source_design.specs.Staging.{IsFileFault, IsFound, IsLackingFrom, IsLexFault, IsParseFault, IsStageFault, LacksNoFile}
+use Rattle.source_design.specs.Refusals.{AreRefused, IsFoundAt}
+use Rattle.source_design.specs.Staging.{IsElabFault, IsFileFault, IsFound, IsLackingFrom, IsLexFault, IsParseFault, IsRefusal, IsStageFault, LacksNoFile}
 use Rattle.source_design.specs.Words.{SourceValues}
 use Rattle.source_design.specs.declared.fault.SourceFault.{SourceFault}
 use Rattle.source_design.specs.declared.fault.SourceFault.TheVariants as fault
+use Rattle.source_design.specs.declared.fault.SourceKind.{SourceKind}
 use Rattle.source_design.specs.declared.fault.SourceKind.TheVariants as kind
 use Rattle.source_design.specs.declared.stage.Found.{Found}
 use Rattle.source_design.specs.declared.stage.Found.TheVariants as found
@@ -60,7 +66,7 @@ pub lex_refused : (words : SourceValues) (sources : List SourceText) (f : LexFau
 lex_refused words sources lex_fault.NoMemory is other same = subst (IsStageFault words sources) (sym same) tt
 lex_refused words sources (lex_fault.At k place detail) is fault.NoMemory (none, refusal_is) = tt
 lex_refused words sources (lex_fault.At k place detail) is (fault.Refused refusal) (none, refusal_is) =
-    subst (AreRefused sources words.defines) (sym refusal_is)
+    subst (AreRefused sources words.defines words.top) (sym refusal_is)
     (record { place = place; found = is; no_file = λ same. other_kind sources words.defines k place detail is none (let e : kind.Lex k ≡ kind.Lex IncludeMissing = same in cc); spot = refl })
 lex_refused words sources (lex_fault.At k place detail) is (fault.File call file) (none, refusal_is) = absurd refusal_is
 lex_refused words sources (lex_fault.At k place detail) is (fault.Included call path) (none, refusal_is) = absurd refusal_is
@@ -75,10 +81,32 @@ pub parse_refused : (words : SourceValues) (sources : List SourceText) (tokens :
 parse_refused words sources tokens parse_fault.NoMemory lexed is other same = subst (IsStageFault words sources) (sym same) tt
 parse_refused words sources tokens (parse_fault.At k place detail) lexed is fault.NoMemory refusal_is = tt
 parse_refused words sources tokens (parse_fault.At k place detail) lexed is (fault.Refused refusal) refusal_is =
-    subst (AreRefused sources words.defines) (sym refusal_is) (record { place = place; found = (tokens, lexed, is); no_file = λ same. cc; spot = refl })
+    subst (AreRefused sources words.defines words.top) (sym refusal_is) (record { place = place; found = (tokens, lexed, is); no_file = λ same. cc; spot = refl })
 parse_refused words sources tokens (parse_fault.At k place detail) lexed is (fault.File call file) refusal_is = absurd refusal_is
 parse_refused words sources tokens (parse_fault.At k place detail) lexed is (fault.Included call path) refusal_is = absurd refusal_is
 parse_refused words sources tokens (parse_fault.At k place detail) lexed is fault.NotYet refusal_is = absurd refusal_is
+
+-- a refusal of elaboration
+elab_at : (words : SourceValues) (sources : List SourceText) (k : SourceKind) (place : Option Place) (detail : Option (List ℕ)) → IsFoundAt sources words.defines words.top k place detail → (k ≢ kind.Lex IncludeMissing) → (other : SourceFault) → IsRefusal sources k place detail other → IsStageFault words sources other
+elab_at words sources k place detail found no_file fault.NoMemory is = tt
+elab_at words sources k place detail found no_file (fault.Refused refusal) is =
+    subst (AreRefused sources words.defines words.top) (sym is) (record { place = place; found = found; no_file = no_file; spot = refl })
+elab_at words sources k place detail found no_file (fault.File call file) is = absurd is
+elab_at words sources k place detail found no_file (fault.Included call path) is = absurd is
+elab_at words sources k place detail found no_file fault.NotYet is = absurd is
+
+told_refused : (words : SourceValues) (sources : List SourceText) (modules : List t.Module) (f : Fault) → AreAccepted sources words.defines modules → answer modules words.top ≡ Err f → (other : SourceFault) → IsElabFault sources (told f) other → IsStageFault words sources other
+told_refused words sources modules (of_constant k place) accepted first other is =
+    elab_at words sources (kind.Const k) (Some place) None (record { modules = modules; accepted = accepted; first = first }) (λ same. cc) other is
+told_refused words sources modules (of_modules k place name) accepted first other is =
+    elab_at words sources (kind.Elab k) place (Some name) (record { modules = modules; accepted = accepted; first = first }) (λ same. cc) other is
+
+pub elab_refused : (words : SourceValues) (sources : List SourceText) (modules : List t.Module) (f : ElabFault) → AreAccepted sources words.defines modules → IsAnsweredFault modules words.top f → (other : SourceFault) → IsElabFault sources f other → IsStageFault words sources other
+elab_refused words sources modules f accepted (inl memory) other is =
+    let same : other ≡ fault.NoMemory = subst (λ f. IsElabFault sources f other) memory is in
+    subst (IsStageFault words sources) (sym same) tt
+elab_refused words sources modules f accepted (inr (g, first, is_told)) other is =
+    told_refused words sources modules g accepted first other (subst (λ f. IsElabFault sources f other) is_told is)
 
 -- sources with tokens lack nothing
 tokens_lack : (sources : List SourceText) (defines : List DefineText) (tokens : List Lexeme) → tokens_of sources defines ≡ Ok tokens → (name : List ℕ) → Lacks sources defines name → ⊥
@@ -109,7 +137,7 @@ module _ (words : SourceValues) (before : Outside) where
 
   -- the sources of a design are all that the words and they themselves name
   pub design_gathered : (sources : List SourceText) (design : _) → HasBegun words before sources → StandFor sources words.defines words.top design → HasSources words before sources
-  design_gathered sources design begun stands = gathered sources stands.tokens begun stands.accepted.lexed
+  design_gathered sources design begun stands = gathered sources stands.accepted.tokens begun stands.accepted.lexed
 
   -- why sources give no design
   pub stage_fault : (after : Outside) (sources : List SourceText) → HasBegun words before sources → (f : SourceFault) → IsStageFault words sources f → IsSourceFault words before after f
@@ -117,7 +145,7 @@ module _ (words : SourceValues) (before : Outside) where
   stage_fault after sources begun (fault.File call file) is = absurd is
   stage_fault after sources begun (fault.Included call path) is = absurd is
   stage_fault after sources begun (fault.Refused refusal) is = inl (record { sources = sources; begun = begun; refused = is })
-  stage_fault after sources begun fault.NotYet is = record { sources = sources; gathered = gathered sources is.tokens begun is.accepted.lexed; no_form = is }
+  stage_fault after sources begun fault.NotYet is = record { sources = sources; gathered = gathered sources is.accepted.tokens begun is.accepted.lexed; no_form = is }
 
   -- why an included file did not join
   pub include_fault : (middle after : Outside) (sources : List SourceText) (name : List ℕ) → OnlyReads before middle → OnlyReads middle after → HasBegun words before sources → Lacks sources words.defines name

@@ -1,13 +1,16 @@
 -- Where the host tells its files, they decide what is read of the sources.
 use Rattle.std.proofs.Common.{◌≡◌, ◌⊎◌, ℕ, zero, suc, ◌<◌, List, [], ◌∷◌, ◌++◌, length, take, drop, slice_index_or, Option, None, Some, Ok, Err, refl, sym, ap, subst, ◌∙◌, inl, inr, arith}
-use Rattle.std.specs.Prelude.{Contains, IfSome, IsSome, MatchOption, Result}
+use Rattle.std.specs.Prelude.{Contains, IfSome, IsSome, MatchOption, Result, map}
 use Rattle.std.proofs.lemmas.List.{take-append-drop}
 use Rattle.cov_host.specs.Outside.{Files, Outside, IsCounted}
 use Rattle.cov_host.specs.declared.place.Place.{Place}
 use Rattle.design_model.specs.declared.design.Design.{Design}
-use Rattle.input_module.specs.SourceForm.{IsSource}
-use Rattle.input_module.specs.Texts.{texts_of}
-use Rattle.input_module.proofs.SourceLemmas.{IsSource-once}
+use Rattle.design_model.specs.Design.{Design as FlatDesign}
+use Rattle.design_model.specs.View.{design_view, process_view}
+use Rattle.design_model.specs.declared.tree.Process.{Process}
+use Rattle.flat_design.specs.Fault.{Fault}
+use Rattle.flat_design.specs.Faults.{answer}
+use Rattle.input_design.specs.InputsAlone.{HasInputsAlone}
 use Rattle.verilog_lexer.specs.Answer.{Answer}
 use Rattle.verilog_lexer.specs.Defines.{DefineText}
 use Rattle.verilog_lexer.specs.Reading.{tokens_of}
@@ -20,6 +23,7 @@ use Rattle.verilog_tree.specs.Tree as t
 use Rattle.grammar_rules.specs.Grammar.{GoesOn, GoesOnAtAll, IsSpelled}
 use Rattle.verilog_grammar.specs.Language.{verilog}
 use Rattle.verilog_grammar.specs.Verilog.{grammar}
+use Rattle.verilog_grammar.proofs.Verilog.{verilog_exact}
 use Rattle.verilog_parser.specs.Parses.{AreModules, IsRefused, StandsIn}
 use Rattle.verilog_parser.specs.declared.fault.ParseFault.{ParseFault}
 use Rattle.verilog_parser.specs.declared.fault.ParseFault.TheVariants as parse_fault
@@ -31,7 +35,7 @@ use Rattle.source_files.specs.Files.{AreRoots, Grow, IsFile, Lacks, path_of}
 use Rattle.source_files.specs.Joining.{IsRefusedCall}
 use Rattle.source_files.proofs.Growing.{grow_within, grows_on, lacking_there, root_fits, settled}
 use Rattle.source_files.proofs.OneList.{one_list, one_list_of_roots, one_text}
-use Rattle.source_design.specs.Accepted.{AreAccepted, StandFor}
+use Rattle.source_design.specs.Accepted.{AreAccepted, AreFaulty, StandFor}
 use Rattle.source_design.specs.Reading.{HasBegun, HasFullInclude, HasFullRoot, HasRefused, HasSources, IsSourceFault, LacksAt}
 use Rattle.source_design.specs.Refusals.{AreOfNoForm, AreRefused, IsFoundAt}
 use Rattle.source_design.specs.Words.{SourceValues}
@@ -62,37 +66,83 @@ spelled_or_stands tokens modules EarlyEnd None None spelled stands = stands.not_
 spelled_or_stands tokens modules TooDeep (Some place) None spelled stands = stands.1.within (front_goes_on tokens modules (suc stands.0) spelled)
 spelled_or_stands tokens modules k place detail spelled stands = absurd stands
 
--- no fault of the lexer or of the parser stands in accepted sources
-accepted_or_refused : (sources : List SourceText) (defines : List DefineText) (tokens : List Lexeme) (refusal : SourceRefusal) → AreAccepted sources defines tokens → AreRefused sources defines refusal → ⊥
-accepted_or_refused sources defines tokens refusal accepted refused = go refusal.kind refused.found
+-- sources spell one list of modules
+one_list_of_modules : (sources : List SourceText) (defines : List DefineText) (ms others : List t.Module) → AreAccepted sources defines ms → AreAccepted sources defines others → ms ≡ others
+one_list_of_modules sources defines ms others one other =
+    let same = one_ok (tokens_of sources defines) other.tokens one.tokens other.lexed one.lexed in
+    verilog_exact.one_reading one.tokens 256 256 ms others one.spelled (subst (λ ts. AreModules ts others) same other.spelled)
+
+-- the modules of sources with a design have no fault
+faulty_or_flat : (sources : List SourceText) (defines : List DefineText) (top : List ℕ) (modules : List t.Module) (design : FlatDesign) (f : Fault) → AreAccepted sources defines modules → answer modules top ≡ Ok design → AreFaulty sources defines top f → ⊥
+faulty_or_flat sources defines top modules design f accepted flat faulty =
+    let same = one_list_of_modules sources defines faulty.modules modules faulty.accepted accepted in
+    ok_or_err (answer modules top) design f flat (subst (λ ms. answer ms top ≡ Err f) same faulty.first)
+
+-- no fault of the lexer, of the parser or of elaboration stands in sources that stand for a design
+design_or_refused : (sources : List SourceText) (defines : List DefineText) (top : List ℕ) (design : Design) (refusal : SourceRefusal) → StandFor sources defines top design → AreRefused sources defines top refusal → ⊥
+design_or_refused sources defines top design refusal stands refused = go refusal.kind refused.place refusal.detail refused.found
   where
-    go : (k : SourceKind) → IsFoundAt sources defines k refused.place refusal.detail → ⊥
-    go (kind.Lex k) found = ok_or_err (tokens_of sources defines) tokens _ accepted.lexed found
-    go (kind.Parse k) found =
-        let same : found.0 ≡ tokens = one_ok (tokens_of sources defines) found.0 tokens found.1 accepted.lexed in
-        spelled_or_stands tokens accepted.modules k refused.place refusal.detail accepted.spelled (subst (λ ts. StandsIn ts (parse_fault.At k refused.place refusal.detail)) same found.2)
+    go : (k : SourceKind) (place : Option Place) (detail : Option (List ℕ)) → IsFoundAt sources defines top k place detail → ⊥
+    go (kind.Lex k) place detail found = ok_or_err (tokens_of sources defines) stands.accepted.tokens _ stands.accepted.lexed found
+    go (kind.Parse k) place detail found =
+        let same : found.0 ≡ stands.accepted.tokens = one_ok (tokens_of sources defines) found.0 stands.accepted.tokens found.1 stands.accepted.lexed in
+        spelled_or_stands stands.accepted.tokens stands.modules k place detail stands.accepted.spelled (subst (λ ts. StandsIn ts (parse_fault.At k place detail)) same found.2)
+    go (kind.Const k) (Some place) None found = faulty_or_flat sources defines top stands.modules (design_view design) _ stands.accepted stands.flat found
+    go (kind.Const k) (Some place) (Some name) found = found
+    go (kind.Const k) None detail found = found
+    go (kind.Elab k) place (Some name) found = faulty_or_flat sources defines top stands.modules (design_view design) _ stands.accepted stands.flat found
+    go (kind.Elab k) place None found = found
+
+no_processes : (ps : List Process) → map process_view ps ≡ [] → ps ≡ []
+no_processes [] e = refl
+no_processes (p ∷ ps) e = absurd cc
+
+-- designs of inputs alone are equal where what they stand for is
+one_view : (a b : Design) → HasInputsAlone (design_view a) → HasInputsAlone (design_view b) → design_view a ≡ design_view b → a ≡ b
+one_view a b first second same =
+    let none : a.processes ≡ [] = no_processes a.processes first.processes in
+    let also : b.processes ≡ [] = no_processes b.processes second.processes in
+    let top : a.top ≡ b.top = ap (λ d. d.top) same in
+    let instances : a.instances ≡ b.instances = ap (λ d. d.instances) same in
+    let signals : a.signals ≡ b.signals = ap (λ d. d.signals) same in
+    let memories : a.memories ≡ b.memories = ap (λ d. d.memories) same in
+    let constants : a.constants ≡ b.constants = ap (λ d. d.constants) same in
+    let aliases : a.aliases ≡ b.aliases = ap (λ d. d.aliases) same in
+    let processes : a.processes ≡ b.processes = none ∙ sym also in
+    cc
 
 -- sources stand for one design
 pub one_design : (sources : List SourceText) (defines : List DefineText) (top : List ℕ) (a b : Design) → StandFor sources defines top a → StandFor sources defines top b → a ≡ b
 one_design sources defines top a b one other =
-    let same = one_ok (tokens_of sources defines) one.tokens other.tokens one.accepted.lexed other.accepted.lexed in
-    IsSource-once (texts_of one.tokens) top a b one.of_form (subst (λ ts. IsSource (texts_of ts) top b) (sym same) other.of_form)
+    let same = one_list_of_modules sources defines other.modules one.modules other.accepted one.accepted in
+    let flat : answer one.modules top ≡ Ok (design_view b) = subst (λ ms. answer ms top ≡ Ok (design_view b)) same other.flat in
+    one_view a b one.inputs other.inputs (one_ok (answer one.modules top) (design_view a) (design_view b) one.flat flat)
 
 no_form_or_design : (sources : List SourceText) (defines : List DefineText) (top : List ℕ) (design : Design) → AreOfNoForm sources defines top → StandFor sources defines top design → ⊥
 no_form_or_design sources defines top design formless stands =
-    let same = one_ok (tokens_of sources defines) stands.tokens formless.tokens stands.accepted.lexed formless.accepted.lexed in
-    formless.none design (subst (λ ts. IsSource (texts_of ts) top design) same stands.of_form)
+    let same = one_list_of_modules sources defines stands.modules formless.modules stands.accepted formless.accepted in
+    let flat : answer formless.modules top ≡ Ok (design_view design) = subst (λ ms. answer ms top ≡ Ok (design_view design)) same stands.flat in
+    let is : design_view design ≡ formless.design = one_ok (answer formless.modules top) (design_view design) formless.design flat formless.flat in
+    formless.more (subst HasInputsAlone is stands.inputs)
 
 -- sources in which a fault stands lack no file
-refused_lack : (sources : List SourceText) (defines : List DefineText) (refusal : SourceRefusal) → AreRefused sources defines refusal → (name : List ℕ) → Lacks sources defines name → ⊥
-refused_lack sources defines refusal refused name lacks = go refusal.kind refl refused.found
+refused_lack : (sources : List SourceText) (defines : List DefineText) (top : List ℕ) (refusal : SourceRefusal) → AreRefused sources defines top refusal → (name : List ℕ) → Lacks sources defines name → ⊥
+refused_lack sources defines top refusal refused name lacks = go refusal.kind refused.place refusal.detail refl refused.found
   where
     same_kind : (k : _) (p q : Option Place) (d e : Option (List ℕ)) (a : Answer (List Lexeme)) → a ≡ Err (lex_fault.At k p d) → a ≡ Err (lex_fault.At IncludeMissing q e) → k ≡ IncludeMissing
     same_kind k p q d e a one other = cc
 
-    go : (k : SourceKind) → refusal.kind ≡ k → IsFoundAt sources defines k refused.place refusal.detail → ⊥
-    go (kind.Lex k) is found = refused.no_file (is ∙ ap kind.Lex (same_kind k refused.place (Some lacks.0) refusal.detail (Some name) (tokens_of sources defines) found lacks.1))
-    go (kind.Parse k) is found = ok_or_err (tokens_of sources defines) found.0 _ found.1 lacks.1
+    faulty : (f : Fault) → AreFaulty sources defines top f → ⊥
+    faulty f is = ok_or_err (tokens_of sources defines) is.accepted.tokens _ is.accepted.lexed lacks.1
+
+    go : (k : SourceKind) (place : Option Place) (detail : Option (List ℕ)) → refusal.kind ≡ k → IsFoundAt sources defines top k place detail → ⊥
+    go (kind.Lex k) place detail is found = refused.no_file (is ∙ ap kind.Lex (same_kind k place (Some lacks.0) detail (Some name) (tokens_of sources defines) found lacks.1))
+    go (kind.Parse k) place detail is found = ok_or_err (tokens_of sources defines) found.0 _ found.1 lacks.1
+    go (kind.Const k) (Some place) None is found = faulty _ found
+    go (kind.Const k) (Some place) (Some name) is found = found
+    go (kind.Const k) None detail is found = found
+    go (kind.Elab k) place (Some name) is found = faulty _ found
+    go (kind.Elab k) place None is found = found
 
 none_or_some : (o : Option LexFault) (f : LexFault) → o ≡ None → o ≡ Some f → ⊥
 none_or_some o f none some = cc
@@ -170,8 +220,8 @@ module _ (words : SourceValues) (before : Outside) (all : List SourceText) (told
   design_or_fault design stands after none (fault.File call file) is = absurd (files_read after none (fault.File call file) is)
   design_or_fault design stands after none (fault.Included call path) is = absurd (files_read after none (fault.Included call path) is)
   design_or_fault design stands after none (fault.Refused refusal) (inl refused) =
-      let same = settled before words.folder words.defines refused.sources all (on_the_way refused.sources refused.begun) (refused_lack refused.sources words.defines refusal refused.refused) in
-      absurd (accepted_or_refused all words.defines stands.tokens refusal stands.accepted (subst (λ ss. AreRefused ss words.defines refusal) same refused.refused))
+      let same = settled before words.folder words.defines refused.sources all (on_the_way refused.sources refused.begun) (refused_lack refused.sources words.defines words.top refusal refused.refused) in
+      absurd (design_or_refused all words.defines words.top design refusal stands (subst (λ ss. AreRefused ss words.defines words.top refusal) same refused.refused))
   design_or_fault design stands after none (fault.Refused refusal) (inr (inl full)) = absurd (roots_fit refusal full)
   design_or_fault design stands after none (fault.Refused refusal) (inr (inr full)) = absurd (includes_fit refusal full)
   design_or_fault design stands after none fault.NotYet is =

@@ -1,23 +1,32 @@
 -- Which sources are accepted, and the design that accepted sources stand for.
-use Rattle.std.specs.Prelude.{◌≡◌, ℕ, List, Ok}
+use Rattle.std.specs.Prelude.{◌≡◌, ℕ, List, Ok, Err}
+use Rattle.design_model.specs.View.{design_view}
 use Rattle.design_model.specs.declared.design.Design.{Design}
+use Rattle.flat_design.specs.Fault.{Fault}
+use Rattle.flat_design.specs.Faults.{answer}
+use Rattle.input_design.specs.InputsAlone.{HasInputsAlone}
 use Rattle.verilog_lexer.specs.Defines.{DefineText}
 use Rattle.verilog_lexer.specs.Reading.{tokens_of}
 use Rattle.verilog_lexer.specs.Sources.{SourceText}
 use Rattle.verilog_lexer.specs.Tokens.{Lexeme}
 use Rattle.verilog_tree.specs.Tree as t
 use Rattle.verilog_parser.specs.Parses.{AreModules}
-use Rattle.input_module.specs.SourceForm.{IsSource}
-use Rattle.input_module.specs.Texts.{texts_of}
 
--- the sources have these tokens, and these spell modules within the depth
-pub record AreAccepted (sources : List SourceText) (defines : List DefineText) (tokens : List Lexeme) : Type 0 where
+-- the sources have tokens, and these spell the modules within the depth
+pub record AreAccepted (sources : List SourceText) (defines : List DefineText) (modules : List t.Module) : Type 0 where
+  pub tokens : List Lexeme
   pub lexed : tokens_of sources defines ≡ Ok tokens
-  pub modules : List t.Module
   pub spelled : AreModules tokens modules
 
--- the sources are accepted, and are a module of inputs alone, which is this design
+-- the sources are accepted, and their modules with this top are this flat design, which has inputs alone
 pub record StandFor (sources : List SourceText) (defines : List DefineText) (top : List ℕ) (design : Design) : Type 0 where
-  pub tokens : List Lexeme
-  pub accepted : AreAccepted sources defines tokens
-  pub of_form : IsSource (texts_of tokens) top design
+  pub modules : List t.Module
+  pub accepted : AreAccepted sources defines modules
+  pub flat : answer modules top ≡ Ok (design_view design)
+  pub inputs : HasInputsAlone (design_view design)
+
+-- the sources are accepted, and this is the first fault of their modules with this top
+pub record AreFaulty (sources : List SourceText) (defines : List DefineText) (top : List ℕ) (fault : Fault) : Type 0 where
+  pub modules : List t.Module
+  pub accepted : AreAccepted sources defines modules
+  pub first : answer modules top ≡ Err fault

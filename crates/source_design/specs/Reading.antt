@@ -61,11 +61,11 @@ pub record HasFullInclude (words : SourceValues) (before : Outside) (refusal : S
   pub lacks : Lacks sources words.defines name
   pub not_fit : DoesNotFit before (path_of words.folder name) name sources refusal
 
--- a fault of the lexer or of the parser stands in the sources on the way
+-- a fault of the lexer, of the parser or of elaboration stands in the sources on the way
 pub record HasRefused (words : SourceValues) (before : Outside) (refusal : SourceRefusal) : Type 0 where
   pub sources : List SourceText
   pub begun : HasBegun words before sources
-  pub refused : AreRefused sources words.defines refusal
+  pub refused : AreRefused sources words.defines words.top refusal
 
 -- the sources on the way lack a file that lies at the path
 pub record LacksAt (words : SourceValues) (before : Outside) (path : List ℕ) : Type 0 where
@@ -75,7 +75,7 @@ pub record LacksAt (words : SourceValues) (before : Outside) (path : List ℕ) :
   pub lacks : Lacks sources words.defines name
   pub path_is : path ≡ path_of words.folder name
 
--- the sources are accepted, and are no module of inputs alone
+-- the sources are accepted, and their design has more than inputs
 pub record HasNoForm (words : SourceValues) (before : Outside) : Type 0 where
   pub sources : List SourceText
   pub gathered : HasSources words before sources

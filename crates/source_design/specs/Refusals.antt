@@ -2,7 +2,10 @@
 use Rattle.std.specs.Prelude.{◌≡◌, ◌≢◌, ℕ, List, Option, None, Some, Ok, Err}
 use Rattle.std.specs.Option.{option_map}
 use Rattle.cov_host.specs.declared.place.Place.{Place}
-use Rattle.design_model.specs.declared.design.Design.{Design}
+use Rattle.design_model.specs.Design.{Design}
+use Rattle.flat_design.specs.Fault.{of_constant, of_modules}
+use Rattle.flat_design.specs.Faults.{answer}
+use Rattle.input_design.specs.InputsAlone.{HasInputsAlone}
 use Rattle.verilog_lexer.specs.Defines.{DefineText}
 use Rattle.verilog_lexer.specs.Reading.{tokens_of}
 use Rattle.verilog_lexer.specs.Sources.{SourceText, name_of}
@@ -11,9 +14,8 @@ use Rattle.verilog_lexer.specs.declared.fault.LexFault.TheVariants as lex_fault
 use Rattle.verilog_lexer.specs.declared.fault.LexKind.TheVariants.{IncludeMissing}
 use Rattle.verilog_parser.specs.Parses.{StandsIn}
 use Rattle.verilog_parser.specs.declared.fault.ParseFault.TheVariants as parse_fault
-use Rattle.input_module.specs.SourceForm.{IsSource}
-use Rattle.input_module.specs.Texts.{texts_of}
-use Rattle.source_design.specs.Accepted.{AreAccepted}
+use Rattle.verilog_tree.specs.Tree as t
+use Rattle.source_design.specs.Accepted.{AreAccepted, AreFaulty}
 use Rattle.source_design.specs.declared.fault.SourceKind.{SourceKind}
 use Rattle.source_design.specs.declared.fault.SourceKind.TheVariants as kind
 use Rattle.source_design.specs.declared.fault.SourceRefusal.{SourceRefusal}
@@ -24,20 +26,25 @@ abbrev pub spot_of : List SourceText → Option Place → Option SourceSpot
 spot_of sources None = None
 spot_of sources (Some place) = option_map (λ name. record { file = name; line = place.line; column = place.column }) (name_of sources place.source)
 
--- the fault at the place is the first one of the lexer, or of the parser
-abbrev pub IsFoundAt : List SourceText → List DefineText → SourceKind → Option Place → Option (List ℕ) → Type 0
-IsFoundAt sources defines (kind.Lex k) place detail = tokens_of sources defines ≡ Err (lex_fault.At k place detail)
-IsFoundAt sources defines (kind.Parse k) place detail = (tokens : List Lexeme) × (tokens_of sources defines ≡ Ok tokens) × StandsIn tokens (parse_fault.At k place detail)
+-- the fault at the place is the first one of the lexer, of the parser, or of elaboration
+abbrev pub IsFoundAt : List SourceText → List DefineText → List ℕ → SourceKind → Option Place → Option (List ℕ) → Type 0
+IsFoundAt sources defines top (kind.Lex k) place detail = tokens_of sources defines ≡ Err (lex_fault.At k place detail)
+IsFoundAt sources defines top (kind.Parse k) place detail = (tokens : List Lexeme) × (tokens_of sources defines ≡ Ok tokens) × StandsIn tokens (parse_fault.At k place detail)
+IsFoundAt sources defines top (kind.Const k) (Some place) None = AreFaulty sources defines top (of_constant k place)
+IsFoundAt sources defines top (kind.Elab k) place (Some name) = AreFaulty sources defines top (of_modules k place name)
+IsFoundAt sources defines top k place detail = ⊥
 
--- a fault of the lexer, other than a missing file, or of the parser stands in the sources, at the place that the refusal tells
-pub record AreRefused (sources : List SourceText) (defines : List DefineText) (refusal : SourceRefusal) : Type 0 where
+-- a fault, other than a missing file, stands in the sources with this top, at the place that the refusal tells
+pub record AreRefused (sources : List SourceText) (defines : List DefineText) (top : List ℕ) (refusal : SourceRefusal) : Type 0 where
   pub place : Option Place
-  pub found : IsFoundAt sources defines refusal.kind place refusal.detail
+  pub found : IsFoundAt sources defines top refusal.kind place refusal.detail
   pub no_file : refusal.kind ≢ kind.Lex IncludeMissing
   pub spot : refusal.spot ≡ spot_of sources place
 
--- the sources are accepted, but are no module of inputs alone
+-- the sources are accepted, and their modules are a flat design that has more than inputs
 pub record AreOfNoForm (sources : List SourceText) (defines : List DefineText) (top : List ℕ) : Type 0 where
-  pub tokens : List Lexeme
-  pub accepted : AreAccepted sources defines tokens
-  pub none : (design : Design) → IsSource (texts_of tokens) top design → ⊥
+  pub modules : List t.Module
+  pub accepted : AreAccepted sources defines modules
+  pub design : Design
+  pub flat : answer modules top ≡ Ok design
+  pub more : HasInputsAlone design → ⊥

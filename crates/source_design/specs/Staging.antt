@@ -1,6 +1,9 @@
 -- What the stages over sources answer, whose files were read.
 use Rattle.std.specs.Prelude.{◌≡◌, ℕ, List, Option, None, Some}
 use Rattle.cov_host.specs.declared.place.Place.{Place}
+use Rattle.elab_const.specs.declared.fault.ConstFault.TheVariants as const_fault
+use Rattle.flat_design.specs.declared.fault.ElabFault.{ElabFault}
+use Rattle.flat_design.specs.declared.fault.ElabFault.TheVariants as elab_fault
 use Rattle.verilog_lexer.specs.Sources.{SourceText}
 use Rattle.verilog_lexer.specs.declared.fault.LexFault.{LexFault}
 use Rattle.verilog_lexer.specs.declared.fault.LexFault.TheVariants as lex_fault
@@ -29,7 +32,7 @@ IsFound words sources (found.Lacking name) = Lacks sources words.defines name
 -- why the sources give no design
 abbrev pub IsStageFault : SourceValues → List SourceText → SourceFault → Type 0
 IsStageFault words sources fault.NoMemory = Unit {0}
-IsStageFault words sources (fault.Refused refusal) = AreRefused sources words.defines refusal
+IsStageFault words sources (fault.Refused refusal) = AreRefused sources words.defines words.top refusal
 IsStageFault words sources fault.NotYet = AreOfNoForm sources words.defines words.top
 IsStageFault words sources other = ⊥
 
@@ -58,6 +61,13 @@ IsLexFault sources (lex_fault.At k place detail) f = LacksNoFile k place detail 
 abbrev pub IsParseFault : List SourceText → ParseFault → SourceFault → Type 0
 IsParseFault sources parse_fault.NoMemory f = f ≡ fault.NoMemory
 IsParseFault sources (parse_fault.At k place detail) f = IsRefusal sources (kind.Parse k) place detail f
+
+-- the refusal of a fault of elaboration
+abbrev pub IsElabFault : List SourceText → ElabFault → SourceFault → Type 0
+IsElabFault sources elab_fault.NoMemory f = f ≡ fault.NoMemory
+IsElabFault sources (elab_fault.Const const_fault.NoMemory) f = f ≡ fault.NoMemory
+IsElabFault sources (elab_fault.Const (const_fault.At k place)) f = IsRefusal sources (kind.Const k) (Some place) None f
+IsElabFault sources (elab_fault.At k place name) f = IsRefusal sources (kind.Elab k) place (Some name) f
 
 -- the refusal of a file that does not fit
 abbrev pub IsFull : LexKind → Option (List ℕ) → SourceFault → Type 0

@@ -2,6 +2,8 @@ ghost use Rattle.std.specs.Prelude.{◌≡◌};
 ghost use Rattle.source_design.specs.declared.fault.SourceFault.TheVariants.{NoMemory as fault_no_memory};
 
 use cov_host::{Name, NoMemory};
+use elab_const::ConstKind;
+use flat_design::ElabKind;
 use std::alloc::AllocError;
 use verilog_lexer::LexKind;
 use verilog_parser::ParseKind;
@@ -12,6 +14,8 @@ use whole_files::Call;
 pub enum SourceKind {
     Lex(LexKind),
     Parse(ParseKind),
+    Const(ConstKind),
+    Elab(ElabKind),
 }
 
 /// A place in a source, by the source's name. Lines and columns are counted from 1, columns in bytes.
@@ -40,7 +44,7 @@ pub enum SourceFault<'a> {
     Included { call: Call, path: Name },
     /// The sources are refused.
     Refused(SourceRefusal),
-    /// The sources are accepted, and their tokens are not those of a module of inputs alone.
+    /// The sources are accepted, and their design has a process, a memory, or a signal that is no input.
     NotYet,
 }
 

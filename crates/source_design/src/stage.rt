@@ -1,13 +1,16 @@
 ghost use Rattle.std.specs.Prelude.{◌≡◌, IfErr, IfOk};
 ghost use Rattle.source_design.specs.Refusals.{spot_of};
-ghost use Rattle.source_design.specs.Staging.{IsFound, IsLackingFrom, IsLexFault, IsParseFault, IsRefusal, IsStageFault};
+ghost use Rattle.source_design.specs.Staging.{IsElabFault, IsFound, IsLackingFrom, IsLexFault, IsParseFault, IsRefusal, IsStageFault};
 ghost use Rattle.source_design.specs.Words.{source_values};
 
 use crate::fault::{SourceFault, SourceKind, SourceRefusal, SourceSpot};
 use crate::words::SourceWords;
 use cov_host::{Name, NoMemory, Place};
 use design_model::Design;
-use input_module::read_tokens;
+use elab_const::ConstFault;
+use elaborator::elaborate;
+use flat_design::ElabFault;
+use input_design::has_inputs_alone;
 use std::alloc::Global;
 use verilog_lexer::{LexFault, LexKind, Sources, lex};
 use verilog_parser::{ParseFault, parse};
@@ -34,14 +37,18 @@ pub(crate) fn find<'a>(
         Ok(tokens) => tokens,
         Err(fault) => return lex_answer(alloc, sources, fault),
     };
-    match parse(alloc, &tokens) {
-        Ok(_) => {}
+    let modules = match parse(alloc, &tokens) {
+        Ok(modules) => modules,
         Err(fault) => return Err(parse_fault(alloc, sources, fault)),
+    };
+    let design = match elaborate(alloc, &modules, words.top) {
+        Ok(design) => design,
+        Err(fault) => return Err(elab_fault(alloc, sources, fault)),
+    };
+    if !has_inputs_alone(&design) {
+        return Err(SourceFault::NotYet);
     }
-    match read_tokens(alloc, &tokens, words.top)? {
-        Some(design) => Ok(Found::Design(design)),
-        None => Err(SourceFault::NotYet),
-    }
+    Ok(Found::Design(design))
 }
 
 /// What a fault of the lexer means: an included file that is lacking, or a refusal.
@@ -79,6 +86,23 @@ fn parse_fault<'a>(alloc: Global, sources: &Sources, fault: ParseFault) -> Sourc
             place,
             detail,
         } => refused(alloc, sources, SourceKind::Parse(kind), place, detail),
+    }
+}
+
+/// The fault of the sources that a fault of elaboration is.
+fn elab_fault<'a>(alloc: Global, sources: &Sources, fault: ElabFault) -> SourceFault<'a>
+    ensures { IsElabFault sources.now fault result }
+{
+    match fault {
+        ElabFault::NoMemory | ElabFault::Const(ConstFault::NoMemory) => SourceFault::NoMemory,
+        ElabFault::Const(ConstFault::At { kind, place }) => {
+            refused(alloc, sources, SourceKind::Const(kind), Some(place), None)
+        }
+        ElabFault::At {
+            kind,
+            place,
+            detail,
+        } => refused(alloc, sources, SourceKind::Elab(kind), place, Some(detail)),
     }
 }
 
