@@ -199,6 +199,33 @@ fn refuses_sources(rt: HostRuntime) -> Result<(), Fail> {
     Ok(())
 }
 
+#[test]
+fn refuses_modules(rt: HostRuntime) -> Result<(), Fail> {
+    let alloc = rt.alloc();
+    assert!(rt;
+        refuses_source(
+            alloc,
+            "module m(input a);\n  wire [a:0] b;\nendmodule\n",
+            "covered: source: const 1 NotConstant at m.v:2:9\n"
+        )?
+    );
+    assert!(rt;
+        refuses_source(
+            alloc,
+            "module m(input a);\n  sub u(a);\nendmodule\n",
+            "covered: source: elab 1 NoModule sub at m.v:2:3\n"
+        )?
+    );
+    assert!(rt;
+        refuses_source(
+            alloc,
+            "module n(input a);\nendmodule\n",
+            "covered: source: elab 1 NoModule m\n"
+        )?
+    );
+    Ok(())
+}
+
 /// The table of a register.
 const FIRST: &[u8] =
     b"covered-db 1\ntop ff\nsource 1 ff.v\ninstance ff ff\npoints 11\nl ff 1 1:3 if = hit\nl ff 2 1:3 assign = hit\nl ff 3 1:3 assign = missed\nc ff 1 1:3 value 0 = missed\nc ff 1 1:3 value 1 = hit\nt ff a - 01 = missed\nt ff a - 10 = missed\nt ff clk - 01 = hit\nt ff clk - 10 = missed\nt ff q - 01 = missed\nt ff q - 10 = missed\nend\n";

@@ -1,8 +1,8 @@
 use Rattle.std.proofs.lemmas.Result.{err_from_is_err_and}
 use Rattle.command_line.specs.CommandWords.{score_values}
-use Rattle.input_runs.proofs.Inputs.{source_design}
 use Rattle.whole_files.proofs.EffectLemmas.{CountsUp-trans, KeepsFiles-trans}
 use Rattle.covered_cli.proofs.Inputs.{good_names}
+use Rattle.covered_cli.proofs.InputDesigns.{design_of_inputs}
 use Rattle.covered_cli.proofs.Scoring.{IfErr-map, OnOk-map, design_stands, others_kept, others_kept_since, score_is_done, scoring_stands, writing_is_late, writing_stands}
 use Rattle.covered_cli.proofs.score.run_score.Goals as goal
 
@@ -15,7 +15,7 @@ returns-in_err-design-clause-fault g c =
     rw (fault.1, fault.2) (design_stands score before after _ c.in_err-design.ensures.fault)
 
 pub db_of-requires-clause-design : goal.db_of-requires-clause-design
-db_of-requires-clause-design g c = source_design _ _ _ c.in_ok-design.ensures.read.stands.of_form
+db_of-requires-clause-design g c = design_of_inputs _ _ _ _ c.in_ok-design.ensures.read.stands
 
 pub db_of-requires-clause-sources : goal.db_of-requires-clause-sources
 db_of-requires-clause-sources g c =
@@ -44,7 +44,7 @@ returns-clause-done g c =
     let effects = c.in_ok-design.ensures.effects in
     let db = c.in_ok-db.ensures in
     let kept = KeepsFiles-trans before middle later effects.files db.effects.files in
-    OnOk-map c.write.result (score_is_done score read.sources _ _ _ _ before middle later after (record { gathered = read.gathered; stands = read.stands }) read.names (source_design _ _ _ read.stands.of_form) effects.files kept db.scored c.in_ok-text.ensures.text) c.write.ensures.written
+    OnOk-map c.write.result (score_is_done score read.sources _ _ _ _ before middle later after (record { gathered = read.gathered; stands = read.stands }) read.names (design_of_inputs _ _ _ _ read.stands) effects.files kept db.scored c.in_ok-text.ensures.text) c.write.ensures.written
 
 pub returns-in_err-text-clause-others : goal.returns-in_err-text-clause-others
 returns-in_err-text-clause-others g c =
