@@ -1,6 +1,5 @@
 -- The worked case, computed.
-use Rattle.std.proofs.Common.{◌≡◌, ◌≢◌, inl, inr, ℕ, zero, suc, List, [], ◌∷◌, Some, None, refl, lit≤, arith}
-use Rattle.std.proofs.lemmas.Bool.{OnFalse_from}
+use Rattle.std.proofs.Common.{◌≢◌, inl, inr, ℕ, zero, suc, true, false, List, [], ◌∷◌, Some, refl, lit≤, arith}
 use Rattle.std.proofs.lemmas.List.Elements.{All-from_recursion}
 use Rattle.std.specs.Prelude.{AllPairs, codes}
 use Rattle.four_state.specs.declared.Bit.{Bit}
@@ -12,15 +11,15 @@ use Rattle.vcd_reader.specs.Body.{nothing}
 use Rattle.vcd_reader.specs.Dump.{IsDump}
 use Rattle.vcd_reader.specs.Reading.{Body, body}
 use Rattle.input_toggles.specs.InputDesign.{IsInput, IsInputDesign, IsInstanceBelow}
-use Rattle.input_runs.specs.Worked.{IsWorkedRun, a, clk, dump_text, nested, nested_dump}
+use Rattle.input_runs.specs.Worked.{IsWorkedRun, a, clk, dump_text, inner, nested, nested_dump, outer}
 use Rattle.input_runs.proofs.SomeRun.{some_run_shows}
 
 -- of two things there is one pair
-one_pair : {X : Type 0} (R : X → X → Type 0) (x y : X) → R x y → AllPairs R (x ∷ y ∷ [])
-one_pair R x y holds i zero d below within = absurd (omega arith)
-one_pair R x y holds zero (suc zero) d below within = holds
-one_pair R x y holds (suc i) (suc zero) d below within = absurd (omega arith)
-one_pair R x y holds i (suc (suc j)) d below within = absurd (omega arith)
+one_pair : {X : Type 0} (x y : X) (R : X → X → Type 0) → R x y → AllPairs R (x ∷ y ∷ [])
+one_pair x y R holds i zero d below within = absurd (omega arith)
+one_pair x y R holds zero (suc zero) d below within = holds
+one_pair x y R holds (suc i) (suc zero) d below within = absurd (omega arith)
+one_pair x y R holds i (suc (suc j)) d below within = absurd (omega arith)
 
 -- the names and the paths are identifiers, and none of them is a keyword
 nested_inputs : IsInputDesign nested
@@ -30,13 +29,13 @@ nested_inputs = record {
   first = refl;
   some = omega arith;
   few = omega arith;
-  instances = All-from_recursion (IsInstanceBelow (codes "top")) _ (record { path = refl; below = inl refl; of_module = refl }, (record { path = refl; below = inr refl; of_module = refl }, tt));
-  paths = one_pair _ _ _ (λ same. cc);
-  signals = All-from_recursion IsInput _ (
+  instances = All-from_recursion (IsInstanceBelow nested.top) nested.instances (record { path = refl; below = inl refl; of_module = refl }, (record { path = refl; below = inr refl; of_module = refl }, tt));
+  paths = one_pair outer inner (λ x y. x.path ≢ y.path) (λ same. cc);
+  signals = All-from_recursion IsInput nested.signals (
     record { instance = refl; name = refl; input = refl; high = omega arith; low = omega arith; unranged = (refl, refl); width = refl; at_most = omega arith },
     (record { instance = refl; name = refl; input = refl; high = omega arith; low = omega arith; unranged = tt; width = refl; at_most = omega arith }, tt),
   );
-  names = one_pair _ _ _ (λ same. cc);
+  names = one_pair clk a (λ x y. x.name ≢ y.name) (λ same. cc);
   number = omega arith;
   memories = refl;
   processes = refl;
@@ -73,6 +72,6 @@ pub worked_run : IsWorkedRun
 worked_run = record {
   inputs = nested_inputs;
   dump = nested_dump_is;
-  inner = refl;
+  bound = refl;
   run = some_run_shows nested nested_dump (codes "tb.dut") nested_inputs;
 }

@@ -1,8 +1,9 @@
 -- The worked case: two inputs, one of which the dump has under a name of an inner instance alone, its dump, and a run.
-use Rattle.std.specs.Prelude.{◌≡◌, ℕ, false, true, Option, Some, List, [], ◌∷◌, codes}
+use Rattle.std.specs.Prelude.{◌≡◌, ℕ, false, true, Some, List, [], ◌∷◌, codes}
 use Rattle.four_state.specs.declared.Bit.{Bit}
 use Rattle.four_state.specs.declared.Bit.TheVariants.{Zero, One, X}
 use Rattle.design_model.specs.declared.design.Design.{Design}
+use Rattle.design_model.specs.declared.design.Instance.{Instance}
 use Rattle.design_model.specs.declared.design.Signal.{Signal}
 use Rattle.input_toggles.specs.InputDesign.{IsInputDesign}
 use Rattle.vcd_reader.specs.Dump.{Change, Dump, IsDump}
@@ -16,11 +17,19 @@ clk = record { instance = 0; name = codes "clk"; high = 0; low = 0; ranged = fal
 abbrev pub a : Signal
 a = record { instance = 0; name = codes "a"; high = 1; low = 0; ranged = true; width = 2; signed = false; input = true }
 
--- the top with its inputs, and an instance u in it with a port k that is joined to clk
+-- the top
+abbrev pub outer : Instance
+outer = record { path = codes "top"; «module» = codes "top" }
+
+-- an instance in it
+abbrev pub inner : Instance
+inner = record { path = codes "top.u"; «module» = codes "sub" }
+
+-- the inputs stand in the top, and the inner instance has a port k that is joined to clk
 abbrev pub nested : Design
 nested = record {
   top = codes "top";
-  instances = record { path = codes "top"; «module» = codes "top" } ∷ record { path = codes "top.u"; «module» = codes "sub" } ∷ [];
+  instances = outer ∷ inner ∷ [];
   signals = clk ∷ a ∷ [];
   memories = [];
   processes = [];
@@ -51,5 +60,5 @@ nested_dump = record {
 pub record IsWorkedRun : Type 0 where
   pub inputs : IsInputDesign nested
   pub dump : IsDump dump_text nested_dump
-  pub inner : code_at nested nested_dump (codes "tb.dut") 0 ≡ Some 1
+  pub bound : code_at nested nested_dump (codes "tb.dut") 0 ≡ Some 1
   pub run : SomeRunShows nested nested_dump (codes "tb.dut")
