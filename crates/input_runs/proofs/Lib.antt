@@ -5,5 +5,4 @@ pub mod ShownTimes
 pub mod Sound
 pub mod Reasoned
 pub mod SomeRun
-pub mod Inputs
 pub mod Worked

@@ -75,7 +75,7 @@ same_bits d v w s input same =
 bound_is_signal : (design : Design) (dump : Dump) (instance : List ℕ) (s : ℕ) → (bound_dump design dump instance).bound s ≡ true → s < length design.signals
 bound_is_signal design dump instance s bound = go (nat_lt s (length design.signals)) refl bound
   where
-    go : (b : Bool) → nat_lt s (length design.signals) ≡ b → is_some (if b then code_of dump.vars instance (signal_of design s) else None) ≡ true → s < length design.signals
+    go : (b : Bool) → nat_lt s (length design.signals) ≡ b → is_some (if b then code_of design dump.vars instance (signal_of design s) else None) ≡ true → s < length design.signals
     go true within some = ltb-true s (length design.signals) within
     go false outside some = absurd (false≢true some)
 

@@ -117,8 +117,8 @@ scored_address design dump instance row scored =
 pub scored_bound : (design : Design) (dump : Dump) (instance : List ℕ) (row : DbPoint) → (scored : IsScored design dump instance row) → code_at design dump instance scored.listed.0 ≡ Some scored.code
 scored_bound design dump instance row scored =
     let inside = scored.listed.1 in
-    ap (λ b. if b then code_of dump.vars instance (signal_of design scored.listed.0) else None) (lt-ltb scored.listed.0 (length design.signals) inside)
-    ∙ ap (code_of dump.vars instance) (scored_signal design dump instance row scored)
+    ap (λ b. if b then code_of design dump.vars instance (signal_of design scored.listed.0) else None) (lt-ltb scored.listed.0 (length design.signals) inside)
+    ∙ ap (code_of design dump.vars instance) (scored_signal design dump instance row scored)
     ∙ scored.bound
 
 -- a scored point is sound

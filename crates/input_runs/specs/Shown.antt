@@ -19,7 +19,7 @@ signal_of design s = slice_index_or design.signals s no_signal
 
 -- the code of the variable of the signal with this number, if there is one
 abbrev pub code_at : Design → Dump → List ℕ → ℕ → Option ℕ
-code_at design dump instance s = if nat_lt s (length design.signals) then code_of dump.vars instance (signal_of design s) else None
+code_at design dump instance s = if nat_lt s (length design.signals) then code_of design dump.vars instance (signal_of design s) else None
 
 -- the value of a code at a time, if there is one
 abbrev pub value_of_code : Dump → ℕ → Option ℕ → Option Vector

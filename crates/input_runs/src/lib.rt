@@ -6,7 +6,6 @@ ghost use Rattle.std.specs.Prelude.{◌≡◌, ℕ, List, [], All};
 ghost use Rattle.coverage_db.specs.declared.db.Db.{Db};
 ghost use Rattle.design_model.specs.Design.{Design as DesignTree};
 ghost use Rattle.design_model.specs.declared.design.Design.{Design};
-ghost use Rattle.input_module.specs.SourceForm.{IsSource};
 ghost use Rattle.input_toggles.specs.InputDesign.{IsInputDesign};
 ghost use Rattle.input_toggles.specs.Scored.{IsScored};
 ghost use Rattle.vcd_reader.specs.Dump.{IsDump};
@@ -22,10 +21,10 @@ pub fn inputs_run()
     ensures { (d : DesignTree) → d.processes ≡ [] → TakesAll d }
 {}
 
-/// Whatever a dump says of the inputs of a module, some run of its design shows it; so it is with the worked case.
+/// Whatever a dump says of a design of inputs, some run of the design shows it; so it is with the worked case.
 pub fn shown_by_some_run()
-    ensures each { (texts : List (List ℕ)) (top dump_text instance : List ℕ) (design : Design) (dump : Dump)
-        → IsSource texts top design → IsDump dump_text dump → SomeRunShows design dump instance }
+    ensures each { (dump_text instance : List ℕ) (design : Design) (dump : Dump)
+        → IsInputDesign design → IsDump dump_text dump → SomeRunShows design dump instance }
     ensures worked { IsWorkedRun }
 {}
 
