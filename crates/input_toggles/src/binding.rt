@@ -1,4 +1,4 @@
-ghost use Rattle.std.specs.Prelude.{◌≡◌, ◌<◌, ◌++◌, true, IfErr, IfOk, drop, filter, length, map, slice_index_or};
+ghost use Rattle.std.specs.Prelude.{◌≡◌, ◌<◌, ◌++◌, true, None, IfErr, IfOk, if◌then◌else◌, drop, filter, length, map, slice_index_or};
 ghost use Rattle.std.specs.List.{list_any};
 ghost use Rattle.std.specs.Str.{bytes_eq};
 ghost use Rattle.design_model.specs.Design.{no_instance};
@@ -104,20 +104,35 @@ fn code_of(design: &Design, vars: &[Var], instance: &str, signal: &Signal) -> Op
 fn code_of_aliases(design: &Design, vars: &[Var], instance: &str, signal: &Signal) -> Option<u32>
     ensures { result ≡ first_code vars.now signal.now.width (map (alias_name design.now instance.now) (filter (is_alias_of design.now signal.now) design.now.aliases)) }
 {
-    for alias in design.aliases.as_slice() {
-        if is_alias_of(design, signal, alias) {
-            let other = Sought {
-                instance: instance.as_bytes(),
-                below: below_top(design, alias.instance),
-                name: alias.name.as_slice(),
-                width: signal.width,
-            };
-            if let Some(code) = code_under(vars, &other) {
-                return Some(code);
-            }
+    let aliases = design.aliases.as_slice();
+    for alias in aliases {
+        if let Some(code) = code_of_alias(design, vars, instance, signal, alias) {
+            return Some(code);
         }
     }
     None
+}
+
+/// The code under the alias, if it is one of the signal.
+fn code_of_alias(
+    design: &Design,
+    vars: &[Var],
+    instance: &str,
+    signal: &Signal,
+    alias: &Alias,
+) -> Option<u32>
+    ensures { result ≡ if is_alias_of design.now signal.now alias.now then code_under vars.now signal.now.width (alias_name design.now instance.now alias.now) else None }
+{
+    if !is_alias_of(design, signal, alias) {
+        return None;
+    }
+    let other = Sought {
+        instance: instance.as_bytes(),
+        below: below_top(design, alias.instance),
+        name: alias.name.as_slice(),
+        width: signal.width,
+    };
+    code_under(vars, &other)
 }
 
 /// Whether the alias is another name of the signal.
@@ -175,7 +190,11 @@ fn holds(var: &Var, sought: &Sought<'_>) -> bool
 fn is_joined(bytes: &[u8], first: &[u8], second: &[u8]) -> bool
     ensures { result ≡ bytes_eq bytes.now (first.now ++ second.now) }
 {
-    bytes.len() >= first.len() && &bytes[..first.len()] == first && &bytes[first.len()..] == second
+    if bytes.len() < first.len() {
+        return false;
+    }
+    let (head, tail) = bytes.split_at(first.len());
+    head == first && tail == second
 }
 
 /// Whether the kind is one that holds no value of a signal.
