@@ -19,7 +19,7 @@ use Rattle.dump_score.specs.declared.fault.ScoreFault.TheVariants as fault
 abbrev pub SaysSome : List ℕ → (Body → Type 0) → Type 0
 SaysSome text P = (b : Body) × SaysBody text b × P b
 
--- the header of the text is read, and the design, which is the instance, is bound to its variables
+-- the header of the text is read, and the design, of which the instance is the top, is bound to its variables
 abbrev pub Binds : Design → List ℕ → List ℕ → Type 0
 Binds design instance text = SaysSome text (λ b. AreBound design b.vars instance design.signals)
 
@@ -37,7 +37,7 @@ abbrev pub IsDumpFault : Design → List ℕ → List ℕ → DumpFault → Type
 IsDumpFault design instance text dump_fault.NoMemory = Unit {0}
 IsDumpFault design instance text (dump_fault.At kind byte) = IsFirstFault text (dump_fault.At kind byte) × (HasNoBody text ⊎ Binds design instance text)
 
--- the fault stands in the text of the dump of the design, which is the instance
+-- the fault stands in the text of the dump of the design, of which the instance is the top
 abbrev pub IsTextFault : Design → List ℕ → List ℕ → ScoreFault → Type 0
 IsTextFault design instance text fault.NoMemory = Unit {0}
 IsTextFault design instance text (fault.Refused call) = ⊥

@@ -23,6 +23,16 @@ module _ (design : Design) (vars : List Var) (instance : List ℕ) (signal : Sig
   chosen false alias others = refl
 
   -- the first alias goes before the others
-  pub alias_first : (aliases : List Alias) (k : ℕ) (alias : Alias) → k < length aliases → alias ≡ get_or aliases k alias → code_among design vars instance signal (drop k aliases) ≡ option_or (code_of_alias design vars instance signal alias) (code_among design vars instance signal (drop (k + 1) aliases))
+  alias_first : (aliases : List Alias) (k : ℕ) (alias : Alias) → k < length aliases → alias ≡ get_or aliases k alias → code_among design vars instance signal (drop k aliases) ≡ option_or (code_of_alias design vars instance signal alias) (code_among design vars instance signal (drop (k + 1) aliases))
   alias_first aliases k alias l e =
       ap (code_among design vars instance signal) (drop_more aliases k alias l ∙ ap (λ a. a ∷ drop (k + 1) aliases) (sym e)) ∙ chosen (is_alias_of design signal alias) alias (filter (is_alias_of design signal) (drop (k + 1) aliases))
+
+  -- an alias with a variable settles the code
+  pub alias_found : (aliases : List Alias) (k : ℕ) (alias : Alias) (code : ℕ) → k < length aliases → alias ≡ get_or aliases k alias → code_of_alias design vars instance signal alias ≡ Some code → code_among design vars instance signal (drop k aliases) ≡ Some code
+  alias_found aliases k alias code l e found =
+      alias_first aliases k alias l e ∙ ap (λ o. option_or o (code_among design vars instance signal (drop (k + 1) aliases))) found
+
+  -- and one without is passed over
+  pub alias_past : (aliases : List Alias) (k : ℕ) (alias : Alias) → k < length aliases → alias ≡ get_or aliases k alias → code_of_alias design vars instance signal alias ≡ None → code_among design vars instance signal (drop k aliases) ≡ code_among design vars instance signal (drop (k + 1) aliases)
+  alias_past aliases k alias l e none =
+      alias_first aliases k alias l e ∙ ap (λ o. option_or o (code_among design vars instance signal (drop (k + 1) aliases))) none

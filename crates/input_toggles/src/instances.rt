@@ -24,10 +24,7 @@ pub(crate) fn rows_of(
 }
 
 /// The rows of the instances, as these stand.
-fn rows_as_they_stand(
-    alloc: Global,
-    instances: &[Instance],
-) -> Result<Vec<DbInstance>, NoMemory>
+fn rows_as_they_stand(alloc: Global, instances: &[Instance]) -> Result<Vec<DbInstance>, NoMemory>
     ensures { IfOk result (λ rows. rows.items ≡ map row_of instances.now) }
 {
     let mut rows = Vec::new(alloc);
