@@ -22,15 +22,15 @@ some_or_none : (o : Option ℕ) → IsSome o → o ≡ None → ⊥
 some_or_none o some none = false≢true (sym (ap is_some none) ∙ some)
 
 -- signals that are not bound are not bound
-unbound : (vars : List Var) (instance : List ℕ) (signals : List Signal) (f : BindFault) → f ≢ bind_fault.NoMemory → IsBindFault vars instance signals f → AreBound vars instance signals → ⊥
-unbound vars instance signals bind_fault.NoMemory named is bound = named refl
-unbound vars instance signals bind_fault.NoInstance named is bound = false≢true (sym is ∙ bound.instance_is)
-unbound vars instance signals (bind_fault.InputNotDumped signal) named is bound = some_or_none _ (bound.variables signal no_signal is.listed) is.none
+unbound : (design : Design) (vars : List Var) (instance : List ℕ) (signals : List Signal) (f : BindFault) → f ≢ bind_fault.NoMemory → IsBindFault design vars instance signals f → AreBound design vars instance signals → ⊥
+unbound design vars instance signals bind_fault.NoMemory named is bound = named refl
+unbound design vars instance signals bind_fault.NoInstance named is bound = false≢true (sym is ∙ bound.instance_is)
+unbound design vars instance signals (bind_fault.InputNotDumped signal) named is bound = some_or_none _ (bound.variables signal no_signal is.listed) is.none
 
 module _ (design : Design) (instance text : List ℕ) (f : BindFault) (named : f ≢ bind_fault.NoMemory) (is : IsTextFault design instance text (score_fault.Bind f)) where
-  not_bound : (b : Body) → SaysBody text b → AreBound b.vars instance design.signals → ⊥
+  not_bound : (b : Body) → SaysBody text b → AreBound design b.vars instance design.signals → ⊥
   not_bound b says bound =
-      unbound b.vars instance design.signals f named (subst (λ vars. IsBindFault vars instance design.signals f) (sym (one_header text is.0 b is.1 says)) is.2) bound
+      unbound design b.vars instance design.signals f named (subst (λ vars. IsBindFault design vars instance design.signals f) (sym (one_header text is.0 b is.1 says)) is.2) bound
 
   pub no_fault : (kind : DumpKind) (byte : ℕ) → IsTextFault design instance text (score_fault.Dump (dump_fault.At kind byte)) → ⊥
   no_fault kind byte (first, inl none) = none is.0 is.1

@@ -118,7 +118,7 @@ scoring_binds : (body : BodyRow) (scorer : Scorer) (design : Design) (vars : Lis
 scoring_binds body scorer design vars instance text rest is = (
   is.b,
   inl (record { front = text; rest = rest; word = is.stands.stands.word; split = refl; stands = is.stands.stands.stands }),
-  subst (λ vs. AreBound vs instance design.signals) (sym is.vars_are) (are_bound scorer design vars instance is.b.items is.scores),
+  subst (λ vs. AreBound design vs instance design.signals) (sym is.vars_are) (are_bound scorer design vars instance is.b.items is.scores),
 )
 
 pub scoring_binds_on : (body : BodyRow) (scorer : Scorer) (design : Design) (vars : List Var) (instance text piece rest : List ℕ) → IsScoring body scorer design vars instance text → Binds design instance ((text ++ piece) ++ rest)
@@ -131,7 +131,7 @@ can_end_binds body scorer design vars instance text can = (
     | inl read ↦ inl (record { front = text; rest = []; word = read.stands.word; split = sym (append-nil text); stands = read.stands.stands })
     | inr ended ↦ inr ended.ended.ends
   ],
-  subst (λ vs. AreBound vs instance design.signals) (sym can.vars_are) (are_bound scorer design vars instance can.b.items can.scores),
+  subst (λ vs. AreBound design vs instance design.signals) (sym can.vars_are) (are_bound scorer design vars instance can.b.items can.scores),
 )
 
 -- a fault that was found stands in the whole file
@@ -167,11 +167,11 @@ is_none zero none = refl
 is_none (suc n) none = absurd (none (omega arith))
 
 -- a fault of the binding stands in the whole file
-pub bind_in_file : (name : List ℕ) (before after now : Outside) (design : Design) (instance piece : List ℕ) (opened : Opened) (f : _) → HasOpened name before now piece opened → IsBindFault opened.vars instance design.signals f → IsScoreFault name before after design instance (fault.Bind f)
+pub bind_in_file : (name : List ℕ) (before after now : Outside) (design : Design) (instance piece : List ℕ) (opened : Opened) (f : _) → HasOpened name before now piece opened → IsBindFault design opened.vars instance design.signals f → IsScoreFault name before after design instance (fault.Bind f)
 bind_in_file name before after now design instance piece opened f o is = go (body_at_end opened.body) refl o.splits.stands
   where
-    bound : IsBindFault o.splits.b.vars instance design.signals f
-    bound = subst (λ vars. IsBindFault vars instance design.signals f) o.splits.vars_are is
+    bound : IsBindFault design o.splits.b.vars instance design.signals f
+    bound = subst (λ vars. IsBindFault design vars instance design.signals f) o.splits.vars_are is
 
     go : (ends : Bool) → body_at_end opened.body ≡ ends → BodyIs ends opened.body o.front o.splits.b → IsFileFault name before design instance (fault.Bind f)
     go false e stands =

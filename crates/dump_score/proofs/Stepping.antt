@@ -85,9 +85,9 @@ pub found_at : (text piece : List ℕ) (f : DumpFault) → 0 < length piece → 
 found_at text [] f some is = absurd (omega (arith, some))
 found_at text (byte ∷ piece) f some is = is
 
-no_baseline_at : (design : Design) (vars : List Var) (instance : List ℕ) (signal : ℕ) (b : Body) (entries : List Entry) → b.vars ≡ vars → b.items ≡ entries → HasNoBaseline vars instance design.signals entries signal → HasNoBaseline b.vars instance design.signals b.items signal
+no_baseline_at : (design : Design) (vars : List Var) (instance : List ℕ) (signal : ℕ) (b : Body) (entries : List Entry) → b.vars ≡ vars → b.items ≡ entries → HasNoBaseline design vars instance design.signals entries signal → HasNoBaseline design b.vars instance design.signals b.items signal
 no_baseline_at design vars instance signal b entries e f h =
-    subst (λ vs. HasNoBaseline vs instance design.signals b.items signal) (sym e) (subst (λ es. HasNoBaseline vars instance design.signals es signal) (sym f) h)
+    subst (λ vs. HasNoBaseline design vs instance design.signals b.items signal) (sym e) (subst (λ es. HasNoBaseline design vars instance design.signals es signal) (sym f) h)
 
 -- what the scorer finds stands in what was read
 pub saying_found : (design : Design) (vars : List Var) (instance text rest : List ℕ) (body : BodyRow) (b : Body) (entries : List Entry) (f : ScoreFault) → b.vars ≡ vars → b.items ≡ entries → BodyHasRead body text b → IsSayingFault vars instance design entries f → IsFoundFault design instance (text ++ rest) f

@@ -19,9 +19,9 @@ use Rattle.dump_score.specs.declared.fault.ScoreFault.TheVariants as fault
 abbrev pub SaysSome : List ℕ → (Body → Type 0) → Type 0
 SaysSome text P = (b : Body) × SaysBody text b × P b
 
--- the header of the text is read, and the design, which is the instance, is bound to its variables
+-- the header of the text is read, and the design, of which the instance is the top, is bound to its variables
 abbrev pub Binds : Design → List ℕ → List ℕ → Type 0
-Binds design instance text = SaysSome text (λ b. AreBound b.vars instance design.signals)
+Binds design instance text = SaysSome text (λ b. AreBound design b.vars instance design.signals)
 
 -- the fault is the first one of the text, or that of its end
 abbrev pub IsFirstFault : List ℕ → DumpFault → Type 0
@@ -37,13 +37,13 @@ abbrev pub IsDumpFault : Design → List ℕ → List ℕ → DumpFault → Type
 IsDumpFault design instance text dump_fault.NoMemory = Unit {0}
 IsDumpFault design instance text (dump_fault.At kind byte) = IsFirstFault text (dump_fault.At kind byte) × (HasNoBody text ⊎ Binds design instance text)
 
--- the fault stands in the text of the dump of the design, which is the instance
+-- the fault stands in the text of the dump of the design, of which the instance is the top
 abbrev pub IsTextFault : Design → List ℕ → List ℕ → ScoreFault → Type 0
 IsTextFault design instance text fault.NoMemory = Unit {0}
 IsTextFault design instance text (fault.Refused call) = ⊥
 IsTextFault design instance text (fault.Dump f) = IsDumpFault design instance text f
-IsTextFault design instance text (fault.Bind f) = SaysSome text (λ b. IsBindFault b.vars instance design.signals f)
-IsTextFault design instance text (fault.Baseline f) = SaysSome text (λ b. HasNoBaseline b.vars instance design.signals b.items f.signal)
+IsTextFault design instance text (fault.Bind f) = SaysSome text (λ b. IsBindFault design b.vars instance design.signals f)
+IsTextFault design instance text (fault.Baseline f) = SaysSome text (λ b. HasNoBaseline design b.vars instance design.signals b.items f.signal)
 
 -- the fault stands in the text of the file
 abbrev pub IsFileFault : List ℕ → Outside → Design → List ℕ → ScoreFault → Type 0
@@ -58,18 +58,18 @@ IsScoreFault name before after design instance other = IsFileFault name before d
 -- the fault stands in what was read, whatever comes behind it
 abbrev pub IsFoundFault : Design → List ℕ → List ℕ → ScoreFault → Type 0
 IsFoundFault design instance text (fault.Dump f) = HasFault text f
-IsFoundFault design instance text (fault.Baseline f) = (b : Body) × BeginsAs text b × HasNoBaseline b.vars instance design.signals b.items f.signal
+IsFoundFault design instance text (fault.Baseline f) = (b : Body) × BeginsAs text b × HasNoBaseline design b.vars instance design.signals b.items f.signal
 IsFoundFault design instance text other = ⊥
 
 -- the fault stands at the end of the text
 abbrev pub IsEndFault : Design → List ℕ → List ℕ → ScoreFault → Type 0
 IsEndFault design instance text (fault.Dump f) = EndsWithFault text f
-IsEndFault design instance text (fault.Baseline f) = (b : Body) × EndsAs text b × HasNoBaseline b.vars instance design.signals b.items f.signal
+IsEndFault design instance text (fault.Baseline f) = (b : Body) × EndsAs text b × HasNoBaseline design b.vars instance design.signals b.items f.signal
 IsEndFault design instance text other = ⊥
 
 -- the fault stands in these entries
 abbrev pub IsSayingFault : List Var → List ℕ → Design → List Entry → ScoreFault → Type 0
-IsSayingFault vars instance design entries (fault.Baseline f) = HasNoBaseline vars instance design.signals entries f.signal
+IsSayingFault vars instance design entries (fault.Baseline f) = HasNoBaseline design vars instance design.signals entries f.signal
 IsSayingFault vars instance design entries other = ⊥
 
 -- why no header was read from a file

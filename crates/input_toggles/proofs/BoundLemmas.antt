@@ -57,24 +57,24 @@ module _ (of : Signal → Option ℕ) where
   code_at (x ∷ xs) (c ∷ cs) zero d s e l = cc
   code_at (x ∷ xs) (c ∷ cs) (suc k) d s e l = code_at xs cs k d s (let tail : map Some cs ≡ map of xs = cc in tail) (omega (arith, l))
 
-pub as_many : (vars : List Var) (instance : List ℕ) (signals : List Signal) (codes : List ℕ) → AreCodes vars instance signals codes → length codes ≡ length signals
-as_many vars instance signals codes e = omega (arith, length-map codes (λ (c : ℕ). Some c), ap length e, length-map signals (code_of vars instance))
+pub as_many : (design : Design) (vars : List Var) (instance : List ℕ) (signals : List Signal) (codes : List ℕ) → AreCodes design vars instance signals codes → length codes ≡ length signals
+as_many design vars instance signals codes e = omega (arith, length-map codes (λ (c : ℕ). Some c), ap length e, length-map signals (code_of design vars instance))
 
 -- each signal has its variable, and its first value
 pub bound_design : (scorer : Scorer) (design : Design) (vars : List Var) (instance : List ℕ) (entries : List Entry) → Scores scorer design vars instance entries → IsBound design (record { vars = vars; steps = steps_of entries }) instance
 bound_design scorer design vars instance entries s = record {
   instance_is = s.instance_is;
-  variables = some_codes (code_of vars instance) design.signals scorer.codes.items s.codes_are;
+  variables = some_codes (code_of design vars instance) design.signals scorer.codes.items s.codes_are;
   first_values = λ two.
       let count = count_is entries (omega (arith, two)) in
-      all_codes (code_of vars instance) (λ code. IsSome (first_value (steps_of entries) code)) design.signals scorer.codes.items s.codes_are
+      all_codes (code_of design vars instance) (λ code. IsSome (first_value (steps_of entries) code)) design.signals scorer.codes.items s.codes_are
       (All-weaker (λ code. IsSome (value_so_far entries code 1)) (λ code. IsSome (first_value (steps_of entries) code)) (λ code some. subst (λ (o : Option Vector). IsSome o) (first_value_is entries code (omega (arith, two))) some) scorer.codes.items
       (s.based (omega (arith, two, count))));
 }
 
 -- the variables of a design that is bound
-pub are_bound : (scorer : Scorer) (design : Design) (vars : List Var) (instance : List ℕ) (entries : List Entry) → Scores scorer design vars instance entries → AreBound vars instance design.signals
-are_bound scorer design vars instance entries s = record { instance_is = s.instance_is; variables = some_codes (code_of vars instance) design.signals scorer.codes.items s.codes_are }
+pub are_bound : (scorer : Scorer) (design : Design) (vars : List Var) (instance : List ℕ) (entries : List Entry) → Scores scorer design vars instance entries → AreBound design vars instance design.signals
+are_bound scorer design vars instance entries s = record { instance_is = s.instance_is; variables = some_codes (code_of design vars instance) design.signals scorer.codes.items s.codes_are }
 
 none_of : (o : Option Vector) → is_some o ≡ false → o ≡ None
 none_of None e = refl
@@ -84,7 +84,7 @@ first_count : (entries : List Entry) → nat_lt (count_of entries) 2 ≡ true �
 first_count entries is = let some = count_some entries in grind (arith, nat_tests, some, is)
 
 -- a code without a value at the second time lacks the first one
-pub no_baseline : (scorer : Scorer) (design : Design) (vars : List Var) (instance : List ℕ) (entries : List Entry) (before time signal : ℕ) → scorer.tracks.is_first ≡ true → scorer.tracks.last ≡ Some before → LacksValue scorer signal → Scores scorer design vars instance entries → HasNoBaseline vars instance design.signals (entries ++ Time time ∷ []) signal
+pub no_baseline : (scorer : Scorer) (design : Design) (vars : List Var) (instance : List ℕ) (entries : List Entry) (before time signal : ℕ) → scorer.tracks.is_first ≡ true → scorer.tracks.last ≡ Some before → LacksValue scorer signal → Scores scorer design vars instance entries → HasNoBaseline design vars instance design.signals (entries ++ Time time ∷ []) signal
 no_baseline scorer design vars instance entries before time signal first last lacks s =
     let code = get_or scorer.codes.items signal 0 in
     let more = entries ++ Time time ∷ [] in
@@ -92,7 +92,7 @@ no_baseline scorer design vars instance entries before time signal first last la
     let one : count_of entries ≡ 1 = first_count entries (sym s.follows.first ∙ first) in
     let count : count_of more ≡ 2 = count_later entries before time there ∙ ap suc one in
     let two : length (steps_of more) ≡ 2 = count_of_two more (omega (arith, count)) ∙ count in
-    let many = as_many vars instance design.signals scorer.codes.items s.codes_are in
+    let many = as_many design vars instance design.signals scorer.codes.items s.codes_are in
     let valueless : value_so_far entries code 1 ≡ None = none_of _ (ap (λ n. is_some (value_so_far entries code n)) (sym one) ∙ sym (has_value_is scorer.tracks entries code s.follows (s.tracked signal 0 lacks.listed)) ∙ lacks.none) in
     let first_values : All (λ other. IsSome (first_value (steps_of more) other)) (take signal scorer.codes.items) = λ k d l.
     let other = get_or (take signal scorer.codes.items) k d in
@@ -103,9 +103,9 @@ no_baseline scorer design vars instance entries before time signal first last la
       are_bound = are_bound scorer design vars instance entries s;
       second = omega (arith, two);
       listed = omega (arith, lacks.listed, many);
-      earlier = all_codes_some (code_of vars instance) (λ code. IsSome (first_value (steps_of more) code)) (take signal design.signals) (take signal scorer.codes.items) (first_codes (code_of vars instance) signal design.signals scorer.codes.items s.codes_are) first_values;
+      earlier = all_codes_some (code_of design vars instance) (λ code. IsSome (first_value (steps_of more) code)) (take signal design.signals) (take signal scorer.codes.items) (first_codes (code_of design vars instance) signal design.signals scorer.codes.items s.codes_are) first_values;
       code = code;
-      bound = code_at (code_of vars instance) design.signals scorer.codes.items signal 0 no_signal s.codes_are lacks.listed;
+      bound = code_at (code_of design vars instance) design.signals scorer.codes.items signal 0 no_signal s.codes_are lacks.listed;
       none = sym (first_value_is more code (omega (arith, two))) ∙ value_later entries before time code 1 there (omega (arith, one)) ∙ valueless;
     }
 
@@ -128,7 +128,7 @@ no_last : (o : Option ℕ) → is_some o ≡ false → o ≡ None
 no_last None e = refl
 no_last (Some before) e = absurd (cc)
 
-pub no_baseline_of : (scorer : Scorer) (design : Design) (vars : List Var) (instance : List ℕ) (entries : List Entry) (time signal : ℕ) → scorer.tracks.is_first ≡ true → is_some scorer.tracks.last ≡ true → LacksValue scorer signal → Scores scorer design vars instance entries → HasNoBaseline vars instance design.signals (entries ++ Time time ∷ []) signal
+pub no_baseline_of : (scorer : Scorer) (design : Design) (vars : List Var) (instance : List ℕ) (entries : List Entry) (time signal : ℕ) → scorer.tracks.is_first ≡ true → is_some scorer.tracks.last ≡ true → LacksValue scorer signal → Scores scorer design vars instance entries → HasNoBaseline design vars instance design.signals (entries ++ Time time ∷ []) signal
 no_baseline_of scorer design vars instance entries time signal first last lacks s =
     let before = last_of scorer.tracks.last last in
     no_baseline scorer design vars instance entries before.0 time signal first before.1 lacks s
@@ -138,7 +138,7 @@ opened_with : (old new : Scorer) (design : Design) (vars : List Var) (instance :
     → (2 ≤ count_of (entries ++ Time time ∷ []) → All (λ code. IsSome (value_so_far (entries ++ Time time ∷ []) code 1)) old.codes.items) → Scores old design vars instance entries → Scores new design vars instance (entries ++ Time time ∷ [])
 opened_with old new design vars instance entries time same follows kept based s = record {
   instance_is = s.instance_is;
-  codes_are = subst (λ cs. AreCodes vars instance design.signals cs.items) (sym same) s.codes_are;
+  codes_are = subst (λ cs. AreCodes design vars instance design.signals cs.items) (sym same) s.codes_are;
   follows = follows;
   tracked = subst (λ cs. All (IsTracked new.tracks) cs.items) (sym same) (All-weaker (IsTracked old.tracks) (IsTracked new.tracks) kept old.codes.items s.tracked);
   based = λ two. subst (λ cs. All (λ code. IsSome (value_so_far (entries ++ Time time ∷ []) code 1)) cs.items) (sym same) (based two);

@@ -23,6 +23,7 @@ use Rattle.input_toggles.specs.declared.scorer.Scorer.{Scorer}
 use Rattle.input_toggles.specs.declared.watched.Watched.{Watched}
 use Rattle.input_toggles.proofs.BoundLemmas.{bound_design}
 use Rattle.input_toggles.proofs.MemberLemmas.{Contains-map}
+use Rattle.input_toggles.proofs.RowOrder.{first_is_top}
 use Rattle.input_toggles.proofs.ScoredLemmas.{IsFollowed, points_listed, points_scored}
 use Rattle.input_toggles.proofs.TableLemmas.{inputs_of, number_of, table_is}
 use Rattle.input_toggles.proofs.TimeLemmas.{toggled_is}
@@ -38,8 +39,8 @@ module _ (design : Design) (d : IsInputDesign design) (scorer : Scorer) (watched
   the_dump : Dump
   the_dump = record { vars = vars; steps = steps_of entries }
 
-  code_is : All (λ w. code_of vars instance w.signal.now ≡ Some w.code) watched
-  code_is = coded (code_of vars instance) watched (ap (map Some) are.codes_are ∙ s.codes_are ∙ ap (map (code_of vars instance)) (sym are.signals_are))
+  code_is : All (λ w. code_of design vars instance w.signal.now ≡ Some w.code) watched
+  code_is = coded (code_of design vars instance) watched (ap (map Some) are.codes_are ∙ s.codes_are ∙ ap (map (code_of design vars instance)) (sym are.signals_are))
 
   are_followed : All (IsFollowed design the_dump instance) watched
   unfolding the_dump
@@ -58,7 +59,7 @@ module _ (design : Design) (d : IsInputDesign design) (scorer : Scorer) (watched
             (λ t. shown.0 (kept.0 t), λ t. kept.1 (shown.1 t));
       }
 
-  module _ (sources : List (List ℕ)) (db : Db) (t : IsTableOf design.top sources watched db) where
+  module _ (sources : List (List ℕ)) (db : Db) (t : IsTableOf design sources watched db) where
     all_followed : All (IsFollowed design the_dump instance) t.sorted
     all_followed = All-permutation (IsFollowed design the_dump instance) watched t.sorted t.permutation are_followed
 
@@ -76,8 +77,8 @@ module _ (design : Design) (d : IsInputDesign design) (scorer : Scorer) (watched
     unfolding the_dump
     toggle_table files = record {
       bound = bound_design scorer design vars instance entries s;
-      table = subst IsTable (sym t.is) (table_is design sources t.sorted d files inputs t.rising few);
-      head = subst (HasHead design sources) (sym t.is) (record { top = refl; sources = refl; instances = refl });
+      table = subst IsTable (sym t.is) (table_is design sources t.instances t.sorted d files t.rows t.paths_rise inputs t.rising few);
+      head = subst (HasHead design sources) (sym t.is) (record { top = refl; sources = refl; instances = t.rows; first = first_is_top design t.instances d t.rows t.paths_rise });
       listed = subst (ListsTogglePoints design) (sym t.is) (points_listed design the_dump instance t.sorted all_followed all_there);
       verdicts = subst (λ (x : Db). All (IsScored design the_dump instance) x.points) (sym t.is) (points_scored design the_dump instance t.sorted all_followed);
     }

@@ -1,5 +1,8 @@
 pub mod ListLemmas
 pub mod NameOrder
+pub mod Joined
+pub mod AliasLemmas
+pub mod RowOrder
 pub mod PointOrder
 pub mod TableLemmas
 pub mod ToggleLemmas

@@ -46,6 +46,14 @@ AllPairs-unmap R f xs h =
     λ i j d l m.
     subst (λ y. R (f (get_or xs i d)) y) (get_or-map f xs j d (f d) m) (subst (λ x. R x (get_or (map f xs) j (f d))) (get_or-map f xs i d (f d) (omega arith)) (h i j (f d) l (rw length-map m)))
 
+-- and the other way round
+pub AllPairs-map : {X Y : Type 0} (R : Y → Y → Type 0) (f : X → Y) (xs : List X) → AllPairs (λ x y. R (f x) (f y)) xs → AllPairs R (map f xs)
+AllPairs-map R f [] h = λ i j d l m. absurd (omega (arith, m))
+AllPairs-map R f (x ∷ xs) h =
+    λ i j d l m.
+    let q : j < length (x ∷ xs) = omega (arith, m, length-map xs f) in
+    subst (R (get_or (map f (x ∷ xs)) i d)) (sym (get_or-map f (x ∷ xs) j x d q)) (subst (λ y. R y (f (get_or (x ∷ xs) j x))) (sym (get_or-map f (x ∷ xs) i x d (omega (arith, l, q)))) (h i j x l q))
+
 -- pieces of at most n items
 pub length-flat_map-le : {X Y : Type 0} (f : X → List Y) (n : ℕ) (xs : List X) → All (λ x. length (f x) ≤ n) xs → length (flat_map f xs) ≤ length xs * n
 length-flat_map-le f n [] h = omega arith

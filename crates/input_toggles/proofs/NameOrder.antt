@@ -1,13 +1,13 @@
--- The order of names, and the signals in that order.
+-- The order of names, and items in that order.
 use Rattle.std.proofs.Common.{◌≡◌, ◌≢◌, ℕ, suc, false, List, [], ◌∷◌, get_or, refl, sym, ap, ◌∙◌, arith, add-one}
 use Rattle.std.specs.declared.cmp.Ordering.{Ordering}
 use Rattle.std.specs.declared.cmp.Ordering.TheVariants.{Less, Equal, Greater}
+use Rattle.std.specs.List.{AllPairs}
 use Rattle.std.specs.List.Sorted.{IsPermutation, IsSortedBy}
 use Rattle.std.specs.Ordering.{nat_cmp, is_lt, ordering_then, ordering_reverse}
 use Rattle.std.proofs.lemmas.Cmp.{nat_list_cmp_total, ranked}
 use Rattle.coverage_db.specs.Order.{bytes_cmp}
-use Rattle.input_toggles.specs.Watched.{NamesDiffer, NamesRise}
-use Rattle.input_toggles.specs.declared.watched.Watched.{Watched}
+use Rattle.coverage_db.specs.Table.{Rises}
 use Rattle.input_toggles.proofs.ListLemmas.{AllPairs-permutation, Rises-from_neighbours}
 
 then_equal : (o p : Ordering) → ordering_then o p ≡ Equal → (o ≡ Equal) × (p ≡ Equal)
@@ -34,17 +34,12 @@ not_less xs ys Less e f ne = cc
 not_less xs ys Equal e f ne = absurd (ne (sym (same_bytes ys xs e)))
 not_less xs ys Greater e f ne = nat_list_cmp_total.antisymm xs ys ∙ ap ordering_reverse e
 
--- the order of the signals by their names
-abbrev pub by_name : Watched → Watched → Ordering
-by_name a b = bytes_cmp a.signal.now.name b.signal.now.name
+-- items of different names that are sorted by them stand in rising order
+pub rises_from_sorted : {X : Type 0} (name : X → List ℕ) (xs : List X) → IsSortedBy (λ a b. is_lt (bytes_cmp (name a) (name b))) xs → AllPairs (λ a b. name a ≢ name b) xs → Rises (λ a b. bytes_cmp (name a) (name b)) xs
+rises_from_sorted name xs up differ =
+    Rises-from_neighbours (λ a b. bytes_cmp (name a) (name b)) xs (λ k d l.
+    not_less _ _ (bytes_cmp (name (get_or xs (suc k) d)) (name (get_or xs k d))) refl (rw add-one at (up k d (omega arith) (omega arith))) (differ k (suc k) d (omega arith) l))
 
--- signals of different names that are sorted by them stand in rising order
-pub NamesRise-from_sorted : (ws : List Watched) → IsSortedBy (λ a b. is_lt (by_name a b)) ws → NamesDiffer ws → NamesRise ws
-NamesRise-from_sorted ws up differ =
-    Rises-from_neighbours by_name ws (λ k d l.
-    not_less _ _ (by_name (get_or ws (suc k) d) (get_or ws k d)) refl (rw add-one at (up k d (omega arith) (omega arith))) (differ k (suc k) d (omega arith) l))
-
--- sorting keeps the names apart
-pub NamesDiffer-permutation : (ws vs : List Watched) → IsPermutation ws vs → NamesDiffer ws → NamesDiffer vs
-NamesDiffer-permutation ws vs p h =
-    AllPairs-permutation (λ (a : Watched) (b : Watched). a.signal.now.name ≢ b.signal.now.name) (λ x y ne e. ne (sym e)) ws vs p h
+-- a change of order keeps the names apart
+pub names_stay_apart : {X : Type 0} (name : X → List ℕ) (xs ys : List X) → IsPermutation xs ys → AllPairs (λ a b. name a ≢ name b) xs → AllPairs (λ a b. name a ≢ name b) ys
+names_stay_apart name xs ys p h = AllPairs-permutation (λ a b. name a ≢ name b) (λ x y ne e. ne (sym e)) xs ys p h

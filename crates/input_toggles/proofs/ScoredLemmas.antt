@@ -59,7 +59,7 @@ tells false P h = λ p. false≢true (h.1 p)
 pub record IsFollowed (design : Design) (dump : Dump) (instance : List ℕ) (w : Watched) : Type 0 where
   pub listed : Contains design.signals w.signal.now
   pub input : IsInput w.signal.now
-  pub bound : code_of dump.vars instance w.signal.now ≡ Some w.code
+  pub bound : code_of design dump.vars instance w.signal.now ≡ Some w.code
   pub toggles_are : (place : ℕ) (rise : Bool) → IsTrue (has_toggle w.toggles place rise) ↔ TogglesIn dump.steps w.code place rise
 
 -- what holds of each point of a signal

@@ -1,9 +1,11 @@
 pub mod InputDesign
 pub mod Points
 pub mod Binding
+pub mod Sought
 pub mod Toggling
 pub mod Tracked
 pub mod Watched
+pub mod Rows
 pub mod Scored
 pub mod PointList
 pub mod Scores

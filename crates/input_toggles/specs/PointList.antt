@@ -1,5 +1,5 @@
 -- The table of signals as a whole: their points in the order of the signals, with the verdicts.
-use Rattle.std.specs.Prelude.{◌≡◌, ℕ, min, Bool, true, false, Option, Some, None, if◌then◌else◌, List, [], ◌∷◌}
+use Rattle.std.specs.Prelude.{◌≡◌, ℕ, min, Bool, true, false, Option, Some, None, if◌then◌else◌, List, [], ◌∷◌, map}
 use Rattle.std.specs.List.{flat_map, range_with_len}
 use Rattle.std.specs.List.Sorted.{IsPermutation}
 use Rattle.coverage_db.specs.declared.db.Db.{Db}
@@ -7,8 +7,11 @@ use Rattle.coverage_db.specs.declared.db.DbInstance.{DbInstance}
 use Rattle.coverage_db.specs.declared.db.DbPoint.{DbPoint}
 use Rattle.coverage_db.specs.declared.verdict.DbVerdict.{DbVerdict}
 use Rattle.coverage_db.specs.declared.verdict.DbVerdict.TheVariants.{Hit, Missed}
+use Rattle.design_model.specs.declared.design.Design.{Design}
 use Rattle.design_model.specs.declared.design.Signal.{Signal}
 use Rattle.input_toggles.specs.Points.{place_of, toggle_address}
+use Rattle.input_toggles.specs.Rows.{PathsRise}
+use Rattle.input_toggles.specs.Scored.{row_of}
 use Rattle.input_toggles.specs.Toggling.{has_toggle}
 use Rattle.input_toggles.specs.Watched.{NamesRise}
 use Rattle.input_toggles.specs.declared.watched.Watched.{Watched}
@@ -43,17 +46,16 @@ signal_points w = flat_map (bit_points w) (range_with_len (min w.signal.now.high
 abbrev pub points_of : List Watched → List DbPoint
 points_of watched = flat_map signal_points watched
 
--- the instance of the top module
-abbrev pub top_instance : List ℕ → DbInstance
-top_instance top = record { path = top; «module» = top }
+-- the table of a top module from these sources, with these instances and the points of its signals
+abbrev pub table : List ℕ → List (List ℕ) → List DbInstance → List Watched → Db
+table top sources instances watched = record { top = top; sources = sources; instances = instances; points = points_of watched }
 
--- the table of a top module from these sources, with the points of its signals
-abbrev pub table : List ℕ → List (List ℕ) → List Watched → Db
-table top sources watched = record { top = top; sources = sources; instances = top_instance top ∷ []; points = points_of watched }
-
--- the table of these signals in the order of their names
-pub record IsTableOf (top : List ℕ) (sources : List (List ℕ)) (watched : List Watched) (db : Db) : Type 0 where
+-- the table of a design, with its instances in the order of their paths and these signals in the order of their names
+pub record IsTableOf (design : Design) (sources : List (List ℕ)) (watched : List Watched) (db : Db) : Type 0 where
+  pub instances : List DbInstance
+  pub rows : IsPermutation (map row_of design.instances) instances
+  pub paths_rise : PathsRise instances
   pub sorted : List Watched
   pub permutation : IsPermutation watched sorted
   pub rising : NamesRise sorted
-  pub is : db ≡ table top sources sorted
+  pub is : db ≡ table design.top sources instances sorted

@@ -9,7 +9,7 @@ use Rattle.coverage_db.specs.declared.db.DbInstance.{DbInstance}
 use Rattle.coverage_db.specs.declared.db.DbPoint.{DbPoint}
 use Rattle.coverage_db.specs.declared.verdict.DbVerdict.{DbVerdict}
 use Rattle.coverage_db.specs.declared.verdict.DbVerdict.TheVariants.{Hit, Missed, Undetermined}
-use Rattle.design_model.specs.Design.{no_signal}
+use Rattle.design_model.specs.Design.{no_instance, no_signal}
 use Rattle.design_model.specs.declared.design.Design.{Design}
 use Rattle.design_model.specs.declared.design.Instance.{Instance}
 use Rattle.design_model.specs.declared.design.Signal.{Signal}
@@ -56,11 +56,16 @@ pub record AreSources (sources : List (List ℕ)) : Type 0 where
 abbrev pub row_of : Instance → DbInstance
 row_of i = record { path = i.path; «module» = i.module }
 
--- the table is of the design's top module, of the sources of these names, and of the design's instances
+-- what stands for an instance that a table does not have
+abbrev pub no_row : DbInstance
+no_row = row_of no_instance
+
+-- the table is of the design's top module, of the sources of these names, and of the design's instances, the top's first
 pub record HasHead (design : Design) (names : List (List ℕ)) (db : Db) : Type 0 where
   pub top : db.top ≡ design.top
   pub sources : db.sources ≡ names
   pub instances : IsPermutation (map row_of design.instances) db.instances
+  pub first : (slice_index_or db.instances 0 no_row).path ≡ design.top
 
 -- the addresses of the table are the toggle points of the design
 abbrev pub ListsTogglePoints : Design → Db → Type 0

@@ -22,10 +22,10 @@ pub record FollowsAll (tracks : Tracks) (codes : List ℕ) : Type 0 where
   pub follows : Follows tracks []
   pub tracked : All (IsTracked tracks) codes
 
--- the signals of the design, which is the instance, are bound to these variables, and this was said so far
+-- the signals of the design, of which the instance is the top, are bound to these variables, and this was said so far
 pub record Scores (scorer : Scorer) (design : Design) (vars : List Var) (instance : List ℕ) (entries : List Entry) : Type 0 where
   pub instance_is : list_any (stands_in instance) vars ≡ true
-  pub codes_are : AreCodes vars instance design.signals scorer.codes.items
+  pub codes_are : AreCodes design vars instance design.signals scorer.codes.items
   pub follows : Follows scorer.tracks entries
   pub tracked : All (IsTracked scorer.tracks) scorer.codes.items
   pub based : 2 ≤ count_of entries → All (λ code. IsSome (value_so_far entries code 1)) scorer.codes.items

@@ -4,6 +4,7 @@
 
 mod binding;
 mod fault;
+mod instances;
 mod points;
 mod scorer;
 mod table;

@@ -33,7 +33,7 @@ pub struct Scorer {
 }
 
 impl Scorer {
-    /// Binds the signals of a design, which is the instance, to the variables of a dump.
+    /// Binds the signals of a design, of which the instance is the top, to the variables of a dump.
     pub fn new(
         alloc: Global,
         design: &Design,
@@ -41,9 +41,9 @@ impl Scorer {
         instance: &str,
     ) -> Result<Self, BindFault>
         ensures bound { IfOk result (λ scorer. Scores scorer design.now vars.now instance.now []) }
-        ensures fault { IfErr result (IsBindFault vars.now instance.now design.now.signals) }
+        ensures fault { IfErr result (IsBindFault design.now vars.now instance.now design.now.signals) }
     {
-        let codes = bind(alloc, design.signals.as_slice(), vars, instance)?;
+        let codes = bind(alloc, design, vars, instance)?;
         let tracks = follow(alloc, codes.as_slice())?;
         Ok(Scorer { codes, tracks })
     }
@@ -61,7 +61,7 @@ impl Scorer {
         ensures ok { OnOk result ((design : SpecDesign) (vars : List SpecVar) (instance : List ℕ) (entries : List Entry) → Rises None (entries ++ entry.Time time ∷ [])
             → Scores self.old design vars instance entries → Scores self.new design vars instance (entries ++ entry.Time time ∷ [])) }
         ensures fault { IfErr result (λ fault. (design : SpecDesign) (vars : List SpecVar) (instance : List ℕ) (entries : List Entry)
-            → Scores self.old design vars instance entries → HasNoBaseline vars instance design.signals (entries ++ entry.Time time ∷ []) fault.signal) }
+            → Scores self.old design vars instance entries → HasNoBaseline design vars instance design.signals (entries ++ entry.Time time ∷ []) fault.signal) }
     {
         if self.tracks.is_first && self.tracks.last.is_some() {
             self.check_values()?;
@@ -96,7 +96,7 @@ impl Scorer {
         ensures { IfOk result (IsScoreBy self.now design.now sources) }
     {
         let watched = self.watched(alloc, design.signals.as_slice())?;
-        table_of(alloc, design.top.as_slice(), sources, watched)
+        table_of(alloc, design, sources, watched)
     }
 
     /// The signals with their toggles.

@@ -1,66 +1,53 @@
-ghost use Rattle.std.specs.Prelude.{◌≡◌, [], ◌∷◌, IfOk, OnOk, All};
+ghost use Rattle.std.specs.Prelude.{◌≡◌, ◌≢◌, [], ◌∷◌, IfOk, OnOk, All, AllPairs};
 ghost use Rattle.std.specs.List.Sorted.{IsPermutation};
 ghost use Rattle.input_toggles.specs.InputDesign.{IsInput};
-ghost use Rattle.input_toggles.specs.PointList.{IsTableOf, table, top_instance};
+ghost use Rattle.input_toggles.specs.PointList.{IsTableOf, table};
 ghost use Rattle.input_toggles.specs.Watched.{NamesDiffer, NamesRise};
 
+use crate::instances::rows_of;
 use crate::points::points_of;
 use crate::watched::Watched;
 use cov_host::{Name, NoMemory, Sequence};
 use coverage_db::{Db, DbInstance};
+use design_model::Design;
 use std::alloc::Global;
 
-/// The database of a top module from these sources, with the points of its signals in the order of their names.
+/// The database of a design from these sources, with its instances in the order of their paths and the points of its
+/// signals in the order of their names.
 pub(crate) fn table_of(
     alloc: Global,
-    top: &[u8],
+    design: &Design,
     sources: Sequence<Name>,
     watched: Vec<Watched<'_>>,
 ) -> Result<Db, NoMemory>
     requires inputs { All (λ w. IsInput w.signal.now) watched.items }
     requires names { NamesDiffer watched.items }
-    ensures { IfOk result (IsTableOf top.now sources watched.entry.items) }
+    requires paths { AllPairs (λ a b. a.path ≢ b.path) design.now.instances }
+    ensures { IfOk result (IsTableOf design.now sources watched.entry.items) }
 {
     let mut watched = watched;
     sort_by_name(&mut watched)?;
-    table_in_order(alloc, top, sources, &watched)
+    let instances = rows_of(alloc, design.instances.as_slice())?;
+    table_in_order(alloc, design.top.as_slice(), sources, instances, &watched)
 }
 
-/// The database of a top module from these sources, with the points of its signals as they stand.
+/// The database of a top module from these sources, with these instances and the points of the signals as they stand.
 fn table_in_order(
     alloc: Global,
     top: &[u8],
     sources: Sequence<Name>,
+    instances: Sequence<DbInstance>,
     watched: &[Watched<'_>],
 ) -> Result<Db, NoMemory>
     requires { All (λ w. IsInput w.signal.now) watched.now }
-    ensures { IfOk result (λ db. db ≡ table top.now sources watched.now) }
+    ensures { IfOk result (λ db. db ≡ table top.now sources instances watched.now) }
 {
     Ok(Db {
         top: name_of(alloc, top)?,
         sources,
-        instances: only(alloc, top_instance(alloc, top)?)?,
+        instances,
         points: points_of(alloc, watched)?,
     })
-}
-
-/// The instance of the top module.
-fn top_instance(alloc: Global, top: &[u8]) -> Result<DbInstance, NoMemory>
-    ensures { IfOk result (λ instance. instance ≡ top_instance top.now) }
-{
-    Ok(DbInstance {
-        path: name_of(alloc, top)?,
-        module: name_of(alloc, top)?,
-    })
-}
-
-/// A sequence of one item.
-fn only<T: Drop>(alloc: Global, item: T) -> Result<Sequence<T>, NoMemory>
-    ensures { IfOk result (λ items. items ≡ item ∷ []) }
-{
-    let mut items = Sequence::new(alloc);
-    items.push(item)?;
-    Ok(items)
 }
 
 /// A name with these bytes.

@@ -3,4 +3,4 @@ use Rattle.input_toggles.specs.Binding.{AreCodes}
 use Rattle.input_toggles.proofs.binding.codes_of.Given as goal
 
 abbrev pub invariant-loop-place : goal.invariant-loop-place
-invariant-loop-place l = AreCodes l.vars l.instance (take l.place l.signals) l.codes.items
+invariant-loop-place l = AreCodes l.design l.vars l.instance (take l.place l.design.signals) l.codes.items

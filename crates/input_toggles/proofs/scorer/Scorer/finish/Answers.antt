@@ -21,7 +21,7 @@ table_of-requires-clause-names c = names_of c.args.design.now _ c.requires.desig
 pub returns : goal.returns
 returns c =
     let are = listed (goal.at.returns c).In_ok-watched in
-    let named : IfOk c.table_of.result (IsTableOf c.args.design.now.top c.args.sources c.in_ok-watched.watched.items) = rw c.as_slice-2.ensures at c.table_of.ensures in
-    let step : (db : Db) → IsTableOf c.args.design.now.top c.args.sources c.in_ok-watched.watched.items db → IsScoreBy c.args.self.now c.args.design.now c.args.sources db =
+    let named : IfOk c.table_of.result (IsTableOf c.args.design.now c.args.sources c.in_ok-watched.watched.items) = c.table_of.ensures in
+    let step : (db : Db) → IsTableOf c.args.design.now c.args.sources c.in_ok-watched.watched.items db → IsScoreBy c.args.self.now c.args.design.now c.args.sources db =
     λ db t vars instance entries s up. toggle_table c.args.design.now c.requires.design c.args.self.now _ are vars instance entries s up c.args.sources db t c.requires.sources in
     IfOk-weaker _ _ _ step named
