@@ -1,5 +1,5 @@
 -- What is known where nothing was found: what was met has no fault, so processes can be built.
-use Rattle.std.proofs.Common.{◌≡◌, ◌||◌, Bool, List, [], ◌∷◌, refl, ap, sym, ◌∙◌}
+use Rattle.std.proofs.Common.{◌≡◌, List, [], ◌∷◌, refl, ◌∙◌}
 use Rattle.std.specs.List.{list_any}
 use Rattle.flat_design.specs.Bodies.{Met, met_fault, met_signal, met_words, met_process, met_instance, met_statement, met_writing}
 use Rattle.flat_laws.proofs.Freedom as laws

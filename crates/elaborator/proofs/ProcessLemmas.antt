@@ -1,8 +1,7 @@
 -- A walk goes by a process, whose number alone says what is met with it.
-use Rattle.std.proofs.Common.{◌≡◌, ℕ, ◌+◌, List, Option, Some, Result, Ok, Err, refl, sym, ap, ◌∙◌, subst, length, add-zero}
+use Rattle.std.proofs.Common.{◌≡◌, ℕ, ◌+◌, List, Some, Result, Ok, Err, refl, ap, ◌∙◌, subst, length}
 use Rattle.std.specs.Prelude.{OnOk}
 use Rattle.cov_host.specs.declared.place.Place.{Place}
-use Rattle.design_model.specs.Tree as t
 use Rattle.design_model.specs.View.{design_view, process_view}
 use Rattle.design_model.specs.declared.design.Design.{Design}
 use Rattle.design_model.specs.declared.tree.Process.{Process}

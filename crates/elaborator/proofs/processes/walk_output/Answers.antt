@@ -1,4 +1,4 @@
-use Rattle.std.proofs.Common.{◌≡◌, refl, arith}
+use Rattle.std.proofs.Common.{refl, arith}
 use Rattle.verilog_tree.specs.View.{expr_view}
 use Rattle.flat_design.specs.Processes.{joined_output}
 use Rattle.flat_design.specs.Scope.{binding_of}
