@@ -1,0 +1,45 @@
+-- A name that is a target without a fault.
+use Rattle.std.proofs.Common.{◌≡◌, true, false, Option, Some, None, refl}
+use Rattle.verilog_tree.specs.Tree.{Expr, identifier}
+use Rattle.verilog_tree.specs.declared.item.Named.{Named}
+use Rattle.flat_design.specs.Fault.{none}
+use Rattle.flat_design.specs.Scope.{Scope, is_faulty_entry, look_up, range_width, shape}
+use Rattle.flat_design.specs.Targets.{leaf_faults}
+use Rattle.flat_design.specs.declared.entry.Entry.{Entry}
+use Rattle.flat_design.specs.declared.entry.Entry.TheVariants.{Constant, Turn, Signal, Memory, LoopVariable, Instance, NoConstant, Faulty}
+use Rattle.flat_design.specs.declared.entry.Mode.{Mode}
+use Rattle.flat_design.specs.declared.entry.Mode.TheVariants.{Continuous, Combinational, Clocked}
+use Rattle.flat_design.specs.declared.entry.SignalEntry.{SignalEntry}
+use Rattle.elab_build.specs.Sound.{IsClear, IsSoundTarget}
+
+module _ (g : Scope) (x : Named) where
+  -- the name as a target
+  abbrev here : Expr
+  here = identifier x.place x.name
+
+  -- what stands for a signal
+  abbrev IsSignal : Option Entry → Type 0
+  IsSignal o = (s : SignalEntry) × (o ≡ Some (Signal s))
+
+  stands : (mode : Mode) (o : Option Entry) → look_up g x.name ≡ o → none (leaf_faults g mode o here) ≡ true → is_faulty_entry o ≡ false → IsSignal o
+  stands mode None is f c = absurd cc
+  stands mode (Some (Constant v)) is f c = absurd cc
+  stands mode (Some (Turn v)) is f c = absurd cc
+  stands mode (Some (Signal s)) is f c = (s, refl)
+  stands Continuous (Some (Memory m)) is f c = absurd cc
+  stands Combinational (Some (Memory m)) is f c = absurd cc
+  stands Clocked (Some (Memory m)) is f c =
+      let used = rw is at f in
+      absurd cc
+  stands mode (Some LoopVariable) is f c = absurd cc
+  stands mode (Some Instance) is f c = absurd cc
+  stands mode (Some NoConstant) is f c = absurd cc
+  stands mode (Some Faulty) is f c = absurd cc
+
+  -- it stands for a signal
+  pub sound_net : IsClear g → IsSoundTarget g here → (s : SignalEntry) × (look_up g x.name ≡ Some (Signal s))
+  sound_net clear (mode, f) = stands mode (look_up g x.name) refl f (clear x.name)
+
+  -- as wide as that is
+  pub net_width : (s : SignalEntry) → look_up g x.name ≡ Some (Signal s) → (shape g here).width ≡ range_width s.range
+  net_width s is = rw is refl
