@@ -2,3 +2,5 @@ pub mod ModuleLemmas
 pub mod WalkLemmas
 pub mod StepLemmas
 pub mod InstanceLemmas
+pub mod FreeLemmas
+pub mod ProcessLemmas

@@ -1,6 +1,8 @@
 //! From modules to one flat design (IEEE 1364-2001 clause 12).
 #![tactic(auto)]
 
+mod ground;
 mod modules;
 mod opening;
+mod processes;
 mod walk;

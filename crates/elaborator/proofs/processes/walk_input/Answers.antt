@@ -1,0 +1,36 @@
+use Rattle.std.proofs.Common.{◌≡◌, refl, arith}
+use Rattle.verilog_tree.specs.View.{expr_view}
+use Rattle.flat_design.specs.Processes.{joined_input}
+use Rattle.flat_design.specs.Scope.{binding_of}
+use Rattle.elab_scope.specs.View.{name_view}
+use Rattle.elab_bodies.proofs.SoundOfMet.{sound_joined_input}
+use Rattle.elaborator.proofs.ProcessLemmas.{adds_process, input_numbered, passes_process, still_clear}
+use Rattle.elaborator.proofs.processes.walk_input.Goals as goal
+
+pub joined_input_process-requires : goal.joined_input_process-requires
+joined_input_process-requires c =
+    let g = binding_of c.args.scope.now in
+    let label = name_view c.args.label in
+    let e = expr_view c.args.value.now in
+    let k = c.counts-number.result.processes in
+    let known = still_clear (joined_input 0 g 0 k c.args.place label c.args.port e).met c.in_ok-check_joined_input.ensures (c.builds.ensures.clean c.if-not-builds.false) c.requires.clear in
+    record { base = c.requires.base; port = c.requires.port; sound = sound_joined_input 0 g 0 k c.args.place label c.args.port e known.0 known.1 }
+
+pub returns-then-not-builds : goal.returns-then-not-builds
+returns-then-not-builds c =
+    let g = binding_of c.args.scope.now in
+    let label = name_view c.args.label in
+    let e = expr_view c.args.value.now in
+    passes_process c.check_joined_input.new.tally c.counts-number.result 0 0 (λ b i k l n. joined_input b g i k c.args.place label c.args.port e) (input_numbered g c.args.place label c.args.port e)
+    c.counts-number.ensures.counts c.in_ok-check_joined_input.ensures (c.builds.ensures.not c.if-not-builds.true)
+
+pub returns : goal.returns
+returns c =
+    let g = binding_of c.args.scope.now in
+    let label = name_view c.args.label in
+    let e = expr_view c.args.value.now in
+    adds_process c.add.result c.args.ground.base c.args.walk.now c.add.new.self c.check_joined_input.new.tally c.args.numbers c.args.numbers c.counts-number.result 0 0 (λ b i k l n. joined_input b g i k c.args.place label c.args.port e) c.in_ok-process.process (input_numbered g c.args.place label c.args.port e)
+    c.counts-number.ensures.counts c.in_ok-check_joined_input.ensures
+    (c.in_ok-process.ensures c.counts-number.result.processes c.args.place label)
+    (refl, omega arith, omega arith)
+    c.add.ensures.tally c.add.ensures.memories c.add.ensures.draft
