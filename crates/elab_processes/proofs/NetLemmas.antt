@@ -40,21 +40,17 @@ module _ (g : Scope) (x : Named) where
   abbrev here : Expr
   here = identifier x.place x.name
 
-  -- a net that is driven has no fault as a target
-  pub no_faults : (s : SignalEntry) → look_up g x.name ≡ Some (Signal s) → (s.input || not s.net) ≡ false → target_faults g Continuous here ≡ []
-  no_faults s is open' = rw (is, open') refl
-
-  -- all its bits are written
+  -- all bits of a net that is driven are written
   pub net_writes : (k : ℕ) (s : SignalEntry) → driven_net (look_up g x.name) ≡ Some s → met_writings g Continuous true true k here ≡ met_writing (whole_writing k x s) ∷ []
   net_writes k s driven =
       let is = is_driven (look_up g x.name) s driven in
-      rw (is.entry, is.open') refl
+      rw (is.entry, is.open', is.entry) refl
 
   -- and its reads are those of its value
   pub net_reads : (v : Expr) (s : SignalEntry) → driven_net (look_up g x.name) ≡ Some s → self_faults g here v ≡ value_reads g (whole_writing 0 x s) v
   net_reads v s driven =
       let is = is_driven (look_up g x.name) s driven in
-      rw (is.entry, is.open') refl
+      rw (is.entry, is.open', is.entry) refl
 
   -- what is no net to drive has a fault as a target, or its declaration has
   no_target : (o : Option Entry) → look_up g x.name ≡ o → driven_net o ≡ None → (none (target_faults g Continuous here) && not (names_faulty g here)) ≡ false
