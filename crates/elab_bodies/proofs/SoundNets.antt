@@ -1,10 +1,14 @@
 -- A name that is a target without a fault.
-use Rattle.std.proofs.Common.{◌≡◌, true, false, Option, Some, None, refl}
+use Rattle.std.proofs.Common.{◌≡◌, ℕ, ◌+◌, true, false, Option, Some, None, refl, add-zero}
+use Rattle.cov_host.specs.declared.place.Place.{Place}
+use Rattle.design_model.specs.Tree.{all_of, assign}
 use Rattle.verilog_tree.specs.Tree.{Expr, identifier}
 use Rattle.verilog_tree.specs.declared.item.Named.{Named}
 use Rattle.flat_design.specs.Fault.{none}
-use Rattle.flat_design.specs.Scope.{Scope, is_faulty_entry, look_up, range_width, shape}
+use Rattle.flat_design.specs.Processes.{continuous, is_signal_entry}
+use Rattle.flat_design.specs.Scope.{Scope, is_faulty_entry, look_up, range_width}
 use Rattle.flat_design.specs.Targets.{leaf_faults}
+use Rattle.flat_design.specs.Terms.{right_side}
 use Rattle.flat_design.specs.declared.entry.Entry.{Entry}
 use Rattle.flat_design.specs.declared.entry.Entry.TheVariants.{Constant, Turn, Signal, Memory, LoopVariable, Instance, NoConstant, Faulty}
 use Rattle.flat_design.specs.declared.entry.Mode.{Mode}
@@ -17,15 +21,11 @@ module _ (g : Scope) (x : Named) where
   abbrev here : Expr
   here = identifier x.place x.name
 
-  -- what stands for a signal
-  abbrev IsSignal : Option Entry → Type 0
-  IsSignal o = (s : SignalEntry) × (o ≡ Some (Signal s))
-
-  stands : (mode : Mode) (o : Option Entry) → look_up g x.name ≡ o → none (leaf_faults g mode o here) ≡ true → is_faulty_entry o ≡ false → IsSignal o
+  stands : (mode : Mode) (o : Option Entry) → look_up g x.name ≡ o → none (leaf_faults g mode o here) ≡ true → is_faulty_entry o ≡ false → is_signal_entry o ≡ true
   stands mode None is f c = absurd cc
   stands mode (Some (Constant v)) is f c = absurd cc
   stands mode (Some (Turn v)) is f c = absurd cc
-  stands mode (Some (Signal s)) is f c = (s, refl)
+  stands mode (Some (Signal s)) is f c = refl
   stands Continuous (Some (Memory m)) is f c = absurd cc
   stands Combinational (Some (Memory m)) is f c = absurd cc
   stands Clocked (Some (Memory m)) is f c =
@@ -37,9 +37,10 @@ module _ (g : Scope) (x : Named) where
   stands mode (Some Faulty) is f c = absurd cc
 
   -- it stands for a signal
-  pub sound_net : IsClear g → IsSoundTarget g here → (s : SignalEntry) × (look_up g x.name ≡ Some (Signal s))
+  pub sound_net : IsClear g → IsSoundTarget g here → is_signal_entry (look_up g x.name) ≡ true
   sound_net clear (mode, f) = stands mode (look_up g x.name) refl f (clear x.name)
 
-  -- as wide as that is
-  pub net_width : (s : SignalEntry) → look_up g x.name ≡ Some (Signal s) → (shape g here).width ≡ range_width s.range
-  net_width s is = rw is refl
+  -- and its process assigns that
+  pub net_process_is : (base i k n : ℕ) (p : Place) (v : Expr) (s : SignalEntry) → look_up g x.name ≡ Some (Signal s) →
+      (continuous base g i k p here v n).process ≡ assign i (all_of s.number) (right_side base g (range_width s.range) v n) true
+  net_process_is base i k n p v s is = rw (is, add-zero) refl

@@ -1,6 +1,6 @@
 //! The processes of nets that are declared with a value (IEEE 1364-2001 clause 6.1.1).
 
-ghost use Rattle.std.specs.Prelude.{◌≡◌, ◌≤◌, ◌+◌, ℕ, Some, IfOk, OnOk};
+ghost use Rattle.std.specs.Prelude.{◌≡◌, ◌≤◌, ◌+◌, ℕ, true, Some, IfOk, OnOk};
 ghost use Rattle.cov_host.specs.declared.place.Place.{Place};
 ghost use Rattle.design_model.specs.View.{process_view};
 ghost use Rattle.elab_build.specs.Sound.{IsClear, IsSound, IsSoundTarget};
@@ -49,10 +49,9 @@ pub fn net_process(
     })
 }
 
-/// The signal that a name without a fault as a target stands for.
+/// The signal that a name stands for.
 fn net_of(scope: &Scope, name: &Named) -> SignalEntry
-    requires clear { IsClear (binding_of scope.now) }
-    requires to { IsSoundTarget (binding_of scope.now) (identifier name.now.place name.now.name) }
+    requires { spec.is_signal_entry (look_up (binding_of scope.now) name.now.name) ≡ true }
     ensures entry { look_up (binding_of scope.now) name.now.name ≡ Some (Signal result) }
     ensures range { IsVectorRange result.range }
 {
