@@ -2,11 +2,13 @@
 #![tactic(auto)]
 
 mod forms;
+mod nets;
 mod numbers;
 mod processes;
 mod statements;
 mod uncounted;
 
+pub use nets::net_process;
 pub use numbers::{pass_lines, pass_statement_nodes};
 pub use processes::{
     always_process, continuous_process, joined_input_process, joined_output_process,

@@ -189,7 +189,7 @@ fn signal_number(scope: &Scope, name: &Named) -> Option<u32>
 }
 
 /// How many bits a signal has.
-fn signal_width(signal: SignalEntry) -> u8
+pub(crate) fn signal_width(signal: SignalEntry) -> u8
     requires { IsVectorRange signal.range }
     ensures { result ≡ range_width signal.range }
 {
@@ -197,7 +197,7 @@ fn signal_width(signal: SignalEntry) -> u8
 }
 
 /// A whole signal as a target.
-fn whole(signal: u32) -> Target
+pub(crate) fn whole(signal: u32) -> Target
     ensures { target_view result ≡ t.all_of signal }
 {
     Target::Whole(signal)

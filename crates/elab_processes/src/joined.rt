@@ -3,7 +3,7 @@
 ghost use Rattle.std.specs.Prelude.{◌≡◌, OnOk};
 ghost use Rattle.elab_scope.specs.Entries.{IsVectorRange};
 ghost use Rattle.elab_scope.specs.Tally.{after_all};
-ghost use Rattle.elab_scope.specs.View.{name_view};
+ghost use Rattle.elab_scope.specs.View.{IsWithin, name_view, writing_view};
 ghost use Rattle.flat_design.specs.Processes as spec;
 ghost use Rattle.flat_design.specs.Scope.{binding_of};
 ghost use Rattle.verilog_tree.specs.View.{expr_view};
@@ -31,15 +31,7 @@ pub fn check_joined_input<'a>(
 {
     tally.process(place);
     let _ = check(scope, value, tally);
-    tally.writing(Written {
-        name: label,
-        thing: Thing::Signal(signal.number),
-        low: 0,
-        count: span(range_or(signal.range)),
-        blocking: true,
-        continuous: true,
-        process,
-    })
+    tally.writing(whole(label, signal, process))
 }
 
 /// Tells what is met where a target is assigned the signal of an output port, by the process with this number.
@@ -62,4 +54,21 @@ pub fn check_joined_output<'a>(
         process,
     };
     push_writings(alloc, scope, Mode::Continuous, writer, value, sound, tally)
+}
+
+/// All bits of a signal, driven by the process with this number. They are told by its label.
+pub(crate) fn whole<'a>(label: NameAt<'a>, signal: SignalEntry, process: u32) -> Written<'a>
+    requires { IsVectorRange signal.range }
+    ensures value { writing_view result ≡ spec.whole_writing process (name_view label.entry) signal }
+    ensures within { IsWithin result }
+{
+    Written {
+        name: label,
+        thing: Thing::Signal(signal.number),
+        low: 0,
+        count: span(range_or(signal.range)),
+        blocking: true,
+        continuous: true,
+        process,
+    }
 }

@@ -3,6 +3,7 @@
 
 mod ground;
 mod modules;
+mod nets;
 mod opening;
 mod processes;
 mod walk;
