@@ -1,0 +1,3 @@
+pub mod InputDesign
+pub mod InputsAlone
+pub mod Named
