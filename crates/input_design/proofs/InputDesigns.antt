@@ -44,6 +44,7 @@ from_starts base ms top named (Some m) is free =
       first = ap (λ xs. (slice_index_or xs 0 no_instance).path) opened.whole;
     }
 
+-- a list without images is empty
 nil_of_map : {A B : Type 0} (f : A → B) (xs : List A) → map f xs ≡ [] → xs ≡ []
 nil_of_map f [] e = refl
 nil_of_map f (x ∷ xs) e = absurd cc
@@ -56,10 +57,12 @@ distinct_pairs f (x ∷ xs) h zero (suc j) d less short = λ e. h.0 (subst (λ z
 distinct_pairs f (x ∷ xs) h (suc i) zero d less short = absurd (omega arith)
 distinct_pairs f (x ∷ xs) h (suc i) (suc j) d less short = distinct_pairs f xs h.1 i j d (omega arith) (omega arith)
 
+-- nor does an element of the front of a list stand twice in it
 distinct_left : {A : Type 0} (xs ys : List A) → AreDistinct (xs ++ ys) → AreDistinct xs
 distinct_left [] ys h = tt
 distinct_left (x ∷ xs) ys h = (λ k. h.0 (in_left x xs ys k), distinct_left xs ys h.1)
 
+-- a signal without range has no bounds
 no_bounds : (s : Signal) → (s.ranged || ((s.high == 0) && (s.low == 0))) ≡ true → OnFalse s.ranged ((s.high ≡ 0) × (s.low ≡ 0))
 no_bounds s h = by_range s.ranged h
   where
@@ -88,6 +91,7 @@ input_of d s lawful standing input =
       at_most = leb-true s.width 128 most.1;
     }
 
+-- an instance at or below the top
 instance_below : (top : List ℕ) (x : Instance) → IsPlaced top x → IsInstanceBelow top x
 instance_below top x h = record { path = h.place.form; below = under_below top x.path h.place.under; of_module = h.of_module }
 

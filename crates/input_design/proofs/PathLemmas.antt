@@ -15,16 +15,19 @@ use Rattle.flat_laws.proofs.LawfulCounts.{all_append}
 use Rattle.flat_laws.proofs.LawfulScope.{bytes_same}
 use Rattle.input_design.specs.InputDesign.{is_below}
 
--- the parts on both sides of a dot
-split_at_dot : (xs ys : List ℕ) → slice_split (λ byte. byte == 46) (xs ++ 46 ∷ ys) ≡ slice_split (λ byte. byte == 46) xs ++ slice_split (λ byte. byte == 46) ys
-split_at_dot [] ys = refl
-split_at_dot (x ∷ xs) ys =
-    ap (λ parts. cond (x == 46) ([] ∷ parts) (onto_first x parts)) (split_at_dot xs ys) ∙ by_test (x == 46) (slice_split (λ byte. byte == 46) xs) _ (length-slice_split (λ byte. byte == 46) xs)
+-- the names in a path
+abbrev parts : List ℕ → List (List ℕ)
+parts path = slice_split (λ byte. byte == 46) path
+
+-- those on both sides of a dot
+parts_at_dot : (xs ys : List ℕ) → parts (dotted xs ys) ≡ parts xs ++ parts ys
+parts_at_dot [] ys = refl
+parts_at_dot (x ∷ xs) ys = ap (λ ps. cond (x == 46) ([] ∷ ps) (onto_first x ps)) (parts_at_dot xs ys) ∙ by_test (x == 46) (parts xs) _ (length-slice_split (λ byte. byte == 46) xs)
   where
-    by_test : (b : Bool) (parts : List (List ℕ)) (n : ℕ) → length parts ≡ n + 1 → cond b ([] ∷ (parts ++ slice_split (λ byte. byte == 46) ys)) (onto_first x (parts ++ slice_split (λ byte. byte == 46) ys)) ≡ cond b ([] ∷ parts) (onto_first x parts) ++ slice_split (λ byte. byte == 46) ys
-    by_test true parts n e = refl
+    by_test : (b : Bool) (ps : List (List ℕ)) (n : ℕ) → length ps ≡ n + 1 → cond b ([] ∷ (ps ++ parts ys)) (onto_first x (ps ++ parts ys)) ≡ cond b ([] ∷ ps) (onto_first x ps) ++ parts ys
+    by_test true ps n e = refl
     by_test false [] n e = absurd (omega arith)
-    by_test false (part ∷ parts) n e = refl
+    by_test false (part ∷ ps) n e = refl
 
 -- an identifier is a path
 pub name_is_path : (name : List ℕ) → is_identifier name ≡ true → is_path name ≡ true
@@ -32,7 +35,7 @@ name_is_path name h = ap (list_all is_identifier) (pieces_one 46 name (name_lack
 
 -- a path with a dot and an identifier behind is a path
 pub dotted_is_path : (path name : List ℕ) → is_path path ≡ true → is_identifier name ≡ true → is_path (dotted path name) ≡ true
-dotted_is_path path name p h = ap (list_all is_identifier) (split_at_dot path name) ∙ all_append is_identifier (slice_split (λ byte. byte == 46) path) (slice_split (λ byte. byte == 46) name) p (name_is_path name h)
+dotted_is_path path name p h = ap (list_all is_identifier) (parts_at_dot path name) ∙ all_append is_identifier (parts path) (parts name) p (name_is_path name h)
 
 -- the path is this one, or goes on behind a dot
 abbrev pub IsUnder : List ℕ → List ℕ → Type 0
@@ -43,6 +46,7 @@ pub dotted_under : (top path name : List ℕ) → IsUnder top path → IsUnder t
 dotted_under top path name (inl e) = inr (name, ap (λ z. dotted z name) e)
 dotted_under top path name (inr k) = inr (dotted k.0 name, ap (λ z. dotted z name) k.1 ∙ append_assoc top (46 ∷ k.0) (46 ∷ name))
 
+-- what goes on behind a dot is below
 dotted_below : (top rest : List ℕ) → is_below top (dotted top rest) ≡ true
 dotted_below top rest =
     let longer : nat_lt (length top) (length (dotted top rest)) ≡ true = lt-ltb (length top) (length (dotted top rest)) (omega (arith, length-append top (46 ∷ rest))) in

@@ -53,6 +53,7 @@ record IsNext (ms : List Module) (top : List ℕ) (i : Instantiation) (st : Sofa
   place : IsPlace top i.path
   top_first : i.is_top ≡ true → length st.design.instances ≡ 0
 
+-- what an instance declares as a signal of its own
 own_standing : (ms : List Module) (top : List ℕ) → AreNamed ms → (i : Instantiation) (st : Sofar) → IsFree (opening_met i) → IsNext ms top i st → (d : Declaration) → In d (declared i.overrides i.of_module) → is_own i.aliases i.of_module d ≡ true → HasStanding (signal_of (length st.design.instances) i.is_top d)
 own_standing ms top named i st free next d d_in own =
     let bounds = signal_bounded i (opening_parts i free).2 d d_in (and_parts (is_signal i.of_module d) _ own).0 in
@@ -62,6 +63,7 @@ own_standing ms top named i st free next d d_in own =
       of_top = λ h. next.top_first (and_parts i.is_top (is_input d) h).0;
     }
 
+-- the step that opens an instance
 standing_opened : (ms : List Module) (top : List ℕ) → AreNamed ms → (i : Instantiation) (st : Sofar) → IsFree (opening_met i) → IsNext ms top i st → AreStanding top st.design → AreStanding top (opened i st).design
 standing_opened ms top named i st free next h = record {
   top_is = h.top_is;
@@ -92,6 +94,7 @@ one_named : (m : Module) (x : Item) (k : InstanceItem) (o : One) → In x m.item
 one_named m x k o x_in form o_in =
     in_right o.name (map (λ p. p.name) m.params) _ (in_flat_map_back (λ (i : Item). declared_names i.form) x m.items o.name x_in (subst (λ f. In o.name (declared_names f)) (sym form) (in_map_back (λ (p : One). p.name) o k.ones o_in)))
 
+-- an instance below one that was opened
 next_below : (base : ℕ) (ms : List Module) (top : List ℕ) → AreNamed ms → (depth : ℕ) (i : Instantiation) (before st : Sofar) → Here (λ depth. IsNext ms top) depth i before st → (x : Item) (k : InstanceItem) (m : Module) (o : One) → IsBelow base ms i before x k m o → IsNext ms top (inner_of (context base i before) x.place k m o) st
 next_below base ms top named depth i before st here x k m o under =
     let name : is_identifier o.name.name ≡ true = named.names i.of_module here.known.module_in o.name (one_named i.of_module x k o under.item_in under.form under.one_in) in
@@ -119,6 +122,7 @@ pub top_named : (ms : List Module) (top : List ℕ) (m : Module) → AreNamed ms
 top_named ms top m named found =
     subst (λ z. is_identifier z ≡ true) (same_bytes m.name.name top (found_passes (λ z. bytes_eq z.name.name top) ms m found)) (named.modules m (found_in (λ z. bytes_eq z.name.name top) ms m found))
 
+-- and so in the whole design
 pub answered_standing : (ms : List Module) (top : List ℕ) → AreNamed ms → IsSound ms top → AreStanding top (elaborated ms top).design
 answered_standing ms top named sound =
     answered_keeps ms top (λ st. AreStanding top st.design) (λ depth. IsNext ms top) (standing_steps (base_of ms top) ms top named)
