@@ -21,9 +21,9 @@ use Rattle.flat_laws.proofs.LawfulNames.{in_map_back}
 use Rattle.flat_laws.proofs.LawfulPaths.{nth_in}
 use Rattle.flat_laws.proofs.Members.{in_left, member_passes}
 use Rattle.flat_laws.proofs.Steps.{instance_opens}
+use Rattle.input_toggles.specs.InputDesign.{IsInput, IsInputDesign, IsInstanceBelow}
 use Rattle.input_design.proofs.PathLemmas.{under_below}
 use Rattle.input_design.proofs.Standing.{AreStanding, HasStanding, IsPlaced, answered_standing, top_named}
-use Rattle.input_design.specs.InputDesign.{IsInput, IsInputDesign, IsInstanceBelow}
 use Rattle.input_design.specs.InputsAlone.{HasInputsAlone}
 use Rattle.input_design.specs.Named.{AreNamed}
 

@@ -13,7 +13,7 @@ use Rattle.coverage_db.proofs.Splitting.{pieces_one}
 use Rattle.flat_design.specs.Instances.{dotted}
 use Rattle.flat_laws.proofs.LawfulCounts.{all_append}
 use Rattle.flat_laws.proofs.LawfulScope.{bytes_same}
-use Rattle.input_design.specs.InputDesign.{is_below}
+use Rattle.input_toggles.specs.Binding.{is_below}
 
 -- the names in a path
 abbrev parts : List ℕ → List (List ℕ)

@@ -1,3 +1,2 @@
-pub mod InputDesign
 pub mod InputsAlone
 pub mod Named

@@ -4,7 +4,7 @@ ghost use Rattle.design_model.specs.declared.design.Design.{Design as CodeDesign
 ghost use Rattle.verilog_tree.specs.Tree.{Module};
 ghost use Rattle.flat_design.specs.Faults.{answer};
 ghost use Rattle.flat_laws.specs.Tokens.{AreOfTokens};
-ghost use Rattle.input_design.specs.InputDesign.{IsInputDesign};
+ghost use Rattle.input_toggles.specs.InputDesign.{IsInputDesign};
 ghost use Rattle.input_design.specs.InputsAlone.{HasInputsAlone};
 ghost use Rattle.input_design.specs.Named.{AreNamed};
 
