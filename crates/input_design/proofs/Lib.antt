@@ -1,0 +1,5 @@
+pub mod InputsAlone
+pub mod PathLemmas
+pub mod OwnBounds
+pub mod Standing
+pub mod InputDesigns

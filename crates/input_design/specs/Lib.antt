@@ -1,0 +1,2 @@
+pub mod InputsAlone
+pub mod Named
