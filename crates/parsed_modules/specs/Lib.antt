@@ -1,0 +1,4 @@
+pub mod Literals
+pub mod Tokens
+pub mod Named
+pub mod Spelled
