@@ -1,10 +1,12 @@
 -- What holds of the items that tokens spell: names, literals, and blocking assignments where there are no edges.
-use Rattle.std.proofs.Common.{◌≡◌, Bool, true, false, List, [], ◌∷◌, ◌++◌, map, Option, Some, None, refl}
+use Rattle.std.proofs.Common.{◌≡◌, Bool, true, false, List, [], ◌∷◌, ◌++◌, map, Option, Some, None, subst}
 use Rattle.std.specs.Prelude.{flat_map}
 use Rattle.cov_host.specs.declared.place.Place.{Place}
 use Rattle.four_state.specs.Vector.{HasWidth}
+use Rattle.design_model.specs.Design.{In}
 use Rattle.verilog_tree.specs.declared.item.Named.{Named}
-use Rattle.verilog_tree.specs.Tree.{Expr, Statement, Param, Declared, Given, One, ItemForm, always_item, Item}
+use Rattle.verilog_tree.specs.declared.item.When.{When}
+use Rattle.verilog_tree.specs.Tree.{Expr, Statement, Param, Declared, Given, One, InstanceItem, ItemForm, always_item, instance_item, Item}
 use Rattle.grammar_rules.specs.Rule.{nest}
 use Rattle.grammar_rules.proofs.Holds.{AllOf}
 use Rattle.verilog_grammar.specs.declared.body.Body.{Body}
@@ -18,7 +20,7 @@ use Rattle.parsed_modules.specs.Literals.{literals, body_literals, option_litera
 use Rattle.parsed_modules.specs.Tokens.{has_edges, is_blocking}
 use Rattle.parsed_modules.proofs.TokensHold.{Spelling, IfSome, Gives, any_gives, both_give, first_gives, second_gives, either_gives, made_gives, empty_gives, many_gives}
 use Rattle.parsed_modules.proofs.Parts.{after_gives, before_gives, optional_gives, listed_gives}
-use Rattle.parsed_modules.proofs.Lists.{all_append, all_map, all_flat_map}
+use Rattle.parsed_modules.proofs.Lists.{all_append, all_map, all_made, all_flat_map, all_in}
 use Rattle.parsed_modules.proofs.Names.{IsNameToken, IsName, name_gives}
 use Rattle.parsed_modules.proofs.Expressions.{HaveWidths, IsSized, two_sized}
 use Rattle.parsed_modules.proofs.Statements.{IsIn}
@@ -34,12 +36,17 @@ pub record IsSoundItem (i : Item) : Type 0 where
   pub literals : HaveWidths (item_literals i.form)
   pub quiet : IsQuietForm i.form
 
+-- each instance that it declares has an identifier for its name
+pub instance_name : (i : Item) → IsSoundItem i → (k : InstanceItem) → i.form ≡ instance_item k → (o : One) → In o k.ones → IsName o.name
+instance_name i h k e o j =
+    let names : AllOf IsName (declared_names (instance_item k)) = subst (λ f. AllOf IsName (declared_names f)) e h.names in
+    all_in (λ x. IsName x.name) k.ones (all_made IsName (λ x. x.name) k.ones names) o j
+
+pub process_quiet : (i : Item) → IsSoundItem i → (w : When) (s : Statement) → i.form ≡ always_item w s → has_edges w ≡ false → is_blocking s ≡ true
+process_quiet i h w s e no_edges = subst (λ f. IsQuietForm f) e h.quiet no_edges
+
 abbrev pub AreSoundItems : List Item → Type 0
 AreSoundItems items = AllOf IsSoundItem items
-
--- an item without literals that is no process
-plain_item : (i : Item) → AllOf IsName (declared_names i.form) → item_literals i.form ≡ [] → IsQuietForm i.form → IsSoundItem i
-plain_item i h e q = record { names = h; literals = rw e tt; quiet = q }
 
 -- ---- ports
 

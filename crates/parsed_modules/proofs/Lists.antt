@@ -13,6 +13,11 @@ pub all_map : {A B : Type 0} (P : A → Type 0) (Q : B → Type 0) (f : A → B)
 all_map P Q f step [] h = tt
 all_map P Q f step (x ∷ xs) h = (step x h.0, all_map P Q f step xs h.1)
 
+-- so are those of which it makes such
+pub all_made : {A B : Type 0} (Q : B → Type 0) (f : A → B) (xs : List A) → AllOf Q (map f xs) → AllOf (λ x. Q (f x)) xs
+all_made Q f [] h = tt
+all_made Q f (x ∷ xs) h = (h.0, all_made Q f xs h.1)
+
 pub all_flat_map : {A B : Type 0} (P : A → Type 0) (Q : B → Type 0) (f : A → List B) → ((x : A) → P x → AllOf Q (f x)) → (xs : List A) → AllOf P xs → AllOf Q (flat_map f xs)
 all_flat_map P Q f step [] h = tt
 all_flat_map P Q f step (x ∷ xs) h = all_append Q (f x) (flat_map f xs) (step x h.0) (all_flat_map P Q f step xs h.1)

@@ -23,10 +23,10 @@ use Rattle.parsed_modules.specs.Tokens.{AreOfTokens}
 use Rattle.parsed_modules.proofs.TokensHold.{Spelling, leaves, Gives, both_give, made_gives, many_gives}
 use Rattle.parsed_modules.proofs.Parts.{after_gives, before_gives}
 use Rattle.parsed_modules.proofs.Lists.{all_append, all_map, all_flat_map, all_in}
-use Rattle.parsed_modules.proofs.Names.{IsNameToken, IsName, name_gives, sound_names}
+use Rattle.parsed_modules.proofs.Names.{IsNameToken, IsName, name_gives, sound_names, identifier_has_no_dot, identifier_not_empty}
 use Rattle.parsed_modules.proofs.Expressions.{HaveWidths, IsSized, two_sized, expr_gives, level_gives, target_gives}
 use Rattle.parsed_modules.proofs.Statements.{IsIn, statement_gives}
-use Rattle.parsed_modules.proofs.Items.{IsSoundItem, AreSoundItems, IsSoundParam, header_ports_give, header_params_give, items_give}
+use Rattle.parsed_modules.proofs.Items.{IsSoundItem, instance_name, process_quiet, AreSoundItems, IsSoundParam, header_ports_give, header_params_give, items_give}
 
 -- ---- each depth
 
@@ -95,3 +95,17 @@ named_modules tokens ms h s = record {
   modules = λ m k. (all_in IsSoundModule ms (sound_modules tokens ms h s) m k).name;
   names = λ m k x j. all_in IsName (names_of m) (names_sound m (all_in IsSoundModule ms (sound_modules tokens ms h s) m k)) x j;
 }
+
+pub modules_of_tokens : (tokens : List Lexeme) (ms : List Module) → AreSound [] tokens → AreModules tokens ms → AreOfTokens ms
+modules_of_tokens tokens ms h s = record {
+  modules = λ m k. identifier_has_no_dot m.name.name (sound m k).name;
+  instances = λ m k x j f e o l. identifier_has_no_dot o.name.name (instance_name x (item m k x j) f e o l);
+  names = λ m k x j. identifier_not_empty x.name (all_in IsName (names_of m) (names_sound m (sound m k)) x j);
+  blocking = λ m k x j w b e. process_quiet x (item m k x j) w b e;
+  literals = λ m k v j. all_in HasWidth (literals_of m) (literals_sound m (sound m k)) v j;
+}
+  where
+    sound : (m : Module) → In m ms → IsSoundModule m
+    sound m k = all_in IsSoundModule ms (sound_modules tokens ms h s) m k
+    item : (m : Module) → In m ms → (x : Item) → In x m.items → IsSoundItem x
+    item m k x j = all_in IsSoundItem m.items (sound m k).items x j

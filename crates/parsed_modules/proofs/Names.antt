@@ -1,8 +1,10 @@
 -- The names that sound tokens spell are identifiers.
-use Rattle.std.proofs.Common.{◌≡◌, ℕ, Bool, true, false, cond, nat_eq, List, [], ◌∷◌, ◌++◌, refl, subst}
-use Rattle.std.specs.Prelude.{not, ◌&&◌}
+use Rattle.std.proofs.Common.{◌≡◌, ℕ, Bool, true, false, cond, nat_eq, nat_le, length, List, [], ◌∷◌, ◌++◌, refl, subst}
+use Rattle.std.specs.Prelude.{not, ◌&&◌, ◌==◌}
+use Rattle.std.specs.List.{list_all}
 use Rattle.std.specs.Str.{bytes_eq}
-use Rattle.cov_host.specs.Identifier.{is_identifier}
+use Rattle.std.proofs.lemmas.Bool.{eqb-true}
+use Rattle.cov_host.specs.Identifier.{is_identifier, is_reserved, begins_name, continues_name, has_name_form}
 use Rattle.verilog_lexer.specs.Tokens.{Lexeme}
 use Rattle.verilog_lexer.specs.TokenTexts.{AreSound}
 use Rattle.verilog_lexer.specs.declared.token.TokenKind.{TokenKind}
@@ -16,6 +18,7 @@ use Rattle.verilog_grammar.specs.declared.kind.Kind.{Kind}
 use Rattle.verilog_grammar.specs.Kind.{code, kind_of, kind_of_word, look_up}
 use Rattle.verilog_grammar.specs.Language.{verilog}
 use Rattle.verilog_grammar.specs.Parts.{name_rule}
+use Rattle.parsed_modules.specs.Tokens.{has_dot}
 use Rattle.parsed_modules.proofs.TokensHold.{Spelling, Gives, one_gives, made_gives}
 
 -- the kind is that of names
@@ -70,3 +73,41 @@ name_token t h e = of_word t.kind t.text h e
 pub sound_names : (earlier tokens : List Lexeme) → AreSound earlier tokens → AllOf IsNameToken tokens
 sound_names earlier [] h = tt
 sound_names earlier (t ∷ others) h = (name_token t h.0.name, sound_names (earlier ++ t ∷ []) others h.1)
+
+-- ---- what identifiers are not
+
+no_dot_byte : (b : ℕ) → continues_name b ≡ true → (b == 46) ≡ false
+no_dot_byte b h = by_test (b == 46) refl
+  where
+    by_test : (c : Bool) → (b == 46) ≡ c → c ≡ false
+    by_test true e = let refused : continues_name 46 ≡ true = subst (λ x. continues_name x ≡ true) (eqb-true b 46 e) h in no_name false refl refused
+    by_test false e = refl
+
+no_dot_behind : (bytes : List ℕ) → list_all continues_name bytes ≡ true → has_dot bytes ≡ false
+no_dot_behind [] h = refl
+no_dot_behind (b ∷ bytes) h =
+    let p = and_true (continues_name b) (list_all continues_name bytes) h in
+    rw (no_dot_byte b p.0) (no_dot_behind bytes p.1)
+
+continues : (b : ℕ) → begins_name b ≡ true → continues_name b ≡ true
+continues b h = rw h refl
+
+form_has_no_dot : (name : List ℕ) → has_name_form name ≡ true → has_dot name ≡ false
+form_has_no_dot [] h = refl
+form_has_no_dot (b ∷ bytes) h =
+    let p = and_true (begins_name b) (list_all continues_name bytes) h in
+    rw (no_dot_byte b (continues b p.0)) (no_dot_behind bytes p.1)
+
+name_form : (name : List ℕ) → is_identifier name ≡ true → has_name_form name ≡ true
+name_form name h = form_of (has_name_form name) (nat_le (length name) 255) (not (is_reserved name)) h
+  where
+    form_of : (x y z : Bool) → (x && y && z) ≡ true → x ≡ true
+    form_of true y z e = refl
+    form_of false y z e = e
+
+pub identifier_has_no_dot : (name : List ℕ) → is_identifier name ≡ true → has_dot name ≡ false
+identifier_has_no_dot name h = form_has_no_dot name (name_form name h)
+
+pub identifier_not_empty : (name : List ℕ) → is_identifier name ≡ true → name ≡ [] → ⊥
+identifier_not_empty [] h e = no_name false refl (name_form [] h)
+identifier_not_empty (b ∷ bytes) h e = absurd cc

@@ -81,10 +81,6 @@ rest_in : (b : Body) (r : Option (CaseArm × List CaseArm)) → IfSome (RestIsIn
 rest_in b None h = tt
 rest_in b (Some p) h = h
 
--- a statement without literals and assignments
-plain_in : (b : Body) (s : Statement) → body_literals s ≡ [] → is_blocking s ≡ true → IsIn b s
-plain_in b s e q = record { literals = rw e tt; quiet = rw q (all_quiet b) }
-
 module _ {T : Lexeme → Type 0} (S : Spelling verilog T) (b : Body) (expressions : Gives S an_expression IsSized) (targets : Gives S (nest target) IsSized) (statements : Gives S (nest (statement b)) (IsIn b)) where
   block_gives : Gives S (block_rule b) (IsIn b)
   unfolding block_rule statements_rule
