@@ -2,19 +2,17 @@
 use Rattle.std.proofs.Common.{List, [], ◌∷◌, ◌++◌, Option, Some, None, arith}
 use Rattle.four_state.specs.Vector.{Vector, HasWidth}
 use Rattle.verilog_lexer.specs.Tokens.{Lexeme}
-use Rattle.verilog_tree.specs.Tree.{Expr, Exprs, exprs_of}
-use Rattle.grammar_rules.specs.Rule.{grow, nest, Ends}
+use Rattle.verilog_tree.specs.Tree.{Expr, exprs_of}
+use Rattle.grammar_rules.specs.Rule.{nest}
 use Rattle.grammar_rules.proofs.Holds.{AllOf}
-use Rattle.verilog_grammar.specs.declared.kind.Kind.TheVariants as k
-use Rattle.verilog_grammar.specs.declared.kind.Kind.{Kind}
 use Rattle.verilog_grammar.specs.declared.level.Level.{Level}
 use Rattle.verilog_grammar.specs.declared.level.Level.TheVariants as level
-use Rattle.verilog_grammar.specs.Language.{verilog, Phrase, expression, operand, target, statement, Value}
-use Rattle.verilog_grammar.specs.Parts.{Phrased, only, after, before, optional, listed, in_parentheses, an_expression}
-use Rattle.verilog_grammar.specs.Expressions.{sized_or_decimal, number_rule, SelectEnd, closed, low_end, up_end, down_end, selected, selected_by, select_end_rule, Select, select_rule, selects_rule, BraceEnd, repeated, others, exprs_rule, paren_rule, brace_end_rule, braced_by, braced_rule, cast_rule, prim_rule, unary_rule, operation_rule, operations, product_rule, sum_rule, shift_rule, relation_rule, equality_rule, bitwise_and_rule, bitwise_xor_rule, bitwise_or_rule, logical_and_rule, logical_or_rule, level_rule, branches_rule, expr_rule, target_name_rule, targets_rule, target_rule}
+use Rattle.verilog_grammar.specs.Language.{verilog, operand, target}
+use Rattle.verilog_grammar.specs.Parts.{Phrased, an_expression}
+use Rattle.verilog_grammar.specs.Expressions.{sized_or_decimal, number_rule, SelectEnd, closed, low_end, up_end, down_end, selected_by, select_end_rule, Select, select_rule, selects_rule, BraceEnd, repeated, others, exprs_rule, paren_rule, brace_end_rule, braced_by, braced_rule, cast_rule, prim_rule, unary_rule, operation_rule, operations, product_rule, sum_rule, shift_rule, relation_rule, equality_rule, bitwise_and_rule, bitwise_xor_rule, bitwise_or_rule, logical_and_rule, logical_or_rule, level_rule, branches_rule, expr_rule, target_name_rule, targets_rule, target_rule}
 use Rattle.parsed_modules.specs.Literals.{literals, all_literals}
-use Rattle.parsed_modules.proofs.TokensHold.{Spelling, Gives, any_gives, both_give, first_gives, second_gives, either_gives, made_gives, many_gives, grow_gives}
-use Rattle.parsed_modules.proofs.Parts.{after_gives, before_gives, optional_gives, listed_gives}
+use Rattle.parsed_modules.proofs.TokensHold.{Spelling, Gives, any_gives, both_give, second_gives, either_gives, made_gives, many_gives, grow_gives}
+use Rattle.parsed_modules.proofs.Parts.{after_gives, before_gives, listed_gives}
 use Rattle.parsed_modules.proofs.Lists.{all_append}
 use Rattle.parsed_modules.proofs.Widths.{decimal_has_width, based_has_width, width_from_one, width_to_limit}
 

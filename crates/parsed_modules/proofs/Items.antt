@@ -1,7 +1,5 @@
 -- What holds of the items that tokens spell: names, literals, and blocking assignments where there are no edges.
 use Rattle.std.proofs.Common.{◌≡◌, Bool, true, false, List, [], ◌∷◌, ◌++◌, map, Option, Some, None, subst}
-use Rattle.std.specs.Prelude.{flat_map}
-use Rattle.cov_host.specs.declared.place.Place.{Place}
 use Rattle.four_state.specs.Vector.{HasWidth}
 use Rattle.design_model.specs.Design.{In}
 use Rattle.verilog_tree.specs.declared.item.Named.{Named}
@@ -10,15 +8,15 @@ use Rattle.verilog_tree.specs.Tree.{Expr, Statement, Param, Declared, Given, One
 use Rattle.grammar_rules.specs.Rule.{nest}
 use Rattle.grammar_rules.proofs.Holds.{AllOf}
 use Rattle.verilog_grammar.specs.declared.body.Body.{Body}
-use Rattle.verilog_grammar.specs.declared.body.Body.TheVariants.{Combinational, Clocked, Initial}
+use Rattle.verilog_grammar.specs.declared.body.Body.TheVariants.{Combinational, Clocked}
 use Rattle.verilog_grammar.specs.Language.{verilog, target, statement}
-use Rattle.verilog_grammar.specs.Parts.{an_expression, name_rule}
+use Rattle.verilog_grammar.specs.Parts.{an_expression}
 use Rattle.verilog_grammar.specs.Statements.{set_rule}
 use Rattle.verilog_grammar.specs.Modules.{PortHead, port_rule, port_item_of, Entry, new_port, more_name, entry_rule, entries_rule, port_items, plist_rule, header_ports_rule, valued_rule, param_of, ParamType, type_or, HeaderParam, header_param_rule, header_params, header_params_of, header_params_rule, plain_type, port_item_rule, net_rule, net_item_rule, variable_rule, variable_item_rule, integer_item_rule, parameter_item_rule, continuous_item_of, continuous_item_rule, Timed, timed_rule, always_item_rule, initial_item_rule, overrides_rule, without_lone_empty, connected_by_place, connections_by_place, connections_rule, one_rule, instance_item_rule, item_rule, items_rule}
 use Rattle.flat_design.specs.Identifiers.{declared_names}
 use Rattle.parsed_modules.specs.Literals.{literals, body_literals, option_literals, given_literals, item_literals}
 use Rattle.parsed_modules.specs.Tokens.{has_edges, is_blocking}
-use Rattle.parsed_modules.proofs.TokensHold.{Spelling, IfSome, Gives, any_gives, both_give, first_gives, second_gives, either_gives, made_gives, empty_gives, many_gives}
+use Rattle.parsed_modules.proofs.TokensHold.{Spelling, IfSome, Gives, any_gives, both_give, first_gives, second_gives, either_gives, made_gives, many_gives}
 use Rattle.parsed_modules.proofs.Parts.{after_gives, before_gives, optional_gives, listed_gives}
 use Rattle.parsed_modules.proofs.Lists.{all_append, all_map, all_made, all_flat_map, all_in}
 use Rattle.parsed_modules.proofs.Names.{IsNameToken, IsName, name_gives}
@@ -163,11 +161,14 @@ module _ (S : Spelling verilog IsNameToken) (expressions : Gives S an_expression
   unfolding net_item_rule
   net_item_gives =
       made_gives {Q = λ p. AllOf IsSoundNet p.1.1} (second_gives {H = λ p. AllOf IsSoundNet p.1} (second_gives (before_gives (listed_gives net_gives))))
-      (λ p q. (record {
-        names = all_map IsSoundNet IsName (λ d. d.name) (λ d k. k.name) p.1.1 q;
-        literals = all_flat_map IsSoundNet HasWidth (λ d. option_literals d.value) (λ d k. k.value) p.1.1 q;
-        quiet = tt;
-      }, tt))
+      (λ p q. (
+        record {
+          names = all_map IsSoundNet IsName (λ d. d.name) (λ d k. k.name) p.1.1 q;
+          literals = all_flat_map IsSoundNet HasWidth (λ d. option_literals d.value) (λ d k. k.value) p.1.1 q;
+          quiet = tt;
+        },
+        tt,
+      ))
 
   variable_gives : Gives S variable_rule (λ d. IsName d.name)
   unfolding variable_rule
@@ -192,11 +193,14 @@ module _ (S : Spelling verilog IsNameToken) (expressions : Gives S an_expression
   unfolding parameter_item_rule
   parameter_item_gives =
       made_gives {Q = λ p. AllOf IsValued p.1.1} (second_gives {H = λ p. AllOf IsValued p.1} (second_gives (before_gives (listed_gives valued_gives))))
-      (λ p q. (record {
-        names = all_map IsSoundParam IsName (λ x. x.name) (λ x k. k.name) _ (parameter_sound _ p.1.0 p.1.1 q);
-        literals = all_flat_map IsSoundParam HasWidth (λ x. literals x.value) (λ x k. k.value) _ (parameter_sound _ p.1.0 p.1.1 q);
-        quiet = tt;
-      }, tt))
+      (λ p q. (
+        record {
+          names = all_map IsSoundParam IsName (λ x. x.name) (λ x k. k.name) _ (parameter_sound _ p.1.0 p.1.1 q);
+          literals = all_flat_map IsSoundParam HasWidth (λ x. literals x.value) (λ x k. k.value) _ (parameter_sound _ p.1.0 p.1.1 q);
+          quiet = tt;
+        },
+        tt,
+      ))
 
   -- ---- processes
 
@@ -250,11 +254,14 @@ module _ (S : Spelling verilog IsNameToken) (expressions : Gives S an_expression
       made_gives {Q = λ p. AllOf IsSizedGiven p.1.0 × AllOf IsSoundOne p.1.1}
       (second_gives {H = λ p. AllOf IsSizedGiven p.0 × AllOf IsSoundOne p.1}
       (both_give (either_gives (after_gives (after_gives (before_gives overrides_give))) (made_gives any_gives (λ u q. tt))) (before_gives (listed_gives one_gives))))
-      (λ p q. (record {
-        names = all_map IsSoundOne IsName (λ o. o.name) (λ o k. k.name) p.1.1 q.1;
-        literals = two_sized (given_literals p.1.0) _ (given_sized p.1.0 q.0) (all_flat_map IsSoundOne HasWidth (λ o. given_literals o.given) (λ o k. k.given) p.1.1 q.1);
-        quiet = tt;
-      }, tt))
+      (λ p q. (
+        record {
+          names = all_map IsSoundOne IsName (λ o. o.name) (λ o k. k.name) p.1.1 q.1;
+          literals = two_sized (given_literals p.1.0) _ (given_sized p.1.0 q.0) (all_flat_map IsSoundOne HasWidth (λ o. given_literals o.given) (λ o k. k.given) p.1.1 q.1);
+          quiet = tt;
+        },
+        tt,
+      ))
 
   item_gives : Gives S item_rule AreSoundItems
   unfolding item_rule

@@ -1,5 +1,5 @@
 -- Lists of which each element is such.
-use Rattle.std.proofs.Common.{◌≡◌, List, [], ◌∷◌, ◌++◌, map, subst, inl, inr}
+use Rattle.std.proofs.Common.{List, [], ◌∷◌, ◌++◌, map, subst, inl, inr}
 use Rattle.std.specs.Prelude.{flat_map}
 use Rattle.design_model.specs.Design.{In}
 use Rattle.grammar_rules.proofs.Holds.{AllOf}

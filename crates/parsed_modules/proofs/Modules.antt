@@ -1,13 +1,10 @@
 -- What holds of the modules that sound tokens spell.
-use Rattle.std.proofs.Common.{◌≡◌, ℕ, zero, suc, Bool, true, false, nat_le, List, [], ◌∷◌, ◌++◌, map, refl, sym, ap, ◌∙◌}
-use Rattle.std.specs.Prelude.{flat_map, ◌==◌, ◌&&◌}
-use Rattle.std.specs.List.{list_any, list_all}
-use Rattle.cov_host.specs.Identifier.{is_identifier, continues_name, has_name_form}
-use Rattle.four_state.specs.Vector.{Vector, HasWidth}
+use Rattle.std.proofs.Common.{ℕ, zero, suc, nat_le, List, [], map}
+use Rattle.std.specs.Prelude.{flat_map}
+use Rattle.four_state.specs.Vector.{HasWidth}
 use Rattle.design_model.specs.Design.{In}
 use Rattle.verilog_lexer.specs.Tokens.{Lexeme}
 use Rattle.verilog_lexer.specs.TokenTexts.{AreSound}
-use Rattle.verilog_tree.specs.declared.item.Named.{Named}
 use Rattle.verilog_tree.specs.Tree.{Item, Module}
 use Rattle.grammar_rules.specs.Rule.{nest}
 use Rattle.grammar_rules.specs.Grammar.{Nests}
@@ -107,5 +104,6 @@ modules_of_tokens tokens ms h s = record {
   where
     sound : (m : Module) → In m ms → IsSoundModule m
     sound m k = all_in IsSoundModule ms (sound_modules tokens ms h s) m k
+
     item : (m : Module) → In m ms → (x : Item) → In x m.items → IsSoundItem x
     item m k x j = all_in IsSoundItem m.items (sound m k).items x j

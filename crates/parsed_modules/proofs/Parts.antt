@@ -1,5 +1,5 @@
 -- What the rules give of which others are made.
-use Rattle.std.proofs.Common.{ℕ, List, [], Option, Some, None}
+use Rattle.std.proofs.Common.{ℕ, []}
 use Rattle.verilog_lexer.specs.Tokens.{Lexeme}
 use Rattle.grammar_rules.specs.Rule.{one, both, made}
 use Rattle.grammar_rules.proofs.Holds.{AllOf}

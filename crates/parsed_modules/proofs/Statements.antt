@@ -1,8 +1,8 @@
 -- What holds of the statements that tokens spell: widths of literals, and where assignments are all blocking.
-use Rattle.std.proofs.Common.{◌≡◌, Bool, true, false, List, [], ◌∷◌, ◌++◌, Option, Some, None, refl}
+use Rattle.std.proofs.Common.{◌≡◌, Bool, true, false, List, [], ◌∷◌, Option, Some, None, refl}
 use Rattle.std.specs.Prelude.{◌&&◌}
 use Rattle.verilog_lexer.specs.Tokens.{Lexeme}
-use Rattle.verilog_tree.specs.Tree.{Expr, exprs_of, Statement, sequential_block, for_loop, assignment, statements_of, CaseArm, arms_of}
+use Rattle.verilog_tree.specs.Tree.{exprs_of, Statement, statements_of, CaseArm, arms_of}
 use Rattle.grammar_rules.specs.Rule.{nest}
 use Rattle.grammar_rules.proofs.Holds.{AllOf}
 use Rattle.verilog_grammar.specs.declared.body.Body.{Body}
@@ -10,10 +10,10 @@ use Rattle.verilog_grammar.specs.declared.body.Body.TheVariants.{Combinational, 
 use Rattle.verilog_grammar.specs.Language.{verilog, target, statement}
 use Rattle.verilog_grammar.specs.Parts.{Phrased, an_expression}
 use Rattle.verilog_grammar.specs.Expressions.{exprs_rule}
-use Rattle.verilog_grammar.specs.Statements.{statements_rule, block_rule, else_of, if_rule, label_arm_rule, label_arms_rule, default_arm_rule, rest_of_arms, default_arms_rule, arms_rule, case_rule, set_rule, for_rule, sign_rule, assignment_rule, task_rule, null_rule, task_or_null_rule, statement_rule}
+use Rattle.verilog_grammar.specs.Statements.{statements_rule, block_rule, else_of, if_rule, label_arm_rule, label_arms_rule, default_arm_rule, rest_of_arms, default_arms_rule, arms_rule, case_rule, for_rule, sign_rule, assignment_rule, task_rule, null_rule, task_or_null_rule, statement_rule}
 use Rattle.parsed_modules.specs.Literals.{literals, all_literals, body_literals, bodies_literals, items_literals}
 use Rattle.parsed_modules.specs.Tokens.{is_blocking, are_blocking, arms_are_blocking}
-use Rattle.parsed_modules.proofs.TokensHold.{Spelling, IfSome, Gives, any_gives, both_give, first_gives, second_gives, either_gives, made_gives, many_gives, maybe_gives}
+use Rattle.parsed_modules.proofs.TokensHold.{Spelling, IfSome, Gives, any_gives, both_give, second_gives, either_gives, made_gives, many_gives, maybe_gives}
 use Rattle.parsed_modules.proofs.Parts.{after_gives, before_gives, optional_gives, listed_gives}
 use Rattle.parsed_modules.proofs.Lists.{all_append}
 use Rattle.parsed_modules.proofs.Expressions.{HaveWidths, IsSized, two_sized, three_sized, list_sized}

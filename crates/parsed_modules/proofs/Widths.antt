@@ -1,6 +1,6 @@
 -- The vectors of number literals have from 1 to 128 bits, whatever stands in the tokens.
-use Rattle.std.proofs.Common.{◌≡◌, ℕ, zero, suc, ◌<◌, ◌≤◌, ◌/◌, ◌==◌, Bool, true, false, cond, nat_le, List, [], ◌∷◌, length, refl, ap, sym, subst, arith}
-use Rattle.std.proofs.lemmas.Bool.{leb-true, leb-false, eqb-false}
+use Rattle.std.proofs.Common.{◌≡◌, ℕ, zero, suc, ◌<◌, ◌≤◌, ◌/◌, ◌==◌, Bool, true, false, cond, nat_le, List, [], ◌∷◌, length, refl, ap, arith}
+use Rattle.std.proofs.lemmas.Bool.{leb-false, eqb-false}
 use Rattle.std.specs.Prelude.{reverse, flat_map, slice_index}
 use Rattle.four_state.specs.declared.bit.Bit.{Bit}
 use Rattle.four_state.specs.declared.bit.Bit.TheVariants.{Zero}
@@ -60,6 +60,7 @@ clamped n = by_zero (n == 0) refl
     by_limit : (n ≡ 0 → ⊥) → (b : Bool) → nat_le 128 n ≡ b → (1 ≤ cond b 128 n) × (cond b 128 n ≤ 128)
     by_limit k true e = (omega arith, omega arith)
     by_limit k false e = let h : n < 128 = leb-false 128 n e in (omega arith, omega arith)
+
     by_zero : (b : Bool) → (n == 0) ≡ b → (1 ≤ cond b 1 (cond (nat_le 128 n) 128 n)) × (cond b 1 (cond (nat_le 128 n) 128 n) ≤ 128)
     by_zero true e = (omega arith, omega arith)
     by_zero false e = by_limit (eqb-false n 0 e) (nat_le 128 n) refl
