@@ -11,7 +11,7 @@ use Rattle.verilog_lexer.specs.declared.token.TokenKind.{TokenKind}
 use Rattle.verilog_lexer.specs.declared.token.TokenKind.TheVariants as lexical
 use Rattle.verilog_tree.specs.declared.item.Named.{Named}
 use Rattle.grammar_rules.proofs.Holds.{AllOf}
-use Rattle.grammar_rules.proofs.Members.{and_true, not_true}
+use Rattle.grammar_rules.proofs.Members.{and_true, both_ways, not_true}
 use Rattle.verilog_grammar.specs.declared.kind.Kind.TheVariants as k
 use Rattle.verilog_grammar.specs.declared.kind.TheConstants.{KEYWORDS, OPERATORS, SYSTEM_NAMES}
 use Rattle.verilog_grammar.specs.declared.kind.Kind.{Kind}
@@ -52,18 +52,14 @@ looked_up text (entry ∷ entries) word other h e =
     either_kind true x y h k = h
     either_kind false x y h k = k
 
-no_name : {A : Type 0} (b : Bool) → b ≡ false → b ≡ true → A
-no_name true e h = absurd cc
-no_name false e h = absurd cc
-
 of_word : (kind : TokenKind) (text : List ℕ) → (kind ≡ lexical.Identifier → is_identifier text ≡ true) → is_name_kind (kind_of_word kind text) ≡ true → is_identifier text ≡ true
 of_word lexical.Identifier text h e = h refl
-of_word lexical.Keyword text h e = no_name _ (looked_up (λ t. t.now) KEYWORDS text k.Unknown refl refl) e
-of_word lexical.System text h e = no_name _ (looked_up (λ t. t.now) SYSTEM_NAMES text k.OtherSystem refl refl) e
+of_word lexical.Keyword text h e = both_ways _ e (looked_up (λ t. t.now) KEYWORDS text k.Unknown refl refl)
+of_word lexical.System text h e = both_ways _ e (looked_up (λ t. t.now) SYSTEM_NAMES text k.OtherSystem refl refl)
 of_word lexical.Decimal text h e = absurd cc
 of_word lexical.Based text h e = absurd cc
 of_word lexical.Quoted text h e = absurd cc
-of_word lexical.Operator text h e = no_name _ (looked_up (λ t. t.now) OPERATORS text k.Unknown refl refl) e
+of_word lexical.Operator text h e = both_ways _ e (looked_up (λ t. t.now) OPERATORS text k.Unknown refl refl)
 
 name_token : (t : Lexeme) → (t.kind ≡ lexical.Identifier → is_identifier t.text ≡ true) → IsNameToken t
 unfolding kind_of
@@ -80,7 +76,7 @@ no_dot_byte : (b : ℕ) → continues_name b ≡ true → (b == 46) ≡ false
 no_dot_byte b h = by_test (b == 46) refl
   where
     by_test : (c : Bool) → (b == 46) ≡ c → c ≡ false
-    by_test true e = let refused : continues_name 46 ≡ true = subst (λ x. continues_name x ≡ true) (eqb-true b 46 e) h in no_name false refl refused
+    by_test true e = let refused : continues_name 46 ≡ true = subst (λ x. continues_name x ≡ true) (eqb-true b 46 e) h in both_ways false refused refl
     by_test false e = refl
 
 no_dot_behind : (bytes : List ℕ) → list_all continues_name bytes ≡ true → has_dot bytes ≡ false
@@ -109,5 +105,5 @@ pub identifier_has_no_dot : (name : List ℕ) → is_identifier name ≡ true �
 identifier_has_no_dot name h = form_has_no_dot name (name_form name h)
 
 pub identifier_not_empty : (name : List ℕ) → is_identifier name ≡ true → name ≡ [] → ⊥
-identifier_not_empty [] h e = no_name false refl (name_form [] h)
+identifier_not_empty [] h e = both_ways false (name_form [] h) refl
 identifier_not_empty (b ∷ bytes) h e = absurd cc

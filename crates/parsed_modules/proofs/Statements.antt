@@ -134,7 +134,7 @@ module _ {T : Lexeme → Type 0} (S : Spelling verilog T) (b : Body) (expression
   unfolding for_rule
   for_gives = made_gives {Q = λ p. IsIn b p.1.1} (second_gives {H = λ p. IsIn b p.1} (second_gives statements)) (λ p q. record { literals = q.literals; quiet = q.quiet })
 
-  sign_gives : (b : Body) → Gives S (sign_rule b) (IsQuiet b)
+  sign_gives : (c : Body) → Gives S (sign_rule c) (IsQuiet c)
   sign_gives Combinational = made_gives any_gives (λ t q. refl)
   sign_gives Clocked = any_gives
   sign_gives Initial = any_gives

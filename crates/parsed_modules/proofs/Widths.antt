@@ -1,5 +1,6 @@
 -- The vectors of number literals have from 1 to 128 bits, whatever stands in the tokens.
 use Rattle.std.proofs.Common.{◌≡◌, ℕ, zero, suc, ◌<◌, ◌≤◌, ◌/◌, ◌==◌, Bool, true, false, cond, nat_le, List, [], ◌∷◌, length, refl, ap, arith}
+use Rattle.std.proofs.lemmas.List.{length-replicate}
 use Rattle.std.proofs.lemmas.Bool.{leb-false, eqb-false}
 use Rattle.std.specs.Prelude.{reverse, flat_map, slice_index}
 use Rattle.four_state.specs.declared.bit.Bit.{Bit}
@@ -19,10 +20,6 @@ length-fit zero b bs = refl
 length-fit (suc w) b [] = ap suc (length-fit w b [])
 length-fit (suc w) b (c ∷ bs) = ap suc (length-fit w b bs)
 
-length-fill : (w : ℕ) (b : Bit) → length (fill w b) ≡ w
-length-fill zero b = refl
-length-fill (suc w) b = ap suc (length-fill w b)
-
 -- of two lists of so many bits either has so many
 length-either : (c : Bool) (xs ys : List Bit) (w : ℕ) → length xs ≡ w → length ys ≡ w → length (cond c xs ys) ≡ w
 length-either true xs ys w p q = p
@@ -33,14 +30,14 @@ length-digits n w digits = length-fit w (filler digits) (flat_map (digit_bits n)
 
 length-decimal : (w : ℕ) (digits : List ℕ) → length (bits_of_decimal w digits) ≡ w
 length-decimal w digits =
-    length-either (is_strange (slice_index digits 0)) (fill w (strange_bit (slice_index digits 0))) (low_bits w (number 0 digits)) w (length-fill w (strange_bit (slice_index digits 0))) (length-low_bits w (number 0 digits))
+    length-either (is_strange (slice_index digits 0)) (fill w (strange_bit (slice_index digits 0))) (low_bits w (number 0 digits)) w (length-replicate w (strange_bit (slice_index digits 0))) (length-low_bits w (number 0 digits))
 
 length-in_base : (letter w : ℕ) (digits : List ℕ) → length (bits_in_base letter w digits) ≡ w
 length-in_base letter w digits =
     length-either (is_letter 98 letter) _ _ w (length-digits 1 w digits)
     (length-either (is_letter 111 letter) _ _ w (length-digits 3 w digits)
     (length-either (is_letter 104 letter) _ _ w (length-digits 4 w digits)
-    (length-either (is_letter 100 letter) _ _ w (length-decimal w digits) (length-fill w Zero))))
+    (length-either (is_letter 100 letter) _ _ w (length-decimal w digits) (length-replicate w Zero))))
 
 has_width : (bits : List Bit) (signed : Bool) (w : ℕ) → length bits ≡ w → 1 ≤ w → w ≤ 128 → HasWidth (record { bits = bits; signed = signed })
 has_width bits signed w e low high = (omega arith, omega arith)
