@@ -10,7 +10,7 @@ use Rattle.verilog_grammar.specs.declared.level.Level.TheVariants as level
 use Rattle.verilog_grammar.specs.Language.{verilog, operand, target}
 use Rattle.verilog_grammar.specs.Parts.{Phrased, an_expression}
 use Rattle.verilog_grammar.specs.Expressions.{sized_or_decimal, number_rule, SelectEnd, closed, low_end, up_end, down_end, selected_by, select_end_rule, Select, select_rule, selects_rule, BraceEnd, repeated, others, exprs_rule, paren_rule, brace_end_rule, braced_by, braced_rule, cast_rule, prim_rule, unary_rule, operation_rule, operations, product_rule, sum_rule, shift_rule, relation_rule, equality_rule, bitwise_and_rule, bitwise_xor_rule, bitwise_or_rule, logical_and_rule, logical_or_rule, level_rule, branches_rule, expr_rule, target_name_rule, targets_rule, target_rule}
-use Rattle.parsed_modules.specs.Literals.{literals, all_literals}
+use Rattle.flat_laws.specs.Literals.{literals, all_literals}
 use Rattle.parsed_modules.proofs.TokensHold.{Spelling, Gives, any_gives, both_give, second_gives, either_gives, made_gives, many_gives, grow_gives}
 use Rattle.parsed_modules.proofs.Parts.{after_gives, before_gives, listed_gives}
 use Rattle.parsed_modules.proofs.Lists.{all_append}

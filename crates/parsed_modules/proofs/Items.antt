@@ -14,8 +14,8 @@ use Rattle.verilog_grammar.specs.Parts.{an_expression}
 use Rattle.verilog_grammar.specs.Statements.{set_rule}
 use Rattle.verilog_grammar.specs.Modules.{PortHead, port_rule, port_item_of, Entry, new_port, more_name, entry_rule, entries_rule, port_items, plist_rule, header_ports_rule, valued_rule, param_of, ParamType, type_or, HeaderParam, header_param_rule, header_params, header_params_of, header_params_rule, plain_type, port_item_rule, net_rule, net_item_rule, variable_rule, variable_item_rule, integer_item_rule, parameter_item_rule, continuous_item_of, continuous_item_rule, Timed, timed_rule, always_item_rule, initial_item_rule, overrides_rule, without_lone_empty, connected_by_place, connections_by_place, connections_rule, one_rule, instance_item_rule, item_rule, items_rule}
 use Rattle.flat_design.specs.Identifiers.{declared_names}
-use Rattle.parsed_modules.specs.Literals.{literals, body_literals, option_literals, given_literals, item_literals}
-use Rattle.parsed_modules.specs.Tokens.{has_edges, is_blocking}
+use Rattle.flat_laws.specs.Literals.{literals, body_literals, option_literals, given_literals, item_literals}
+use Rattle.flat_laws.specs.Tokens.{has_edges, is_blocking}
 use Rattle.parsed_modules.proofs.TokensHold.{Spelling, IfSome, Gives, any_gives, both_give, first_gives, second_gives, either_gives, made_gives, many_gives}
 use Rattle.parsed_modules.proofs.Parts.{after_gives, before_gives, optional_gives, listed_gives}
 use Rattle.parsed_modules.proofs.Lists.{all_append, all_map, all_made, all_flat_map, all_in}

@@ -13,10 +13,10 @@ use Rattle.verilog_grammar.specs.Language.{verilog, Phrase, expression, operand,
 use Rattle.verilog_grammar.specs.Modules.{module_rule, source_rule}
 use Rattle.verilog_grammar.specs.Verilog.{grammar, rule_of}
 use Rattle.flat_design.specs.Identifiers.{declared_names, names_of}
-use Rattle.parsed_modules.specs.Literals.{literals, item_literals, literals_of}
+use Rattle.flat_laws.specs.Literals.{literals, item_literals, literals_of}
 use Rattle.parsed_modules.specs.Named.{AreNamed}
 use Rattle.parsed_modules.specs.Spelled.{AreModules}
-use Rattle.parsed_modules.specs.Tokens.{AreOfTokens}
+use Rattle.flat_laws.specs.Tokens.{AreOfTokens}
 use Rattle.parsed_modules.proofs.TokensHold.{Spelling, leaves, Gives, both_give, made_gives, many_gives}
 use Rattle.parsed_modules.proofs.Parts.{after_gives, before_gives}
 use Rattle.parsed_modules.proofs.Lists.{all_append, all_map, all_flat_map, all_in}

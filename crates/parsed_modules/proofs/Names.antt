@@ -18,7 +18,7 @@ use Rattle.verilog_grammar.specs.declared.kind.Kind.{Kind}
 use Rattle.verilog_grammar.specs.Kind.{code, kind_of, kind_of_word, look_up}
 use Rattle.verilog_grammar.specs.Language.{verilog}
 use Rattle.verilog_grammar.specs.Parts.{name_rule}
-use Rattle.parsed_modules.specs.Tokens.{has_dot}
+use Rattle.flat_laws.specs.Tokens.{has_dot}
 use Rattle.parsed_modules.proofs.TokensHold.{Spelling, Gives, one_gives, made_gives}
 
 -- the kind is that of names

@@ -11,8 +11,8 @@ use Rattle.verilog_grammar.specs.Language.{verilog, target, statement}
 use Rattle.verilog_grammar.specs.Parts.{Phrased, an_expression}
 use Rattle.verilog_grammar.specs.Expressions.{exprs_rule}
 use Rattle.verilog_grammar.specs.Statements.{statements_rule, block_rule, else_of, if_rule, label_arm_rule, label_arms_rule, default_arm_rule, rest_of_arms, default_arms_rule, arms_rule, case_rule, for_rule, sign_rule, assignment_rule, task_rule, null_rule, task_or_null_rule, statement_rule}
-use Rattle.parsed_modules.specs.Literals.{literals, all_literals, body_literals, bodies_literals, items_literals}
-use Rattle.parsed_modules.specs.Tokens.{is_blocking, are_blocking, arms_are_blocking}
+use Rattle.flat_laws.specs.Literals.{literals, all_literals, body_literals, bodies_literals, items_literals}
+use Rattle.flat_laws.specs.Tokens.{is_blocking, are_blocking, arms_are_blocking}
 use Rattle.parsed_modules.proofs.TokensHold.{Spelling, IfSome, Gives, any_gives, both_give, second_gives, either_gives, made_gives, many_gives, maybe_gives}
 use Rattle.parsed_modules.proofs.Parts.{after_gives, before_gives, optional_gives, listed_gives}
 use Rattle.parsed_modules.proofs.Lists.{all_append}

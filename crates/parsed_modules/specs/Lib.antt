@@ -1,4 +1,2 @@
-pub mod Literals
-pub mod Tokens
 pub mod Named
 pub mod Spelled

@@ -5,9 +5,9 @@ ghost use Rattle.std.specs.Prelude.{List, []};
 ghost use Rattle.verilog_lexer.specs.TokenTexts.{AreSound};
 ghost use Rattle.verilog_lexer.specs.Tokens.{Lexeme};
 ghost use Rattle.verilog_tree.specs.Tree.{Module};
+ghost use Rattle.flat_laws.specs.Tokens.{AreOfTokens};
 ghost use Rattle.parsed_modules.specs.Named.{AreNamed};
 ghost use Rattle.parsed_modules.specs.Spelled.{AreModules};
-ghost use Rattle.parsed_modules.specs.Tokens.{AreOfTokens};
 
 /// The modules that tokens of sources spell are as the definitions of elaboration take them, and their names are
 /// identifiers.
