@@ -1,0 +1,17 @@
+//! What holds of the modules that tokens of sources spell.
+#![tactic(auto)]
+
+ghost use Rattle.std.specs.Prelude.{List, []};
+ghost use Rattle.verilog_lexer.specs.TokenTexts.{AreSound};
+ghost use Rattle.verilog_lexer.specs.Tokens.{Lexeme};
+ghost use Rattle.verilog_tree.specs.Tree.{Module};
+ghost use Rattle.flat_laws.specs.Tokens.{AreOfTokens};
+ghost use Rattle.parsed_modules.specs.Named.{AreNamed};
+ghost use Rattle.parsed_modules.specs.Spelled.{AreModules};
+
+/// The modules that tokens of sources spell are as the definitions of elaboration take them, and their names are
+/// identifiers.
+pub fn parsed_law()
+    ensures tokens { (tokens : List Lexeme) (ms : List Module) → AreSound [] tokens → AreModules tokens ms → AreOfTokens ms }
+    ensures names { (tokens : List Lexeme) (ms : List Module) → AreSound [] tokens → AreModules tokens ms → AreNamed ms }
+{}
