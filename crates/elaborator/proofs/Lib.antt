@@ -4,3 +4,4 @@ pub mod StepLemmas
 pub mod InstanceLemmas
 pub mod FreeLemmas
 pub mod ProcessLemmas
+pub mod ElaborateLemmas
