@@ -5,3 +5,4 @@ pub mod InstanceLemmas
 pub mod FreeLemmas
 pub mod ProcessLemmas
 pub mod NetLemmas
+pub mod ElaborateLemmas

@@ -85,7 +85,7 @@ told_if : (b : Bool) (t u : Tally) → IsTold t → IsTold u → IsTold (if b th
 told_if true t u told other = told
 told_if false t u told other = other
 
-all_told : (t : Tally) (ms : List Met) → IsTold t → IsTold (after_all t ms)
+pub all_told : (t : Tally) (ms : List Met) → IsTold t → IsTold (after_all t ms)
 all_told t [] told = told
 all_told t (m ∷ ms) told = all_told (after t m) ms (told_if t.ended t (with_met m t) told (one_told t m told))
 

@@ -25,7 +25,7 @@ use Rattle.input_toggles.specs.InputDesign.{IsInput, IsInputDesign, IsInstanceBe
 use Rattle.input_design.proofs.PathLemmas.{under_below}
 use Rattle.input_design.proofs.Standing.{AreStanding, HasStanding, IsPlaced, answered_standing, top_named}
 use Rattle.input_design.specs.InputsAlone.{HasInputsAlone}
-use Rattle.input_design.specs.Named.{AreNamed}
+use Rattle.parsed_modules.specs.Named.{AreNamed}
 
 -- the first instance is the top
 record StartsAtTop (top : List ℕ) (d : Design) : Type 0 where

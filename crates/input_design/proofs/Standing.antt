@@ -23,7 +23,7 @@ use Rattle.flat_laws.proofs.Members.{in_append, in_filter, in_flat_map_back, in_
 use Rattle.flat_laws.proofs.Steps.{Here, IsBelow, Steps, inner_of}
 use Rattle.input_design.proofs.OwnBounds.{signal_bounded}
 use Rattle.input_design.proofs.PathLemmas.{IsUnder, dotted_is_path, dotted_under, name_is_path}
-use Rattle.input_design.specs.Named.{AreNamed}
+use Rattle.parsed_modules.specs.Named.{AreNamed}
 
 -- a path at or below the top
 pub record IsPlace (top path : List ℕ) : Type 0 where

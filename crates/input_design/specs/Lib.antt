@@ -1,2 +1,1 @@
 pub mod InputsAlone
-pub mod Named

@@ -6,7 +6,7 @@ ghost use Rattle.flat_design.specs.Faults.{answer};
 ghost use Rattle.flat_laws.specs.Tokens.{AreOfTokens};
 ghost use Rattle.input_toggles.specs.InputDesign.{IsInputDesign};
 ghost use Rattle.input_design.specs.InputsAlone.{HasInputsAlone};
-ghost use Rattle.input_design.specs.Named.{AreNamed};
+ghost use Rattle.parsed_modules.specs.Named.{AreNamed};
 
 /// A design of inputs alone that modules stand for can be scored by its inputs.
 pub fn inputs_law()

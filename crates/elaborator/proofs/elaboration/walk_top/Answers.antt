@@ -1,0 +1,11 @@
+use Rattle.std.proofs.Common.{refl, sym}
+use Rattle.verilog_tree.specs.View.{module_view, modules_view}
+use Rattle.elaborator.proofs.ElaborateLemmas.{walks_absent, walks_present}
+use Rattle.elaborator.proofs.elaboration.walk_top.Goals as goal
+
+pub returns-in-Some : goal.returns-in-Some
+returns-in-Some c =
+    walks_present (modules_view c.args.ground.modules.now.modules.now) c.args.top.now (module_view c.in-Some.module.now) _ (sym c.in-Some.ensures) c.in_ok-given-in-Some.ensures c.in_ok-walk_instance-in-Some.ensures.walks
+
+pub returns-in-None : goal.returns-in-None
+returns-in-None c = walks_absent (modules_view c.args.ground.modules.now.modules.now) c.args.top.now (sym c.in-None.ensures) c.fault.ensures refl refl
