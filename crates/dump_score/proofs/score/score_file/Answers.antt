@@ -106,7 +106,7 @@ finish-requires-clause-codes g c =
     let is = opened_bound name before now piece opened c.in_ok-scorer.scorer design instance o bound in
     let on = c.in_ok-score_body.ensures.ok name before design opened.vars instance is in
     let scored = c.in_ok-score_end.ensures.ok design opened.vars instance on.0 on.2 in
-    as_many opened.vars instance design.signals _ scored.scores.codes_are
+    as_many design opened.vars instance design.signals _ scored.scores.codes_are
 
 pub returns-clause-scored : goal.returns-clause-scored
 returns-clause-scored g c =
