@@ -102,11 +102,7 @@ fn build<'a>(
 }
 
 /// Walks the top with all below it.
-fn walk_top<'a>(
-    ground: Ground<'_, 'a>,
-    top: &'a [u8],
-    walk: &mut Walk<'a>,
-) -> Result<(), NoMemory>
+fn walk_top<'a>(ground: Ground<'_, 'a>, top: &'a [u8], walk: &mut Walk<'a>) -> Result<(), NoMemory>
     requires base { ground.base ≤ 65536 }
     requires few { walk.old.tally.ended ≡ false → walk.old.memories ≤ walk.old.tally.counts.words }
     ensures { OnOk result (WalksBy ground.entry.base walk.old walk.new (λ b st. walked_top b (modules_view ground.entry.modules.now.modules.now) top.entry.now (module_of (modules_view ground.entry.modules.now.modules.now) top.entry.now) st)) }
