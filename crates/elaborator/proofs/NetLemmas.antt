@@ -43,9 +43,9 @@ module _ (base : ℕ) (g : Scope) (p : Place) where
       OnOk r (GoesBy base w numbers later others (λ b i l n st. add_process (continuous b g i (length st.design.processes) p (identifier d.name.place d.name.name) e n) st) 0 (nodes g e)) →
       OnOk r (GoesByNet w numbers later others d)
   with_value (Err f) w later numbers others d e is goes = goes
-  with_value (Ok a) w later numbers others d e is goes given =
-      let P : Option Expr → Type 0 = λ v. GoesBy base w numbers later others (λ b i l n st. net_value (around_here b given i g) p d.name v n st) 0 (elim v [ None ↦ 0 | Some e ↦ nodes g e ]) in
-      subst P (sym is) goes
+  with_value (Ok a) w later numbers others d e is goes =
+      let P : Instantiation → Option Expr → Type 0 = λ given v. GoesBy base w numbers later others (λ b i l n st. net_value (around_here b given i g) p d.name v n st) 0 (elim v [ None ↦ 0 | Some e ↦ nodes g e ]) in
+      λ given. subst (P given) (sym is) goes
 
   -- the value of the first, and then those of the others
   pub nets_next : (w next later : Walk) (numbers between others : Numbers) (d : Declared) (ds all : List Declared) → all ≡ d ∷ ds →
