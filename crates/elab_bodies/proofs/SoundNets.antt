@@ -1,5 +1,5 @@
 -- A name that is a target without a fault.
-use Rattle.std.proofs.Common.{◌≡◌, ℕ, ◌+◌, true, false, Option, Some, None, refl, add-zero}
+use Rattle.std.proofs.Common.{◌≡◌, ℕ, true, false, Option, Some, None, refl, add-zero}
 use Rattle.cov_host.specs.declared.place.Place.{Place}
 use Rattle.design_model.specs.Tree.{all_of, assign}
 use Rattle.verilog_tree.specs.Tree.{Expr, identifier}

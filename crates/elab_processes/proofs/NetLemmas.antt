@@ -1,5 +1,5 @@
 -- Nets that are assigned the values that they are declared with.
-use Rattle.std.proofs.Common.{◌≡◌, ℕ, Bool, true, false, not, ◌||◌, ◌&&◌, if◌then◌else◌, List, [], ◌∷◌, ◌++◌, Option, Some, None, refl, sym, ap, ◌∙◌}
+use Rattle.std.proofs.Common.{◌≡◌, ℕ, Bool, true, false, not, ◌||◌, ◌&&◌, if◌then◌else◌, [], ◌∷◌, ◌++◌, Option, Some, None, refl, sym, ap, ◌∙◌}
 use Rattle.verilog_tree.specs.Tree.{Expr, identifier}
 use Rattle.verilog_tree.specs.declared.item.Named.{Named}
 use Rattle.flat_design.specs.Bodies.{met_writing, met_writings}

@@ -38,20 +38,14 @@ module _ (base : ℕ) (g : Scope) (p : Place) where
   GoesByNets w numbers later others ds =
       (given : Instantiation) → GoesBy base w numbers later others (λ b i l n st. net_values (around_here b given i g) p ds n st) 0 (values_nodes g ds)
 
-  -- a net that is declared with no value
-  pub without_value : (w : Walk) (numbers : Numbers) (d : Declared) → d.value ≡ None → GoesByNet w numbers w numbers d
-  without_value w numbers d is given =
-      let P : Option Expr → Type 0 = λ v. GoesBy base w numbers w numbers (λ b i l n st. net_value (around_here b given i g) p d.name v n st) 0 (elim v [ None ↦ 0 | Some e ↦ nodes g e ]) in
-      subst P (sym is) (still_goes w numbers)
-
-  -- one that is declared with a value, which is assigned to it
+  -- a net that is declared with a value is assigned it
   pub with_value : {A E : Type 0} (r : Result A E) (w later : Walk) (numbers others : Numbers) (d : Declared) (e : Expr) → d.value ≡ Some e →
       OnOk r (GoesBy base w numbers later others (λ b i l n st. add_process (continuous b g i (length st.design.processes) p (identifier d.name.place d.name.name) e n) st) 0 (nodes g e)) →
       OnOk r (GoesByNet w numbers later others d)
   with_value (Err f) w later numbers others d e is goes = goes
-  with_value (Ok a) w later numbers others d e is goes given =
-      let P : Option Expr → Type 0 = λ v. GoesBy base w numbers later others (λ b i l n st. net_value (around_here b given i g) p d.name v n st) 0 (elim v [ None ↦ 0 | Some e ↦ nodes g e ]) in
-      subst P (sym is) goes
+  with_value (Ok a) w later numbers others d e is goes =
+      let P : Instantiation → Option Expr → Type 0 = λ given v. GoesBy base w numbers later others (λ b i l n st. net_value (around_here b given i g) p d.name v n st) 0 (elim v [ None ↦ 0 | Some e ↦ nodes g e ]) in
+      λ given. subst (P given) (sym is) goes
 
   -- the value of the first, and then those of the others
   pub nets_next : (w next later : Walk) (numbers between others : Numbers) (d : Declared) (ds all : List Declared) → all ≡ d ∷ ds →

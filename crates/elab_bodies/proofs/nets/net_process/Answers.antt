@@ -1,4 +1,4 @@
-use Rattle.std.proofs.Common.{◌≡◌, true, sym, ap, ◌∙◌}
+use Rattle.std.proofs.Common.{true, sym, ap, ◌∙◌}
 use Rattle.design_model.specs.Tree.{all_of, assign}
 use Rattle.design_model.specs.View.{term_view}
 use Rattle.verilog_tree.specs.View.{expr_view}

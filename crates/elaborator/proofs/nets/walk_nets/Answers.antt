@@ -1,4 +1,4 @@
-use Rattle.std.proofs.Common.{◌≡◌, ◌+◌, [], ap, drop, arith}
+use Rattle.std.proofs.Common.{◌≡◌, ◌+◌, [], drop, arith}
 use Rattle.std.proofs.lemmas.Grind.{common_steps}
 use Rattle.verilog_tree.specs.View.{declared_view, declareds_view}
 use Rattle.flat_design.specs.Scope.{binding_of}

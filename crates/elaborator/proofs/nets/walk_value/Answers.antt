@@ -1,4 +1,4 @@
-use Rattle.std.proofs.Common.{◌≡◌, ◌+◌, refl, subst, arith}
+use Rattle.std.proofs.Common.{refl, subst, arith}
 use Rattle.verilog_tree.specs.Tree.{identifier}
 use Rattle.verilog_tree.specs.View.{expr_view}
 use Rattle.flat_design.specs.Numbering.{nodes}

@@ -1,0 +1,10 @@
+use Rattle.std.proofs.Common.{ap}
+use Rattle.verilog_tree.specs.View.{declared_view, expr_option_view, expr_view}
+use Rattle.flat_design.specs.Scope.{binding_of}
+use Rattle.elaborator.proofs.NetLemmas.{with_value}
+use Rattle.elaborator.proofs.nets.walk_net.Goals as goal
+
+pub returns-in-Some-clause-goes : goal.returns-in-Some-clause-goes
+returns-in-Some-clause-goes c =
+    with_value c.args.ground.base (binding_of c.args.scope.now) c.args.place c.walk_value.result c.args.walk.now c.walk_value.new.walk c.args.numbers.now c.walk_value.new.numbers
+    (declared_view c.args.net.now) (expr_view c.in-Some.value) (ap expr_option_view c.in-Some.is) c.walk_value.ensures.goes
