@@ -4,7 +4,12 @@ use Rattle.std.specs.Prelude.{Contains, IfSome, IsSome, MatchOption, Result, map
 use Rattle.std.proofs.lemmas.List.{take-append-drop}
 use Rattle.cov_host.specs.Outside.{Files, Outside, IsCounted}
 use Rattle.cov_host.specs.declared.place.Place.{Place}
+use Rattle.design_model.specs.declared.design.Alias.{Alias}
+use Rattle.design_model.specs.declared.design.Constant.{Constant}
 use Rattle.design_model.specs.declared.design.Design.{Design}
+use Rattle.design_model.specs.declared.design.Instance.{Instance}
+use Rattle.design_model.specs.declared.design.Memory.{Memory}
+use Rattle.design_model.specs.declared.design.Signal.{Signal}
 use Rattle.design_model.specs.Design.{Design as FlatDesign}
 use Rattle.design_model.specs.View.{design_view, process_view}
 use Rattle.design_model.specs.declared.tree.Process.{Process}
@@ -97,19 +102,21 @@ no_processes : (ps : List Process) → map process_view ps ≡ [] → ps ≡ []
 no_processes [] e = refl
 no_processes (p ∷ ps) e = absurd cc
 
+-- a design by its parts
+abbrev made : List ℕ → List Instance → List Signal → List Memory → List Process → List Constant → List Alias → Design
+made top instances signals memories processes constants aliases = record { top = top; instances = instances; signals = signals; memories = memories; processes = processes; constants = constants; aliases = aliases }
+
 -- designs of inputs alone are equal where what they stand for is
 one_view : (a b : Design) → HasInputsAlone (design_view a) → HasInputsAlone (design_view b) → design_view a ≡ design_view b → a ≡ b
 one_view a b first second same =
-    let none : a.processes ≡ [] = no_processes a.processes first.processes in
-    let also : b.processes ≡ [] = no_processes b.processes second.processes in
-    let top : a.top ≡ b.top = ap (λ d. d.top) same in
-    let instances : a.instances ≡ b.instances = ap (λ d. d.instances) same in
-    let signals : a.signals ≡ b.signals = ap (λ d. d.signals) same in
-    let memories : a.memories ≡ b.memories = ap (λ d. d.memories) same in
-    let constants : a.constants ≡ b.constants = ap (λ d. d.constants) same in
-    let aliases : a.aliases ≡ b.aliases = ap (λ d. d.aliases) same in
-    let processes : a.processes ≡ b.processes = none ∙ sym also in
-    cc
+    let processes : a.processes ≡ b.processes = no_processes a.processes first.processes ∙ sym (no_processes b.processes second.processes) in
+    ap (λ x. made x a.instances a.signals a.memories a.processes a.constants a.aliases) (ap (λ d. d.top) same)
+    ∙ ap (λ x. made b.top x a.signals a.memories a.processes a.constants a.aliases) (ap (λ d. d.instances) same)
+    ∙ ap (λ x. made b.top b.instances x a.memories a.processes a.constants a.aliases) (ap (λ d. d.signals) same)
+    ∙ ap (λ x. made b.top b.instances b.signals x a.processes a.constants a.aliases) (ap (λ d. d.memories) same)
+    ∙ ap (λ x. made b.top b.instances b.signals b.memories x a.constants a.aliases) processes
+    ∙ ap (λ x. made b.top b.instances b.signals b.memories b.processes x a.aliases) (ap (λ d. d.constants) same)
+    ∙ ap (λ x. made b.top b.instances b.signals b.memories b.processes b.constants x) (ap (λ d. d.aliases) same)
 
 -- sources stand for one design
 pub one_design : (sources : List SourceText) (defines : List DefineText) (top : List ℕ) (a b : Design) → StandFor sources defines top a → StandFor sources defines top b → a ≡ b

@@ -1,5 +1,8 @@
+use Rattle.verilog_lexer.specs.TokenView.{lexemes}
+use Rattle.verilog_tree.specs.View.{modules_view}
+use Rattle.source_design.specs.Accepted.{AreAccepted}
 use Rattle.source_design.specs.Words.{source_values}
-use Rattle.source_design.proofs.Gathering.{found_by, parse_refused, refused_by}
+use Rattle.source_design.proofs.Gathering.{elab_refused, found_by, parse_refused, refused_by}
 use Rattle.source_design.proofs.stage.find.Goals as goal
 
 pub returns-in-Err-clause-found : goal.returns-in-Err-clause-found
@@ -7,3 +10,9 @@ returns-in-Err-clause-found c = found_by (source_values c.args.words.now) c.args
 
 pub returns-in-Err-clause-fault : goal.returns-in-Err-clause-fault
 returns-in-Err-clause-fault c = refused_by (source_values c.args.words.now) c.args.sources.now c.in-Err.fault c.in-Err.ensures.fault c.lex_answer.result c.lex_answer.ensures.fault
+
+pub returns-in-Err-elaborate-clause-fault : goal.returns-in-Err-elaborate-clause-fault
+returns-in-Err-elaborate-clause-fault c =
+    let accepted : AreAccepted c.args.sources.now (source_values c.args.words.now).defines (modules_view c.in-Ok-parse.modules) =
+    record { tokens = lexemes c.in-Ok.tokens; lexed = c.in-Ok.ensures.tokens; spelled = c.in-Ok-parse.ensures.found } in
+    elab_refused (source_values c.args.words.now) c.args.sources.now (modules_view c.in-Ok-parse.modules) c.in-Err-elaborate.fault accepted c.in-Err-elaborate.ensures.fault c.elab_fault.result c.elab_fault.ensures
