@@ -2,3 +2,9 @@ pub mod ModuleLemmas
 pub mod WalkLemmas
 pub mod StepLemmas
 pub mod InstanceLemmas
+pub mod KeptLemmas
+pub mod InnerLemmas
+pub mod EnterLemmas
+pub mod WalkPorts
+pub mod WalkItems
+pub mod WalkOnes

@@ -1,2 +1,6 @@
+pub mod Entered
+pub mod Kept
 pub mod Modules
+pub mod Named
+pub mod Ports
 pub mod Walk
