@@ -1,10 +1,11 @@
 -- An instance that is opened is entered, unless a limit is passed with it.
-use Rattle.std.proofs.Common.{◌≡◌, ℕ, ◌+◌, ◌≤◌, Bool, true, false, if◌then◌else◌, filter, List, ◌∷◌, [], Some, refl, sym, ap, ◌∙◌, subst, length, arith}
+use Rattle.std.proofs.Common.{◌≡◌, ◌+◌, ◌≤◌, Bool, true, false, if◌then◌else◌, filter, Some, refl, sym, ap, ◌∙◌, subst, length, arith}
 use Rattle.std.proofs.lemmas.Bool.{false≢true}
 use Rattle.design_model.specs.View.{design_view}
 use Rattle.design_model.specs.declared.design.Design.{Design}
 use Rattle.flat_design.specs.Bodies.{met_fault}
 use Rattle.flat_design.specs.Fault.{Fault, is_limit}
+use Rattle.flat_design.specs.declared.counts.Counts.{Counts}
 use Rattle.flat_design.specs.Instances.{Instantiation, declared, is_memory, opening_met, scope_of}
 use Rattle.flat_design.specs.Scope.{binding_of, is_faulty_entry, look_up}
 use Rattle.flat_laws.proofs.LawfulPaths.{opening_parts}
@@ -14,9 +15,8 @@ use Rattle.elab_scope.proofs.TallyLemmas.{was_open}
 use Rattle.elab_instances.specs.Entering.{AreFew}
 use Rattle.elab_instances.specs.Opening.{AreCounted}
 use Rattle.elab_instances.specs.declared.instantiation.Numbers.{Numbers}
-use Rattle.elab_build.specs.Sound.{IsClear}
 use Rattle.elaborator.specs.Entered.{IsEntered, IsPassed}
-use Rattle.elaborator.specs.Walk.{IsClean, Opens, opened_design}
+use Rattle.elaborator.specs.Walk.{IsClean, opened_design}
 use Rattle.elaborator.specs.declared.entering.Entered.{Entered}
 use Rattle.elaborator.specs.declared.walk.Walk.{Walk}
 use Rattle.elaborator.proofs.StepLemmas.{was_clean}
@@ -65,3 +65,11 @@ limit_ends t f limit = by_ended t.ended refl
 -- numbers that were counted are few
 pub few_after : (t : Tally) (n : Numbers) → AreCounted t n → t.ended ≡ false → AreFew n
 few_after t n counted still = let c = counted still in (omega (arith, c.0, c.1), omega (arith, c.2, c.3))
+
+-- the numbers that come next were counted
+pub counted_before : (w : Walk) (c : Counts) → c ≡ w.tally.counts → c.signals ≤ 65536 → c.words ≤ 262144 → (w.tally.ended ≡ false → w.memories ≤ w.tally.counts.words) → AreCounted w.tally (record { signal = c.signals; memory = w.memories })
+counted_before w c same signals words few open' =
+    let s : c.signals ≡ w.tally.counts.signals = ap (λ k. k.signals) same in
+    let m : c.words ≡ w.tally.counts.words = ap (λ k. k.words) same in
+    let f : w.memories ≤ w.tally.counts.words = few open' in
+    (omega arith, omega arith, f, omega arith)

@@ -54,8 +54,8 @@ pub record Keeps (w later : Walk) : Type 0 where
   pub kept : IsKept later
   pub clean : IsClean later.tally → IsClean w.tally
 
-pub goes_kept : {base : ℕ} {w later : Walk} {numbers others : Numbers} {f : ℕ → ℕ → ℕ → ℕ → Sofar → Sofar} {lines nodes : ℕ} → GoesBy base w numbers later others f lines nodes → IsKept w → Keeps w later
-goes_kept {base = base} {w = w} {numbers = numbers} {f = f} goes kept =
+pub goes_kept : {base : ℕ} {w later : Walk} {numbers others : Numbers} {f : ℕ → ℕ → ℕ → ℕ → Sofar → Sofar} (lines nodes : ℕ) → GoesBy base w numbers later others f lines nodes → IsKept w → Keeps w later
+goes_kept {base = base} {w = w} {numbers = numbers} {f = f} lines nodes goes kept =
     let end = goes w.tally (base + 1) (some_sofar w) 0 0 0 (kept_among base w numbers kept) in
     record {
       kept = record { told = end.0.at.stands.told; few = λ open'. (end.0.at.stands.numbers open').words };

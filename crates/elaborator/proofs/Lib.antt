@@ -7,4 +7,5 @@ pub mod InnerLemmas
 pub mod EnterLemmas
 pub mod WalkPorts
 pub mod WalkItems
+pub mod NamedLemmas
 pub mod WalkOnes

@@ -1,8 +1,7 @@
 -- A walk goes through the items of an instance.
-use Rattle.std.proofs.Common.{◌≡◌, ℕ, suc, ◌+◌, ◌<◌, Bool, List, ◌∷◌, Option, refl, sym, subst, length, get_or, drop, drop-cons, add-one}
+use Rattle.std.proofs.Common.{◌≡◌, ℕ, ◌+◌, ◌<◌, Bool, List, ◌∷◌, Option, refl, sym, subst, length, get_or, drop, drop-cons, add-one}
 use Rattle.verilog_tree.specs.Tree.{Item, Module}
-use Rattle.verilog_tree.specs.View.{declareds_view, expr_view, givens_view, item_form_view, item_view, items_view, ones_view, range_option_view, statement_view}
-use Rattle.verilog_tree.specs.Tree.{always_item, continuous_item, instance_item, net_item}
+use Rattle.verilog_tree.specs.View.{declareds_view, expr_view, givens_view, item_form_view, item_view, items_view, ones_view, statement_view}
 use Rattle.verilog_tree.specs.declared.expr.Expr.{Expr as CodeExpr}
 use Rattle.verilog_tree.specs.declared.statement.Statement.{Statement as CodeStatement}
 use Rattle.verilog_tree.specs.declared.item.Declared.{Declared as CodeDeclared}
@@ -16,7 +15,7 @@ use Rattle.verilog_tree.specs.declared.item.When.{When}
 use Rattle.cov_host.specs.declared.place.Place.{Place}
 use Rattle.verilog_tree.specs.declared.item.Item.{Item as CodeItem}
 use Rattle.flat_design.specs.Flat.{instance, instances_of, item, items, module_of, net_values}
-use Rattle.flat_design.specs.Instances.{Instantiation, Sofar, add_process}
+use Rattle.flat_design.specs.Instances.{Instantiation, add_process}
 use Rattle.flat_design.specs.Numbering.{form_lines, form_nodes, lines, nodes, statement_nodes, values_nodes}
 use Rattle.flat_design.specs.Scope.{Scope}
 use Rattle.flat_design.specs.Processes.{always, continuous}
@@ -45,29 +44,29 @@ items_next {base = base} {w = w} {later = later} {numbers = numbers} {others = o
     let whole : ItemsGo base ms depth given g (item_view x ∷ rest) w numbers later others = goes_twice (form_lines (item_view x).form) (items_lines rest) (form_nodes g (item_view x).form) (items_nodes g rest) first second in
     subst (λ ys. ItemsGo base ms depth given g (items_view ys) w numbers later others) (sym split) whole
 
--- an item goes by its form
-module _ {base : ℕ} {w later : Walk} {numbers others : Numbers} (ms : List Module) (depth : ℕ) (given : Instantiation) (g : Scope) (p : Place) (f : CodeForm) where
-  -- by the form
-  abbrev pub FormGoes : CodeForm → Type 0
-  FormGoes y = ItemGoes base ms depth given g (record { place = p; form = item_form_view y }) w numbers later others
+-- by an item of this form
+abbrev pub FormGoes : ℕ → List Module → ℕ → Instantiation → Scope → Place → Walk → Numbers → Walk → Numbers → CodeForm → Type 0
+FormGoes base ms depth given g p w numbers later others f = ItemGoes base ms depth given g (record { place = p; form = item_form_view f }) w numbers later others
 
+-- an item goes by its form
+module _ (base : ℕ) (ms : List Module) (depth : ℕ) (given : Instantiation) (g : Scope) (p : Place) (f : CodeForm) (w : Walk) (numbers : Numbers) (later : Walk) (others : Numbers) where
   pub net_goes : (signed : Bool) (range : Option CodeRange) (names ds : List CodeDeclared) → f ≡ Net signed range names → ds ≡ names →
-      GoesBy base w numbers later others (λ b i l n st. net_values (around_here b given i g) p (declareds_view ds) n st) 0 (values_nodes g (declareds_view ds)) → FormGoes f
+      GoesBy base w numbers later others (λ b i l n st. net_values (around_here b given i g) p (declareds_view ds) n st) 0 (values_nodes g (declareds_view ds)) → FormGoes base ms depth given g p w numbers later others f
   net_goes signed range names ds is same goes =
-      subst FormGoes (sym is) (subst (λ ys. GoesBy base w numbers later others (λ b i l n st. net_values (around_here b given i g) p (declareds_view ys) n st) 0 (values_nodes g (declareds_view ys))) same goes)
+      subst (FormGoes base ms depth given g p w numbers later others) (sym is) (subst (λ ys. GoesBy base w numbers later others (λ b i l n st. net_values (around_here b given i g) p (declareds_view ys) n st) 0 (values_nodes g (declareds_view ys))) same goes)
 
   pub assign_goes : (x v : CodeExpr) → f ≡ Assign x v →
-      GoesBy base w numbers later others (λ b i l n st. add_process (continuous b g i (length st.design.processes) p (expr_view x) (expr_view v) n) st) 0 (nodes g (expr_view x) + nodes g (expr_view v)) → FormGoes f
-  assign_goes x v is goes = subst FormGoes (sym is) goes
+      GoesBy base w numbers later others (λ b i l n st. add_process (continuous b g i (length st.design.processes) p (expr_view x) (expr_view v) n) st) 0 (nodes g (expr_view x) + nodes g (expr_view v)) → FormGoes base ms depth given g p w numbers later others f
+  assign_goes x v is goes = subst (FormGoes base ms depth given g p w numbers later others) (sym is) goes
 
   pub always_goes : (when' : When) (s : CodeStatement) → f ≡ Always when' s →
-      GoesBy base w numbers later others (λ b i l n st. add_process (always b g i (length st.design.processes) p when' (statement_view s) l n) st) (lines (statement_view s)) (statement_nodes g (statement_view s)) → FormGoes f
-  always_goes when' s is goes = subst FormGoes (sym is) goes
+      GoesBy base w numbers later others (λ b i l n st. add_process (always b g i (length st.design.processes) p when' (statement_view s) l n) st) (lines (statement_view s)) (statement_nodes g (statement_view s)) → FormGoes base ms depth given g p w numbers later others f
+  always_goes when' s is goes = subst (FormGoes base ms depth given g p w numbers later others) (sym is) goes
 
   pub instances_go : (x : Named) (cs cs' : List CodeGiven) (os os' : List CodeOne) → f ≡ Instance x cs os → cs' ≡ cs → os' ≡ os →
-      GoesBy base w numbers later others (λ b i l n st. instances_of (instance b ms depth) b (around_here b given i g) p (item_of x (givens_view cs') (ones_view os')) (module_of ms x.name) st) 0 0 → FormGoes f
+      GoesBy base w numbers later others (λ b i l n st. instances_of (instance b ms depth) b (around_here b given i g) p (item_of x (givens_view cs') (ones_view os')) (module_of ms x.name) st) 0 0 → FormGoes base ms depth given g p w numbers later others f
   instances_go x cs cs' os os' is same alike goes =
-      subst FormGoes (sym is) (subst (λ ys. GoesBy base w numbers later others (λ b i l n st. instances_of (instance b ms depth) b (around_here b given i g) p (item_of x (givens_view ys) (ones_view os)) (module_of ms x.name) st) 0 0) same
+      subst (FormGoes base ms depth given g p w numbers later others) (sym is) (subst (λ ys. GoesBy base w numbers later others (λ b i l n st. instances_of (instance b ms depth) b (around_here b given i g) p (item_of x (givens_view ys) (ones_view os)) (module_of ms x.name) st) 0 0) same
       (subst (λ ys. GoesBy base w numbers later others (λ b i l n st. instances_of (instance b ms depth) b (around_here b given i g) p (item_of x (givens_view cs') (ones_view ys)) (module_of ms x.name) st) 0 0) alike goes))
 
 -- any other form does nothing

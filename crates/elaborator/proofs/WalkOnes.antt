@@ -1,23 +1,23 @@
 -- A walk goes through the instances that an item names.
-use Rattle.std.proofs.Common.{◌≡◌, ℕ, suc, ◌+◌, ◌<◌, Bool, true, false, List, ◌∷◌, ◌++◌, Option, Some, refl, sym, ap, ◌∙◌, subst, length, get_or, drop, drop-cons, add-one, if◌then◌else◌}
-use Rattle.std.specs.List.{list_any}
-use Rattle.std.specs.Prelude.{bytes_eq, flat_map}
+use Rattle.std.proofs.Common.{◌≡◌, ℕ, ◌+◌, ◌<◌, true, false, List, ◌∷◌, ◌++◌, refl, sym, subst, length, get_or, drop, drop-cons, add-one}
+use Rattle.std.specs.Prelude.{flat_map}
 use Rattle.cov_host.specs.declared.place.Place.{Place}
 use Rattle.verilog_tree.specs.declared.item.Named.{Named}
 use Rattle.verilog_tree.specs.Tree.{Given, InstanceItem, Module, One}
 use Rattle.verilog_tree.specs.View.{one_view, ones_view}
 use Rattle.verilog_tree.specs.declared.item.One.{One as CodeOne}
 use Rattle.flat_design.specs.Bodies.{met_faults}
-use Rattle.flat_design.specs.Connections.{JoinedPort, are_sound_overrides, given_faults, joined_ports, overrides, port_faults}
+use Rattle.flat_design.specs.Connections.{JoinedPort, given_faults, joined_ports, port_faults}
 use Rattle.flat_design.specs.Declarations.{Override}
 use Rattle.flat_design.specs.Fault.{Fault}
 use Rattle.flat_design.specs.Flat.{all_instances, instance, instances_of, instantiation, is_declared_here, module_of, one_instance, replaced}
-use Rattle.flat_design.specs.Instances.{Context, Instantiation, Sofar, meet}
+use Rattle.flat_design.specs.Instances.{Context, Instantiation, meet}
 use Rattle.flat_design.specs.Scope.{Scope}
 use Rattle.elaborator.specs.Named.{AreOf, HaveNone, item_of}
 use Rattle.elaborator.specs.Walk.{GoesBy, IsAmong, WalksBy, around_here}
 use Rattle.elaborator.specs.declared.walk.Numbers.{Numbers}
 use Rattle.elaborator.specs.declared.walk.Walk.{Walk}
+use Rattle.elaborator.proofs.NamedLemmas.{all_are}
 use Rattle.elaborator.proofs.StepLemmas.{goes_twice, still_goes, walks_go}
 
 -- by one instance the walk goes from one moment to the next
@@ -46,10 +46,6 @@ none_go {base = base} {w = w} {later = later} {numbers = numbers} ms depth given
     (subst (λ s. IsAmong before base b later numbers s i (l + 0) (n + 0)) (sym same) end.0, end.1)
 
 -- an item whose instances are of a module
-pub all_are : (child : Instantiation → Sofar → Sofar) (base : ℕ) (c : Context) (p : Place) (ms : List Module) (x : Named) (cs : List Given) (ones : List One) (m : Module) (os : List Override) (st : Sofar) →
-    AreOf ms c.given.around c.scope x cs m os → instances_of child base c p (item_of x cs ones) (module_of ms x.name) st ≡ all_instances child base c p (item_of x cs ones) m os ones st
-all_are child base c p ms x cs ones m os st of = rw (of.found, of.apart, of.sound, of.overrides) refl
-
 pub all_go : {base : ℕ} {w later : Walk} {numbers : Numbers} (ms : List Module) (depth : ℕ) (given : Instantiation) (g : Scope) (p : Place) (x : Named) (cs : List Given) (ones : List One) (m : Module) (os : List Override) →
     AreOf ms given.around g x cs m os → OnesGo base ms depth given g p (item_of x cs ones) m os ones numbers w later →
     GoesBy base w numbers later numbers (λ b i l n st. instances_of (instance b ms depth) b (around_here b given i g) p (item_of x cs ones) (module_of ms x.name) st) 0 0

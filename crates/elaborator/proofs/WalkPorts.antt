@@ -1,6 +1,7 @@
 -- A walk goes through the ports of an instance that are joined by assignments.
 use Rattle.std.proofs.Common.{◌≡◌, ℕ, zero, suc, ◌+◌, ◌<◌, true, false, if◌then◌else◌, List, [], ◌∷◌, Option, Some, None, refl, sym, ap, ◌∙◌, subst, length, get_or, map, drop, drop-cons, add-one, arith}
 use Rattle.cov_host.specs.declared.place.Place.{Place}
+use Rattle.design_model.specs.Design.{nowhere}
 use Rattle.flat_design.specs.Connections.{Joined, JoinedPort, as_alias, by_assignment, joining, not_joined}
 use Rattle.flat_design.specs.Flat.{join_as, join_port, join_ports, join_signal}
 use Rattle.flat_design.specs.Instances.{Context, Instantiation, Sofar, add_process, is_input}
@@ -17,6 +18,19 @@ use Rattle.elaborator.specs.Walk.{GoesBy, IsAmong, around_here}
 use Rattle.elaborator.specs.declared.walk.Numbers.{Numbers}
 use Rattle.elaborator.specs.declared.walk.Walk.{Walk}
 use Rattle.elaborator.proofs.StepLemmas.{goes_twice, still_goes}
+
+-- an instance of a module of nothing
+pub no_instance : Instantiation
+no_instance =
+    record {
+      of_module = record { name = record { name = []; place = nowhere }; params = []; ports = []; items = [] };
+      path = [];
+      overrides = [];
+      aliases = [];
+      around = [];
+      item = nowhere;
+      is_top = false;
+    }
 
 -- what a port is joined with, once it is joined so
 abbrev join_found : Option SignalEntry → Context → Place → JoinedPort → Sofar → Sofar

@@ -86,8 +86,9 @@ pub(crate) fn check_ports<'a>(
     ensures how { IfOk result (λ found. map joined_view found.joined.items ≡ map (λ j. spec.joining (binding_of scope.now) j.port j.label j.value) (ports_view found.ports.items)) }
     ensures met { OnOk result (tally.new ≡ after_faults tally.old (spec.given_faults item.entry.module.now (module_view of.now.module.now).ports (givens_view given.now) ++ flat_map (spec.port_faults (binding_of scope.now)) (spec.joined_ports (overrides_view of.now.overrides.items) (module_view of.now.module.now) item.entry.module.now (givens_view given.now)))) }
 {
+    let label = NameAt::of(item.module);
     let names = port_names(alloc, of.module)?;
-    let connections = check_given(alloc, NameAt::of(item.module), &names, given, tally)?;
+    let connections = check_given(alloc, label, &names, given, tally)?;
     let declared = declared_names(alloc, &of.overrides, of.module)?;
     let ports = joined_ports(alloc, &declared, of.module, &connections)?;
     let joined = join_all(alloc, scope, &ports, tally)?;
@@ -181,12 +182,16 @@ pub(crate) fn inner_instance<'a>(
 ) -> Result<Instantiation<'a>, NoMemory>
     ensures { IfOk result (λ inner. (base n : ℕ) (g : SpecScope) → map joined_view ports.now.joined.items ≡ map (λ j. spec.joining g j.port j.label j.value) (ports_view ports.now.ports.items) → instantiation_view inner ≡ instantiation (around_here base (instantiation_view given.now) n g) place (module_view of.now.module.now) (overrides_view of.now.overrides.items) (one_view one.now) (ports_view ports.now.ports.items)) }
 {
+    let path = dotted(alloc, &given.path, &one.name.name)?;
+    let overrides = copy_overrides(alloc, &of.overrides)?;
+    let aliases = port_aliases(alloc, &ports.ports, &ports.joined)?;
+    let around = with_module(alloc, &given.around, of.module)?;
     Ok(Instantiation {
         module: of.module,
-        path: dotted(alloc, &given.path, &one.name.name)?,
-        overrides: copy_overrides(alloc, &of.overrides)?,
-        aliases: port_aliases(alloc, &ports.ports, &ports.joined)?,
-        around: with_module(alloc, &given.around, of.module)?,
+        path,
+        overrides,
+        aliases,
+        around,
         item: place,
         is_top: false,
     })

@@ -12,8 +12,8 @@ use Rattle.elaborator.proofs.WalkOnes.{OnesGo}
 use Rattle.elaborator.proofs.+walk.Given as goal
 
 -- what goes on from here by the items that are left goes on from the start by all
-abbrev pub invariant-walk_items-loop-item : goal.invariant-walk_items-loop-item
-invariant-walk_items-loop-item l =
+abbrev pub invariant-items::walk_items-loop-item : goal.invariant-items::walk_items-loop-item
+invariant-items::walk_items-loop-item l =
     let ms = modules_view l.fn.ground.modules.now.modules.now in
     let given = instantiation_view l.fn.body.given.now in
     let g = binding_of l.fn.scope in
@@ -24,8 +24,8 @@ invariant-walk_items-loop-item l =
     }
 
 -- the same by instances
-abbrev pub invariant-walk_ones-loop-one : goal.invariant-walk_ones-loop-one
-invariant-walk_ones-loop-one l =
+abbrev pub invariant-instances::walk_ones-loop-one : goal.invariant-instances::walk_ones-loop-one
+invariant-instances::walk_ones-loop-one l =
     let ms = modules_view l.fn.ground.modules.now.modules.now in
     let given = instantiation_view l.fn.body.given.now in
     let g = binding_of l.fn.scope in
@@ -38,20 +38,20 @@ invariant-walk_ones-loop-one l =
     }
 
 -- an instance is one level deeper, and each other call is of a function further down
-abbrev pub decreases-walk_items : goal.decreases-walk_items
-decreases-walk_items l = 8 * l.depth + 5
+abbrev pub decreases-items::walk_items : goal.decreases-items::walk_items
+decreases-items::walk_items l = 8 * l.depth + 5
 
-abbrev pub decreases-walk_item : goal.decreases-walk_item
-decreases-walk_item l = 8 * l.depth + 4
+abbrev pub decreases-items::walk_item : goal.decreases-items::walk_item
+decreases-items::walk_item l = 8 * l.depth + 4
 
-abbrev pub decreases-walk_instances : goal.decreases-walk_instances
-decreases-walk_instances l = 8 * l.depth + 3
+abbrev pub decreases-instances::walk_instances : goal.decreases-instances::walk_instances
+decreases-instances::walk_instances l = 8 * l.depth + 3
 
-abbrev pub decreases-walk_ones : goal.decreases-walk_ones
-decreases-walk_ones l = 8 * l.depth + 2
+abbrev pub decreases-instances::walk_ones : goal.decreases-instances::walk_ones
+decreases-instances::walk_ones l = 8 * l.depth + 2
 
-abbrev pub decreases-walk_one : goal.decreases-walk_one
-decreases-walk_one l = 8 * l.depth + 1
+abbrev pub decreases-instances::walk_one : goal.decreases-instances::walk_one
+decreases-instances::walk_one l = 8 * l.depth + 1
 
-abbrev pub decreases-walk_instance : goal.decreases-walk_instance
-decreases-walk_instance l = 8 * l.depth
+abbrev pub decreases-instances::walk_instance : goal.decreases-instances::walk_instance
+decreases-instances::walk_instance l = 8 * l.depth

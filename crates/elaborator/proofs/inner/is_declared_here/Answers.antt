@@ -1,4 +1,4 @@
-use Rattle.std.proofs.Common.{sym, ap, ◌∙◌, Some, None}
+use Rattle.std.proofs.Common.{sym, ap, ◌∙◌}
 use Rattle.std.specs.Option.{option_map}
 use Rattle.flat_design.specs.Connections.{declaration_of}
 use Rattle.elab_declarations.specs.DeclarationView.{declaration_view}

@@ -1,4 +1,4 @@
-use Rattle.std.proofs.Common.{◌≡◌, drop, length}
+use Rattle.std.proofs.Common.{drop, length}
 use Rattle.flat_design.specs.Flat.{join_ports}
 use Rattle.flat_design.specs.Instances.{Instantiation}
 use Rattle.flat_design.specs.Scope.{binding_of}
