@@ -100,7 +100,10 @@ fn copy_override(alloc: Global, one: &Override) -> Result<Override, NoMemory>
     ensures { IfOk result (λ copy. override_view copy ≡ override_view one.now) }
 {
     let name = Name::from_vec(Vec::from_slice(alloc, one.name.as_slice())?);
-    Ok(Override { name, value: one.value })
+    Ok(Override {
+        name,
+        value: one.value,
+    })
 }
 
 /// A copy of overrides.

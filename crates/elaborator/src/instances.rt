@@ -78,9 +78,7 @@ fn walk_ones<'a>(
     ensures { OnOk result (GoesBy ground.entry.base walk.old numbers walk.new numbers (λ b i l n st. flat.all_instances (flat.instance b (modules_view ground.entry.modules.now.modules.now) depth) b (around_here b (instantiation_view body.now.given.now) i (binding_of scope.now)) item.entry.place (item_of item.entry.module.now (givens_view item.entry.overrides.now) (ones_view item.entry.ones.now)) (module_view of.now.module.now) (overrides_view of.now.overrides.items) (ones_view ones.now) st) 0 0) }
 {
     for one in ones {
-        walk_one(
-            ground, depth, body, scope, item, of, one, numbers, walk,
-        )?;
+        walk_one(ground, depth, body, scope, item, of, one, numbers, walk)?;
     }
     Ok(())
 }
@@ -141,22 +139,33 @@ pub(crate) fn walk_instance<'a>(
     ensures few { OnOk result (walk.new.tally.ended ≡ false → walk.new.memories ≤ walk.new.tally.counts.words) }
 {
     if depth == 0 {
-        walk.tally.fault(FoundFault::limit(DesignLimit::Instances, given.item));
+        walk.tally
+            .fault(FoundFault::limit(DesignLimit::Instances, given.item));
         return Ok(None);
     }
     let found = enter(ground.alloc, given, walk)?;
     match found {
-        Some(Entered {
-            declared,
-            mut scope,
-            mut numbers,
-        }) => {
+        Some(
+            Entered {
+                declared,
+                mut scope,
+                mut numbers,
+            },
+        ) => {
             let body = Body {
                 given,
                 declared: &declared,
             };
             let items = given.module.items.as_slice();
-            walk_items(ground, depth - 1, &body, &mut scope, items, &mut numbers, walk)?;
+            walk_items(
+                ground,
+                depth - 1,
+                &body,
+                &mut scope,
+                items,
+                &mut numbers,
+                walk,
+            )?;
             Ok(Some(scope))
         }
         None => Ok(None),

@@ -75,12 +75,21 @@ fn walk_item<'a>(
 {
     let place = item.place;
     match &item.form {
-        ItemForm::Net { names, .. } =>
-            walk_nets(ground, scope, place, names.as_slice(), numbers, walk),
-        ItemForm::Assign { target, value } =>
-            walk_assign(ground, scope, place, target, value, numbers, walk),
-        ItemForm::Always { when, body: statement } =>
-            walk_always(ground, scope, place, when, statement, numbers, walk),
+        ItemForm::Net { names, .. } => walk_nets(
+            ground,
+            scope,
+            place,
+            names.as_slice(),
+            numbers,
+            walk,
+        ),
+        ItemForm::Assign { target, value } => walk_assign(
+            ground, scope, place, target, value, numbers, walk,
+        ),
+        ItemForm::Always {
+            when,
+            body: statement,
+        } => walk_always(ground, scope, place, when, statement, numbers, walk),
         ItemForm::Instance {
             module,
             overrides,

@@ -1,4 +1,4 @@
-use Rattle.std.proofs.Common.{◌≡◌, [], ◌∷◌, ◌++◌, ◌+◌, ◌-◌, ◌&&◌, suc, ℕ, List, refl, sym, ap, map, ◌∙◌, subst, drop, false, true, arith, rules}
+use Rattle.std.proofs.Common.{◌≡◌, [], ◌∷◌, ◌++◌, ◌-◌, ◌&&◌, suc, ℕ, List, refl, sym, ap, map, ◌∙◌, subst, drop, arith, rules}
 use Rattle.std.specs.List.{list_any}
 use Rattle.std.specs.Prelude.{bytes_eq, flat_map}
 use Rattle.std.proofs.lemmas.Bool.{false≢true}
