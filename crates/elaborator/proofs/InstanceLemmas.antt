@@ -1,22 +1,20 @@
 -- A walk goes through the instances below one, and through one with all below it.
-use Rattle.std.proofs.Common.{◌≡◌, ℕ, suc, ◌+◌, true, false, List, ◌++◌, Option, Some, None, refl, sym, ap, ◌∙◌, subst, length, arith}
+use Rattle.std.proofs.Common.{◌≡◌, ℕ, suc, ◌+◌, true, false, List, refl, sym, ◌∙◌, subst, length, arith}
 use Rattle.std.proofs.lemmas.Bool.{false≢true}
 use Rattle.cov_host.specs.declared.place.Place.{Place}
-use Rattle.design_model.specs.declared.design.Design.{Design}
-use Rattle.verilog_tree.specs.Tree.{Item, Module}
+use Rattle.verilog_tree.specs.Tree.{Module}
 use Rattle.flat_design.specs.Bodies.{met_faults}
 use Rattle.flat_design.specs.Connections.{JoinedPort}
 use Rattle.flat_design.specs.Fault.{Fault}
 use Rattle.flat_design.specs.Flat.{instance, items, join_ports, replaced}
 use Rattle.flat_design.specs.Instances.{Instantiation, Sofar, context, meet, opened, opening_met, scope_of}
 use Rattle.flat_design.specs.Scope.{Scope}
-use Rattle.flat_laws.proofs.Continues.{continues_twice, items_continue, instance_continues, join_ports_continues}
-use Rattle.elab_scope.specs.Tally.{Tally, after_all}
+use Rattle.flat_laws.proofs.Continues.{items_continue, instance_continues, join_ports_continues}
+use Rattle.elab_scope.specs.Tally.{Tally}
 use Rattle.elaborator.specs.Walk.{GoesBy, IsAmong, IsAt, IsClean, Opens, WalksBy, around_here, items_lines, items_nodes}
 use Rattle.elaborator.specs.declared.walk.Numbers.{Numbers}
 use Rattle.elaborator.specs.declared.walk.Walk.{Walk}
-use Rattle.elaborator.proofs.StepLemmas.{ended_walks, faults_walk, goes_twice, opened_among, opened_ends, scope_numbers, walks_go, was_clean}
-use Rattle.elab_scope.proofs.TallyLemmas.{was_open}
+use Rattle.elaborator.proofs.StepLemmas.{ended_walks, opened_among, opened_ends, scope_numbers, walks_go, was_clean}
 
 -- an instance whose faults are told and which is walked, where its scope is found, and then its ports are joined
 pub replaced_goes : {base : ℕ} {w told below later : Walk} {numbers : Numbers} (ms : List Module) (depth : ℕ) (given : Instantiation) (g inside : Scope) (p : Place) (i : Instantiation) (js : List JoinedPort) (fs : List Fault) →

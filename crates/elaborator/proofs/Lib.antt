@@ -6,3 +6,10 @@ pub mod FreeLemmas
 pub mod ProcessLemmas
 pub mod NetLemmas
 pub mod ElaborateLemmas
+pub mod KeptLemmas
+pub mod InnerLemmas
+pub mod EnterLemmas
+pub mod WalkPorts
+pub mod WalkItems
+pub mod NamedLemmas
+pub mod WalkOnes

@@ -1,5 +1,5 @@
 -- A walk goes from step to step.
-use Rattle.std.proofs.Common.{◌≡◌, ℕ, ◌+◌, true, false, filter, List, ◌∷◌, ◌++◌, [], Option, Some, None, refl, sym, ap, ◌∙◌, subst, length, arith}
+use Rattle.std.proofs.Common.{◌≡◌, ℕ, ◌+◌, true, false, filter, List, Some, sym, ap, ◌∙◌, subst, length, arith}
 use Rattle.std.proofs.lemmas.Bool.{false≢true}
 use Rattle.design_model.specs.View.{design_view}
 use Rattle.design_model.specs.declared.design.Design.{Design}
@@ -11,7 +11,7 @@ use Rattle.flat_laws.proofs.Continues.{Continues}
 use Rattle.flat_laws.proofs.Freedom.{IsFree}
 use Rattle.flat_laws.proofs.LawfulCounts.{AddsProcess, inner_faults}
 use Rattle.elab_scope.specs.Tally.{Tally, after_all}
-use Rattle.elaborator.specs.Walk.{Adds, GoesBy, IsAmong, IsAt, IsBuilding, IsClean, Opens, Remains, StandsFor, WalksBy, opened_design, with_process}
+use Rattle.elaborator.specs.Walk.{Adds, GoesBy, IsAmong, IsAt, IsBuilding, IsClean, Opens, StandsFor, WalksBy, opened_design, with_process}
 use Rattle.elaborator.specs.declared.walk.Numbers.{Numbers}
 use Rattle.elaborator.specs.declared.walk.Walk.{Walk}
 use Rattle.elaborator.proofs.WalkLemmas.{all_clean, stands_ended, stands_met, stands_opened, stands_process}

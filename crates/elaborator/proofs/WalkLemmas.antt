@@ -1,9 +1,9 @@
 -- The steps of a walk stand for the steps of elaboration.
-use Rattle.std.proofs.Common.{◌≡◌, inl, inr, ℕ, ◌+◌, ◌≤◌, Bool, true, false, not, ◌==◌, nat_lt, List, [], ◌∷◌, ◌++◌, Option, None, Some, if◌then◌else◌, refl, sym, ap, ◌∙◌, subst, length, map, arith, length-append}
+use Rattle.std.proofs.Common.{◌≡◌, inl, inr, ℕ, ◌+◌, ◌≤◌, Bool, true, false, ◌==◌, nat_lt, List, [], ◌∷◌, ◌++◌, Option, None, Some, if◌then◌else◌, refl, sym, ap, ◌∙◌, subst, length, map, arith, length-append}
 use Rattle.std.specs.List.{list_all, sum_by, filter, flat_map}
 use Rattle.std.proofs.lemmas.Bool.{false≢true, cases_Bool}
 use Rattle.std.proofs.lemmas.List.{length-map}
-use Rattle.std.proofs.lemmas.List.Sums.{sum_by-cons, sum_by-append}
+use Rattle.std.proofs.lemmas.List.Sums.{sum_by-cons}
 use Rattle.design_model.specs.Lawful.{span}
 use Rattle.flat_design.specs.Bodies.{Met, met_fault, met_signal, met_words, met_process, met_instance, met_statement, met_writing, met_faults}
 use Rattle.flat_design.specs.Fault.{Fault, is_limit, limit_fault}
@@ -17,7 +17,7 @@ use Rattle.flat_design.specs.declared.counts.Counts.{Counts}
 use Rattle.flat_design.specs.declared.fault.DesignLimit.TheVariants.{Signals, Processes, Words, Instances, Statements}
 use Rattle.elab_scope.specs.Tally.{Tally, after, after_all, sooner, with_counts, with_met}
 use Rattle.elab_scope.proofs.TallyLemmas.{after_all-append, after_all_ended, after_open, was_open}
-use Rattle.elaborator.specs.Walk.{HasNumbers, IsClean, StandsFor}
+use Rattle.elaborator.specs.Walk.{IsClean, StandsFor}
 
 -- the counts of what is met, where no limit is passed
 pub record AreCounted (t later : Tally) (ms : List Met) : Type 0 where

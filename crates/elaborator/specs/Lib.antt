@@ -1,3 +1,7 @@
+pub mod Entered
+pub mod Kept
 pub mod Modules
+pub mod Named
+pub mod Ports
 pub mod Walk
 pub mod Answered

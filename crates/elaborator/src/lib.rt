@@ -2,10 +2,16 @@
 #![tactic(auto)]
 
 mod elaboration;
+mod entering;
 mod ground;
+mod inner;
+mod instances;
+mod items;
 mod modules;
+mod naming;
 mod nets;
 mod opening;
+mod ports;
 mod processes;
 mod walk;
 

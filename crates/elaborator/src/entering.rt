@@ -1,0 +1,70 @@
+//! An instance is entered: what is met in its declarations, its own parts in the design, and what its names stand for.
+
+ghost use Rattle.std.specs.Prelude.{◌≡◌, ◌≤◌, MatchOption, Some, false, true, length, IfOk, OnOk};
+ghost use Rattle.design_model.specs.View.{design_view};
+ghost use Rattle.design_model.specs.declared.design.Design as the;
+ghost use Rattle.elab_instances.specs.InstanceView.{instantiation_view};
+ghost use Rattle.elaborator.specs.Entered.{IsEntered, IsPassed};
+ghost use Rattle.elaborator.specs.Walk.{IsClean, opened_design};
+
+use crate::opening::add_instance;
+use crate::walk::{Numbers, Walk};
+use cov_host::NoMemory;
+use elab_declarations::Declarations;
+use elab_instances::{Instantiation, Opened, open_instance};
+use elab_scope::Scope;
+use std::alloc::Global;
+
+/// The declared names of an instance, what they stand for, and the first numbers of its items.
+#[derive(Drop)]
+pub(crate) struct Entered<'a> {
+    pub(crate) declared: Declarations<'a>,
+    pub(crate) scope: Scope,
+    pub(crate) numbers: Numbers,
+}
+
+/// Adds an opened instance to the design, if one is built. Its number, or 0.
+fn add_opened(alloc: Global, opened: &Opened, walk: &mut Walk) -> Result<u32, NoMemory>
+    ensures tally { OnOk result (walk.new.tally ≡ walk.old.tally) }
+    ensures memories { OnOk result (walk.new.memories ≡ walk.old.memories) }
+    ensures draft { IfOk result (λ number. (d : the.Design) → walk.new.draft ≡ Some d → IsClean walk.old.tally → (o : the.Design) × (walk.old.draft ≡ Some o) × (design_view d ≡ opened_design (instantiation_view opened.now.given.now) (design_view o)) × (number ≡ length (design_view o).instances)) }
+{
+    if !walk.builds() {
+        return Ok(0);
+    }
+    match &mut walk.draft {
+        Some(draft) => add_instance(alloc, opened, draft),
+        None => Ok(0),
+    }
+}
+
+/// Enters an instance. None where a limit is passed with it.
+pub(crate) fn enter<'a>(
+    alloc: Global,
+    given: &Instantiation<'a>,
+    walk: &mut Walk<'a>,
+) -> Result<Option<Entered<'a>>, NoMemory>
+    requires few { walk.old.tally.ended ≡ false → walk.old.memories ≤ walk.old.tally.counts.words }
+    ensures { IfOk result (λ found. MatchOption found (IsPassed walk.old walk.new (instantiation_view given.now)) (λ entered. IsEntered walk.old walk.new (instantiation_view given.now) entered)) }
+{
+    let first = elab_instances::Numbers {
+        signal: walk.tally.counts().signals,
+        memory: walk.memories,
+    };
+    let opened = open_instance(alloc, given, &mut walk.tally)?;
+    if walk.tally.is_ended() {
+        return Ok(None);
+    }
+    let inside = opened.enter(alloc, first)?;
+    let instance = add_opened(alloc, &opened, walk)?;
+    walk.memories = inside.next.memory;
+    Ok(Some(Entered {
+        declared: opened.declared,
+        scope: inside.scope,
+        numbers: Numbers {
+            instance,
+            line: 1,
+            node: 1,
+        },
+    }))
+}
