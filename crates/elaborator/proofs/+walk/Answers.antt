@@ -79,7 +79,7 @@ items::walk_items-returns-clause-scope t c = c.loop-item.invariant.scope
 pub items::walk_item-returns-in-Net-clause-goes : goal.items::walk_item-returns-in-Net-clause-goes
 items::walk_item-returns-in-Net-clause-goes t c =
     let given = instantiation_view c.args.body.now.given.now in
-    on_ok_weaker c.walk_nets.result (λ goes. net_goes c.args.ground.base (modules_view c.args.ground.modules.now.modules.now) c.args.depth given (binding_of c.args.scope.now) c.args.item.now.place c.args.item.now.form c.args.walk.now c.args.numbers.now c.walk_nets.new.walk c.walk_nets.new.numbers _ _ c.in-Net.names c.as_slice.result.now c.in-Net.is c.as_slice.ensures (goes given)) c.walk_nets.ensures
+    on_ok_weaker c.walk_nets.result (λ goes. net_goes c.args.ground.base (modules_view c.args.ground.modules.now.modules.now) c.args.depth given (binding_of c.args.scope.now) c.args.item.now.place c.args.item.now.form c.args.walk.now c.args.numbers.now c.walk_nets.new.walk c.walk_nets.new.numbers _ _ c.in-Net.names c.as_slice.result.now c.in-Net.is c.as_slice.ensures (goes given)) c.walk_nets.ensures.goes
 
 pub items::walk_item-returns-in-Assign-clause-goes : goal.items::walk_item-returns-in-Assign-clause-goes
 items::walk_item-returns-in-Assign-clause-goes t c =
