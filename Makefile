@@ -6,7 +6,7 @@
 
 PREFIX ?= /usr/local
 PROGRAM = crates/covered/out/covered
-STAGE = frontend
+STAGE = hierarchy
 # parts of later stages that stand already: dumps, bindings, merge and report
 AHEAD = merge-report pieces assigns
 ROWS ?= $(firstword $(wildcard ../*/rows))
