@@ -3,8 +3,8 @@ use Rattle.verilog_tree.specs.View.{module_view, modules_view}
 use Rattle.elaborator.proofs.ElaborateLemmas.{walks_absent, walks_present}
 use Rattle.elaborator.proofs.elaboration.walk_top.Goals as goal
 
-pub returns-in-Some : goal.returns-in-Some
-returns-in-Some c =
+pub returns-in_ok-walk_instance-in-Some : goal.returns-in_ok-walk_instance-in-Some
+returns-in_ok-walk_instance-in-Some c =
     walks_present (modules_view c.args.ground.modules.now.modules.now) c.args.top.now (module_view c.in-Some.module.now) _ (sym c.in-Some.ensures) c.in_ok-given-in-Some.ensures c.in_ok-walk_instance-in-Some.ensures.walks
 
 pub returns-in-None : goal.returns-in-None
