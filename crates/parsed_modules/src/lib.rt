@@ -1,7 +1,10 @@
-//! What holds of the modules that tokens of sources spell.
+//! What holds of the modules that tokens of sources spell, and of the design that they stand for.
 #![tactic(auto)]
 
-ghost use Rattle.std.specs.Prelude.{List, []};
+ghost use Rattle.std.specs.Prelude.{ℕ, ◌≡◌, List, [], Ok};
+ghost use Rattle.design_model.specs.Design.{Design};
+ghost use Rattle.design_model.specs.Lawful.{IsLawfulDesign};
+ghost use Rattle.flat_design.specs.Faults.{answer};
 ghost use Rattle.verilog_lexer.specs.TokenTexts.{AreSound};
 ghost use Rattle.verilog_lexer.specs.Tokens.{Lexeme};
 ghost use Rattle.verilog_tree.specs.Tree.{Module};
@@ -14,4 +17,9 @@ ghost use Rattle.parsed_modules.specs.Spelled.{AreModules};
 pub fn parsed_law()
     ensures tokens { (tokens : List Lexeme) (ms : List Module) → AreSound [] tokens → AreModules tokens ms → AreOfTokens ms }
     ensures names { (tokens : List Lexeme) (ms : List Module) → AreSound [] tokens → AreModules tokens ms → AreNamed ms }
+{}
+
+/// The flat design that the modules of sources stand for is lawful.
+pub fn lawful_sources_law()
+    ensures { (tokens : List Lexeme) (ms : List Module) (top : List ℕ) (d : Design) → AreSound [] tokens → AreModules tokens ms → answer ms top ≡ Ok d → IsLawfulDesign d }
 {}
