@@ -1,4 +1,4 @@
-//! Reads a source into tokens and the tokens into modules, and prints the speed of both, or the fault that stands in it.
+//! Reads a source into tokens and the tokens into modules, and prints the speed of both, or the fault of the grammar that stands in it.
 #![tactic(auto)]
 
 ghost use Rattle.std.specs.Prelude.{◌<◌};
@@ -7,7 +7,7 @@ use anyhow::Result;
 use cov_host::Bytes;
 use std::time::{Duration, Instant};
 use std::{env, fs};
-use verilog_lexer::{Defines, LexFault, Sources, lex};
+use verilog_lexer::{Defines, Sources, lex};
 use verilog_parser::{ParseFault, parse};
 
 fn main(rt: HostRuntime) -> Result<()> {
@@ -22,23 +22,9 @@ fn main(rt: HostRuntime) -> Result<()> {
     let defines = Defines::new(rt.alloc());
 
     let start = Instant::now(&rt)?;
-    let tokens = match lex(rt.alloc(), &sources, &defines) {
-        Ok(tokens) => tokens,
-        Err(
-            LexFault::At {
-                kind,
-                place: Some(place),
-                ..
-            },
-        ) => {
-            println!(rt; "{kind:?} at {}:{}", place.line, place.column)?;
-            return Ok(());
-        }
-        Err(fault) => return Err(fault.into()),
-    };
+    let tokens = lex(rt.alloc(), &sources, &defines)?;
     let lexed = micros(start.elapsed(&rt)?);
-    let count = tokens.len();
-    println!(rt; "{length} bytes, {count} tokens")?;
+    println!(rt; "{length} bytes, {} tokens", tokens.len())?;
 
     let start = Instant::now(&rt)?;
     let modules = match parse(rt.alloc(), &tokens) {
