@@ -14,6 +14,3 @@ mod top_call;
 
 pub use status::Status;
 pub use top_call::covered;
-
-#[cfg(test)]
-mod tests;

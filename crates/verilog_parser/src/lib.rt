@@ -21,8 +21,3 @@ mod statement;
 
 pub use answer::parse;
 pub use fault::{ParseFault, ParseKind};
-
-#[cfg(test)]
-mod show;
-#[cfg(test)]
-mod tests;

@@ -1,10 +1,10 @@
 use crate::show::Shown;
-use crate::{ParseFault, ParseKind, parse};
 use cov_host::{Bytes, Name};
 use std::alloc::Global;
 use std::process::Abort;
 use std::test::Fail;
 use verilog_lexer::{Defines, Sources, lex};
+use verilog_parser::{ParseFault, ParseKind, parse};
 
 /// An expression, and its tree as a text.
 struct Expression {

@@ -1,5 +1,5 @@
-use crate::{Status, covered};
 use cov_host::{Calls, MemoryHost, Words};
+use covered_cli::{Status, covered};
 use std::alloc::Global;
 use std::test::Fail;
 
