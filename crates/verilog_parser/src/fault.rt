@@ -32,12 +32,6 @@ pub enum ParseFault {
     },
 }
 
-impl From<NoMemory> for ParseFault {
-    fn from(_: NoMemory) -> Self {
-        ParseFault::NoMemory
-    }
-}
-
 /// What is wrong at a token.
 #[derive(Clone, Copy, Debug, PartialEq, Eq)]
 pub(crate) enum Wrong {
