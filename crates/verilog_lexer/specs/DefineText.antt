@@ -33,12 +33,18 @@ turn_within Code byte next = turn_in_code byte next
 turn_within Quote byte next = turn_in_quote byte
 turn_within Comment byte next = turn_in_comment byte next
 
+-- what the next line begins within: a string stands on one line
+abbrev pub on_next_line : Within → Within
+on_next_line Code = Code
+on_next_line Quote = Code
+on_next_line Comment = Comment
+
 -- whether the text goes on with a byte: the line's end ends it, unless a backslash stands directly before
 abbrev pub turn : Standing → ℕ → ℕ → Option Standing
 turn state byte next =
-    if state.taken then goes_on state.within false
+    if byte == 92 && next == 10 then goes_on (on_next_line state.within) true
+    else if state.taken then goes_on state.within false
     else if byte == 10 then None
-    else if byte == 92 && next == 10 then goes_on state.within true
     else turn_within state.within byte next
 
 -- how many bytes the text of a macro has, after those that are passed

@@ -1,5 +1,5 @@
 -- The compiler directives by their names (IEEE 1364-2001 clause 19).
-use Rattle.std.specs.Prelude.{ℕ, Bool, ◌||◌, List, if◌then◌else◌, codes}
+use Rattle.std.specs.Prelude.{ℕ, Bool, true, false, ◌||◌, List, if◌then◌else◌, codes}
 use Rattle.std.specs.Str.{bytes_eq}
 use Rattle.verilog_lexer.specs.declared.directive.Directive.{Directive}
 use Rattle.verilog_lexer.specs.declared.directive.Directive.TheVariants.{Define, Undef, Ifdef, Ifndef, Elsif, Else, Endif, Include, PassedOver, Refused, Use}
@@ -28,3 +28,17 @@ directive_of word =
     else if is_passed_over word then PassedOver
     else if is_refused word then Refused
     else Use
+
+-- whether it is the use of a macro
+abbrev pub is_use : Directive → Bool
+is_use Define = false
+is_use Undef = false
+is_use Ifdef = false
+is_use Ifndef = false
+is_use Elsif = false
+is_use Else = false
+is_use Endif = false
+is_use Include = false
+is_use PassedOver = false
+is_use Refused = false
+is_use Use = true

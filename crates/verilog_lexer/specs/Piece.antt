@@ -7,7 +7,7 @@ use Rattle.verilog_lexer.specs.Run.{is_white, is_blank, is_within_line, run, thr
 use Rattle.verilog_lexer.specs.Operator.{operator_length}
 use Rattle.verilog_lexer.specs.Based.{base_of, letter_at, based_length, is_decimal_part}
 use Rattle.verilog_lexer.specs.DefineText.{define_text_length}
-use Rattle.verilog_lexer.specs.Directive.{directive_of}
+use Rattle.verilog_lexer.specs.Directive.{directive_of, is_use}
 use Rattle.verilog_lexer.specs.declared.based.Base.{Base}
 use Rattle.verilog_lexer.specs.declared.directive.Directive.{Directive}
 use Rattle.verilog_lexer.specs.declared.directive.Directive.TheVariants.{Define, Undef, Ifdef, Ifndef, Elsif, Else, Endif, Include, PassedOver, Refused, Use}
@@ -104,10 +104,14 @@ name_behind text = name_in (drop (run is_blank text) text)
 abbrev pub name_end : List ℕ → ℕ
 name_end text = run is_blank text + length (name_behind text)
 
+-- what a macro may be named: an identifier that no directive has
+abbrev pub is_macro_name : List ℕ → Bool
+is_macro_name name = is_identifier name && is_use (directive_of name)
+
 -- the definition of a macro; a macro with arguments is refused
 abbrev pub define_piece : (start : ℕ) → List ℕ → Piece
 define_piece start text =
-    if is_identifier (name_behind text) && not (slice_index text (name_end text) == 40)
+    if is_macro_name (name_behind text) && not (slice_index text (name_end text) == 40)
     then define (name_behind text) (take (define_text_length (drop (name_end text) text)) (drop (name_end text) text)) (start + name_end text + define_text_length (drop (name_end text) text))
     else fault UnknownDirective 0
 

@@ -1,5 +1,5 @@
 ghost use Rattle.std.specs.Prelude.{◌≡◌, ◌≤◌, length};
-ghost use Rattle.verilog_lexer.specs.DefineText.{turn, turn_within, turn_in_code, turn_in_quote, turn_in_comment, goes_on, define_text_length};
+ghost use Rattle.verilog_lexer.specs.DefineText.{turn, turn_within, turn_in_code, turn_in_quote, turn_in_comment, on_next_line, goes_on, define_text_length};
 
 use crate::run::byte_at;
 
@@ -19,7 +19,7 @@ pub(crate) struct Standing {
 }
 
 /// How many bytes the text of a macro at the front has (IEEE 1364-2001 clause 19.3.1). It goes to the end of the
-/// line, without a comment there, and a backslash directly before the line's end continues it.
+/// line, without a comment there, and a backslash directly before the line's end continues it, also in a string.
 #[tactic(auto, using(crate::proofs::DefineTexts::define_texts), unfolding(crate::specs::DefineText::define_text_length))]
 pub(crate) fn define_text_length(text: &[u8]) -> usize
     ensures value { result ≡ define_text_length text.now }
@@ -42,14 +42,25 @@ pub(crate) fn define_text_length(text: &[u8]) -> usize
 fn turn(state: Standing, byte: u8, next: u8) -> Option<Standing>
     ensures { result ≡ turn state byte next }
 {
-    if state.taken {
+    if byte == b'\\' && next == b'\n' {
+        goes_on(on_next_line(state.within), true)
+    } else if state.taken {
         goes_on(state.within, false)
     } else if byte == b'\n' {
         None
-    } else if byte == b'\\' && next == b'\n' {
-        goes_on(state.within, true)
     } else {
         turn_within(state.within, byte, next)
+    }
+}
+
+/// What the next line begins within. A string ends with its line.
+fn on_next_line(within: Within) -> Within
+    ensures { result ≡ on_next_line within }
+{
+    match within {
+        Within::Code => Within::Code,
+        Within::Quote => Within::Code,
+        Within::Comment => Within::Comment,
     }
 }
 

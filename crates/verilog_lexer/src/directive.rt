@@ -1,6 +1,6 @@
 ghost use Rattle.std.specs.Prelude.{◌≡◌};
 ghost use Rattle.std.specs.Str.{bytes_eq};
-ghost use Rattle.verilog_lexer.specs.Directive.{directive_of, is_passed_over, is_refused};
+ghost use Rattle.verilog_lexer.specs.Directive.{directive_of, is_passed_over, is_refused, is_use};
 
 /// The compiler directives, and the use of a macro (IEEE 1364-2001 clause 19).
 #[derive(Clone, Copy, Debug, PartialEq, Eq)]
@@ -46,6 +46,13 @@ pub(crate) fn directive_of(word: &[u8]) -> Directive
     } else {
         Directive::Use
     }
+}
+
+/// Whether it is the use of a macro.
+pub(crate) fn is_use(directive: Directive) -> bool
+    ensures { result ≡ is_use directive }
+{
+    matches!(directive, Directive::Use)
 }
 
 /// Whether the directive is passed over to the end of its line.

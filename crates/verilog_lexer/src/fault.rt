@@ -8,16 +8,28 @@ use thiserror::Error;
 /// What is wrong with a source.
 #[derive(Clone, Copy, Debug, PartialEq, Eq)]
 pub enum LexKind {
+    /// A byte that begins no token, a string without its end on the line, or an identifier of more than 255 bytes.
     BadByte = 1,
+    /// A decimal number of 2^32 or more, a size that is not from 1 to 128, or a based number with no digit or too
+    /// great a value (IEEE 1364-2001 clause 2.5).
     BadNumber = 2,
+    /// A comment or an attribute without its end.
     OpenComment = 3,
+    /// A branch or an end of a condition without its beginning, or a condition without its end in the same file.
     OpenCondition = 4,
+    /// A directive in a form that is not read, such as a macro with arguments.
     UnknownDirective = 5,
+    /// The use of a macro that is not defined.
     UnknownMacro = 6,
+    /// Macros and included files nested more than 64 deep.
     MacroDepth = 7,
+    /// More than 4,194,304 tokens.
     TooManyTokens = 8,
+    /// An included file that is not among the sources.
     IncludeMissing = 9,
+    /// Sources of more than 67,108,864 bytes together.
     SourcesTooLong = 10,
+    /// More than 256 sources.
     TooManySources = 11,
 }
 

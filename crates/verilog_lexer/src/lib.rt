@@ -29,6 +29,3 @@ pub use laws::{places_rise, texts_are_parts, tokens_are_sound, tokens_stand};
 pub use lexing::lex;
 pub use sources::Sources;
 pub use token::{Token, TokenKind, Tokens};
-
-#[cfg(test)]
-mod tests;

@@ -1,12 +1,12 @@
 ghost use Rattle.std.specs.Prelude.{◌≡◌, ◌+◌, ◌-◌, ◌^◌, ◌<◌, ◌≤◌, ◌&&◌, nat_le, length};
 ghost use Rattle.std.specs.List.{list_all};
 ghost use Rattle.verilog_lexer.specs.Run.{run};
-ghost use Rattle.verilog_lexer.specs.Piece.{piece_length, word_piece, quoted_piece, based_piece, system_piece, operator_piece, comment_piece, slash_piece, parenthesis_piece, name_in, name_behind, name_end, define_piece, is_file_name, file_piece, include_piece, condition_piece, other_piece, directive_word, accent_piece, mark_piece, read_piece, is_plain, left_out_slash, left_out_quote, left_out_accent, left_out_piece, token_of, fault};
+ghost use Rattle.verilog_lexer.specs.Piece.{piece_length, word_piece, quoted_piece, based_piece, system_piece, operator_piece, comment_piece, slash_piece, parenthesis_piece, name_in, name_behind, name_end, define_piece, is_file_name, file_piece, include_piece, condition_piece, other_piece, directive_word, accent_piece, mark_piece, read_piece, is_plain, left_out_slash, left_out_quote, left_out_accent, left_out_piece, token_of, fault, is_macro_name};
 ghost use Rattle.verilog_lexer.specs.PieceView.{piece_view, piece_option_view};
 
 use crate::based::{base_at, based_length, decimal_length};
 use crate::define_text::define_text_length;
-use crate::directive::{Directive, directive_of};
+use crate::directive::{Directive, directive_of, is_use};
 use crate::operator::operator_length;
 use crate::run::{
     blank_length, byte_at, front, is_white, line_length, name_length, tail, through_pair,
@@ -398,6 +398,13 @@ fn name_end(text: &[u8]) -> usize
     blanks + name_in(tail(text, blanks)).len()
 }
 
+/// Whether a macro may have the name: it is an identifier, and no directive has it (clause 19.3.1).
+fn is_macro_name(name: &[u8]) -> bool
+    ensures { result ≡ is_macro_name name.now }
+{
+    is_identifier(name) && is_use(directive_of(name))
+}
+
 /// The definition of a macro (clause 19.3.1). A macro with arguments is refused.
 fn define_piece(start: usize, text: &[u8]) -> Piece<'_>
     requires { start + length text.now < 2 ^ 64 }
@@ -405,7 +412,7 @@ fn define_piece(start: usize, text: &[u8]) -> Piece<'_>
 {
     let name = name_behind(text);
     let end = name_end(text);
-    if is_identifier(name) && byte_at(text, end) != b'(' {
+    if is_macro_name(name) && byte_at(text, end) != b'(' {
         let behind = tail(text, end);
         let length = define_text_length(behind);
         Piece::Define {

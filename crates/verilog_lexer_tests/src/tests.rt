@@ -1,8 +1,8 @@
-use super::*;
 use cov_host::{Bytes, Name, Place};
 use std::alloc::Global;
 use std::process::Abort;
 use std::test::Fail;
+use verilog_lexer::{Defines, LexFault, LexKind, Sources, Token, TokenKind, Tokens, lex};
 
 /// A source, the kinds of its tokens by their first letters, and their texts with grave accents between.
 struct Case {
@@ -21,7 +21,7 @@ struct Refusal {
 }
 
 #[rattlefmt::skip]
-const CASES: [Case; 59] = [
+const CASES: [Case; 61] = [
     // clause 2.7.3: keywords are not identifiers
     Case { source: "module m;", kinds: "KIO", texts: "module`m`;" },
     // clause 2.2: spaces, tabs, newlines and formfeeds separate tokens
@@ -138,12 +138,16 @@ const CASES: [Case; 59] = [
     Case { source: "`define A x /* // */ y\n`A;", kinds: "IIO", texts: "x`y`;" },
     // clause 2.6: // within a string is no comment
     Case { source: "`define S \"a//b\"\n`S;", kinds: "QO", texts: "\"a//b\"`;" },
+    // a backslash directly before the line's end continues a text in a string too; Icarus Verilog does so
+    Case { source: "`define A \"abc\\\\\nx\n;", kinds: "O", texts: ";" },
+    // a string stands on one line, so the comment of the next one ends the text; Icarus Verilog does so
+    Case { source: "`define A \" \\\n // c \\\ny;", kinds: "IO", texts: "y`;" },
     // clauses 19.1, 19.2, 19.6 to 19.8: directives that give no tokens
     Case { source: "`timescale 1ns / 1ps\n`default_nettype none\n`celldefine\n`resetall\n`line 3 \"x\" 0\na\n`endcelldefine", kinds: "I", texts: "a" },
 ];
 
 #[rattlefmt::skip]
-const REFUSALS: [Refusal; 60] = [
+const REFUSALS: [Refusal; 61] = [
     // a byte of no token
     Refusal { source: "a\n  \x7f", kind: LexKind::BadByte, line: 2, column: 3, detail: "" },
     // a backslash begins no token
@@ -204,6 +208,8 @@ const REFUSALS: [Refusal; 60] = [
     Refusal { source: "a\n  `define F(x) x", kind: LexKind::UnknownDirective, line: 2, column: 3, detail: "" },
     // a macro without a name
     Refusal { source: "`define 3", kind: LexKind::UnknownDirective, line: 1, column: 1, detail: "" },
+    // clause 19.3.1: a macro that has the name of a directive
+    Refusal { source: "a\n`define line 3", kind: LexKind::UnknownDirective, line: 2, column: 1, detail: "" },
     // a condition without a name
     Refusal { source: "`ifdef\nA", kind: LexKind::UnknownDirective, line: 1, column: 1, detail: "" },
     // an inclusion without a name
