@@ -33,7 +33,7 @@ use Rattle.source_design.specs.declared.fault.SourceFault.{SourceFault}
 use Rattle.source_design.specs.declared.fault.SourceFault.TheVariants as source_fault
 use Rattle.verilog_lexer.specs.Sources.{SourceText}
 use Rattle.covered_cli.specs.ScoreSources.{sources_in}
-use Rattle.covered_cli.specs.Scoring.{HasDesign, HasNoScore, IsDone, IsDoneBy, IsDoneIn, IsDumpRefusal, IsRefusedDump}
+use Rattle.covered_cli.specs.Scoring.{HasDesign, HasNoScore, HasSomeDesign, IsDone, IsDoneBy, IsDoneIn, IsDumpRefusal, IsRefusedDump}
 use Rattle.covered_cli.specs.SourceMessage.{source_status}
 use Rattle.covered_cli.specs.declared.dump_refusal.DumpRefusal.{DumpRefusal}
 use Rattle.covered_cli.specs.declared.dump_refusal.DumpRefusal.TheVariants as refusal
@@ -111,14 +111,17 @@ module _ (score : ScoreValues) (before : Outside) (sources : List SourceText) (t
       one_design sources (sources_in score).defines score.top design other stands
       (subst (λ ss. StandFor ss (sources_in score).defines score.top other) (sym (one_sources (sources_in score) before sources told gathered others has.gathered)) has.stands)
 
+  -- sources that stand for no design have none
+  no_some_design : ((design : Design) → StandFor sources (sources_in score).defines score.top design → ⊥) → HasSomeDesign score before → ⊥
+  no_some_design none (others, other, has) =
+      none other (subst (λ ss. StandFor ss (sources_in score).defines score.top other) (sym (one_sources (sources_in score) before sources told gathered others has.gathered)) has.stands)
+
   -- what is done has a design
   source_done : (after : Outside) → ((design : Design) → StandFor sources (sources_in score).defines score.top design → ⊥) → IsDoneIn score before after → ⊥
-  source_done after none done =
-      none done.design (subst (λ ss. StandFor ss (sources_in score).defines score.top done.design) (sym (one_sources (sources_in score) before sources told gathered done.sources done.has_design.gathered)) done.has_design.stands)
+  source_done after none done = no_some_design none (done.sources, done.design, done.has_design)
 
   no_design : ((design : Design) → StandFor sources (sources_in score).defines score.top design → ⊥) → (r : DumpRefusal) → IsRefusedDump score before r → ⊥
-  no_design none r refused =
-      none refused.design (subst (λ ss. StandFor ss (sources_in score).defines score.top refused.design) (sym (one_sources (sources_in score) before sources told gathered refused.sources refused.has_design.gathered)) refused.has_design.stands)
+  no_design none r refused = no_some_design none (refused.sources, refused.design, refused.has_design)
 
 module _ (score : ScoreValues) (before : Outside) (design : Design) (text : List ℕ) (texts : HaveTexts score before design text) where
   told : IsSome before.files
@@ -162,12 +165,13 @@ module _ (score : ScoreValues) (before : Outside) (design : Design) (text : List
 -- how a fault ends that is no fault of the host, where it is known how one of the sources, of a dump and of a file ends
 module _ (words : List (List ℕ)) (score : ScoreValues) (is_score : IsScore words score) (before middle after : Outside) where
   ends_with : (expected : Status) → ((f : SourceFault) → IsSourceFault (sources_in score) before middle f → EndsWith expected (source_status f)) → ((r : DumpRefusal) → IsRefusedDump score before r → EndsWith expected (status_of (fault.Dump r)))
-      → ((call : Call) (file : List ℕ) → NamesFile score call file → IsRefused call file before middle → ⊥) → (f : Fault) → Stands words before middle f → EndsWith expected (status_of f)
+      → ((call : Call) (file : List ℕ) → NamesFile score call file → IsRefused call file before middle → HasSomeDesign score before → ⊥) → (f : Fault) → Stands words before middle f → EndsWith expected (status_of f)
   ends_with expected of_source of_dump of_file (fault.Usage usage) stands = absurd (command_or_fault words (of_score score, is_score) (usage, stands))
   ends_with expected of_source of_dump of_file (fault.Source f) stands = of_source f (subst (λ score. IsSourceFault (sources_in score) before middle f) (one_command words stands.0 score stands.1 is_score) stands.2)
   ends_with expected of_source of_dump of_file (fault.Dump r) stands = of_dump r (subst (λ score. IsRefusedDump score before r) (one_command words stands.0 score stands.1 is_score) stands.2)
   ends_with expected of_source of_dump of_file (fault.Files call file) stands =
-      absurd (of_file call file.now (subst (λ score. NamesFile score call file.now) (one_command words stands.0 score stands.1 is_score) stands.2.0) stands.2.1)
+      let same = one_command words stands.0 score stands.1 is_score in
+      absurd (of_file call file.now (subst (λ score. NamesFile score call file.now) same stands.2.0) stands.2.1 (subst (λ score. HasSomeDesign score before) same stands.2.2))
   ends_with expected of_source of_dump of_file fault.Memory stands = inr refl
   ends_with expected of_source of_dump of_file (fault.Databases f) stands = absurd (score_or_databases words score before middle f is_score stands)
 
@@ -201,8 +205,8 @@ module _ (words : List (List ℕ)) (before middle after : Outside) (first : Coun
   design_ends score design text texts expected g is =
       inr (ap source_status (design_or_fault (sources_in score) before texts.sources (told score before design text texts) texts.has_design.gathered design texts.has_design.stands middle none_yet g is))
 
-  file_counted : (score : ScoreValues) (text : List ℕ) → HasText before score.dump text → (call : Call) (file : List ℕ) → NamesFile score call file → IsRefused call file before middle → ⊥
-  file_counted score text is call file named refused = none_yet (refused_call score before middle text is call file named refused)
+  file_counted : (score : ScoreValues) (text : List ℕ) → HasText before score.dump text → (call : Call) (file : List ℕ) → NamesFile score call file → IsRefused call file before middle → HasSomeDesign score before → ⊥
+  file_counted score text is call file named refused has = none_yet (refused_call score before middle text is call file named refused)
 
   pub good_ends : IsCommandWith IsGoodScore words before → EndsWith Done (status_of f)
   good_ends (score, is, good) =
@@ -224,11 +228,10 @@ module _ (words : List (List ℕ)) (before middle after : Outside) (first : Coun
 
   pub bad_source_ends : IsCommandWith HasBadSource words before → EndsWith source_status_of (status_of f)
   bad_source_ends (score, is, bad) =
-      let there = is_told before.files score.dump bad.text bad.dump_is in
       ends_with words score is before middle after source_status_of
-      (λ g stands. bad_ends g (files_read (sources_in score) before bad.sources there bad.gathered middle none_yet g stands))
-      (λ r refused. absurd (no_design score before bad.sources there bad.gathered bad.refused r refused))
-      (file_counted score bad.text bad.dump_is) f stands
+      (λ g stands. bad_ends g (files_read (sources_in score) before bad.sources bad.told bad.gathered middle none_yet g stands))
+      (λ r refused. absurd (no_design score before bad.sources bad.told bad.gathered bad.refused r refused))
+      (λ call file named refused has. no_some_design score before bad.sources bad.told bad.gathered bad.refused has) f stands
 
   pub unbound_ends : IsCommandWith HasUnboundDump words before → WarnsLine (line_of f) before after → RefusesBinding words (status_of f) before after
   unbound_ends unbound warned = go f stands warned (bad_dump_ends (bad_command words before unbound))
@@ -263,7 +266,7 @@ module _ (words : List (List ℕ)) (before after : Outside) (done : IsDone words
       by_values (of_report other) is_other by = let e = one_of_all words (of_report other) (of_score score) is_other is in absurd (cc)
 
   pub bad_source_not_done : IsCommandWith HasBadSource words before → ⊥
-  bad_source_not_done (score, is, bad) = source_done score before bad.sources (is_told before.files score.dump bad.text bad.dump_is) bad.gathered after bad.refused (done_by score is)
+  bad_source_not_done (score, is, bad) = source_done score before bad.sources bad.told bad.gathered after bad.refused (done_by score is)
 
   pub bad_dump_not_done : IsCommandWith HasBadDump words before → ⊥
   bad_dump_not_done (score, is, bad) = dump_done score before bad.design bad.text bad.texts after bad.refused (done_by score is)

@@ -22,6 +22,7 @@ use Rattle.covered_cli.specs.Covered.{HasDatabaseCause, HasEarlyStatus, HasFiles
 use Rattle.covered_cli.specs.Databases.{database_status}
 use Rattle.covered_cli.specs.Fault.{IsEarly, IsRefused, NamesFile, Stands, StandsInDatabases, status_of}
 use Rattle.source_files.specs.Joining.{IsRefusedCall}
+use Rattle.source_design.proofs.Gathering.{root_named}
 use Rattle.source_design.specs.Reading.{IsSourceFault}
 use Rattle.source_design.specs.Words.{SourceValues}
 use Rattle.source_design.specs.declared.fault.SourceFault.{SourceFault}
@@ -141,7 +142,7 @@ source_call words before after CloseWrite path input counted = absurd counted
 source_files_cause : (words : List (List ℕ)) (before after : Outside) (score : ScoreValues) → IsScore words score → (f : SourceFault) → IsSourceFault (sources_in score) before after f → source_status f ≡ status.Files → HasFilesCause words before after
 source_files_cause words before after score is source_fault.NoMemory stands same = absurd cc
 source_files_cause words before after score is (source_fault.File call file) stands same =
-    source_call words before after call file.now (inl (of_score score, is, Contains-append_right (score.dump ∷ []) score.sources file.now stands.0)) stands.1
+    source_call words before after call file.now (inl (of_score score, is, Contains-append_right (score.dump ∷ []) score.sources file.now (root_named (sources_in score) before after call file.now stands))) stands.refused
 source_files_cause words before after score is (source_fault.Included call path) stands same = source_call words before after call path (inr (score, is, stands.0)) stands.1
 source_files_cause words before after score is (source_fault.Refused refusal) stands same = absurd cc
 source_files_cause words before after score is source_fault.NotYet stands same = absurd cc
@@ -222,7 +223,8 @@ module _ (before middle after : Outside) (first : CountsUp before middle) (secon
 
   source_later : (words : SourceValues) (f : SourceFault) → IsSourceFault words before middle f → IsSourceFault words before after f
   source_later words source_fault.NoMemory stands = tt
-  source_later words (source_fault.File call file) stands = (stands.0, source_call_later call file.now stands.1)
+  source_later words (source_fault.File call file) stands =
+      record { front = stands.front; others = stands.others; sources = stands.sources; stands = stands.stands; roots = stands.roots; within = stands.within; refused = source_call_later call file.now stands.refused }
   source_later words (source_fault.Included call path) stands = (stands.0, source_call_later call path stands.1)
   source_later words (source_fault.Refused refusal) stands = stands
   source_later words source_fault.NotYet stands = stands
@@ -251,6 +253,6 @@ module _ (before middle after : Outside) (first : CountsUp before middle) (secon
   stands_later words (Usage usage) stands = stands
   stands_later words (Source f) stands = (stands.0, stands.1, source_later (sources_in stands.0) f stands.2)
   stands_later words (Dump refusal) stands = stands
-  stands_later words (FilesFault call file) stands = (stands.0, stands.1, (stands.2.0, refused_later call file.now stands.2.1))
+  stands_later words (FilesFault call file) stands = (stands.0, stands.1, (stands.2.0, refused_later call file.now stands.2.1, stands.2.2))
   stands_later words Memory stands = stands
   stands_later words (Databases f) stands = databases_stand_later words f stands

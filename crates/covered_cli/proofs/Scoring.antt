@@ -7,13 +7,14 @@ use Rattle.command_line.specs.declared.command.Command.{Command}
 use Rattle.cov_host.specs.Outside.{Outside, Files, IsCounted, KeepsFiles, SameFiles, Told, HasFile}
 use Rattle.covered_cli.specs.Covered.{KeepsOthers}
 use Rattle.covered_cli.specs.Fault.{IsDesignFault, IsEarly, IsReadingFault, IsScoringFault, IsWritingFault, StandsIn}
-use Rattle.covered_cli.specs.Scoring.{HasDesign, IsDone, IsDoneIn, IsDoneWork, names_of}
+use Rattle.covered_cli.specs.Scoring.{HasDesign, HasSomeDesign, IsDone, IsDoneIn, IsDoneWork, names_of}
 use Rattle.covered_cli.specs.declared.fault.Fault.{Fault}
 use Rattle.covered_cli.specs.declared.fault.Fault.TheVariants.{Usage, Source, Dump, Files as FilesFault, Memory, Databases}
 use Rattle.design_model.specs.declared.design.Design.{Design}
 use Rattle.coverage_db.specs.Text.{text_of}
 use Rattle.coverage_db.specs.declared.db.Db.{Db}
 use Rattle.dump_score.specs.Scoring.{IsScoreOfFile}
+use Rattle.input_runs.proofs.Listed.{lists_points}
 use Rattle.input_runs.proofs.Reasoned.{reasoned_table}
 use Rattle.input_runs.proofs.Sound.{sound_table}
 use Rattle.input_toggles.proofs.DumpTimes.{times_rise}
@@ -51,17 +52,17 @@ design_stands score before after Memory is = tt
 design_stands score before after (Databases f) is = absurd is
 
 -- a fault of a file stands
-reading_stands : (score : ScoreValues) (before middle after : Outside) → KeepsFiles before middle → CountsUp before middle → CountsUp middle after → (fault : Fault) → IsReadingFault score.dump middle after fault → StandsIn score before after fault
-reading_stands score before middle after kept first second (Usage usage) is = absurd is
-reading_stands score before middle after kept first second (Source f) is = absurd is
-reading_stands score before middle after kept first second (Dump refusal) is = absurd is
-reading_stands score before middle after kept first second (FilesFault OpenRead file) is = (is.0, refused_earlier file.now before middle after kept first second is.1)
-reading_stands score before middle after kept first second (FilesFault Read file) is = (is.0, IsCounted-earlier before.faults middle.faults after.faults first.faults second.faults is.1)
-reading_stands score before middle after kept first second (FilesFault OpenWrite file) is = absurd is
-reading_stands score before middle after kept first second (FilesFault Write file) is = absurd is
-reading_stands score before middle after kept first second (FilesFault CloseWrite file) is = absurd is
-reading_stands score before middle after kept first second Memory is = tt
-reading_stands score before middle after kept first second (Databases f) is = absurd is
+reading_stands : (score : ScoreValues) (before middle after : Outside) → HasSomeDesign score before → KeepsFiles before middle → CountsUp before middle → CountsUp middle after → (fault : Fault) → IsReadingFault score.dump middle after fault → StandsIn score before after fault
+reading_stands score before middle after has kept first second (Usage usage) is = absurd is
+reading_stands score before middle after has kept first second (Source f) is = absurd is
+reading_stands score before middle after has kept first second (Dump refusal) is = absurd is
+reading_stands score before middle after has kept first second (FilesFault OpenRead file) is = (is.0, refused_earlier file.now before middle after kept first second is.1, has)
+reading_stands score before middle after has kept first second (FilesFault Read file) is = (is.0, IsCounted-earlier before.faults middle.faults after.faults first.faults second.faults is.1, has)
+reading_stands score before middle after has kept first second (FilesFault OpenWrite file) is = absurd is
+reading_stands score before middle after has kept first second (FilesFault Write file) is = absurd is
+reading_stands score before middle after has kept first second (FilesFault CloseWrite file) is = absurd is
+reading_stands score before middle after has kept first second Memory is = tt
+reading_stands score before middle after has kept first second (Databases f) is = absurd is
 
 -- a fault of the scoring stands
 pub scoring_stands : (score : ScoreValues) (sources : List SourceText) (design : Design) (before middle after : Outside) → HasDesign score before sources design → KeepsFiles before middle → CountsUp before middle → CountsUp middle after → (fault : Fault) → IsScoringFault score design middle after fault → StandsIn score before after fault
@@ -73,9 +74,9 @@ scoring_stands score sources design before middle after has kept first second (D
   is = file_as_before score.dump is.0 before.files middle.files kept is.1;
   refused = is.2;
 }
-scoring_stands score sources design before middle after has kept first second (Usage usage) is = reading_stands score before middle after kept first second (Usage usage) is
-scoring_stands score sources design before middle after has kept first second (Source f) is = reading_stands score before middle after kept first second (Source f) is
-scoring_stands score sources design before middle after has kept first second (FilesFault call file) is = reading_stands score before middle after kept first second (FilesFault call file) is
+scoring_stands score sources design before middle after has kept first second (Usage usage) is = reading_stands score before middle after (sources, design, has) kept first second (Usage usage) is
+scoring_stands score sources design before middle after has kept first second (Source f) is = reading_stands score before middle after (sources, design, has) kept first second (Source f) is
+scoring_stands score sources design before middle after has kept first second (FilesFault call file) is = reading_stands score before middle after (sources, design, has) kept first second (FilesFault call file) is
 scoring_stands score sources design before middle after has kept first second Memory is = tt
 scoring_stands score sources design before middle after has kept first second (Databases f) is = absurd is
 
@@ -107,7 +108,7 @@ score_is_done score sources names text design db before middle later after has a
           bound = scored.table.bound;
           table = scored.table.table;
           head = subst (λ ns. HasHead design ns db) are_names scored.table.head;
-          listed = scored.table.listed;
+          listed = lists_points design db inputs scored.table.listed;
           verdicts = scored.table.verdicts;
           sound = sound_table design scored.dump score.instance db inputs rise scored.table.verdicts;
           reasoned = reasoned_table design scored.dump score.instance db scored.table.verdicts;
@@ -130,17 +131,17 @@ IfErr-map (Ok value) step holds = tt
 IfErr-map (Err fault) step holds = step fault holds
 
 -- a fault of writing stands
-pub writing_stands : (score : ScoreValues) (before later after : Outside) → CountsUp before later → CountsUp later after → (fault : Fault) → IsWritingFault score.output later after fault → StandsIn score before after fault
-writing_stands score before later after first second (Usage usage) is = absurd is
-writing_stands score before later after first second (Source f) is = absurd is
-writing_stands score before later after first second (Dump refusal) is = absurd is
-writing_stands score before later after first second (FilesFault OpenRead file) is = absurd is
-writing_stands score before later after first second (FilesFault Read file) is = absurd is
-writing_stands score before later after first second (FilesFault OpenWrite file) is = (is.0, IsCounted-earlier before.faults later.faults after.faults first.faults second.faults is.1)
-writing_stands score before later after first second (FilesFault Write file) is = (is.0, IsCounted-earlier before.faults later.faults after.faults first.faults second.faults is.1)
-writing_stands score before later after first second (FilesFault CloseWrite file) is = (is.0, IsCounted-earlier before.faults later.faults after.faults first.faults second.faults is.1)
-writing_stands score before later after first second Memory is = tt
-writing_stands score before later after first second (Databases f) is = absurd is
+pub writing_stands : (score : ScoreValues) (before later after : Outside) → HasSomeDesign score before → CountsUp before later → CountsUp later after → (fault : Fault) → IsWritingFault score.output later after fault → StandsIn score before after fault
+writing_stands score before later after has first second (Usage usage) is = absurd is
+writing_stands score before later after has first second (Source f) is = absurd is
+writing_stands score before later after has first second (Dump refusal) is = absurd is
+writing_stands score before later after has first second (FilesFault OpenRead file) is = absurd is
+writing_stands score before later after has first second (FilesFault Read file) is = absurd is
+writing_stands score before later after has first second (FilesFault OpenWrite file) is = (is.0, IsCounted-earlier before.faults later.faults after.faults first.faults second.faults is.1, has)
+writing_stands score before later after has first second (FilesFault Write file) is = (is.0, IsCounted-earlier before.faults later.faults after.faults first.faults second.faults is.1, has)
+writing_stands score before later after has first second (FilesFault CloseWrite file) is = (is.0, IsCounted-earlier before.faults later.faults after.faults first.faults second.faults is.1, has)
+writing_stands score before later after has first second Memory is = tt
+writing_stands score before later after has first second (Databases f) is = absurd is
 
 -- a fault of writing comes when the output was opened, or might have been
 pub writing_is_late : (name : List ℕ) (before after : Outside) (fault : Fault) → IsWritingFault name before after fault → IsEarly fault → ⊥

@@ -1,5 +1,5 @@
 -- Which inputs are good, which are refused, and with what status each ends.
-use Rattle.std.specs.Prelude.{◌≡◌, ◌⊎◌, ℕ, List, Some, IsSomeAnd}
+use Rattle.std.specs.Prelude.{◌≡◌, ◌⊎◌, ℕ, List, Some, IsSome, IsSomeAnd}
 use Rattle.command_line.specs.CommandWords.{IsScore, ScoreValues}
 use Rattle.cov_host.specs.Outside.{Outside, IsCounted}
 use Rattle.design_model.specs.declared.design.Design.{Design}
@@ -38,11 +38,10 @@ pub record IsGoodScore (score : ScoreValues) (before : Outside) : Type 0 where
   pub is_dump : IsDump text dump
   pub bound : IsBound design dump score.instance
 
--- the sources are told, with all that they include, and stand for no design, and the dump has a text
+-- the sources are told, with all that they include, and stand for no design, whatever the dump is
 pub record HasBadSource (score : ScoreValues) (before : Outside) : Type 0 where
   pub sources : List SourceText
-  pub text : List ℕ
-  pub dump_is : HasText before score.dump text
+  pub told : IsSome before.files
   pub gathered : HasSources (sources_in score) before sources
   pub refused : (design : Design) → StandFor sources (sources_in score).defines score.top design → ⊥
 

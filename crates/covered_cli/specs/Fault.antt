@@ -18,7 +18,7 @@ use Rattle.whole_files.specs.declared.call.Call.{Call}
 use Rattle.whole_files.specs.declared.call.Call.TheVariants.{OpenRead, Read, OpenWrite, Write, CloseWrite}
 use Rattle.covered_cli.specs.Databases.{database_line, database_status}
 use Rattle.covered_cli.specs.ScoreSources.{sources_in}
-use Rattle.covered_cli.specs.Scoring.{IsDumpRefusal, IsRefusedDump}
+use Rattle.covered_cli.specs.Scoring.{HasSomeDesign, IsDumpRefusal, IsRefusedDump}
 use Rattle.covered_cli.specs.SourceMessage.{source_line, source_status}
 use Rattle.covered_cli.specs.DumpRefusal.{refusal_line}
 use Rattle.source_design.specs.Reading.{IsSourceFault}
@@ -56,12 +56,13 @@ abbrev pub IsRefused : Call → List ℕ → Outside → Outside → Type 0
 IsRefused OpenRead file before after = IsCounted before.faults after.faults ⊎ IsMissing file before after
 IsRefused call file before after = IsCounted before.faults after.faults
 
--- the fault stands in the work of this command between two outsides
+-- the fault stands in the work of this command between two outsides; one of the dump or of the output only where the sources
+-- stand for a design
 abbrev pub StandsIn : ScoreValues → Outside → Outside → Fault → Type 0
 StandsIn score before after (fault.Usage usage) = ⊥
 StandsIn score before after (fault.Source f) = IsSourceFault (sources_in score) before after f
 StandsIn score before after (fault.Dump refusal) = IsRefusedDump score before refusal
-StandsIn score before after (fault.Files call file) = NamesFile score call file.now × IsRefused call file.now before after
+StandsIn score before after (fault.Files call file) = NamesFile score call file.now × IsRefused call file.now before after × HasSomeDesign score before
 StandsIn score before after fault.Memory = Unit {0}
 StandsIn score before after (fault.Databases f) = ⊥
 

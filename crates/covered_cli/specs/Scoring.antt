@@ -16,10 +16,11 @@ use Rattle.vcd_reader.specs.Dump.{Dump, IsDump}
 use Rattle.vcd_reader.specs.declared.fault.DumpFault.TheVariants.{At}
 use Rattle.dump_score.specs.Faults.{IsDumpFault, SaysSome}
 use Rattle.dump_score.specs.Reading.{IsFile}
+use Rattle.input_runs.specs.Listed.{ListsPoints}
 use Rattle.input_runs.specs.Reasoned.{IsReasoned}
 use Rattle.input_runs.specs.Sound.{IsSound}
 use Rattle.input_toggles.specs.Binding.{IsNotDumped, stands_in}
-use Rattle.input_toggles.specs.Scored.{HasHead, HasNoBaseline, IsBound, IsScored, ListsTogglePoints}
+use Rattle.input_toggles.specs.Scored.{HasHead, HasNoBaseline, IsBound, IsScored}
 use Rattle.source_design.specs.Accepted.{StandFor}
 use Rattle.source_design.specs.Reading.{HasSources}
 use Rattle.verilog_lexer.specs.Sources.{SourceText}
@@ -32,6 +33,10 @@ pub record HasDesign (score : ScoreValues) (before : Outside) (sources : List So
   pub gathered : HasSources (sources_in score) before sources
   pub stands : StandFor sources (sources_in score).defines score.top design
 
+-- the sources of the command stand for some design
+abbrev pub HasSomeDesign : ScoreValues → Outside → Type 0
+HasSomeDesign score before = (sources : List SourceText) × (design : Design) × HasDesign score before sources design
+
 -- the names of sources, in order
 abbrev pub names_of : List SourceText → List (List ℕ)
 names_of sources = map (λ source. source.name) sources
@@ -40,13 +45,13 @@ names_of sources = map (λ source. source.name) sources
 abbrev pub HasNoScore : Design → List ℕ → List ℕ → Type 0
 HasNoScore design instance text = (dump : Dump) → IsDump text dump → IsBound design dump instance → ⊥
 
--- the table lists each toggle point of the design once, with the verdict of the dump, which holds in every run that shows it,
+-- the table lists each point of the design once, with the verdict of the dump, which holds in every run that shows it,
 -- and leaves none undetermined without a reason
 pub record IsScoreOf (design : Design) (dump : Dump) (names : List (List ℕ)) (instance : List ℕ) (db : Db) : Type 0 where
   pub bound : IsBound design dump instance
   pub table : IsTable db
   pub head : HasHead design names db
-  pub listed : ListsTogglePoints design db
+  pub listed : ListsPoints design db
   pub verdicts : All (IsScored design dump instance) db.points
   pub sound : IsSound design dump instance db
   pub reasoned : IsReasoned design dump instance db

@@ -4,5 +4,6 @@ pub mod Runs
 pub mod ShownTimes
 pub mod Sound
 pub mod Reasoned
+pub mod Listed
 pub mod SomeRun
 pub mod Worked

@@ -7,9 +7,10 @@ ghost use Rattle.coverage_db.specs.declared.db.Db.{Db};
 ghost use Rattle.design_model.specs.Design.{Design as DesignTree};
 ghost use Rattle.design_model.specs.declared.design.Design.{Design};
 ghost use Rattle.input_toggles.specs.InputDesign.{IsInputDesign};
-ghost use Rattle.input_toggles.specs.Scored.{IsScored};
+ghost use Rattle.input_toggles.specs.Scored.{IsScored, ListsTogglePoints};
 ghost use Rattle.vcd_reader.specs.Dump.{IsDump};
 ghost use Rattle.vcd_reader.specs.Dump.{Dump};
+ghost use Rattle.input_runs.specs.Listed.{ListsPoints};
 ghost use Rattle.input_runs.specs.Reasoned.{AreCertain, IsReasoned};
 ghost use Rattle.input_runs.specs.Shown.{SomeRunShows};
 ghost use Rattle.input_runs.specs.Sound.{IsSound};
@@ -26,6 +27,11 @@ pub fn shown_by_some_run()
     ensures each { (dump_text instance : List ℕ) (design : Design) (dump : Dump)
         → IsInputDesign design → IsDump dump_text dump → SomeRunShows design dump instance }
     ensures worked { IsWorkedRun }
+{}
+
+/// A table that lists the toggle points of a design of inputs lists the points of the design, and nothing else.
+pub fn points_listed()
+    ensures { (design : Design) (db : Db) → IsInputDesign design → ListsTogglePoints design db → ListsPoints design db }
 {}
 
 /// The verdicts of a dump hold in every run that shows it, none is left open without a reason, and nothing is ever in

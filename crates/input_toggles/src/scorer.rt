@@ -1,4 +1,4 @@
-ghost use Rattle.std.specs.Prelude.{◌≡◌, ◌++◌, ◌∷◌, [], ℕ, List, None, IfErr, IfOk, OnOk, IsTrue, All, length};
+ghost use Rattle.std.specs.Prelude.{◌≡◌, ◌++◌, ◌∷◌, [], ℕ, List, None, IfErr, IfOk, OnErr, OnOk, IsTrue, All, length};
 ghost use Rattle.design_model.specs.declared.design.Design.{Design as SpecDesign};
 ghost use Rattle.vcd_reader.specs.Times.{Rises};
 ghost use Rattle.vcd_reader.specs.declared.entry.Entry.{Entry};
@@ -56,12 +56,14 @@ impl Scorer {
         self.tracks.change(code, value);
     }
 
-    /// Takes a time that is greater than the one before. At the second one each signal has to have a value.
+    /// Takes a time that is greater than the one before. At the second one each signal has to have a value; after a fault
+    /// the scorer is as before.
     pub fn open_step(&mut self, time: u64) -> Result<(), NoBaseline>
         ensures ok { OnOk result ((design : SpecDesign) (vars : List SpecVar) (instance : List ℕ) (entries : List Entry) → Rises None (entries ++ entry.Time time ∷ [])
             → Scores self.old design vars instance entries → Scores self.new design vars instance (entries ++ entry.Time time ∷ [])) }
         ensures fault { IfErr result (λ fault. (design : SpecDesign) (vars : List SpecVar) (instance : List ℕ) (entries : List Entry)
             → Scores self.old design vars instance entries → HasNoBaseline design vars instance design.signals (entries ++ entry.Time time ∷ []) fault.signal) }
+        ensures kept { OnErr result (self.new ≡ self.old) }
     {
         if self.tracks.is_first && self.tracks.last.is_some() {
             self.check_values()?;

@@ -18,6 +18,7 @@ use Rattle.verilog_parser.specs.Parses.{StandsIn}
 use Rattle.verilog_parser.specs.declared.fault.ParseFault.{ParseFault}
 use Rattle.verilog_parser.specs.declared.fault.ParseFault.TheVariants as parse_fault
 use Rattle.whole_files.specs.Effects.{OnlyReads}
+use Rattle.whole_files.specs.declared.call.Call.{Call}
 use Rattle.source_files.specs.Files.{AreLacking, AreRoots, Grow, IsFile, Lacks, end, included, more, path_of}
 use Rattle.source_files.specs.Joining.{IsJoinFault, IsRefusedCall, IsRootFault, Joins}
 use Rattle.source_files.specs.declared.fault.JoinFault.{JoinFault}
@@ -31,7 +32,7 @@ use Rattle.flat_design.specs.Faults.{answer}
 use Rattle.flat_design.specs.declared.fault.ElabFault.{ElabFault}
 use Rattle.verilog_tree.specs.Tree as t
 use Rattle.source_design.specs.Accepted.{AreAccepted, StandFor}
-use Rattle.source_design.specs.Reading.{DoesNotFit, HasBegun, HasFullInclude, HasNoForm, HasSources, IsIncludeFault, IsSourceFault}
+use Rattle.source_design.specs.Reading.{DoesNotFit, HasBegun, HasFullInclude, HasNoForm, HasRefusedRoot, HasSources, IsIncludeFault, IsSourceFault}
 use Rattle.source_design.specs.Refusals.{AreRefused, IsFoundAt}
 use Rattle.source_design.specs.Staging.{IsElabFault, IsFileFault, IsFound, IsLackingFrom, IsLexFault, IsParseFault, IsRefusal, IsStageFault, LacksNoFile}
 use Rattle.source_design.specs.Words.{SourceValues}
@@ -162,13 +163,13 @@ module _ (words : SourceValues) (before : Outside) where
   pub root_fault : (after : Outside) (r : RootFault) (f : SourceFault) → IsRootFault before after words.files r → IsFileFault r.file.now r.fault f → IsSourceFault words before after f
   root_fault after r f root is = go r.fault f root.is is
     where
-      names : Contains words.files r.file.now
-      names = subst (λ files. Contains files r.file.now) (sym root.stands) (Contains-append_right root.front (r.file.now ∷ root.others) r.file.now (0, omega arith, refl))
+      refused : (call : Call) → IsRefusedCall before after r.file.now call → HasRefusedRoot words before after call r.file.now
+      refused call is = record { front = root.front; others = root.others; sources = root.sources; stands = root.stands; roots = root.roots; within = root.within; refused = is }
 
       go : (j : JoinFault) (f : SourceFault) → IsJoinFault before after r.file.now r.file.now root.sources j → IsFileFault r.file.now j f → IsSourceFault words before after f
       go join_fault.NoMemory f stands is = subst (IsSourceFault words before after) (sym is) tt
       go (join_fault.Refused call) (fault.File other named) stands is =
-          subst (λ c. IsSourceFault words before after (fault.File c named)) is.0 (subst (λ n. Contains words.files n) (sym is.1) names, subst (λ n. IsRefusedCall before after n call) (sym is.1) stands)
+          subst (λ c. IsSourceFault words before after (fault.File c named)) is.0 (subst (HasRefusedRoot words before after call) (sym is.1) (refused call stands))
       go (join_fault.Refused call) fault.NoMemory stands is = absurd is
       go (join_fault.Refused call) (fault.Included other path) stands is = absurd is
       go (join_fault.Refused call) (fault.Refused refusal) stands is = absurd is
@@ -181,5 +182,11 @@ module _ (words : SourceValues) (before : Outside) where
             sources = root.sources;
             stands = root.stands;
             roots = root.roots;
+            within = root.within;
             not_fit = record { text = stands.0; is = stands.1; lex_kind = kind; refused = stands.2; kind_is = refl; spot = refl };
           })))
+
+-- a file of the words that was not read is one of them
+pub root_named : (words : SourceValues) (before after : Outside) (call : Call) (file : List ℕ) → HasRefusedRoot words before after call file → Contains words.files file
+root_named words before after call file root =
+    subst (λ files. Contains files file) (sym root.stands) (Contains-append_right root.front (file ∷ root.others) file (0, omega arith, refl))

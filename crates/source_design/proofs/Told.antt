@@ -38,7 +38,7 @@ use Rattle.whole_files.specs.declared.call.Call.{Call}
 use Rattle.whole_files.specs.declared.call.Call.TheVariants.{OpenRead, Read, OpenWrite, Write, CloseWrite}
 use Rattle.source_files.specs.Files.{AreRoots, Grow, IsFile, Lacks, path_of}
 use Rattle.source_files.specs.Joining.{IsRefusedCall}
-use Rattle.source_files.proofs.Growing.{grow_within, grows_on, lacking_there, root_fits, settled}
+use Rattle.source_files.proofs.Growing.{grow_within, grows_on, lacking_there, root_fits, root_there, settled}
 use Rattle.source_files.proofs.OneList.{one_list, one_list_of_roots, one_text}
 use Rattle.source_design.specs.Accepted.{AreAccepted, AreFaulty, StandFor}
 use Rattle.source_design.specs.Reading.{HasBegun, HasFullInclude, HasFullRoot, HasRefused, HasSources, IsSourceFault, LacksAt}
@@ -169,12 +169,6 @@ call_counted before after path text OpenWrite told is counted = absurd counted
 call_counted before after path text Write told is counted = absurd counted
 call_counted before after path text CloseWrite told is counted = absurd counted
 
-root_at : (before : Outside) (names : List (List ℕ)) (roots : List SourceText) (k : ℕ) (name : List ℕ) → k < length names → slice_index_or names k name ≡ name → AreRoots before names roots → (text : List ℕ) × IsFile before name text
-root_at before [] roots k name within is are = absurd (omega (arith, within))
-root_at before (n ∷ names) [] k name within is are = absurd are
-root_at before (n ∷ names) (root ∷ roots) zero name within is are = (root.bytes, subst (λ n. IsFile before n root.bytes) is are.0.text)
-root_at before (n ∷ names) (root ∷ roots) (suc k) name within is are = root_at before names roots k name (omega (arith, within)) is are.1
-
 -- the fault is none of a file that is not read
 abbrev pub IsOfSources : SourceFault → Type 0
 IsOfSources (fault.File call file) = ⊥
@@ -213,8 +207,8 @@ module _ (words : SourceValues) (before : Outside) (all : List SourceText) (told
   pub files_read : (after : Outside) → (IsCounted before.faults after.faults → ⊥) → (f : SourceFault) → IsSourceFault words before after f → IsOfSources f
   files_read after none fault.NoMemory is = tt
   files_read after none (fault.File call file) is =
-      let root = root_at before words.files gathered.roots is.0.0 file.now is.0.1 is.0.2 gathered.are_roots in
-      none (call_counted before after file.now root.0 call told root.1 is.1)
+      let root = root_there before words.files is.front is.others file.now gathered.roots is.stands gathered.are_roots in
+      none (call_counted before after file.now root.0 call told root.1 is.refused)
   files_read after none (fault.Included call path) is =
       let file = include_reads path is.0 in
       none (call_counted before after path file.0 call told file.1 is.1)

@@ -1,5 +1,5 @@
 -- What is read of the files of the words: a design, or why there is none.
-use Rattle.std.specs.Prelude.{◌≡◌, ◌⊎◌, ℕ, false, List, ◌∷◌, ◌++◌, length, map, Contains, Option, None, Some}
+use Rattle.std.specs.Prelude.{◌≡◌, ◌⊎◌, ℕ, false, List, ◌∷◌, ◌++◌, length, map, Option, None, Some}
 use Rattle.cov_host.specs.Outside.{Outside}
 use Rattle.verilog_lexer.specs.Sources.{AreWithinLimits, SourceText, refusal_of}
 use Rattle.verilog_lexer.specs.declared.fault.LexFault.TheVariants as lex_fault
@@ -43,7 +43,17 @@ pub record DoesNotFit (before : Outside) (path name : List ℕ) (sources : List 
   pub kind_is : refusal.kind ≡ kind.Lex lex_kind
   pub spot : refusal.spot ≡ None
 
--- a file of the words does not fit behind those before it
+-- a call gave nothing for a file of the words, behind those before it, which joined
+pub record HasRefusedRoot (words : SourceValues) (before after : Outside) (call : Call) (file : List ℕ) : Type 0 where
+  pub front : List (List ℕ)
+  pub others : List (List ℕ)
+  pub sources : List SourceText
+  pub stands : words.files ≡ front ++ file ∷ others
+  pub roots : AreRoots before front sources
+  pub within : AreWithinLimits sources
+  pub refused : IsRefusedCall before after file call
+
+-- a file of the words does not fit behind those before it, which joined
 pub record HasFullRoot (words : SourceValues) (before : Outside) (refusal : SourceRefusal) : Type 0 where
   pub front : List (List ℕ)
   pub file : List ℕ
@@ -51,6 +61,7 @@ pub record HasFullRoot (words : SourceValues) (before : Outside) (refusal : Sour
   pub sources : List SourceText
   pub stands : words.files ≡ front ++ file ∷ others
   pub roots : AreRoots before front sources
+  pub within : AreWithinLimits sources
   pub not_fit : DoesNotFit before file file sources refusal
 
 -- an included file does not fit behind the sources on the way, which lack it
@@ -84,7 +95,7 @@ pub record HasNoForm (words : SourceValues) (before : Outside) : Type 0 where
 -- why the files of the words give no design
 abbrev pub IsSourceFault : SourceValues → Outside → Outside → SourceFault → Type 0
 IsSourceFault words before after fault.NoMemory = Unit {0}
-IsSourceFault words before after (fault.File call file) = Contains words.files file.now × IsRefusedCall before after file.now call
+IsSourceFault words before after (fault.File call file) = HasRefusedRoot words before after call file.now
 IsSourceFault words before after (fault.Included call path) = LacksAt words before path × IsRefusedCall before after path call
 IsSourceFault words before after (fault.Refused refusal) = HasRefused words before refusal ⊎ (HasFullRoot words before refusal ⊎ HasFullInclude words before refusal)
 IsSourceFault words before after fault.NotYet = HasNoForm words before

@@ -1,7 +1,7 @@
 -- How a file joins the sources, and why it does not.
 use Rattle.std.specs.Prelude.{◌≡◌, ◌⊎◌, ℕ, Bool, List, [], ◌∷◌, ◌++◌, length, None, Some}
 use Rattle.cov_host.specs.Outside.{Outside, IsCounted}
-use Rattle.verilog_lexer.specs.Sources.{SourceText, refusal_of}
+use Rattle.verilog_lexer.specs.Sources.{AreWithinLimits, SourceText, refusal_of}
 use Rattle.verilog_lexer.specs.declared.fault.LexFault.TheVariants as lex_fault
 use Rattle.whole_files.specs.Effects.{IsMissing}
 use Rattle.whole_files.specs.declared.call.Call.{Call}
@@ -35,11 +35,12 @@ IsJoinFault before after path name sources join_fault.NoMemory = Unit {0}
 IsJoinFault before after path name sources (join_fault.Refused call) = IsRefusedCall before after path call
 IsJoinFault before after path name sources (join_fault.Full kind detail) = DoesNotFit before path name sources (join_fault.Full kind detail)
 
--- the first file of the words that does not join: those before it are roots
+-- the first file of the words that does not join: those before it are roots within the limits
 pub record IsRootFault (before after : Outside) (names : List (List ℕ)) (fault : RootFault) : Type 0 where
   pub front : List (List ℕ)
   pub others : List (List ℕ)
   pub sources : List SourceText
   pub stands : names ≡ front ++ fault.file.now ∷ others
   pub roots : AreRoots before front sources
+  pub within : AreWithinLimits sources
   pub is : IsJoinFault before after fault.file.now fault.file.now sources fault.fault

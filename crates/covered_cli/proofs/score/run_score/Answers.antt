@@ -69,7 +69,8 @@ returns-clause-fault g c =
     let later = g.H.Host.outside c.db_of.new.host in
     let after = g.H.Host.outside c.write.new.host in
     let counts = CountsUp-trans before middle later c.in_ok-design.ensures.effects.counts c.in_ok-db.ensures.effects.counts in
-    IfErr-map c.write.result (writing_stands score before later after counts c.write.ensures.counts) c.write.ensures.fault
+    let read = c.in_ok-design.ensures.read in
+    IfErr-map c.write.result (writing_stands score before later after (read.sources, _, record { gathered = read.gathered; stands = read.stands }) counts c.write.ensures.counts) c.write.ensures.fault
 
 pub returns-clause-early : goal.returns-clause-early
 returns-clause-early g c =

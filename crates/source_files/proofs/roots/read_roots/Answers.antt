@@ -14,6 +14,7 @@ returns-in-Err-clause-fault g c =
       sources = c.files.sources;
       stands = names_around c.args.files.now c.files.file-index _ c.files-test.true;
       roots = turn.roots;
+      within = turn.within;
       is = join_fault_earlier _ _ _ _ _ c.files.sources _ turn.effects c.in-Err.ensures.effects c.in-Err.ensures.fault;
     }
 
