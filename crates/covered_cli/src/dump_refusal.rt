@@ -16,7 +16,7 @@ pub(crate) enum DumpRefusal<'a> {
     At { kind: DumpKind, byte: u64 },
     /// No variable stands in the scope of the path or below it.
     NoInstance { path: &'a str },
-    /// This input of the top module has no variable.
+    /// This input of the top module has no variable of its width under any of its names.
     InputNotDumped { top: &'a str, name: Name },
     /// There is a second time, and this signal of the top module has no value before it.
     NoBaseline { top: &'a str, name: Name },

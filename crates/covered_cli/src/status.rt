@@ -4,7 +4,7 @@ ghost use Rattle.covered_cli.specs.Status.{code_of};
 /// How a command ended.
 #[derive(Clone, Copy, Debug, PartialEq, Eq)]
 pub enum Status {
-    /// The command's file was written whole.
+    /// What the command asks for was written or printed whole.
     Done,
     /// The words are no command.
     Usage,
@@ -12,7 +12,7 @@ pub enum Status {
     Source,
     /// A fault stands in the dump, or the dump does not fit the design.
     Dump,
-    /// No run of the design shows the dump.
+    /// No run of the design shows the dump. Of a design of inputs there always is one, so no command ends so yet.
     Contradiction,
     /// A call on the host failed, or a file that is to be read is absent.
     Files,

@@ -11,7 +11,7 @@ use Rattle.vcd_reader.specs.declared.vars.Var.{Var}
 use Rattle.input_toggles.specs.declared.fault.BindFault.{BindFault}
 use Rattle.input_toggles.specs.declared.fault.BindFault.TheVariants as bind_fault
 
--- the kinds of variables that hold no value of a signal (IEEE 1364-2001 clause 18.2.3.8)
+-- the kinds of variables that hold no value of a signal (IEEE 1364-2001 clause 18.2.3.8, and strings, which some simulators write)
 abbrev pub unread_kinds : List (List ℕ)
 unread_kinds = codes "real" ∷ codes "realtime" ∷ codes "event" ∷ codes "string" ∷ codes "parameter" ∷ []
 

@@ -10,7 +10,8 @@ use design_model::{Alias, Design, Signal};
 use std::alloc::Global;
 use vcd_reader::Var;
 
-/// The kinds of variables that hold no value of a signal (IEEE 1364-2001 clause 18.2.3.8).
+/// The kinds of variables that hold no value of a signal (IEEE 1364-2001 clause 18.2.3.8, and `string`, which some
+/// simulators write).
 const UNREAD_KINDS: [&str; 5] = ["real", "realtime", "event", "string", "parameter"];
 
 /// What the variable of a signal has.
