@@ -1,10 +1,10 @@
 -- A table that lists the toggle points of a design of inputs lists the points of the design.
-use Rattle.std.proofs.Common.{◌≡◌, ℕ, ◌<◌, ◌≤◌, ◌+◌, Bool, true, false, ◌&&◌, nat_le, nat_lt, min, max, List, [], length, map, Option, None, Some, refl, sym, ap, subst, ◌∙◌, arith}
+use Rattle.std.proofs.Common.{◌≡◌, ℕ, ◌<◌, ◌+◌, Bool, true, false, ◌&&◌, nat_le, nat_lt, List, [], length, map, Option, None, Some, refl, sym, ap, subst, ◌∙◌, arith}
 use Rattle.std.proofs.lemmas.Bool.{false≢true}
 use Rattle.std.proofs.lemmas.Bool.Decides.{nat_tests}
 use Rattle.std.proofs.lemmas.List.{get_or_default}
 use Rattle.std.specs.Bool.{OnFalse}
-use Rattle.std.specs.Prelude.{Contains, slice_index_or}
+use Rattle.std.specs.Prelude.{slice_index_or}
 use Rattle.coverage_db.specs.declared.address.Address.{Address}
 use Rattle.coverage_db.specs.declared.db.Db.{Db}
 use Rattle.design_model.specs.Design.{In, no_process, no_signal, process_at}
@@ -21,7 +21,7 @@ use Rattle.input_toggles.specs.Points.{HasIndex, IsTogglePoint, toggle_address}
 use Rattle.input_toggles.specs.Scored.{ListsTogglePoints}
 use Rattle.input_runs.specs.Listed.{HasPoint, ListsPoints, NamesPoint}
 use Rattle.input_runs.specs.Shown.{signal_of}
-use Rattle.input_runs.specs.Sound.{IsAddressOf, number_of}
+use Rattle.input_runs.specs.Sound.{number_of}
 
 -- a design without processes has the empty one at each number
 no_process_at : (design : Design) → design.processes ≡ [] → (p : ℕ) → process_at (design_view design) p ≡ no_process

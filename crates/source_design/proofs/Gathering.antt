@@ -1,7 +1,6 @@
 -- Sources that are read on the way to a design.
-use Rattle.std.proofs.Common.{◌≡◌, ◌⊎◌, ℕ, ◌+◌, ◌-◌, ◌<◌, ◌≤◌, false, List, [], ◌∷◌, ◌++◌, length, Option, None, Some, Ok, Err, refl, sym, ap, subst, ◌∙◌, inl, inr, arith}
+use Rattle.std.proofs.Common.{◌≡◌, ℕ, ◌+◌, ◌-◌, false, List, [], ◌∷◌, ◌++◌, Option, None, Some, Ok, Err, refl, sym, subst, inl, inr, arith}
 use Rattle.std.specs.Prelude.{◌≢◌, Contains, IfErr, IfOk, Result}
-use Rattle.std.proofs.lemmas.List.{length-append}
 use Rattle.std.proofs.lemmas.List.Elements.{Contains-append_right}
 use Rattle.cov_host.specs.Outside.{Outside}
 use Rattle.cov_host.specs.declared.place.Place.{Place}
@@ -19,12 +18,12 @@ use Rattle.verilog_parser.specs.declared.fault.ParseFault.{ParseFault}
 use Rattle.verilog_parser.specs.declared.fault.ParseFault.TheVariants as parse_fault
 use Rattle.whole_files.specs.Effects.{OnlyReads}
 use Rattle.whole_files.specs.declared.call.Call.{Call}
-use Rattle.source_files.specs.Files.{AreLacking, AreRoots, Grow, IsFile, Lacks, end, included, more, path_of}
+use Rattle.source_files.specs.Files.{AreLacking, AreRoots, Grow, Lacks, end, included, more, path_of}
 use Rattle.source_files.specs.Joining.{IsJoinFault, IsRefusedCall, IsRootFault, Joins}
 use Rattle.source_files.specs.declared.fault.JoinFault.{JoinFault}
 use Rattle.source_files.specs.declared.fault.JoinFault.TheVariants as join_fault
 use Rattle.source_files.specs.declared.fault.RootFault.{RootFault}
-use Rattle.source_files.proofs.Contents.{call_earlier, file_as_before, joins_earlier, joins_within}
+use Rattle.source_files.proofs.Contents.{call_earlier, file_as_before, joins_within}
 use Rattle.source_files.proofs.MissingNames.{TellsFile, missing_tells}
 use Rattle.elaborator.specs.Answered.{IsAnsweredFault}
 use Rattle.flat_design.specs.Fault.{Fault, of_constant, of_modules, told}
@@ -32,7 +31,7 @@ use Rattle.flat_design.specs.Faults.{answer}
 use Rattle.flat_design.specs.declared.fault.ElabFault.{ElabFault}
 use Rattle.verilog_tree.specs.Tree as t
 use Rattle.source_design.specs.Accepted.{AreAccepted, StandFor}
-use Rattle.source_design.specs.Reading.{DoesNotFit, HasBegun, HasFullInclude, HasNoForm, HasRefusedRoot, HasSources, IsIncludeFault, IsSourceFault}
+use Rattle.source_design.specs.Reading.{HasBegun, HasRefusedRoot, HasSources, IsIncludeFault, IsSourceFault}
 use Rattle.source_design.specs.Refusals.{AreRefused, IsFoundAt}
 use Rattle.source_design.specs.Staging.{IsElabFault, IsFileFault, IsFound, IsLackingFrom, IsLexFault, IsParseFault, IsRefusal, IsStageFault, LacksNoFile}
 use Rattle.source_design.specs.Words.{SourceValues}

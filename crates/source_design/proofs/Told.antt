@@ -1,6 +1,6 @@
 -- Where the host tells its files, they decide what is read of the sources.
-use Rattle.std.proofs.Common.{◌≡◌, ◌⊎◌, ℕ, zero, suc, ◌<◌, List, [], ◌∷◌, ◌++◌, length, take, drop, slice_index_or, Option, None, Some, Ok, Err, refl, sym, ap, subst, ◌∙◌, inl, inr, arith}
-use Rattle.std.specs.Prelude.{Contains, IfSome, IsSome, MatchOption, Result, map}
+use Rattle.std.proofs.Common.{◌≡◌, ℕ, suc, List, [], ◌∷◌, length, take, drop, Option, None, Some, Ok, Err, refl, sym, ap, subst, ◌∙◌, inl, inr}
+use Rattle.std.specs.Prelude.{IfSome, IsSome, MatchOption, Result, map}
 use Rattle.std.proofs.lemmas.List.{take-append-drop}
 use Rattle.cov_host.specs.Outside.{Files, Outside, IsCounted}
 use Rattle.cov_host.specs.declared.place.Place.{Place}
@@ -25,23 +25,21 @@ use Rattle.verilog_lexer.specs.declared.fault.LexFault.{LexFault}
 use Rattle.verilog_lexer.specs.declared.fault.LexFault.TheVariants as lex_fault
 use Rattle.verilog_lexer.specs.declared.fault.LexKind.TheVariants.{IncludeMissing}
 use Rattle.verilog_tree.specs.Tree as t
-use Rattle.grammar_rules.specs.Grammar.{GoesOn, GoesOnAtAll, IsSpelled}
+use Rattle.grammar_rules.specs.Grammar.{GoesOn, IsSpelled}
 use Rattle.verilog_grammar.specs.Language.{verilog}
 use Rattle.verilog_grammar.specs.Verilog.{grammar}
 use Rattle.verilog_grammar.proofs.Verilog.{verilog_exact}
 use Rattle.verilog_parser.specs.Parses.{AreModules, IsRefused, StandsIn}
-use Rattle.verilog_parser.specs.declared.fault.ParseFault.{ParseFault}
 use Rattle.verilog_parser.specs.declared.fault.ParseFault.TheVariants as parse_fault
 use Rattle.verilog_parser.specs.declared.fault.ParseKind.TheVariants.{Unexpected, EarlyEnd, TooDeep, LeftOut}
-use Rattle.whole_files.specs.Effects.{IsMissing}
 use Rattle.whole_files.specs.declared.call.Call.{Call}
 use Rattle.whole_files.specs.declared.call.Call.TheVariants.{OpenRead, Read, OpenWrite, Write, CloseWrite}
-use Rattle.source_files.specs.Files.{AreRoots, Grow, IsFile, Lacks, path_of}
+use Rattle.source_files.specs.Files.{Grow, IsFile, Lacks, path_of}
 use Rattle.source_files.specs.Joining.{IsRefusedCall}
 use Rattle.source_files.proofs.Growing.{grow_within, grows_on, lacking_there, root_fits, root_there, settled}
 use Rattle.source_files.proofs.OneList.{one_list, one_list_of_roots, one_text}
 use Rattle.source_design.specs.Accepted.{AreAccepted, AreFaulty, StandFor}
-use Rattle.source_design.specs.Reading.{HasBegun, HasFullInclude, HasFullRoot, HasRefused, HasSources, IsSourceFault, LacksAt}
+use Rattle.source_design.specs.Reading.{HasBegun, HasFullInclude, HasFullRoot, HasSources, IsSourceFault, LacksAt}
 use Rattle.source_design.specs.Refusals.{AreOfNoForm, AreRefused, IsFoundAt}
 use Rattle.source_design.specs.Words.{SourceValues}
 use Rattle.source_design.specs.declared.fault.SourceFault.{SourceFault}

@@ -1,5 +1,5 @@
 -- What is read of the files of the words: a design, or why there is none.
-use Rattle.std.specs.Prelude.{◌≡◌, ◌⊎◌, ℕ, false, List, ◌∷◌, ◌++◌, length, map, Option, None, Some}
+use Rattle.std.specs.Prelude.{◌≡◌, ◌⊎◌, ℕ, List, ◌∷◌, ◌++◌, length, map, None, Some}
 use Rattle.cov_host.specs.Outside.{Outside}
 use Rattle.verilog_lexer.specs.Sources.{AreWithinLimits, SourceText, refusal_of}
 use Rattle.verilog_lexer.specs.declared.fault.LexFault.TheVariants as lex_fault
