@@ -4,8 +4,8 @@ use cov_host::Place;
 use four_state::{Binary, Bit, CaseKind, Edge, Four, Unary};
 use std::alloc::{AllocError, Global};
 use verilog_tree::{
-    Arm, Declared, Expr, ExprForm, Given, Item, ItemForm, Module, Named, Param, Range, Statement,
-    StatementForm, When,
+    Arm, Declared, Expr, ExprForm, Given, Item, ItemForm, Module, Named, One, Param, Range,
+    Statement, StatementForm, When,
 };
 
 /// A text that grows.
@@ -344,14 +344,18 @@ impl Shown {
                 self.named(module)?;
                 self.put(" #")?;
                 self.given(overrides.as_slice())?;
-                for one in ones.as_slice() {
-                    self.put(" ; ")?;
-                    self.named(&one.name)?;
-                    self.given(one.given.as_slice())?;
-                }
-                Ok(())
+                self.ones(ones.as_slice())
             }
         }
+    }
+
+    fn ones(&mut self, ones: &[One]) -> Result<(), AllocError> {
+        for one in ones {
+            self.put(" ; ")?;
+            self.named(&one.name)?;
+            self.given(one.given.as_slice())?;
+        }
+        Ok(())
     }
 
     pub(crate) fn module(&mut self, module: &Module) -> Result<(), AllocError> {

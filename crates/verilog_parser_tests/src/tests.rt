@@ -291,63 +291,46 @@ fn nested(alloc: Global, parts: [&str; 4], count: usize) -> Result<Vec<u8>, Fail
     Ok(all)
 }
 
+/// A text whose middle is nested so many times, and the fault that stands in it at a line and a column, 0 where there is
+/// none.
+struct Deep {
+    text: [&'static str; 4],
+    count: usize,
+    kind: Option<ParseKind>,
+    line: u32,
+    column: u32,
+}
+
+const FRONT: &str = "module m; assign y = ";
+
+#[rattlefmt::skip]
+const DEEP_EXPRESSIONS: [Deep; 11] = [
+    Deep { text: [FRONT, "(", "a", ")"], count: 255, kind: None, line: 0, column: 0 },
+    Deep { text: [FRONT, "(", "a", ")"], count: 256, kind: Some(ParseKind::TooDeep), line: 1, column: 278 },
+    Deep { text: [FRONT, "(", ")", ")"], count: 256, kind: Some(ParseKind::Unexpected), line: 1, column: 278 },
+    // the 256th operator makes the first a too deep
+    Deep { text: [FRONT, "", "a", "+a"], count: 255, kind: None, line: 0, column: 0 },
+    Deep { text: [FRONT, "", "a", "+a"], count: 256, kind: Some(ParseKind::TooDeep), line: 1, column: 22 },
+    // a chain that is cut off behind its 256th operator is too deep all the same
+    Deep { text: [FRONT, "a+", "", ""], count: 255, kind: Some(ParseKind::Unexpected), line: 1, column: 532 },
+    Deep { text: [FRONT, "a+", "", ""], count: 256, kind: Some(ParseKind::TooDeep), line: 1, column: 22 },
+    // a select makes its name one deeper
+    Deep { text: [FRONT, "(", "a[0]", ")"], count: 254, kind: None, line: 0, column: 0 },
+    Deep { text: [FRONT, "(", "a[0]", ")"], count: 255, kind: Some(ParseKind::TooDeep), line: 1, column: 277 },
+    // the operators before an operand nest
+    Deep { text: [FRONT, "!", "a", ""], count: 255, kind: None, line: 0, column: 0 },
+    Deep { text: [FRONT, "!", "a", ""], count: 256, kind: Some(ParseKind::TooDeep), line: 1, column: 278 },
+];
+
 #[test]
 fn depth_of_expressions(rt: HostRuntime) -> Result<(), Fail> {
-    let front = "module m; assign y = ";
-    let parens = [front, "(", "a", ")"];
-    assert_eq!(rt;
-        fault(rt.alloc(), nested(rt.alloc(), parens, 255)?.as_slice())?,
-        (None, 0, 0)
-    );
-    assert_eq!(rt;
-        fault(rt.alloc(), nested(rt.alloc(), parens, 256)?.as_slice())?,
-        (Some(ParseKind::TooDeep), 1, 278)
-    );
-    let closed = [front, "(", ")", ")"];
-    assert_eq!(rt;
-        fault(rt.alloc(), nested(rt.alloc(), closed, 256)?.as_slice())?,
-        (Some(ParseKind::Unexpected), 1, 278)
-    );
-    // the 256th operator makes the first a too deep
-    let chain = [front, "", "a", "+a"];
-    assert_eq!(rt;
-        fault(rt.alloc(), nested(rt.alloc(), chain, 255)?.as_slice())?,
-        (None, 0, 0)
-    );
-    assert_eq!(rt;
-        fault(rt.alloc(), nested(rt.alloc(), chain, 256)?.as_slice())?,
-        (Some(ParseKind::TooDeep), 1, 22)
-    );
-    // a chain that is cut off behind its 256th operator is too deep all the same
-    let cut = [front, "a+", "", ""];
-    assert_eq!(rt;
-        fault(rt.alloc(), nested(rt.alloc(), cut, 255)?.as_slice())?,
-        (Some(ParseKind::Unexpected), 1, 532)
-    );
-    assert_eq!(rt;
-        fault(rt.alloc(), nested(rt.alloc(), cut, 256)?.as_slice())?,
-        (Some(ParseKind::TooDeep), 1, 22)
-    );
-    // a select makes its name one deeper
-    let select = [front, "(", "a[0]", ")"];
-    assert_eq!(rt;
-        fault(rt.alloc(), nested(rt.alloc(), select, 254)?.as_slice())?,
-        (None, 0, 0)
-    );
-    assert_eq!(rt;
-        fault(rt.alloc(), nested(rt.alloc(), select, 255)?.as_slice())?,
-        (Some(ParseKind::TooDeep), 1, 277)
-    );
-    // the operators before an operand nest
-    let unary = [front, "!", "a", ""];
-    assert_eq!(rt;
-        fault(rt.alloc(), nested(rt.alloc(), unary, 255)?.as_slice())?,
-        (None, 0, 0)
-    );
-    assert_eq!(rt;
-        fault(rt.alloc(), nested(rt.alloc(), unary, 256)?.as_slice())?,
-        (Some(ParseKind::TooDeep), 1, 278)
-    );
+    for deep in &DEEP_EXPRESSIONS {
+        let text = nested(rt.alloc(), deep.text, deep.count)?;
+        assert_eq!(rt;
+            fault(rt.alloc(), text.as_slice())?,
+            (deep.kind, deep.line, deep.column)
+        );
+    }
     Ok(())
 }
 
