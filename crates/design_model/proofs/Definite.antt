@@ -39,7 +39,7 @@ reads_mentioned d K b x (inl from) =
     read_owner (λ y. body_mentions y b ≡ true) K x (execution d b from.0).visits
     (execute_reads (λ y. body_mentions y b ≡ true) d b (λ y m. m) (execution_start from.0) tt)
     from.2
-reads_mentioned d K b x (inr from) = from.3
+reads_mentioned d K b x (inr from) = from.1
 
 -- a bound signal is clear at each shown time
 bound_is_clear : (d : Design) (h : Habit) (dump : BoundDump) (t s : ℕ) → IsShown dump t → dump.bound s ≡ true → s < length d.signals → HasValue (clear d h dump t) (a_signal s)
