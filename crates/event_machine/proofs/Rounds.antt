@@ -111,7 +111,7 @@ module _ {V : Type 0} (m : Machine V) (lawful : IsLawful m) (t : Told V) where
             written_once c (made.told, inr (made.writer, made.writes)) (omega arith)
         go (inr clean) =
             let evaluated = one_evaluation m lawful t single told_single h made.writer clean.0 clean.1 s es step as_told (single_told clean.0 clean.1.is_single) old_new in
-            let schedules = one_scheduled made.writer c made.writes made.once evaluated.before evaluated.after s (subst (IsLegal m s) evaluated.splits step.legal) evaluated.is_first evaluated.is_last in
+            let schedules = one_scheduled made.writer c made.writes (λ v. lawful.once_kept made.writer v c made.once) evaluated.before evaluated.after s (subst (IsLegal m s) evaluated.splits step.legal) evaluated.is_first evaluated.is_last in
             written_once c (made.told, inr (made.writer, made.writes)) (subst (λ (l : List (Event V)). scheduled_all c m s l ≤ 1) (sym evaluated.splits) schedules)
 
     told_single : (n : ℕ) (c : Cell) → IsToldInput m t c → IsSingle m t n c
