@@ -22,6 +22,7 @@ use Rattle.design_model.proofs.BitReads.{value_reads}
 use Rattle.design_model.proofs.ConstantTerms.{value_constant}
 use Rattle.design_model.proofs.EventSignals.{event_signals}
 use Rattle.design_model.proofs.Lawful.{blocking_kept, input_has_one_bit, inputs_kept, no_edge, not_both, one_writer, queued_kept, same_bit_is, same_bit_self, target_has_one_bit}
+use Rattle.design_model.proofs.Once.{written_once}
 use Rattle.design_model.proofs.Named.{WritesCell-from, WritesCell-left, WritesCell-right, has_place, length-fit, option_bits_same}
 
 -- a bit that a term may read is one of a thing that it mentions
@@ -127,6 +128,7 @@ machine_lawful d lawful =
       event_signals = event_signals d;
       blocking_kept = λ p v c h. blocking_kept d c (body_at d p) v h;
       nonblocking_kept = λ p v c h. queued_kept d c (body_at d p) v h;
+      once_kept = λ p v c once. written_once d p v c once;
       inputs_kept = inputs_kept d lawful;
       not_both = not_both d lawful;
       one_writer = one_writer d lawful;

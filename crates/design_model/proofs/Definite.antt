@@ -16,7 +16,7 @@ use Rattle.design_model.specs.Mentions.{body_mentions}
 use Rattle.design_model.specs.Execution.{Visit, execution, execution_start, reads}
 use Rattle.design_model.specs.Reads.{HasValue, Known, ReadsFrom, UpToOutside}
 use Rattle.design_model.specs.Machine.{is_level, machine}
-use Rattle.design_model.specs.Shows.{BoundDump, IsDumpOf, IsShown, IsShownOf, IsWindow, IsWindowOf}
+use Rattle.design_model.specs.Shows.{BindsSignals, BoundDump, IsShown, IsShownOf, IsWindow, IsWindowOf}
 use Rattle.design_model.specs.Points.{IsBlock, Point, arc_point, line_point, logic_point, state_point, toggle_point, word_point}
 use Rattle.design_model.specs.MayMove.{IsSingleAt, told_at}
 use Rattle.design_model.specs.Clear.{clear, clear_before, of_dump}
@@ -39,7 +39,7 @@ reads_mentioned d K b x (inl from) =
     read_owner (λ y. body_mentions y b ≡ true) K x (execution d b from.0).visits
     (execute_reads (λ y. body_mentions y b ≡ true) d b (λ y m. m) (execution_start from.0) tt)
     from.2
-reads_mentioned d K b x (inr from) = from.3
+reads_mentioned d K b x (inr from) = from.1
 
 -- a bound signal is clear at each shown time
 bound_is_clear : (d : Design) (h : Habit) (dump : BoundDump) (t s : ℕ) → IsShown dump t → dump.bound s ≡ true → s < length d.signals → HasValue (clear d h dump t) (a_signal s)
@@ -62,13 +62,13 @@ not_comb (assign i y t counted) is_clocked is_comb = is_comb
 not_comb (comb i wakes s) is_clocked is_comb = is_clocked
 not_comb (clocked i events s) is_clocked is_comb = is_comb
 
-module _ (d : Design) (h : Habit) (dump : BoundDump) (fits : IsDumpOf d dump) (p : ℕ) (definite : IsDefinite d h dump p) where
+module _ (d : Design) (h : Habit) (dump : BoundDump) (binds : BindsSignals d dump) (p : ℕ) (definite : IsDefinite d h dump p) where
   -- a thing of the design that is mentioned is clear at the start of a window time
   mentioned_clear : (t : ℕ) → IsWindow dump t → (x : Thing) → IsThing d x → body_mentions (owner x) (body_at d p) ≡ true → HasValue (clear_before d h dump t) x
   mentioned_clear t window (a_signal s) thing mentioned =
       bound_is_clear d h dump (t - 1) s (shown_before dump.times t window) (definite.all_bound s mentioned) thing
   mentioned_clear t window (a_word m i) thing mentioned =
-      let below : m < length d.signals = fits.signals m (definite.all_bound m mentioned) in
+      let below : m < length d.signals = binds m (definite.all_bound m mentioned) in
       let above : length d.signals ≤ m = leb-true (length d.signals) m (and_parts (nat_le (length d.signals) m) _ thing.0).0 in
       absurd (omega (arith, below, above))
 
@@ -94,7 +94,7 @@ module _ (d : Design) (h : Habit) (dump : BoundDump) (fits : IsDumpOf d dump) (p
   no_doubt (word_point m i write) is block_is t s doubt = is
 
 pub definiteness_law : (d : Design) (h : Habit) → DefinitenessLaw d h
-definiteness_law d h dump fits p definite x is block_is t s doubt = no_doubt d h dump fits p definite x is block_is t s doubt
+definiteness_law d h dump binds p definite x is block_is t s doubt = no_doubt d h dump binds p definite x is block_is t s doubt
 
 -- a point of a signal has no block
 no_block : (d : Design) (x : Point) (s p : ℕ) → IsPointOn x s → IsBlock d x p → ⊥

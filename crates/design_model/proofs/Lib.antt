@@ -7,6 +7,8 @@ pub mod Agree
 pub mod Told
 pub mod Bound
 pub mod BitReads
+pub mod Along
+pub mod Once
 pub mod Assigns
 pub mod StepLaws
 pub mod NodeCases
@@ -16,7 +18,6 @@ pub mod Untouched
 pub mod Times
 pub mod Toggles
 pub mod Sound
-pub mod Along
 pub mod Combs
 pub mod MadeSound
 pub mod ForcedSound

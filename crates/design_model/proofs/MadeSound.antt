@@ -17,7 +17,7 @@ use Rattle.design_model.specs.Paths.{each_writes_whole, reads_before_writing}
 use Rattle.design_model.specs.Reads.{Agrees, Known}
 use Rattle.design_model.specs.Machine.{is_level, machine}
 use Rattle.design_model.specs.Run.{IsRun, Run, settled}
-use Rattle.design_model.specs.Shows.{BoundDump, IsDumpOf, IsShown, IsWindow, Shows}
+use Rattle.design_model.specs.Shows.{BindsSignals, BoundDump, IsShown, IsWindow, Shows}
 use Rattle.design_model.specs.Clear.{HasChanged, IsCombValue, clear}
 use Rattle.design_model.specs.Lawful.{IsLawfulDesign, target_once}
 use Rattle.design_model.proofs.Agree.{AllOuter}
@@ -121,7 +121,7 @@ module _ (d : Design) (lawful : IsLawfulDesign d) (p : ℕ) (is_comb : IsComb (p
 cons_nil : {A : Type 0} (x : A) (xs : List A) → x ∷ xs ≡ [] → ⊥
 cons_nil x xs e = subst IsCons e tt
 
-module _ (d : Design) (lawful : IsLawfulDesign d) (h : Habit) (dump : BoundDump) (fits : IsDumpOf d dump) (r : Run) (is_run : IsRun d h r) (shows : Shows d dump r) (net_law : NetLaw (machine d)) (no_wake_law : NoWakeLaw (machine d)) (write_law : WriteLaw (machine d)) (edge_law : EdgeLaw (machine d) h) (idle_law : IdleLaw (machine d)) (computed_law : ComputedLaw (machine d)) where
+module _ (d : Design) (lawful : IsLawfulDesign d) (h : Habit) (dump : BoundDump) (binds : BindsSignals d dump) (r : Run) (is_run : IsRun d h r) (shows : Shows d dump r) (net_law : NetLaw (machine d)) (no_wake_law : NoWakeLaw (machine d)) (write_law : WriteLaw (machine d)) (edge_law : EdgeLaw (machine d) h) (idle_law : IdleLaw (machine d)) (computed_law : ComputedLaw (machine d)) where
   abbrev W : ℕ → Values Bit
   W t = settled d r t
 
@@ -130,7 +130,7 @@ module _ (d : Design) (lawful : IsLawfulDesign d) (h : Habit) (dump : BoundDump)
   IsFollowing p c v = v c ≡ put_all v (output (machine d) p v) c
 
   step_here : (t : ℕ) → (W (suc t) ≡ W t) ⊎ StepTo (machine d) h (W t) (W (suc t))
-  step_here t = step_or d lawful h dump fits r is_run shows net_law no_wake_law write_law edge_law t
+  step_here t = step_or d lawful h dump binds r is_run shows net_law no_wake_law write_law edge_law t
 
   goes_on : (t p : ℕ) (c : Cell) → IsCombinational (machine d) p c → IsFollowing p c (W t) → IsFollowing p c (W (suc t))
   goes_on t p c cb now = go (step_here t)
@@ -172,9 +172,9 @@ module _ (d : Design) (lawful : IsLawfulDesign d) (h : Habit) (dump : BoundDump)
   follows_at t p c is_comb cb now h' = go h'.time h'.until h'.in_window h'.changed
     where
       go : (u : ℕ) → u ≤ t → IsWindow dump u → signal_bits d (dump.values (u - 1)) h'.by ≢ signal_bits d (dump.values u) h'.by → IsFollowing p c (W t)
-      go zero le window changed = absurd (no_window d lawful h dump fits r is_run shows net_law no_wake_law write_law edge_law window)
+      go zero le window changed = absurd (no_window d lawful h dump binds r is_run shows net_law no_wake_law write_law edge_law window)
       go (suc w) le window changed =
-          let shown_at = window_shown d lawful h dump fits r is_run shows net_law no_wake_law write_law edge_law w window in
+          let shown_at = window_shown d lawful h dump binds r is_run shows net_law no_wake_law write_law edge_law w window in
           let start : suc w - 1 ≡ w = omega arith in
           let there : suc w + (t - suc w) ≡ t = omega (arith, le) in
           subst (λ y. IsFollowing p c (W y)) there
@@ -190,4 +190,4 @@ module _ (d : Design) (lawful : IsLawfulDesign d) (h : Habit) (dump : BoundDump)
 
   -- In every run that shows the dump, at each time that the dump shows, the settled values are those that are clear.
   pub clear_is_sound : (t : ℕ) → IsShown dump t → Agrees d (clear d h dump t) (settled d r t)
-  clear_is_sound t now = clear_sound d lawful h dump fits r is_run shows net_law no_wake_law write_law edge_law made_sound t now
+  clear_is_sound t now = clear_sound d lawful h dump binds r is_run shows net_law no_wake_law write_law edge_law made_sound t now

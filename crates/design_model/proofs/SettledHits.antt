@@ -15,7 +15,7 @@ use Rattle.design_model.specs.Execution.{Visit, at_line, at_node, execution, exe
 use Rattle.design_model.specs.Reads.{Agrees, HasValue, Known, UpToOutside, VisitsFrom}
 use Rattle.design_model.specs.Machine.{is_level, machine}
 use Rattle.design_model.specs.Run.{IsRun, Run, StepOf, evaluations_of, settled, start_of}
-use Rattle.design_model.specs.Shows.{BoundDump, InWindow, IsDumpOf, IsShown, IsWindow, Shows}
+use Rattle.design_model.specs.Shows.{BindsSignals, BoundDump, InWindow, IsShown, IsWindow, Shows}
 use Rattle.design_model.specs.Scored.{ChangesOver, IsScoredOf, VisitsIn}
 use Rattle.design_model.specs.Points.{IsBlock, IsHit, Point}
 use Rattle.design_model.specs.Open.{KnownAtEnd, HasChangedWakeBit, IsNotClocked, IsVisitOf}
@@ -52,7 +52,7 @@ widen d p v K y not_own (writes_word m i ∷ xs) a (inr h) = inr (tt, widen d p 
 widen d p v K y not_own (reads x true ∷ xs) a (inr h) = inr (tt, widen d p v K y not_own xs a.1 h.1)
 widen d p v K y not_own (reads x false ∷ xs) a (inr h) = inr ((thing_bits d v x, (a.0, not_own x h.0, refl)), widen d p v K y not_own xs a.1 h.1)
 
-module _ (d : Design) (lawful : IsLawfulDesign d) (h : Habit) (laws : StepLaws (machine d) h) (settled_law : SettledLaw (machine d)) (dump : BoundDump) (r : Run) (fits : IsDumpOf d dump) (is_run : IsRun d h r) (shows : Shows d dump r) where
+module _ (d : Design) (lawful : IsLawfulDesign d) (h : Habit) (laws : StepLaws (machine d) h) (settled_law : SettledLaw (machine d)) (dump : BoundDump) (r : Run) (binds : BindsSignals d dump) (is_run : IsRun d h r) (shows : Shows d dump r) where
   settled_visits : (t p : ℕ) (y : Visit) → IsWindow dump (suc t) → IsNotClocked d p → HasChangedWakeBit d dump (suc t) p → VisitsFrom d (KnownAtEnd d h dump (suc t) p) (body_at d p) y → (k : StepOf r) × InWindow dump r k × VisitsIn d r k p y
   settled_visits t p y window not_clocked changed_bit from = go (step_here d h r is_run t)
     where
@@ -60,10 +60,10 @@ module _ (d : Design) (lawful : IsLawfulDesign d) (h : Habit) (laws : StepLaws (
       c = changed_bit.0
 
       both : IsShown dump t × IsShown dump (suc t)
-      both = window_shown d lawful h dump fits r is_run shows laws.net laws.no_wake laws.write laws.edge t window
+      both = window_shown d lawful h dump binds r is_run shows laws.net laws.no_wake laws.write laws.edge t window
 
       value : (u : ℕ) → IsShown dump u → settled d r u c ≡ dump.values u c
-      value u now = at_time d lawful h dump fits r is_run shows laws.net laws.no_wake laws.write laws.edge u now c changed_bit.2 changed_bit.1.1
+      value u now = at_time d lawful h dump binds r is_run shows laws.net laws.no_wake laws.write laws.edge u now c changed_bit.2 changed_bit.1.1
 
       last : suc t - 1 ≡ t
       last = omega arith
@@ -76,7 +76,7 @@ module _ (d : Design) (lawful : IsLawfulDesign d) (h : Habit) (laws : StepLaws (
 
       -- visits on the settled values
       seen : UpToOutside (KnownAtEnd d h dump (suc t) p) y (execution d (body_at d p) (settled d r (suc t))).visits
-      seen = visits_on_all d (KnownAtEnd d h dump (suc t) p) (body_at d p) y from (settled d r (suc t)) (λ x bits k. clear_law d lawful h laws dump r fits is_run shows (suc t) both.1 x bits k.1)
+      seen = visits_on_all d (KnownAtEnd d h dump (suc t) p) (body_at d p) y from (settled d r (suc t)) (λ x bits k. clear_law d lawful h laws dump r binds is_run shows (suc t) both.1 x bits k.1)
 
       wide : UpToOutside (Wakes d p (settled d r (suc t))) y (execution d (body_at d p) (settled d r (suc t))).visits
       wide = widen d p (settled d r (suc t)) (KnownAtEnd d h dump (suc t) p) y (λ x k. k.1.0) _ (execute_reads (λ q. body_mentions q (body_at d p) ≡ true) d (body_at d p) (λ q e. e) (execution_start (settled d r (suc t))) tt) seen
@@ -105,10 +105,10 @@ module _ (d : Design) (lawful : IsLawfulDesign d) (h : Habit) (laws : StepLaws (
       c = changed_bit.0
 
       both : IsShown dump t × IsShown dump (suc t)
-      both = window_shown d lawful h dump fits r is_run shows laws.net laws.no_wake laws.write laws.edge t window
+      both = window_shown d lawful h dump binds r is_run shows laws.net laws.no_wake laws.write laws.edge t window
 
       value : (u : ℕ) → IsShown dump u → settled d r u c ≡ dump.values u c
-      value u now = at_time d lawful h dump fits r is_run shows laws.net laws.no_wake laws.write laws.edge u now c changed_bit.2 changed_bit.1.1
+      value u now = at_time d lawful h dump binds r is_run shows laws.net laws.no_wake laws.write laws.edge u now c changed_bit.2 changed_bit.1.1
 
       last : suc t - 1 ≡ t
       last = omega arith
@@ -129,5 +129,5 @@ module _ (d : Design) (lawful : IsLawfulDesign d) (h : Habit) (laws : StepLaws (
 
   -- so the points that it visits up to its first read outside are hit
   pub settled_hits : (t p : ℕ) (x : Point) (y : Visit) → IsWindow dump t → IsBlock d x p → IsNotClocked d p → HasChangedWakeBit d dump t p → IsVisitOf x y → VisitsFrom d (KnownAtEnd d h dump t p) (body_at d p) y → IsHit d dump r x
-  settled_hits zero p x y window is_block not_clocked changed_bit is from = absurd (no_window d lawful h dump fits r is_run shows laws.net laws.no_wake laws.write laws.edge window)
+  settled_hits zero p x y window is_block not_clocked changed_bit is from = absurd (no_window d lawful h dump binds r is_run shows laws.net laws.no_wake laws.write laws.edge window)
   settled_hits (suc t) p x y window is_block not_clocked changed_bit is from = let v = settled_visits t p y window not_clocked changed_bit from in hit_of d dump r x p y v.0 v.1 is_block is v.2

@@ -22,7 +22,7 @@ use Rattle.design_model.specs.Paths.{step}
 use Rattle.design_model.specs.Reads.{Agrees, Known, nothing_known}
 use Rattle.design_model.specs.Machine.{is_level, machine}
 use Rattle.design_model.specs.Run.{IsRun, Run, settled}
-use Rattle.design_model.specs.Shows.{BoundDump, IsDumpOf, IsShown, IsShownOf, IsWindow, IsWindowOf, Shows}
+use Rattle.design_model.specs.Shows.{BindsSignals, BoundDump, IsShown, IsShownOf, IsWindow, IsWindowOf, Shows}
 use Rattle.design_model.specs.MayMove.{CanWakeSome, IsCleanAt, IsSingleAt, told_at}
 use Rattle.design_model.specs.Early.{IsEarlyAt}
 use Rattle.design_model.specs.Clear.{EntryFrom, IsClearBy, IsClockedTarget, IsCombValue, IsNetValue, IsWrittenValue, LeavesValue, all_writes, clear, clear_in, driven_writes, drives, of_assigns, of_clean, of_comb, of_dump, of_unwoken}
@@ -31,6 +31,7 @@ use Rattle.design_model.proofs.Assigns.{machine_lawful}
 use Rattle.design_model.proofs.Bound.{clear-thing}
 use Rattle.design_model.proofs.Lawful.{any_gives, assign_or, assigns_any, edge_one, may_any, place_from}
 use Rattle.design_model.proofs.Named.{WritesCell-halves}
+use Rattle.event_machine.proofs.Rounds.{single_told}  -- #keep
 use Rattle.design_model.proofs.Times.{StepTo, next_time}
 use Rattle.design_model.proofs.Told.{put_append, put_same}
 use Rattle.design_model.proofs.Untouched.{put_other, untouched}
@@ -94,7 +95,7 @@ UpdatesCell-join (u ∷ us) c h = ⊎_elim (λ a. inl a) (λ b. inr (UpdatesCell
     halves : (us ws : List (Write Bit)) (c : Cell) → WritesCell (us ++ ws) c → WritesCell us c ⊎ WritesCell ws c
     halves us ws c h = WritesCell-halves us ws c h
 
-module _ (d : Design) (lawful : IsLawfulDesign d) (h : Habit) (dump : BoundDump) (fits : IsDumpOf d dump) (r : Run) (is_run : IsRun d h r) (shows : Shows d dump r) (net_law : NetLaw (machine d)) (no_wake_law : NoWakeLaw (machine d)) (write_law : WriteLaw (machine d)) (edge_law : EdgeLaw (machine d) h) where
+module _ (d : Design) (lawful : IsLawfulDesign d) (h : Habit) (dump : BoundDump) (binds : BindsSignals d dump) (r : Run) (is_run : IsRun d h r) (shows : Shows d dump r) (net_law : NetLaw (machine d)) (no_wake_law : NoWakeLaw (machine d)) (write_law : WriteLaw (machine d)) (edge_law : EdgeLaw (machine d) h) where
   abbrev pub values_at : ℕ → Values Bit
   values_at t = settled d r t
 
@@ -107,7 +108,7 @@ module _ (d : Design) (lawful : IsLawfulDesign d) (h : Habit) (dump : BoundDump)
   told_range : (t : ℕ) (c : Cell) → IsToldCell (machine d) (told_at dump t) c → c.place < (signal_at d c.thing).width
   told_range t c told =
       ⊎_elim (λ input. ltb-true _ _ (and_parts (signal_at d c.thing).input _ input).1)
-      (λ target. any_gives (λ x y w. may_write d y c) _ (λ x y w e. place_from d y c (fits.signals c.thing told.0) e) (body_at d target.0) (may_any d (body_at d target.0) c target.1)) told.1
+      (λ target. any_gives (λ x y w. may_write d y c) _ (λ x y w e. place_from d y c (binds c.thing told.0) e) (body_at d target.0) (may_any d (body_at d target.0) c target.1)) told.1
 
   pub at_time : (t : ℕ) → IsShown dump t → (c : Cell) → dump.bound c.thing ≡ true → c.place < (signal_at d c.thing).width → values_at t c ≡ dump.values t c
   at_time t is_shown c bound range = pick_cell d (values_at t) (dump.values t) c (shows.shows t is_shown c.thing bound) range
@@ -148,15 +149,16 @@ module _ (d : Design) (lawful : IsLawfulDesign d) (h : Habit) (dump : BoundDump)
     where
       over : (s : StepAt t) (c : Cell) → c.thing ≡ owner x → (end_state (machine d) s.start s.events).values c ≡ s.start.values c
       over s c is =
-          let none : evaluations (machine d) p s.start s.events ≡ [] = no_wake_law 0 h (told_at dump (suc t)) s.start s.events s.is_step (as_told t now next s) p (no_level (process_at d p) target.is_clocked) (λ b wakes. cannot_wake (b, wakes)) in
+          let none : evaluations (machine d) p s.start s.events ≡ [] = no_wake_law (dump.round (suc t)) h (told_at dump (suc t)) s.start s.events s.is_step (as_told t now next s) p (no_level (process_at d p) target.is_clocked) (λ b wakes. cannot_wake (b, wakes)) in
           ⊎_elim (λ at. write_law h s.start s.events s.is_step p c at ∙ ap (λ vs. put_all s.start.values (outputs (machine d) p vs) c) none) (λ n. other_stays p x c target is n s.start s.events s.is_step) (target_or p c)
 
   -- over a time at which a block is clean the settled values change
   pub clean_moves : (t p : ℕ) (c : Cell) → IsShown dump t → IsShown dump (suc t) → IsCleanAt d dump (suc t) p c → values_at (suc t) ≡ values_at t → ⊥
   clean_moves t p c now next clean same =
-      let range : c.place < (signal_at d c.thing).width = ltb-true _ _ (and_parts (signal_at d c.thing).input _ clean.is_single.0).1 in
+      let is_told : IsToldCell (machine d) (told_at dump (suc t)) c = single_told (machine d) (told_at dump (suc t)) (dump.round (suc t)) c clean.is_single in
+      let range : c.place < (signal_at d c.thing).width = told_range (suc t) c is_told in
       let e : MachineEdge = clean.can_wake.0.0 in
-      let same_bits : (told_at dump (suc t)).old c ≡ (told_at dump (suc t)).new c = ap (λ y. dump.values y c) (back t) ∙ sym (at_time t now c clean.is_single.1 range) ∙ ap (λ f. f c) (sym same) ∙ at_time (suc t) next c clean.is_single.1 range in
+      let same_bits : (told_at dump (suc t)).old c ≡ (told_at dump (suc t)).new c = ap (λ y. dump.values y c) (back t) ∙ sym (at_time t now c is_told.0 range) ∙ ap (λ f. f c) (sym same) ∙ at_time (suc t) next c is_told.0 range in
       let goes : (machine d).is_edge e ((told_at dump (suc t)).old c) ((told_at dump (suc t)).new c) ≡ true = clean.can_wake.0.2 clean.is_single in
       both_ways _ ((machine_lawful d lawful).edge_changes e ((told_at dump (suc t)).new c)) (subst (λ b. (machine d).is_edge e b ((told_at dump (suc t)).new c) ≡ true) same_bits goes)
 
@@ -194,7 +196,7 @@ module _ (d : Design) (lawful : IsLawfulDesign d) (h : Habit) (dump : BoundDump)
     where
       go : StepAt t → thing_bits d (values_at (suc t)) x ≡ bits
       go s =
-          let evaluated = edge_law 0 (told_at dump (suc t)) s.start s.events s.is_step (as_told t now next s) p c is.is_clean in
+          let evaluated = edge_law (dump.round (suc t)) (told_at dump (suc t)) s.start s.events s.is_step (as_told t now next s) p c is.is_clean in
           let ws : List (Write Bit) = all_writes (execution d (body_at d p) evaluated.entry) in
           let left : LeavesValue d (clear d h dump t) evaluated.entry ws x bits = is.gives evaluated.entry (entry_agrees t p c s agrees is.is_clean evaluated) in
           let away : (b : Cell) → (IsTarget (machine d) p b → ⊥) → WritesCell ws b → ⊥ = λ b none has.

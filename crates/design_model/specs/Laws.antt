@@ -7,7 +7,7 @@ use Rattle.design_model.specs.Design.{Design, IsClocked, Thing, body_at, process
 use Rattle.design_model.specs.Mentions.{body_mentions}
 use Rattle.design_model.specs.Reads.{Agrees}
 use Rattle.design_model.specs.Run.{IsRun, Run, settled}
-use Rattle.design_model.specs.Shows.{BoundDump, IsDumpOf, IsShown, IsWindow, Shows}
+use Rattle.design_model.specs.Shows.{BindsSignals, BoundDump, IsShown, IsWindow, Shows}
 use Rattle.design_model.specs.Points.{IsBlock, IsHit, Point, line_point, logic_point}
 use Rattle.design_model.specs.MayMove.{CanWakeSome, IsCleanAt}
 use Rattle.design_model.specs.Early.{IsEarlyAt}
@@ -18,17 +18,17 @@ use Rattle.design_model.specs.Doubt.{IsInDoubt, IsPointOn}
 -- Clear law: in each run that shows the dump, at each time that the dump shows, the settled values are those that are clear.
 abbrev pub ClearLaw : Design → Habit → Type 0
 ClearLaw d h =
-    (dump : BoundDump) (r : Run) → IsDumpOf d dump → IsRun d h r → Shows d dump r → (t : ℕ) → IsShown dump t → Agrees d (clear d h dump t) (settled d r t)
+    (dump : BoundDump) (r : Run) → BindsSignals d dump → IsRun d h r → Shows d dump r → (t : ℕ) → IsShown dump t → Agrees d (clear d h dump t) (settled d r t)
 
 -- Forced law: where some run shows the dump, each forced value is the dump's.
 abbrev pub ForcedLaw : Design → Habit → Type 0
 ForcedLaw d h =
-    (dump : BoundDump) (r : Run) → IsDumpOf d dump → IsRun d h r → Shows d dump r → (t s : ℕ) (bits : List Bit) → IsForced d h dump t s bits → signal_bits d (dump.values t) s ≡ bits
+    (dump : BoundDump) (r : Run) → BindsSignals d dump → IsRun d h r → Shows d dump r → (t s : ℕ) (bits : List Bit) → IsForced d h dump t s bits → signal_bits d (dump.values t) s ≡ bits
 
 -- Reached law: each point that a block reaches is hit in every run that shows the dump.
 abbrev pub ReachedLaw : Design → Habit → Type 0
 ReachedLaw d h =
-    (dump : BoundDump) (r : Run) → IsDumpOf d dump → IsRun d h r → Shows d dump r → (t p : ℕ) (x : Point) → IsReached d h dump t p x → IsHit d dump r x
+    (dump : BoundDump) (r : Run) → BindsSignals d dump → IsRun d h r → Shows d dump r → (t p : ℕ) (x : Point) → IsReached d h dump t p x → IsHit d dump r x
 
 -- Rounds law: what is clear in a round is clear in the next.
 abbrev pub ClearRoundsLaw : Design → Habit → Type 0
@@ -48,7 +48,7 @@ ClearClosedLaw d h =
 -- One-value law: where a run shows the dump, what is clear at a time that it shows has one value.
 abbrev pub ClearValueLaw : Design → Habit → Type 0
 ClearValueLaw d h =
-    (dump : BoundDump) (r : Run) → IsDumpOf d dump → IsRun d h r → Shows d dump r → (t : ℕ) → IsShown dump t → (x : Thing) (a b : List Bit) → clear d h dump t x a → clear d h dump t x b → a ≡ b
+    (dump : BoundDump) (r : Run) → BindsSignals d dump → IsRun d h r → Shows d dump r → (t : ℕ) → IsShown dump t → (x : Thing) (a b : List Bit) → clear d h dump t x a → clear d h dump t x b → a ≡ b
 
 -- Clocked p is clean whenever it can wake, all that it mentions is bound, and of that only its trigger may be early
 pub record IsDefinite (d : Design) (h : Habit) (dump : BoundDump) (p : ℕ) : Type 0 where
@@ -66,7 +66,7 @@ IsLineOrLogic _ = ⊥
 -- Definiteness law: nothing is in doubt for a line or logic point of such a block.
 abbrev pub DefinitenessLaw : Design → Habit → Type 0
 DefinitenessLaw d h =
-    (dump : BoundDump) → IsDumpOf d dump → (p : ℕ) → IsDefinite d h dump p → (x : Point) → IsLineOrLogic x → IsBlock d x p → (t s : ℕ) → IsInDoubt d h dump x t s → ⊥
+    (dump : BoundDump) → BindsSignals d dump → (p : ℕ) → IsDefinite d h dump p → (x : Point) → IsLineOrLogic x → IsBlock d x p → (t s : ℕ) → IsInDoubt d h dump x t s → ⊥
 
 -- Bound-point law: nothing is in doubt for a toggle, state or arc point of a signal that the dump has.
 abbrev pub BoundPointLaw : Design → Habit → Type 0

@@ -6,6 +6,7 @@ pub mod Mentions
 pub mod Execution
 pub mod Numbered
 pub mod Paths
+pub mod Once
 pub mod Reads
 pub mod Machine
 pub mod Run

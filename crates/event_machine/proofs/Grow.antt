@@ -42,6 +42,7 @@ module _ {V : Type 0} (m : Machine V) (t : Told V) where
       written_once_more c made =
           record {
             told = made.told;
+            is_event = made.is_event;
             writer = made.writer;
             writes = made.writes;
             clocked = made.clocked;
