@@ -7,7 +7,7 @@ ghost use Rattle.design_model.specs.Design.{Design as DesignTree};
 ghost use Rattle.design_model.specs.Machine.{machine};
 ghost use Rattle.design_model.specs.Lawful.{IsLawfulDesign};
 ghost use Rattle.design_model.specs.ToggleLaw.{ToggleLaw};
-ghost use Rattle.design_model.specs.Laws.{ClearLaw, ForcedLaw, ClearValueLaw, ClearRoundsLaw, ClearClosedLaw, ClearLeastLaw, ReachedLaw, DefinitenessLaw, BoundPointLaw};
+ghost use Rattle.design_model.specs.Laws.{ClearLaw, ContradictionLaw, ForcedLaw, ClearValueLaw, ClearRoundsLaw, ClearClosedLaw, ClearLeastLaw, ReachedLaw, DefinitenessLaw, BoundPointLaw};
 
 mod design;
 mod examples;
@@ -24,10 +24,12 @@ pub fn lawful_machine()
     ensures { (d : DesignTree) → IsLawfulDesign d → IsLawful (machine d) }
 {}
 
-/// What the dump decides holds in each run that shows it: what is clear, and, where there is such a run, what is forced.
+/// What the dump decides holds in each run that shows it up to the time: what is clear, and, where there is such a run,
+/// what is forced. So where a forced value is not the dump's, no run shows the dump up to that time.
 pub fn clear_law()
     ensures clear { (d : DesignTree) (h : Habit) → IsLawfulDesign d → ClearLaw d h }
     ensures forced { (d : DesignTree) (h : Habit) → IsLawfulDesign d → ForcedLaw d h }
+    ensures contradiction { (d : DesignTree) (h : Habit) → IsLawfulDesign d → ContradictionLaw d h }
     ensures one_value { (d : DesignTree) (h : Habit) → IsLawfulDesign d → ClearValueLaw d h }
 {}
 
@@ -43,7 +45,7 @@ pub fn toggle_law()
     ensures { (d : DesignTree) (h : Habit) → ToggleLaw d h }
 {}
 
-/// Each point that a block of it reaches at a window time is hit in each run that shows the dump.
+/// Each point that a block of it reaches at a window time is hit in each run that shows the dump up to that time.
 pub fn reached_law()
     ensures { (d : DesignTree) (h : Habit) → IsLawfulDesign d → ReachedLaw d h }
 {}
