@@ -19,7 +19,7 @@ use Rattle.design_model.proofs.Times.{StepTo}
 
 module _ (d : Design) (lawful : IsLawfulDesign d) (h : Habit) (laws : StepLaws (machine d) h) where
   pub clear_law : ClearLaw d h
-  clear_law dump r t binds is_run shows now = clear_is_sound d lawful h dump binds r is_run t shows laws.net laws.no_wake laws.write laws.edge laws.idle laws.computed t (now, omega arith)
+  clear_law dump r t binds showing now = clear_is_sound d lawful h dump binds r showing.is_run t showing.shows laws.net laws.no_wake laws.write laws.edge laws.idle laws.computed t (now, omega arith)
 
   module _ (dump : BoundDump) (r : Run) (binds : BindsSignals d dump) (is_run : IsRun d h r) (end : ℕ) (shows : ShowsUpTo d dump r end) where
     -- what is clear holds at each time up to which the run shows the dump
@@ -69,9 +69,9 @@ module _ (d : Design) (lawful : IsLawfulDesign d) (h : Habit) (laws : StepLaws (
         go (suc w) window le is = by_written w p c s bits window le is
 
   pub forced_law : ForcedLaw d h
-  forced_law dump r t binds is_run shows s bits forced =
-      sym (shows.shows t forced.is_shown (omega arith) s forced.is_bound) ∙ forced_run dump r binds is_run t shows t s bits (forced.is_shown, omega arith) forced.is_bound forced.forced
+  forced_law dump r t binds showing s bits forced =
+      sym (showing.shows.shows t forced.is_shown (omega arith) s forced.is_bound) ∙ forced_run dump r binds showing.is_run t showing.shows t s bits (forced.is_shown, omega arith) forced.is_bound forced.forced
 
   -- where a forced value is not the dump's, no run shows the dump so far
   pub contradiction_law : ContradictionLaw d h
-  contradiction_law dump t s bits binds forced differ r is_run shows = differ (forced_law dump r t binds is_run shows s bits forced)
+  contradiction_law dump t s bits binds forced differ r showing = differ (forced_law dump r t binds showing s bits forced)

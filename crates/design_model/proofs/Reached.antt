@@ -116,4 +116,4 @@ module _ (d : Design) (lawful : IsLawfulDesign d) (h : Habit) (laws : StepLaws (
       reached.2
 
 pub reached_law : (d : Design) (h : Habit) → IsLawfulDesign d → StepLaws (machine d) h → ReachedLaw d h
-reached_law d h lawful laws dump r t binds is_run shows p x reached = reached_hit d lawful h laws dump r binds is_run t shows t p x (omega arith) reached
+reached_law d h lawful laws dump r t binds showing p x reached = reached_hit d lawful h laws dump r binds showing.is_run t showing.shows t p x (omega arith) reached

@@ -73,12 +73,12 @@ cells_eq d u v (a_signal s) h = cells_at u v s (range_with_len 0 (signal_at d s)
 cells_eq d u v (a_word m i) h = words_at u v m i (memory_at d m).width (range_with_len 0 (memory_at d m).width) h
 
 -- a Clocked is not level-sensitive, an Assign queues nothing
-no_level : (x : Process) → IsClocked x → (y : ℕ) → is_level x y ≡ false
+pub no_level : (x : Process) → IsClocked x → (y : ℕ) → is_level x y ≡ false
 no_level (assign i t v c) h y = absurd h
 no_level (comb i wakes s) h y = absurd h
 no_level (clocked i events s) h y = refl
 
-no_queue : (d : Design) (x : Process) (v : Values Bit) → is_assign x ≡ true → (execution d (body x) v).nonblocking ≡ []
+pub no_queue : (d : Design) (x : Process) (v : Values Bit) → is_assign x ≡ true → (execution d (body x) v).nonblocking ≡ []
 no_queue d (assign i t y c) v e = refl
 no_queue d (comb i wakes s) v e = absurd (false≢true e)
 no_queue d (clocked i events s) v e = absurd (false≢true e)

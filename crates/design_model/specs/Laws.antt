@@ -3,11 +3,11 @@ use Rattle.std.specs.Prelude.{◌≡◌, ◌≢◌, ℕ, suc, Bool, true, List, 
 use Rattle.event_machine.specs.Cell.{Cell, Values}
 use Rattle.event_machine.specs.Habit.{Habit}
 use Rattle.four_state.specs.declared.bit.Bit.{Bit}
-use Rattle.design_model.specs.Design.{Design, IsClocked, Thing, body_at, process_at, signal_bits}
+use Rattle.design_model.specs.Design.{Design, IsClocked, Thing, a_signal, body_at, process_at, signal_bits}
 use Rattle.design_model.specs.Mentions.{body_mentions}
 use Rattle.design_model.specs.Reads.{Agrees}
-use Rattle.design_model.specs.Run.{IsRun, Run, settled}
-use Rattle.design_model.specs.Shows.{BindsSignals, BoundDump, IsShown, IsWindow, ShowsUpTo}
+use Rattle.design_model.specs.Run.{Run, settled}
+use Rattle.design_model.specs.Shows.{BindsSignals, BoundDump, IsContradicted, IsShowing, IsShown, IsWindow}
 use Rattle.design_model.specs.Points.{IsBlock, IsHit, Point, line_point, logic_point}
 use Rattle.design_model.specs.MayMove.{CanWakeSome, IsCleanAt}
 use Rattle.design_model.specs.Early.{IsEarlyAt}
@@ -18,16 +18,12 @@ use Rattle.design_model.specs.Doubt.{IsInDoubt, IsPointOn}
 -- Clear law: in each run that shows the dump up to a time that the dump shows, the settled values there are those that are clear.
 abbrev pub ClearLaw : Design → Habit → Type 0
 ClearLaw d h =
-    (dump : BoundDump) (r : Run) (t : ℕ) → BindsSignals d dump → IsRun d h r → ShowsUpTo d dump r t → IsShown dump t → Agrees d (clear d h dump t) (settled d r t)
+    (dump : BoundDump) (r : Run) (t : ℕ) → BindsSignals d dump → IsShowing d h dump t r → IsShown dump t → Agrees d (clear d h dump t) (settled d r t)
 
 -- Forced law: where some run shows the dump up to a time, each value that is forced there is the dump's.
 abbrev pub ForcedLaw : Design → Habit → Type 0
 ForcedLaw d h =
-    (dump : BoundDump) (r : Run) (t : ℕ) → BindsSignals d dump → IsRun d h r → ShowsUpTo d dump r t → (s : ℕ) (bits : List Bit) → IsForced d h dump t s bits → signal_bits d (dump.values t) s ≡ bits
-
--- no run of the design shows the dump up to this time
-abbrev pub IsContradicted : Design → Habit → BoundDump → ℕ → Type 0
-IsContradicted d h dump t = (r : Run) → IsRun d h r → ShowsUpTo d dump r t → ⊥
+    (dump : BoundDump) (r : Run) (t : ℕ) → BindsSignals d dump → IsShowing d h dump t r → (s : ℕ) (bits : List Bit) → IsForced d h dump t s bits → signal_bits d (dump.values t) s ≡ bits
 
 -- Contradiction law: where a forced value is not the dump's, no run shows the dump up to that time.
 abbrev pub ContradictionLaw : Design → Habit → Type 0
@@ -37,7 +33,7 @@ ContradictionLaw d h =
 -- Reached law: each point that a block reaches at a time is hit in every run that shows the dump up to that time.
 abbrev pub ReachedLaw : Design → Habit → Type 0
 ReachedLaw d h =
-    (dump : BoundDump) (r : Run) (t : ℕ) → BindsSignals d dump → IsRun d h r → ShowsUpTo d dump r t → (p : ℕ) (x : Point) → IsReached d h dump t p x → IsHit d dump r x
+    (dump : BoundDump) (r : Run) (t : ℕ) → BindsSignals d dump → IsShowing d h dump t r → (p : ℕ) (x : Point) → IsReached d h dump t p x → IsHit d dump r x
 
 -- Rounds law: what is clear in a round is clear in the next.
 abbrev pub ClearRoundsLaw : Design → Habit → Type 0
@@ -57,7 +53,12 @@ ClearClosedLaw d h =
 -- One-value law: where a run shows the dump up to a time that the dump shows, what is clear there has one value.
 abbrev pub ClearValueLaw : Design → Habit → Type 0
 ClearValueLaw d h =
-    (dump : BoundDump) (r : Run) (t : ℕ) → BindsSignals d dump → IsRun d h r → ShowsUpTo d dump r t → IsShown dump t → (x : Thing) (a b : List Bit) → clear d h dump t x a → clear d h dump t x b → a ≡ b
+    (dump : BoundDump) (r : Run) (t : ℕ) → BindsSignals d dump → IsShowing d h dump t r → IsShown dump t → (x : Thing) (a b : List Bit) → clear d h dump t x a → clear d h dump t x b → a ≡ b
+
+-- Bound-clear law: a bound signal is clear at each time that the dump shows, with the dump's value.
+abbrev pub BoundClearLaw : Design → Habit → Type 0
+BoundClearLaw d h =
+    (dump : BoundDump) (t s : ℕ) → IsShown dump t → dump.bound s ≡ true → IsSignal d s → clear d h dump t (a_signal s) (signal_bits d (dump.values t) s)
 
 -- Clocked p is clean whenever it can wake, all that it mentions is bound, and of that only its trigger may be early
 pub record IsDefinite (d : Design) (h : Habit) (dump : BoundDump) (p : ℕ) : Type 0 where

@@ -7,7 +7,8 @@ ghost use Rattle.design_model.specs.Design.{Design as DesignTree};
 ghost use Rattle.design_model.specs.Machine.{machine};
 ghost use Rattle.design_model.specs.Lawful.{IsLawfulDesign};
 ghost use Rattle.design_model.specs.ToggleLaw.{ToggleLaw};
-ghost use Rattle.design_model.specs.Laws.{ClearLaw, ContradictionLaw, ForcedLaw, ClearValueLaw, ClearRoundsLaw, ClearClosedLaw, ClearLeastLaw, ReachedLaw, DefinitenessLaw, BoundPointLaw};
+ghost use Rattle.design_model.specs.StepLaws.{StepFactsLaw, EventFactsLaw, CleanStepLaw, UnlistedLaw};
+ghost use Rattle.design_model.specs.Laws.{BoundClearLaw, ClearLaw, ContradictionLaw, ForcedLaw, ClearValueLaw, ClearRoundsLaw, ClearClosedLaw, ClearLeastLaw, ReachedLaw, DefinitenessLaw, BoundPointLaw};
 
 mod design;
 mod examples;
@@ -33,10 +34,22 @@ pub fn clear_law()
     ensures one_value { (d : DesignTree) (h : Habit) → IsLawfulDesign d → ClearValueLaw d h }
 {}
 
-/// What is clear grows from round to round, is closed under its rules, and is the least map that is.
+/// What the laws of the machine say of each step of a run that shows the dump up to the step's time: of the settled
+/// values at its ends, and of its events. A clean block has its step, and at a time that the dump does not list, where
+/// all inputs are bound, nothing happens.
+pub fn step_law()
+    ensures facts { (d : DesignTree) (h : Habit) → IsLawfulDesign d → StepFactsLaw d h }
+    ensures events { (d : DesignTree) (h : Habit) → IsLawfulDesign d → EventFactsLaw d h }
+    ensures clean_step { (d : DesignTree) (h : Habit) → IsLawfulDesign d → CleanStepLaw d h }
+    ensures unlisted { (d : DesignTree) (h : Habit) → IsLawfulDesign d → UnlistedLaw d h }
+{}
+
+/// What is clear grows from round to round, is closed under its rules, and is the least map that is. A bound signal is
+/// clear, with the dump's value.
 pub fn clear_rounds_law()
     ensures rounds { (d : DesignTree) (h : Habit) → ClearRoundsLaw d h }
     ensures closed { (d : DesignTree) (h : Habit) → IsLawfulDesign d → ClearClosedLaw d h }
+    ensures bound { (d : DesignTree) (h : Habit) → BoundClearLaw d h }
     ensures least { (d : DesignTree) (h : Habit) → ClearLeastLaw d h }
 {}
 

@@ -9,5 +9,7 @@ pub mod MayMove
 pub mod Early
 pub mod Single
 pub mod Run
+pub mod LastRound
+pub mod SharedEarly
 pub mod Laws
 pub mod Example
