@@ -13,7 +13,7 @@ use Rattle.design_model.specs.Clear.{IsForcedBy, IsWrittenValue, at_first, by_cl
 use Rattle.design_model.specs.Lawful.{IsLawfulDesign}
 use Rattle.design_model.specs.Laws.{ClearLaw, ContradictionLaw, ForcedLaw}
 use Rattle.design_model.proofs.MadeSound.{clear_is_sound, made_sound}
-use Rattle.design_model.proofs.Sound.{IsSeen, as_told, cells_eq, net_sound, no_window, step_or, window_shown, written_sound}
+use Rattle.design_model.proofs.Sound.{IsSeen, told_step, cells_eq, net_sound, no_window, step_or, window_shown, written_sound}
 use Rattle.design_model.proofs.StepLaws.{StepLaws}
 use Rattle.design_model.proofs.Times.{StepTo}
 
@@ -40,7 +40,7 @@ module _ (d : Design) (lawful : IsLawfulDesign d) (h : Habit) (laws : StepLaws (
         go (inl same) = ap (λ v. signal_bits d v s) same
         go (inr x) =
             cells_eq d (settled d r (suc t)) (settled d r t) (a_signal s)
-            (λ c at. sym (ap (λ f. f c) x.ends) ∙ laws.unchanged (dump.round (suc t)) h (told_at dump (suc t)) x.start x.events x.is_step (as_told d lawful h dump binds r is_run end shows laws.net laws.no_wake laws.write laws.edge t now next x) c (λ may. none (subst (MayMoveAt d dump (suc t)) at may)) x.events [] (sym (append-nil x.events)) ∙ ap (λ f. f c) x.starts)
+            (λ c at. sym (ap (λ f. f c) x.ends) ∙ laws.unchanged (dump.round (suc t)) h (told_at dump (suc t)) (told_step d lawful h dump binds r is_run end shows laws.net laws.no_wake laws.write laws.edge t now next x) c (λ may. none (subst (MayMoveAt d dump (suc t)) at may)) x.events [] (sym (append-nil x.events)) ∙ ap (λ f. f c) x.starts)
 
     by_written : (w p : ℕ) (c : Cell) (s : ℕ) (bits : List Bit) → IsWindow dump (suc w) → suc w ≤ end → IsWrittenValue d h dump (suc w) (clear_before d h dump (suc w)) p c (a_signal s) bits → signal_bits d (settled d r (suc w)) s ≡ bits
     by_written w p c s bits window le is =

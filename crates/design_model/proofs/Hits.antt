@@ -25,7 +25,7 @@ use Rattle.design_model.specs.Open.{IsVisitOf, KnownOnEntry}
 use Rattle.design_model.specs.Lawful.{IsLawfulDesign}
 use Rattle.design_model.proofs.ForcedSound.{clear_at}
 use Rattle.design_model.proofs.Prefix.{visits_on_all}
-use Rattle.design_model.proofs.Sound.{IsSeen, as_told, clean_moves, entry_agrees, no_window, window_shown}
+use Rattle.design_model.proofs.Sound.{IsSeen, told_step, clean_moves, entry_agrees, no_window, window_shown}
 use Rattle.design_model.proofs.StepLaws.{StepLaws}
 use Rattle.design_model.proofs.Times.{StepTo}
 
@@ -106,7 +106,7 @@ module _ (d : Design) (lawful : IsLawfulDesign d) (h : Habit) (laws : StepLaws (
       both = window_shown d lawful h dump binds r is_run end shows laws.net laws.no_wake laws.write laws.edge t window le
 
       evaluated : (s : StepHere d h r t) → EvaluatesOnce (machine d) (told_at dump (suc t)) (IsSingleAt d dump (suc t)) h p c s.to.start s.to.events
-      evaluated s = laws.edge (dump.round (suc t)) (told_at dump (suc t)) s.to.start s.to.events s.to.is_step (as_told d lawful h dump binds r is_run end shows laws.net laws.no_wake laws.write laws.edge t both.0 both.1 s.to) p c clean
+      evaluated s = laws.edge (dump.round (suc t)) (told_at dump (suc t)) (told_step d lawful h dump binds r is_run end shows laws.net laws.no_wake laws.write laws.edge t both.0 both.1 s.to) p c clean
 
       knows : (s : StepHere d h r t) → Agrees d (KnownOnEntry d h dump (suc t) p) (evaluated s).entry
       knows s x bits k = entry_agrees d lawful h dump binds r is_run end shows laws.net laws.no_wake laws.write laws.edge t p c s.to (clear_at d lawful h laws dump r binds is_run end shows t both.0) clean (evaluated s) x bits at_start

@@ -12,6 +12,7 @@ use Rattle.event_machine.specs.Event.{Event, end_state}
 use Rattle.event_machine.specs.Habit.{Habit}
 use Rattle.event_machine.specs.Step.{IsStep, evaluations, outputs}
 use Rattle.event_machine.specs.Told.{IsAsTold, IsToldCell}
+use Rattle.event_machine.specs.ToldStep.{ToldStep}
 use Rattle.event_machine.specs.Laws.{EdgeLaw, EvaluatesOnce, NetLaw, NoWakeLaw, WriteLaw}
 use Rattle.four_state.specs.declared.bit.Bit.{Bit}
 use Rattle.design_model.specs.Tree.{Process, assign, clocked, comb}
@@ -124,6 +125,9 @@ module _ (d : Design) (lawful : IsLawfulDesign d) (h : Habit) (dump : BoundDump)
   as_told t now next s c told =
       (ap (λ f. f c) s.starts ∙ at_time t now c told.0 (told_range (suc t) c told) ∙ ap (λ y. dump.values y c) (sym (back t)), ap (λ f. f c) s.ends ∙ at_time (suc t) next c told.0 (told_range (suc t) c told))
 
+  abbrev pub told_step : (t : ℕ) → IsSeen dump end t → IsSeen dump end (suc t) → StepAt t → ToldStep (machine d) h (told_at dump (suc t))
+  told_step t now next s = record { start = s.start; events = s.events; is_step = s.is_step; as_told = as_told t now next s }
+
   -- a cell of what Clocked p writes that p does not write itself stays
   other_stays : (p : ℕ) (x : Thing) (c : Cell) → IsClockedTarget d p x → c.thing ≡ owner x → (IsTarget (machine d) p c → ⊥) → (s : State Bit) (es : List (Event Bit)) → IsStep (machine d) h s es → (end_state (machine d) s es).values c ≡ s.values c
   other_stays p x c target is none s es step =
@@ -153,7 +157,7 @@ module _ (d : Design) (lawful : IsLawfulDesign d) (h : Habit) (dump : BoundDump)
     where
       over : (s : StepAt t) (c : Cell) → c.thing ≡ owner x → (end_state (machine d) s.start s.events).values c ≡ s.start.values c
       over s c is =
-          let none : evaluations (machine d) p s.start s.events ≡ [] = no_wake_law (dump.round (suc t)) h (told_at dump (suc t)) s.start s.events s.is_step (as_told t now next s) p (no_level (process_at d p) target.is_clocked) (λ b wakes. cannot_wake (b, wakes)) in
+          let none : evaluations (machine d) p s.start s.events ≡ [] = no_wake_law (dump.round (suc t)) h (told_at dump (suc t)) (told_step t now next s) p (no_level (process_at d p) target.is_clocked) (λ b wakes. cannot_wake (b, wakes)) in
           ⊎_elim (λ at. write_law h s.start s.events s.is_step p c at ∙ ap (λ vs. put_all s.start.values (outputs (machine d) p vs) c) none) (λ n. other_stays p x c target is n s.start s.events s.is_step) (target_or p c)
 
   -- over a time at which a block is clean the settled values change
@@ -200,7 +204,7 @@ module _ (d : Design) (lawful : IsLawfulDesign d) (h : Habit) (dump : BoundDump)
     where
       go : StepAt t → thing_bits d (values_at (suc t)) x ≡ bits
       go s =
-          let evaluated = edge_law (dump.round (suc t)) (told_at dump (suc t)) s.start s.events s.is_step (as_told t now next s) p c is.is_clean in
+          let evaluated = edge_law (dump.round (suc t)) (told_at dump (suc t)) (told_step t now next s) p c is.is_clean in
           let ws : List (Write Bit) = all_writes (execution d (body_at d p) evaluated.entry) in
           let left : LeavesValue d (clear d h dump t) evaluated.entry ws x bits = is.gives evaluated.entry (entry_agrees t p c s agrees is.is_clean evaluated) in
           let away : (b : Cell) → (IsTarget (machine d) p b → ⊥) → WritesCell ws b → ⊥ = λ b none has.

@@ -9,6 +9,7 @@ use Rattle.event_machine.specs.Habit.{Habit}
 use Rattle.event_machine.specs.Run.{AreSteps, Timed, step_start}
 use Rattle.event_machine.specs.Step.{IsStep, evaluations, outputs}
 use Rattle.event_machine.specs.Told.{IsAsTold, IsToldCell}
+use Rattle.event_machine.specs.ToldStep.{ToldStep}
 use Rattle.event_machine.specs.Laws.{EvaluatesOnce, EvaluatesSettled, IsIdle}
 use Rattle.event_machine.proofs.Rest.{no_event_law}  -- #keep
 use Rattle.event_machine.proofs.Rounds.{single_told}  -- #keep
@@ -71,6 +72,9 @@ module _ (d : Design) (lawful : IsLawfulDesign d) (h : Habit) (laws : StepLaws (
   as_told s c told =
       (ap (λ f. f c) s.starts ∙ old_at c told.0 (told_range c told) ∙ ap (λ y. dump.values y c) (sym back), ap (λ f. f c) s.ends ∙ new_at c told.0 (told_range c told))
 
+  abbrev pub told_step : StepTo (machine d) h (settled d r t) (settled d r (suc t)) → ToldStep (machine d) h (told_at dump (suc t))
+  told_step s = record { start = s.start; events = s.events; is_step = s.is_step; as_told = as_told s }
+
   -- over a time at which a block is clean the settled values change
   pub clean_moves : (p : ℕ) (c : Cell) → IsCleanAt d dump (suc t) p c → settled d r (suc t) ≡ settled d r t → ⊥
   clean_moves p c clean same =
@@ -90,13 +94,13 @@ module _ (d : Design) (lawful : IsLawfulDesign d) (h : Habit) (laws : StepLaws (
     to c = ap (λ f. f c) s.ends
 
     pub unmoved_events : (c : Cell) → (MayMoveAt d dump (suc t) c.thing → ⊥) → (before after : List (Event Bit)) → s.events ≡ before ++ after → (end_state (machine d) s.start before).values c ≡ settled d r t c
-    unmoved_events c never before after splits = laws.unchanged (dump.round (suc t)) h (told_at dump (suc t)) s.start s.events s.is_step (as_told s) c never before after splits ∙ from c
+    unmoved_events c never before after splits = laws.unchanged (dump.round (suc t)) h (told_at dump (suc t)) (told_step s) c never before after splits ∙ from c
 
     step_unmoved : (c : Cell) → (MayMoveAt d dump (suc t) c.thing → ⊥) → settled d r (suc t) c ≡ settled d r t c
     step_unmoved c never = sym (to c) ∙ unmoved_events c never s.events [] (sym (append-nil s.events))
 
     pub once : (p : ℕ) (c : Cell) → IsCleanAt d dump (suc t) p c → EvaluatesOnce (machine d) (told_at dump (suc t)) (IsSingleAt d dump (suc t)) h p c s.start s.events
-    once p c clean = laws.edge (dump.round (suc t)) (told_at dump (suc t)) s.start s.events s.is_step (as_told s) p c clean
+    once p c clean = laws.edge (dump.round (suc t)) (told_at dump (suc t)) (told_step s) p c clean
 
     pub step_clean : (p : ℕ) (c : Cell) → IsCleanAt d dump (suc t) p c → CleanEvaluation d h dump t (settled d r t) (settled d r (suc t)) p c
     step_clean p c clean =
@@ -111,7 +115,7 @@ module _ (d : Design) (lawful : IsLawfulDesign d) (h : Habit) (laws : StepLaws (
 
     pub step_asleep : (p : ℕ) → IsClocked (process_at d p) → (CanWakeSome d dump (suc t) p → ⊥) → evaluations (machine d) p s.start s.events ≡ []
     step_asleep p is_clocked never =
-        laws.no_wake (dump.round (suc t)) h (told_at dump (suc t)) s.start s.events s.is_step (as_told s) p (no_level (process_at d p) is_clocked) (λ b can. never (b, can))
+        laws.no_wake (dump.round (suc t)) h (told_at dump (suc t)) (told_step s) p (no_level (process_at d p) is_clocked) (λ b can. never (b, can))
 
     -- what a process writes, by its evaluations
     written : (p : ℕ) (vs : List (Values Bit)) → evaluations (machine d) p s.start s.events ≡ vs → (c : Cell) → IsTarget (machine d) p c → settled d r (suc t) c ≡ put_all (settled d r t) (outputs (machine d) p vs) c
@@ -216,8 +220,8 @@ module _ (d : Design) (lawful : IsLawfulDesign d) (h : Habit) (laws : StepLaws (
   -- a step at a time that the dump does not list has no events
   no_events : (dump : BoundDump) (r : Run) (t : ℕ) → IsDumpOf d dump → IsShowing d h dump (suc t) r → IsWindow dump (suc t) → (IsListed dump (suc t) → ⊥) → (s : StepTo (machine d) h (settled d r t) (settled d r (suc t))) → s.events ≡ []
   no_events dump r t fits showing window unlisted s =
-      no_event_law (machine d) (machine_lawful d lawful) h (told_at dump (suc t)) s.start s.events s.is_step
-      (as_told d lawful h laws dump fits.signals r showing.is_run t (old dump r t fits.signals showing window) (new dump r t fits.signals showing window) s)
+      no_event_law (machine d) (machine_lawful d lawful) h (told_at dump (suc t))
+      (told_step d lawful h laws dump fits.signals r showing.is_run t (old dump r t fits.signals showing window) (new dump r t fits.signals showing window) s)
       (λ c input. (fits.inputs c input, ap (λ y. dump.values y c) back_one ∙ ap (λ f. f c) (sym (fits.stays t unlisted))))
     where
       back_one : suc t - 1 ≡ t

@@ -5,6 +5,7 @@ pub mod Event
 pub mod Habit
 pub mod Step
 pub mod Told
+pub mod ToldStep
 pub mod MayMove
 pub mod Early
 pub mod Single

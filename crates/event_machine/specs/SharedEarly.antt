@@ -14,4 +14,6 @@ HasNoBlocking m p = (c : Cell) → m.blocking p c ≡ false
 -- Sharing law: what is early for a trigger is the same for two blocks without blocking targets.
 abbrev pub SharedEarlyLaw : {V : Type 0} → Machine V → Type 0
 SharedEarlyLaw {V} m =
-    (n : ℕ) (t : Told V) (h : Habit) (a b : ℕ) (c : Cell) → HasNoBlocking m a → HasNoBlocking m b → (x : ℕ) → IsEarly m t (IsSingle m t n) h a c x → IsEarly m t (IsSingle m t n) h b c x
+    (n : ℕ) (t : Told V) (h : Habit) (a b : ℕ) (c : Cell)
+    → HasNoBlocking m a → HasNoBlocking m b
+    → (x : ℕ) → IsEarly m t (IsSingle m t n) h a c x → IsEarly m t (IsSingle m t n) h b c x
