@@ -23,7 +23,7 @@ use Rattle.design_model.specs.Clear.{clear, clear_before, of_dump}
 use Rattle.design_model.specs.Open.{KnownOnEntry}
 use Rattle.design_model.specs.Doubt.{BlockDoubt, IsInDoubt, IsPointOn, IsUnclear, early, not_clean, of_block, of_signal, own_target, unclear_at_start, unclear_signal, unclear_word}
 use Rattle.design_model.specs.Lawful.{is_signal}
-use Rattle.design_model.specs.Laws.{BoundPointLaw, DefinitenessLaw, IsDefinite, IsLineOrLogic}
+use Rattle.design_model.specs.Laws.{BoundClearLaw, BoundPointLaw, DefinitenessLaw, IsDefinite, IsLineOrLogic}
 use Rattle.design_model.specs.ExampleParts.{at, counted}
 use Rattle.design_model.proofs.Mentions.{AllReads, IsReadOf, execute_reads}
 
@@ -42,7 +42,7 @@ reads_mentioned d K b x (inl from) =
 reads_mentioned d K b x (inr from) = from.1
 
 -- a bound signal is clear at each shown time
-bound_is_clear : (d : Design) (h : Habit) (dump : BoundDump) (t s : ℕ) → IsShown dump t → dump.bound s ≡ true → s < length d.signals → HasValue (clear d h dump t) (a_signal s)
+pub bound_is_clear : (d : Design) (h : Habit) (dump : BoundDump) (t s : ℕ) → IsShown dump t → dump.bound s ≡ true → s < length d.signals → HasValue (clear d h dump t) (a_signal s)
 bound_is_clear d h dump zero s shown bound is_signal = (signal_bits d (dump.values zero) s, (1, of_dump s (signal_bits d (dump.values zero) s) shown bound is_signal refl))
 bound_is_clear d h dump (suc t) s shown bound is_signal = (signal_bits d (dump.values (suc t)) s, (1, of_dump s (signal_bits d (dump.values (suc t)) s) shown bound is_signal refl))
 
@@ -73,15 +73,15 @@ module _ (d : Design) (h : Habit) (dump : BoundDump) (binds : BindsSignals d dum
       absurd (omega (arith, below, above))
 
   no_block_doubt : (t s : ℕ) → IsWindow dump t → BlockDoubt d h dump t s p → ⊥
-  no_block_doubt t s window (unclear_at_start x thing own wakes_it from other unclear) =
-      unclear (mentioned_clear t window x thing (reads_mentioned d (KnownOnEntry d h dump t p) (body_at d p) x from))
-  no_block_doubt t s window (early x c own clean from is_early) =
-      let mentioned : body_mentions s (body_at d p) ≡ true = subst (λ y. body_mentions y (body_at d p) ≡ true) own (reads_mentioned d (KnownOnEntry d h dump t p) (body_at d p) x from) in
-      definite.none_early t c window clean s mentioned (early_apart (machine d) (told_at dump t) (IsSingleAt d dump t) h p c s is_early) is_early
-  no_block_doubt t s window (not_clean c own wakes_it unclean) = let clean = definite.clean t window (c, wakes_it) in unclean clean.0 clean.1
-  no_block_doubt t s window (unclear_signal k is_level may_wake bit_of unclear) = is_level definite.clocked
-  no_block_doubt t s window (unclear_word k is_level may_wake mentioned thing unclear from) = is_level definite.clocked
-  no_block_doubt t s window (own_target is_comb may_wake assigns_it early_read) = not_comb (process_at d p) definite.clocked is_comb
+  no_block_doubt t s window (unclear_at_start why) =
+      why.unclear (mentioned_clear t window why.thing why.is_thing (reads_mentioned d (KnownOnEntry d h dump t p) (body_at d p) why.thing why.is_read))
+  no_block_doubt t s window (early why) =
+      let mentioned : body_mentions s (body_at d p) ≡ true = subst (λ y. body_mentions y (body_at d p) ≡ true) why.of_owner (reads_mentioned d (KnownOnEntry d h dump t p) (body_at d p) why.thing why.is_read) in
+      definite.none_early t why.trigger window why.is_clean s mentioned (early_apart (machine d) (told_at dump t) (IsSingleAt d dump t) h p why.trigger s why.is_early) why.is_early
+  no_block_doubt t s window (not_clean why) = let clean = definite.clean t window (why.event, why.can_wake) in why.not_clean clean.0 clean.1
+  no_block_doubt t s window (unclear_signal why) = why.not_clocked definite.clocked
+  no_block_doubt t s window (unclear_word why) = why.not_clocked definite.clocked
+  no_block_doubt t s window (own_target why) = not_comb (process_at d p) definite.clocked why.is_comb
 
   no_doubt : (x : Point) → IsLineOrLogic x → IsBlock d x p → (t s : ℕ) → IsInDoubt d h dump x t s → ⊥
   no_doubt (line_point q n at w) is block_is t s (of_block r window block_of is_open doubt) = no_block_doubt t s window (subst (BlockDoubt d h dump t s) (block_of ∙ sym block_is) doubt)
@@ -128,3 +128,8 @@ pub bound_point_law : (d : Design) (h : Habit) → BoundPointLaw d h
 bound_point_law d h dump x s on is_signal bound t q (of_block p window block_is is_open doubt) = no_block d x s p on block_is
 bound_point_law d h dump x s on is_signal bound t q (of_signal window on_q may_move unclear) =
     bound_not_unclear d h dump t s window bound is_signal (subst (λ y. IsUnclear d h dump t (a_signal y)) (sym (one_signal x s q on on_q)) unclear)
+
+-- a bound signal is clear, with the dump's value
+pub bound_clear_law : (d : Design) (h : Habit) → BoundClearLaw d h
+bound_clear_law d h dump zero s shown bound is_signal = (1, of_dump s (signal_bits d (dump.values zero) s) shown bound is_signal refl)
+bound_clear_law d h dump (suc t) s shown bound is_signal = (1, of_dump s (signal_bits d (dump.values (suc t)) s) shown bound is_signal refl)

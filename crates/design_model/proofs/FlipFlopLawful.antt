@@ -156,4 +156,4 @@ flip_flop_fits a = record { rising = (lit< tt, (lit< tt, tt)); signals = λ s b.
 -- where a is not early line 2 is hit in every run that shows the dump
 pub line_two_hit : (h : Habit) (a : Bit) → ((x : ℕ) → IsEarlyAt flip_flop h (flip_flop_dump a) 5 0 (cell 0 0) x → ⊥) → (r : Run) → IsRun flip_flop h r → Shows flip_flop (flip_flop_dump a) r → IsHit flip_flop (flip_flop_dump a) r line_two
 line_two_hit h a not_early r is_run shows =
-    reached_law flip_flop h flip_flop_lawful (step_laws (machine flip_flop) (machine_lawful flip_flop flip_flop_lawful) h) (flip_flop_dump a) r (flip_flop_fits a).signals is_run shows 5 0 line_two (reached_two h a not_early)
+    reached_law flip_flop h flip_flop_lawful (step_laws (machine flip_flop) (machine_lawful flip_flop flip_flop_lawful) h) (flip_flop_dump a) r 5 (flip_flop_fits a).signals (record { is_run = is_run; shows = record { starts = shows.starts; shows = λ t now le. shows.shows t now } }) 0 line_two (reached_two h a not_early)

@@ -22,6 +22,7 @@ pub mod Combs
 pub mod MadeSound
 pub mod ForcedSound
 pub mod Hits
+pub mod StepFacts
 pub mod SettledHits
 pub mod OpenPath
 pub mod OpenNodes

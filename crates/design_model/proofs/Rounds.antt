@@ -81,5 +81,5 @@ least_law d h dump zero has closed x bits k = in_closed d h dump zero nothing_kn
 least_law d h dump (suc t) has closed x bits k = in_closed d h dump (suc t) (clear d h dump t) has closed k.0 x bits k.1
 
 pub value_law : (d : Design) (h : Habit) → ClearLaw d h → ClearValueLaw d h
-value_law d h clear_holds dump r fits is_run shows t is_shown x a b first second =
-    sym (clear_holds dump r fits is_run shows t is_shown x a first) ∙ clear_holds dump r fits is_run shows t is_shown x b second
+value_law d h clear_holds dump r t binds showing is_shown x a b first second =
+    sym (clear_holds dump r t binds showing is_shown x a first) ∙ clear_holds dump r t binds showing is_shown x b second

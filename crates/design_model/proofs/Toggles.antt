@@ -22,7 +22,7 @@ use Rattle.design_model.proofs.Times.{passed, still_there, waiting}
 
 module _ (d : Design) (h : Habit) where
   -- a later step has a later time
-  later_time : (now : ℕ) (s : State Bit) (before : List (Timed Bit)) (x : Timed Bit) (later : List (Timed Bit)) → AreSteps (machine d) h now s (before ++ x ∷ later) → now < x.time
+  pub later_time : (now : ℕ) (s : State Bit) (before : List (Timed Bit)) (x : Timed Bit) (later : List (Timed Bit)) → AreSteps (machine d) h now s (before ++ x ∷ later) → now < x.time
   later_time now s [] x later steps = steps.0
   later_time now s (y ∷ before) x later steps = omega (arith, steps.0, later_time y.time (step_start (end_state (machine d) s y.events)) before x later steps.2)
 
@@ -45,13 +45,13 @@ module _ (d : Design) (h : Habit) where
       ∙ ap (λ z. z.values) (sym (passed (machine d) h t s y (before ++ x ∷ later) (omega (arith, at, later_time y.time next before x later steps.2))))
 
   module _ (r : Run) (is_run : IsRun d h r) where
-    split_steps : (k : StepOf r) → AreSteps (machine d) h r.begins r.start (k.before ++ k.step ∷ k.later)
+    pub split_steps : (k : StepOf r) → AreSteps (machine d) h r.begins r.start (k.before ++ k.step ∷ k.later)
     split_steps k = subst (AreSteps (machine d) h r.begins r.start) k.splits is_run.steps
 
-    start_values : (k : StepOf r) (t : ℕ) → k.step.time ≡ suc t → (start_of d r k).values ≡ settled d r t
+    pub start_values : (k : StepOf r) (t : ℕ) → k.step.time ≡ suc t → (start_of d r k).values ≡ settled d r t
     start_values k t at = values_at_start r.begins t r.start k.before k.step k.later (split_steps k) at ∙ ap (λ xs. (state_at (machine d) t r.start xs).values) (sym k.splits)
 
-    end_values : (k : StepOf r) (t : ℕ) → k.step.time ≡ t → (end_of d r k).values ≡ settled d r t
+    pub end_values : (k : StepOf r) (t : ℕ) → k.step.time ≡ t → (end_of d r k).values ≡ settled d r t
     end_values k t at = values_at_end r.begins t r.start k.before k.step k.later (split_steps k) at ∙ ap (λ xs. (state_at (machine d) t r.start xs).values) (sym k.splits)
 
 -- the cell of a toggle point is one of its signal's
@@ -71,7 +71,7 @@ toggle_cell_in d s i some = go (signal_at d s).ranged
     go false = (refl, some)
 
 -- a window time and the time before it are shown
-window_shown_at : (times : List ℕ) (t : ℕ) → IsWindowOf times (suc t) → IsShownOf times t × IsShownOf times (suc t)
+pub window_shown_at : (times : List ℕ) (t : ℕ) → IsWindowOf times (suc t) → IsShownOf times t × IsShownOf times (suc t)
 window_shown_at [] t window = absurd window
 window_shown_at (u ∷ us) t window = ((omega (arith, window.0), omega (arith, window.1)), (omega (arith, window.0), window.1))
 

@@ -22,6 +22,7 @@ pub mod Doubt
 pub mod Shape
 pub mod Lawful
 pub mod Laws
+pub mod StepLaws
 pub mod View
 pub mod ExampleParts
 pub mod FlipFlop

@@ -7,7 +7,8 @@ ghost use Rattle.design_model.specs.Design.{Design as DesignTree};
 ghost use Rattle.design_model.specs.Machine.{machine};
 ghost use Rattle.design_model.specs.Lawful.{IsLawfulDesign};
 ghost use Rattle.design_model.specs.ToggleLaw.{ToggleLaw};
-ghost use Rattle.design_model.specs.Laws.{ClearLaw, ForcedLaw, ClearValueLaw, ClearRoundsLaw, ClearClosedLaw, ClearLeastLaw, ReachedLaw, DefinitenessLaw, BoundPointLaw};
+ghost use Rattle.design_model.specs.StepLaws.{StepFactsLaw, EventFactsLaw, CleanStepLaw, UnlistedLaw};
+ghost use Rattle.design_model.specs.Laws.{BoundClearLaw, ClearLaw, ContradictionLaw, ForcedLaw, ClearValueLaw, ClearRoundsLaw, ClearClosedLaw, ClearLeastLaw, ReachedLaw, DefinitenessLaw, BoundPointLaw};
 
 mod design;
 mod examples;
@@ -24,17 +25,31 @@ pub fn lawful_machine()
     ensures { (d : DesignTree) → IsLawfulDesign d → IsLawful (machine d) }
 {}
 
-/// What the dump decides holds in each run that shows it: what is clear, and, where there is such a run, what is forced.
+/// What the dump decides holds in each run that shows it up to the time: what is clear, and, where there is such a run,
+/// what is forced. So where a forced value is not the dump's, no run shows the dump up to that time.
 pub fn clear_law()
     ensures clear { (d : DesignTree) (h : Habit) → IsLawfulDesign d → ClearLaw d h }
     ensures forced { (d : DesignTree) (h : Habit) → IsLawfulDesign d → ForcedLaw d h }
+    ensures contradiction { (d : DesignTree) (h : Habit) → IsLawfulDesign d → ContradictionLaw d h }
     ensures one_value { (d : DesignTree) (h : Habit) → IsLawfulDesign d → ClearValueLaw d h }
 {}
 
-/// What is clear grows from round to round, is closed under its rules, and is the least map that is.
+/// What the laws of the machine say of each step of a run that shows the dump up to the step's time: of the settled
+/// values at its ends, and of its events. A clean block has its step, and at a time that the dump does not list, where
+/// all inputs are bound, nothing happens.
+pub fn step_law()
+    ensures facts { (d : DesignTree) (h : Habit) → IsLawfulDesign d → StepFactsLaw d h }
+    ensures events { (d : DesignTree) (h : Habit) → IsLawfulDesign d → EventFactsLaw d h }
+    ensures clean_step { (d : DesignTree) (h : Habit) → IsLawfulDesign d → CleanStepLaw d h }
+    ensures unlisted { (d : DesignTree) (h : Habit) → IsLawfulDesign d → UnlistedLaw d h }
+{}
+
+/// What is clear grows from round to round, is closed under its rules, and is the least map that is. A bound signal is
+/// clear, with the dump's value.
 pub fn clear_rounds_law()
     ensures rounds { (d : DesignTree) (h : Habit) → ClearRoundsLaw d h }
     ensures closed { (d : DesignTree) (h : Habit) → IsLawfulDesign d → ClearClosedLaw d h }
+    ensures bound { (d : DesignTree) (h : Habit) → BoundClearLaw d h }
     ensures least { (d : DesignTree) (h : Habit) → ClearLeastLaw d h }
 {}
 
@@ -43,7 +58,7 @@ pub fn toggle_law()
     ensures { (d : DesignTree) (h : Habit) → ToggleLaw d h }
 {}
 
-/// Each point that a block of it reaches at a window time is hit in each run that shows the dump.
+/// Each point that a block of it reaches at a window time is hit in each run that shows the dump up to that time.
 pub fn reached_law()
     ensures { (d : DesignTree) (h : Habit) → IsLawfulDesign d → ReachedLaw d h }
 {}

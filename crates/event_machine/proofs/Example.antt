@@ -9,6 +9,7 @@ use Rattle.event_machine.specs.Event.{Event, Move, end_state, is_evaluation, mar
 use Rattle.event_machine.specs.Habit.{Free, Habit, IsByHabit, Late, is_free_input}
 use Rattle.event_machine.specs.Step.{IsStep}
 use Rattle.event_machine.specs.Told.{IsAsTold}
+use Rattle.event_machine.specs.ToldStep.{ToldStep}
 use Rattle.event_machine.specs.MayMove.{IsClean, MayMove}
 use Rattle.event_machine.specs.Single.{IsSingle}
 use Rattle.event_machine.proofs.Rounds.{edge_law}
@@ -251,6 +252,9 @@ as_told : IsAsTold divider told start events
 unfolding is_sensitive put
 as_told c is = (refl, grind (arith, nat_tests))
 
+abbrev told_step : (h : Habit) → ToldStep divider h told
+told_step h = record { start = start; events = events; is_step = the_step h (by_habit h); as_told = as_told }
+
 pub worked_example : IsWorkedExample
 worked_example =
     record {
@@ -259,6 +263,6 @@ worked_example =
       as_told = as_told;
       clean = clean_writer;
       clean_next = clean_q;
-      once = edge_law divider lawful Free 1 told start events (the_step Free (by_habit Free)) as_told 1 (bit 2) clean_q;
-      once_late = edge_law divider lawful Late 1 told start events (the_step Late (by_habit Late)) as_told 1 (bit 2) clean_q;
+      once = edge_law divider lawful Free 1 told (told_step Free) 1 (bit 2) clean_q;
+      once_late = edge_law divider lawful Late 1 told (told_step Late) 1 (bit 2) clean_q;
     }
