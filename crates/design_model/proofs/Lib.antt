@@ -38,3 +38,5 @@ pub mod GateClear
 pub mod PipeClear
 pub mod RamClear
 pub mod Definite
+pub mod MoreKnown
+pub mod StillClear

@@ -21,6 +21,8 @@ pub mod Doubt
 pub mod Shape
 pub mod Lawful
 pub mod Laws
+pub mod MoreKnown
+pub mod StillLaw
 pub mod View
 pub mod ExampleParts
 pub mod FlipFlop
