@@ -40,3 +40,4 @@ pub mod RamClear
 pub mod Definite
 pub mod MoreKnown
 pub mod StillClear
+pub mod DecidedSignals

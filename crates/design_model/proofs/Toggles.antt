@@ -48,10 +48,10 @@ module _ (d : Design) (h : Habit) where
     split_steps : (k : StepOf r) → AreSteps (machine d) h r.begins r.start (k.before ++ k.step ∷ k.later)
     split_steps k = subst (AreSteps (machine d) h r.begins r.start) k.splits is_run.steps
 
-    start_values : (k : StepOf r) (t : ℕ) → k.step.time ≡ suc t → (start_of d r k).values ≡ settled d r t
+    pub start_values : (k : StepOf r) (t : ℕ) → k.step.time ≡ suc t → (start_of d r k).values ≡ settled d r t
     start_values k t at = values_at_start r.begins t r.start k.before k.step k.later (split_steps k) at ∙ ap (λ xs. (state_at (machine d) t r.start xs).values) (sym k.splits)
 
-    end_values : (k : StepOf r) (t : ℕ) → k.step.time ≡ t → (end_of d r k).values ≡ settled d r t
+    pub end_values : (k : StepOf r) (t : ℕ) → k.step.time ≡ t → (end_of d r k).values ≡ settled d r t
     end_values k t at = values_at_end r.begins t r.start k.before k.step k.later (split_steps k) at ∙ ap (λ xs. (state_at (machine d) t r.start xs).values) (sym k.splits)
 
 -- the cell of a toggle point is one of its signal's
@@ -63,7 +63,7 @@ indexed_in s width (pos k) some = go (nat_lt k width) refl
     go true is = (refl, ltb-true k width is)
     go false is = (refl, some)
 
-toggle_cell_in : (d : Design) (s i : ℕ) → 0 < (signal_at d s).width → ((toggle_cell d s i).thing ≡ s) × ((toggle_cell d s i).place < (signal_at d s).width)
+pub toggle_cell_in : (d : Design) (s i : ℕ) → 0 < (signal_at d s).width → ((toggle_cell d s i).thing ≡ s) × ((toggle_cell d s i).place < (signal_at d s).width)
 toggle_cell_in d s i some = go (signal_at d s).ranged
   where
     go : (b : Bool) → ((if b then indexed_cell s (within (signal_at d s).width (offset (signal_range d s) (pos i))) else cell s 0).thing ≡ s) × ((if b then indexed_cell s (within (signal_at d s).width (offset (signal_range d s) (pos i))) else cell s 0).place < (signal_at d s).width)
@@ -71,12 +71,12 @@ toggle_cell_in d s i some = go (signal_at d s).ranged
     go false = (refl, some)
 
 -- a window time and the time before it are shown
-window_shown_at : (times : List ℕ) (t : ℕ) → IsWindowOf times (suc t) → IsShownOf times t × IsShownOf times (suc t)
+pub window_shown_at : (times : List ℕ) (t : ℕ) → IsWindowOf times (suc t) → IsShownOf times t × IsShownOf times (suc t)
 window_shown_at [] t window = absurd window
 window_shown_at (u ∷ us) t window = ((omega (arith, window.0), omega (arith, window.1)), (omega (arith, window.0), window.1))
 
 -- no window begins at time 0
-no_window_at : (times : List ℕ) → IsWindowOf times 0 → ⊥
+pub no_window_at : (times : List ℕ) → IsWindowOf times 0 → ⊥
 no_window_at [] window = window
 no_window_at (u ∷ us) window = omega (arith, window.0)
 

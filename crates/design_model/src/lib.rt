@@ -9,6 +9,7 @@ ghost use Rattle.design_model.specs.Lawful.{IsLawfulDesign};
 ghost use Rattle.design_model.specs.ToggleLaw.{ToggleLaw};
 ghost use Rattle.design_model.specs.MoreKnown.{MoreKnownLaw};
 ghost use Rattle.design_model.specs.StillLaw.{StillLaw};
+ghost use Rattle.design_model.specs.DecidedLaw.{SignalDecidedLaw};
 ghost use Rattle.design_model.specs.Laws.{ClearLaw, ForcedLaw, ClearValueLaw, ClearRoundsLaw, ClearClosedLaw, ClearLeastLaw, ReachedLaw, DefinitenessLaw, BoundPointLaw};
 
 mod design;
@@ -70,4 +71,10 @@ pub fn still_law()
 /// reaches from the first it does from the second too, and what is open from the second is open from the first.
 pub fn more_known_law<K: PartialMap, L: PartialMap>()
     ensures { (d : DesignTree) → MoreKnownLaw d K.has L.has }
+{}
+
+/// At a window time at which nothing is in doubt for a point, two runs that show the dump do not differ in whether it is
+/// hit.
+pub fn decided_law()
+    ensures { (d : DesignTree) (h : Habit) → IsLawfulDesign d → SignalDecidedLaw d h }
 {}
