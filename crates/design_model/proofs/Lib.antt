@@ -40,3 +40,6 @@ pub mod GateClear
 pub mod PipeClear
 pub mod RamClear
 pub mod Definite
+pub mod MoreKnown
+pub mod StillClear
+pub mod DecidedSignals

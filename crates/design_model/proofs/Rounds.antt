@@ -56,7 +56,7 @@ module _ (d : Design) (K L : Known) (more : (x : Thing) (bits : List Bit) → K 
         gives = λ v agrees. is.gives v (agrees_less v agrees);
       }
 
-  rules_more : (h : Habit) (dump : BoundDump) (t : ℕ) (start : Known) (x : Thing) (bits : List Bit) → IsClearBy d h dump t start K x bits → IsClearBy d h dump t start L x bits
+  pub rules_more : (h : Habit) (dump : BoundDump) (t : ℕ) (start : Known) (x : Thing) (bits : List Bit) → IsClearBy d h dump t start K x bits → IsClearBy d h dump t start L x bits
   rules_more h dump t start x bits (of_dump s w0 is_shown is_bound is_signal is) = of_dump s w0 is_shown is_bound is_signal is
   rules_more h dump t start x bits (of_assigns s w0 unbound is) = of_assigns s w0 unbound (net_more s w0 is)
   rules_more h dump t start x bits (of_comb p s w0 unbound is) = of_comb p s w0 unbound (comb_more dump t p s w0 is)

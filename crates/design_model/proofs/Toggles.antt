@@ -63,7 +63,7 @@ indexed_in s width (pos k) some = go (nat_lt k width) refl
     go true is = (refl, ltb-true k width is)
     go false is = (refl, some)
 
-toggle_cell_in : (d : Design) (s i : ℕ) → 0 < (signal_at d s).width → ((toggle_cell d s i).thing ≡ s) × ((toggle_cell d s i).place < (signal_at d s).width)
+pub toggle_cell_in : (d : Design) (s i : ℕ) → 0 < (signal_at d s).width → ((toggle_cell d s i).thing ≡ s) × ((toggle_cell d s i).place < (signal_at d s).width)
 toggle_cell_in d s i some = go (signal_at d s).ranged
   where
     go : (b : Bool) → ((if b then indexed_cell s (within (signal_at d s).width (offset (signal_range d s) (pos i))) else cell s 0).thing ≡ s) × ((if b then indexed_cell s (within (signal_at d s).width (offset (signal_range d s) (pos i))) else cell s 0).place < (signal_at d s).width)
@@ -76,7 +76,7 @@ window_shown_at [] t window = absurd window
 window_shown_at (u ∷ us) t window = ((omega (arith, window.0), omega (arith, window.1)), (omega (arith, window.0), window.1))
 
 -- no window begins at time 0
-no_window_at : (times : List ℕ) → IsWindowOf times 0 → ⊥
+pub no_window_at : (times : List ℕ) → IsWindowOf times 0 → ⊥
 no_window_at [] window = window
 no_window_at (u ∷ us) window = omega (arith, window.0)
 

@@ -23,6 +23,9 @@ pub mod Shape
 pub mod Lawful
 pub mod Laws
 pub mod StepLaws
+pub mod MoreKnown
+pub mod StillLaw
+pub mod DecidedLaw
 pub mod View
 pub mod ExampleParts
 pub mod FlipFlop

@@ -8,15 +8,20 @@ ghost use Rattle.design_model.specs.Machine.{machine};
 ghost use Rattle.design_model.specs.Lawful.{IsLawfulDesign};
 ghost use Rattle.design_model.specs.ToggleLaw.{ToggleLaw};
 ghost use Rattle.design_model.specs.StepLaws.{StepFactsLaw, EventFactsLaw, CleanStepLaw, UnlistedLaw};
+ghost use Rattle.design_model.specs.MoreKnown.{MoreKnownLaw};
+ghost use Rattle.design_model.specs.StillLaw.{StillLaw};
+ghost use Rattle.design_model.specs.DecidedLaw.{SignalDecidedLaw};
 ghost use Rattle.design_model.specs.Laws.{BoundClearLaw, ClearLaw, ContradictionLaw, ForcedLaw, ClearValueLaw, ClearRoundsLaw, ClearClosedLaw, ClearLeastLaw, ReachedLaw, DefinitenessLaw, BoundPointLaw};
 
 mod design;
 mod examples;
+mod map;
 mod point;
 mod tree;
 
 pub use design::{Alias, Constant, Design, Instance, Memory, Range, Signal};
 pub use examples::{memory_word, moving_input, steady_register, undumped_net, undumped_register};
+pub use map::PartialMap;
 pub use point::{LineWord, NodeCase, Point};
 pub use tree::{CaseArm, Form, Process, Stmt, StmtForm, Target, Term};
 
@@ -69,4 +74,22 @@ pub fn reached_law()
 pub fn definiteness_law()
     ensures blocks { (d : DesignTree) (h : Habit) → DefinitenessLaw d h }
     ensures signals { (d : DesignTree) (h : Habit) → BoundPointLaw d h }
+{}
+
+/// Where each input is bound, what is clear at a time of the window that the dump does not list is what was clear the
+/// moment before.
+pub fn still_law()
+    ensures { (d : DesignTree) (h : Habit) → IsLawfulDesign d → StillLaw d h }
+{}
+
+/// Of two partial maps of which the second has each value of the first: what a body visits, has surely open and
+/// reaches from the first it does from the second too, and what is open from the second is open from the first.
+pub fn more_known_law<K: PartialMap, L: PartialMap>()
+    ensures { (d : DesignTree) → MoreKnownLaw d K.has L.has }
+{}
+
+/// At a window time at which nothing is in doubt for a point, two runs that show the dump do not differ in whether it is
+/// hit.
+pub fn decided_law()
+    ensures { (d : DesignTree) (h : Habit) → IsLawfulDesign d → SignalDecidedLaw d h }
 {}

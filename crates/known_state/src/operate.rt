@@ -1,6 +1,6 @@
 //! The operators (IEEE 1364-2001, clause 4.1): what is the same for all values of the bits that are not sure.
 
-ghost use Rattle.std.specs.Prelude.{◌≡◌, ◌↔◌, ◌&&◌, not, false, IsTrue};
+ghost use Rattle.std.specs.Prelude.{◌≡◌, ◌↔◌, ◌&&◌, not, true, false, length, replicate, None, IsTrue};
 ghost use Rattle.std.specs.Bool.{OnTrue};
 ghost use Rattle.four_state.specs.Vector.{Vector, all_known};
 ghost use Rattle.four_state.specs.Operators.{unary_value, unary_vector, unary_keeps_sign, binary_value, binary_vector, binary_keeps_sign, takes_same_shape, choice_value, choice_vector};
@@ -82,12 +82,13 @@ impl Known {
     }
 
     /// What an operator with two operands gives. They have equal widths and signs, except with a shift, `&&` or `||`.
-    /// A bit is sure exactly where it is the same for all allowed values; of a shift by an amount that is not sure
-    /// none may be.
+    /// A bit is sure exactly where it is the same for all allowed values; of a shift by an amount that is not sure, and
+    /// of which no bit is sure to be x or z, none is.
     pub fn binary(op: Binary, a: &Known, b: &Known) -> Known
         requires { OnTrue (takes_same_shape op) (HaveSameShape a.now b.now) }
         ensures sound { (v w : Vector) → IsTrue (allows a.now v) → IsTrue (allows b.now w) → IsTrue (allows result (binary_vector op v w)) }
-        ensures tight { (is_shift_operator op && not (is_told b.now)) ≡ false → IsTight (allow_both a.now b.now) (λ p. binary_value op p.0.signed p.0.bits p.1.bits) result.bits }
+        ensures unsure_shift { (is_shift_operator op && (not (is_told b.now) && all_known (filled Bit.Zero b.now.bits))) ≡ true → result.bits ≡ replicate (length a.now.bits) None }
+        ensures tight { (is_shift_operator op && (not (is_told b.now) && all_known (filled Bit.Zero b.now.bits))) ≡ false → IsTight (allow_both a.now b.now) (λ p. binary_value op p.0.signed p.0.bits p.1.bits) result.bits }
         ensures exact { (v w : Vector) → a.now ≡ told_of v → b.now ≡ told_of w → result ≡ told_of (binary_vector op v w) }
         ensures blame { is_told result ≡ false → result.blame ≡ first_blame a.now b.now }
     {

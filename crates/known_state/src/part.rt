@@ -41,16 +41,17 @@ impl Known {
         Known::told(zeros).narrowed(ones, self.blame())
     }
 
-    /// The vector with the bits of `part` from the offset `low` up. Bits of the part that fall outside are dropped.
+    /// The vector with the bits of `part` from the offset `low` up. Bits of the part that fall outside are dropped. The
+    /// blame is that of the part where some bit of it is not sure, also where such a bit falls outside.
     pub fn place(&self, low: i64, part: &Known) -> Known
         ensures sound { (v w : Vector) → IsTrue (allows self.now v) → IsTrue (allows part.now w) → IsTrue (allows result (placed_vector low w v)) }
         ensures tight { IsTight (allow_both self.now part.now) (λ p. bits_with p.0.bits p.1.bits (neg_ℤ low)) result.bits }
         ensures exact { (v w : Vector) → self.now ≡ told_of v → part.now ≡ told_of w → result ≡ told_of (placed_vector low w v) }
-        ensures blame { is_told result ≡ false → result.blame ≡ first_blame self.now part.now }
+        ensures blame { is_told result ≡ false → result.blame ≡ first_blame part.now self.now }
     {
         let zeros = self.filled(Bit::Zero).place(low, &part.filled(Bit::Zero));
         let ones = self.filled(Bit::One).place(low, &part.filled(Bit::One));
-        Known::told(zeros).narrowed(ones, Known::first_blame(self, part))
+        Known::told(zeros).narrowed(ones, Known::first_blame(part, self))
     }
 
     /// The unsigned concatenation of two vectors.

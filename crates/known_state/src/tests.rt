@@ -195,6 +195,7 @@ fn may_be_less(operation: Operation, b: &Known) -> bool {
 fn to_blame(operation: Operation, a: &Known, b: &Known) -> u32 {
     match operation {
         Operation::Choose(Truth::False) => b.blame(),
+        Operation::Place(_) if !b.is_told() => b.blame(),
         _ if a.is_told() => b.blame(),
         _ => a.blame(),
     }

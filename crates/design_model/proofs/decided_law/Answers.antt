@@ -1,0 +1,8 @@
+use Rattle.design_model.specs.Machine.{machine}
+use Rattle.design_model.proofs.Assigns.{machine_lawful}
+use Rattle.design_model.proofs.DecidedSignals.{signal_decided_law}
+use Rattle.design_model.proofs.StepLaws.{step_laws}
+use Rattle.design_model.proofs.decided_law.Goals as goal
+
+pub returns : goal.returns
+returns c = λ d h lawful. signal_decided_law d h lawful (step_laws (machine d) (machine_lawful d lawful) h)

@@ -1,0 +1,25 @@
+-- A point for which nothing is in doubt at a time is hit then in each run that shows the dump, or in none.
+use Rattle.std.specs.Prelude.{◌≡◌, ◌≢◌, ◌<◌, ℕ, List, ⊤}
+use Rattle.event_machine.specs.Habit.{Habit}
+use Rattle.design_model.specs.Design.{Design, signal_at}
+use Rattle.design_model.specs.Run.{IsRun, Run}
+use Rattle.design_model.specs.Shows.{BoundDump, IsDumpOf, IsWindow, Shows}
+use Rattle.design_model.specs.Points.{IsHitAt, Point, arc_point, state_point, toggle_point}
+use Rattle.design_model.specs.Doubt.{IsInDoubt}
+
+-- at a window time at which nothing is in doubt for the point, it is not hit in one run that shows the dump and not hit in another.
+-- Constructively 'hit in both or in neither' would ask to decide what is clear and early; this form says the same, and is what a proof that a hit is told needs
+abbrev pub IsDecided : Design → Habit → Point → Type 0
+IsDecided d h x =
+    (dump : BoundDump) (r q : Run) → IsDumpOf d dump → IsRun d h r → IsRun d h q → Shows d dump r → Shows d dump q → (t : ℕ) → IsWindow dump t → ((s : ℕ) → IsInDoubt d h dump x t s → ⊥) → IsHitAt d dump r x t → (IsHitAt d dump q x t → ⊥) → ⊥
+
+-- a toggle or state point of a signal with bits, or an arc between two different values
+abbrev pub IsSignalPoint : Design → Point → Type 0
+IsSignalPoint d (toggle_point s i rise) = 0 < (signal_at d s).width
+IsSignalPoint d (state_point i name s state x) = ⊤
+IsSignalPoint d (arc_point i name s from to x y) = x.bits ≢ y.bits
+IsSignalPoint d _ = ⊥
+
+-- Decided law of signals: such a point is decided where nothing is in doubt for it.
+abbrev pub SignalDecidedLaw : Design → Habit → Type 0
+SignalDecidedLaw d h = (x : Point) → IsSignalPoint d x → IsDecided d h x
