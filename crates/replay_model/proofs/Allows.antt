@@ -22,8 +22,10 @@ use Rattle.design_model.proofs.Lawful.{assign_or}
 use Rattle.design_model.proofs.Named.{has_cell-from}
 use Rattle.design_model.proofs.StepLaws.{StepLaws}
 use Rattle.design_model.proofs.Told.{put_covered}
-use Rattle.replay_model.specs.Kept.{Allows, AllowsState, flush}
-use Rattle.replay_model.specs.Body.{Runs}
+use Rattle.body_replay.specs.KnownBits.{Allows}
+use Rattle.body_replay.specs.Replay.{flush}
+use Rattle.body_replay.specs.Runs.{Runs}
+use Rattle.body_replay.specs.Store.{AllowsState}
 use Rattle.replay_model.specs.Sets.{AreSets, Sets}
 use Rattle.replay_model.specs.Tables.{Tables}
 use Rattle.replay_model.specs.Step.{Closing, Replay, Working, all_run, clocked_run, contradicts, is_dumped, is_loose, is_touched, opened, run_all_clean, run_all_settling, run_all_weak, run_clean, run_weak, settle_start, updated}

@@ -7,7 +7,10 @@ use Rattle.four_state.specs.Vector.{same_bit}
 use Rattle.four_state.specs.declared.bit.Bit.{Bit}
 use Rattle.design_model.specs.Design.{In}
 use Rattle.design_model.proofs.Lawful.{same_bit_is, same_bit_self}
-use Rattle.replay_model.specs.Kept.{Allows, Kept, KnownWrite, flush, join_bit, keep_all, keep_write, write_bit}
+use Rattle.body_replay.specs.KnownBits.{Allows}
+use Rattle.body_replay.specs.Replay.{flush}
+use Rattle.body_replay.specs.Store.{Kept, KnownWrite, keep_all, keep_write, write_bit}
+use Rattle.known_state.specs.Join.{join_bit}
 use Rattle.replay_model.specs.Step.{surely_differ, surely_same}
 
 pub keep_same : (ks : List KnownWrite) (b b' : Kept) (c : Cell) → b c ≡ b' c → keep_all b ks c ≡ keep_all b' ks c

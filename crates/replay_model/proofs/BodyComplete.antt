@@ -20,8 +20,11 @@ use Rattle.design_model.specs.Points.{HitIn, IsBlock}
 use Rattle.design_model.proofs.Mentions.{AllReads, execute_reads}
 use Rattle.design_model.proofs.StepLaws.{StepLaws}
 use Rattle.replay_model.specs.Asked.{AskedLaws}
-use Rattle.replay_model.specs.Kept.{Allows, AllowsState}
-use Rattle.replay_model.specs.Body.{Certainty, Doubted, HasDoubtNote, HasHitNote, Note, Runs, Spot, Visited, clean, line, node, perhaps, read_of, spot_at, word_read, word_write}
+use Rattle.body_replay.specs.Contract.{Certainty, Doubted, HasHitNote, Note, clean, perhaps, spot_at}
+use Rattle.body_replay.specs.KnownBits.{Allows}
+use Rattle.body_replay.specs.Replay.{Spot, Visited, line, node, word_read, word_write}
+use Rattle.body_replay.specs.Runs.{HasDoubtNote, Runs, seen_of}
+use Rattle.body_replay.specs.Store.{AllowsState}
 use Rattle.replay_model.specs.Sets.{AreSets, Sets}
 use Rattle.replay_model.specs.Tables.{Tables, all_cells}
 use Rattle.replay_model.specs.Marks.{IsKeyOf, Told, all_told_by, of_process}
@@ -94,7 +97,7 @@ module _ (d : Design) (h : Habit) (dump : BoundDump) (run : Runs) (tables : Tabl
             (subst (λ ns. HasHitNote s ns ⊎ ((y : Doubted) × (y.time ≡ suc t) × HasDoubtNote s y ns)) (sym c.1.notes)
             (⊎_elim (λ y. inl y) (λ y. inr (y.0, (is.runs.blames p c.1.store (suc t) s y.0 y.1).0, y.1)) (is.runs.visits_marked p c.1.store (suc t) v allowed s seen)))
           where
-            allowed : AllowsState (read_of c.1.store) v
+            allowed : AllowsState (seen_of c.1.store) v
             allowed b =
                 let o = every_entry d h dump run tables points is laws t window r showing k at p (cell c.1.trigger 0) (are.trigger p c.1.trigger c.1.is_trigger) v scored in
                 subst (λ z. Allows z (v b)) (sym (c.1.reads b)) (subst (λ f. Allows (entry_kept st p c.1.trigger b) (f b)) (sym o.1) (entry_allowed d h dump run tables points is laws early_law asked t window sets are a r showing starts acted p c.1.trigger c.1.is_trigger o.0 b))

@@ -16,8 +16,11 @@ use Rattle.design_model.specs.Shows.{BoundDump, IsWindow}
 use Rattle.design_model.specs.Points.{HitIn, IsBlock}
 use Rattle.design_model.proofs.StepLaws.{StepLaws}
 use Rattle.replay_model.specs.Asked.{AskedLaws}
-use Rattle.replay_model.specs.Kept.{Allows, AllowsState, Kept}
-use Rattle.replay_model.specs.Body.{Certainty, HasHitNote, Note, Runs, Spot, Visited, clean, perhaps, quiet, spot_at}
+use Rattle.body_replay.specs.Contract.{Certainty, HasHitNote, Note, clean, perhaps, quiet, spot_at}
+use Rattle.body_replay.specs.KnownBits.{Allows}
+use Rattle.body_replay.specs.Replay.{Spot, Visited}
+use Rattle.body_replay.specs.Runs.{Runs}
+use Rattle.body_replay.specs.Store.{AllowsState, Kept}
 use Rattle.replay_model.specs.Sets.{AreSets, Sets}
 use Rattle.replay_model.specs.Tables.{Tables, all_cells}
 use Rattle.replay_model.specs.Marks.{IsKeyOf, Told, all_told_by, of_process}

@@ -17,8 +17,9 @@ use Rattle.design_model.specs.Shows.{BoundDump, IsListed, IsShown, IsWindow}
 use Rattle.design_model.specs.Clear.{clear}
 use Rattle.design_model.proofs.Lawful.{same_bit_is}
 use Rattle.replay_model.specs.Asked.{AskedLaws}
-use Rattle.replay_model.specs.Kept.{flush, sure_in}
-use Rattle.replay_model.specs.Body.{Runs}
+use Rattle.body_replay.specs.Contract.{sure_in}
+use Rattle.body_replay.specs.Replay.{flush}
+use Rattle.body_replay.specs.Runs.{Runs}
 use Rattle.replay_model.specs.Sets.{AreSets, Sets}
 use Rattle.replay_model.specs.Tables.{Tables}
 use Rattle.replay_model.specs.Step.{Closing, Replay, Working, after_settling, all_run, certainty, clocked_run, contradicts, is_dumped, is_loose, is_touched, plain_store, run_all_settling, run_settling, settle_start, settled_kept, surely_differ}

@@ -20,8 +20,9 @@ use Rattle.design_model.proofs.Named.{has_cell-from}
 use Rattle.design_model.proofs.Told.{put_covered}
 use Rattle.design_model.proofs.Untouched.{put_other}
 use Rattle.replay_model.specs.Asked.{AskedLaws}
-use Rattle.replay_model.specs.Kept.{flush, sure_in}
-use Rattle.replay_model.specs.Body.{Runs, Store, all_written, clean, flushed, read_of}
+use Rattle.body_replay.specs.Contract.{all_written, clean, flushed, sure_in}
+use Rattle.body_replay.specs.Replay.{flush}
+use Rattle.body_replay.specs.Runs.{Runs, StoreView, seen_of}
 use Rattle.replay_model.specs.Sets.{AreSets, Sets}
 use Rattle.replay_model.specs.Tables.{Tables}
 use Rattle.replay_model.specs.Step.{Closing, Replay, all_run, clocked_run, entry_kept, is_dumped, opened, plain_store, run_all_clean}
@@ -75,7 +76,7 @@ module _ (d : Design) (h : Habit) (early_law : EarlyLaw (machine d)) (dump : Bou
           v0 : Values Bit
           v0 = sample (entry_kept st p s)
 
-          reads_as : (k : Store) → ((b : Cell) → read_of k b ≡ entry_kept st p s b) → read_of k ≡ entry_kept st p s
+          reads_as : (k : StoreView) → ((b : Cell) → seen_of k b ≡ entry_kept st p s b) → seen_of k ≡ entry_kept st p s
           reads_as k f = λ i b. f b i
 
           first : IsClocked (process_at d p)
@@ -96,7 +97,7 @@ module _ (d : Design) (h : Habit) (early_law : EarlyLaw (machine d)) (dump : Bou
               back : t ≡ suc t - 1
               back = omega arith
 
-          agrees : (c : Cell) (inside : In c (cells d x)) → Agrees d (sure_in d (read_of (left c inside).0.store)) (sample (entry_kept st p s))
+          agrees : (c : Cell) (inside : In c (cells d x)) → Agrees d (sure_in d (seen_of (left c inside).0.store)) (sample (entry_kept st p s))
           agrees c inside = subst (λ f. Agrees d (sure_in d f) (sample (entry_kept st p s))) (sym (reads_as (left c inside).0.store (left c inside).0.reads)) (sample_agrees d (entry_kept st p s))
 
           hidden : (c : Cell) (inside : In c (cells d x)) → (left c inside).0.store.hidden c.thing ≡ false
@@ -105,7 +106,7 @@ module _ (d : Design) (h : Habit) (early_law : EarlyLaw (machine d)) (dump : Bou
               ∙ or_from (c.thing == s) _ (ne_eqb c.thing s (λ q. input_unassigned d is.lawful p c.thing (subst (λ z. (signal_at d z).input ≡ true) (sym q) (and_parts (signal_at d s).input _ (single_input d dump (suc t) are.first_round (cell s 0) (are.trigger p s e).is_single).0).0) (owns c inside)))
               (false_from_ne_true _ (λ q. own_not_early d is.lawful h dump (suc t) early_law are.first_round p (cell s 0) value.writer.is_clocked (are.trigger p s e) c.thing (owns c inside) ((are.early p (cell s 0) (are.trigger p s e) c.thing).0 q)))
 
-          told : (c : Cell) (inside : In c (cells d x)) → IsTold d (sure_in d (read_of (left c inside).0.store)) (body_at d p)
+          told : (c : Cell) (inside : In c (cells d x)) → IsTold d (sure_in d (seen_of (left c inside).0.store)) (body_at d p)
           told c inside =
               subst (λ f. IsTold d (sure_in d f) (body_at d p)) (sym (reads_as (left c inside).0.store (left c inside).0.reads)) (within_told d (EntryFrom d h dump (suc t) (clear d h dump t) p c0) (sure_in d (entry_kept st p s)) (body_at d p) within0 value.told)
 

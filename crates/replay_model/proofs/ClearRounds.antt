@@ -29,8 +29,9 @@ use Rattle.design_model.proofs.Named.{has_cell-from, WritesCell-from}
 use Rattle.design_model.proofs.Told.{put_append, put_same, told_by}
 use Rattle.design_model.proofs.Untouched.{put_other}
 use Rattle.replay_model.specs.Asked.{AskedLaws}
-use Rattle.replay_model.specs.Kept.{Kept, sure_in}
-use Rattle.replay_model.specs.Body.{Runs, all_written}
+use Rattle.body_replay.specs.Contract.{all_written, sure_in}
+use Rattle.body_replay.specs.Runs.{Runs}
+use Rattle.body_replay.specs.Store.{Kept}
 use Rattle.replay_model.specs.Tables.{Drives, Tables}
 use Rattle.replay_model.specs.Step.{is_comb, is_dumped}
 use Rattle.replay_model.specs.Stands.{IsMade, made_kept}

@@ -21,8 +21,12 @@ use Rattle.design_model.proofs.Lawful.{edge_one}
 use Rattle.design_model.proofs.Named.{WritesCell-halves}
 use Rattle.design_model.proofs.Told.{put_append, put_same}
 use Rattle.design_model.proofs.Untouched.{put_other}
-use Rattle.replay_model.specs.Kept.{Allows, AllowsState, Kept, flush, join_bit}
-use Rattle.replay_model.specs.Body.{AreRuns, Arises, Outcome, Runs, acts, all_written, applies, clean, same, flushed, read_of, weak}
+use Rattle.body_replay.specs.Contract.{Arises, Outcome, acts, all_written, applies, clean, flushed, same, weak}
+use Rattle.body_replay.specs.KnownBits.{Allows}
+use Rattle.body_replay.specs.Replay.{flush}
+use Rattle.body_replay.specs.Runs.{AreRuns, Runs, seen_of}
+use Rattle.body_replay.specs.Store.{AllowsState, Kept}
+use Rattle.known_state.specs.Join.{join_bit}
 use Rattle.replay_model.specs.Sets.{AreSets, Sets}
 use Rattle.replay_model.specs.Tables.{AreTables, Tables}
 use Rattle.replay_model.specs.Step.{Closing, Replay, Working, after_clocked, clean_store, clocked_run, dumped, is_dumped, opened, plain_store, run_all_clean, run_all_weak, run_clean, run_weak}
@@ -150,7 +154,7 @@ module _ (d : Design) (lawful : IsLawfulDesign d) (h : Habit) (early_law : Early
         first : c.place ≡ 0
         first = omega (arith, below, one_bit)
 
-    at_trigger : (c : Cell) → (c.thing == s) ≡ true → Allows (read_of (clean_store st p s wk) c) (evaluated.entry c)
+    at_trigger : (c : Cell) → (c.thing == s) ≡ true → Allows (seen_of (clean_store st p s wk) c) (evaluated.entry c)
     at_trigger c e =
         at_true (λ z. Allows z (evaluated.entry c)) _ _ _ (or_left (c.thing == s) _ e) (at_true (λ z. Allows z (evaluated.entry c)) _ _ _ e (of_dumped c (eqb-true c.thing s e) (cases_Bool (is_dumped d dump.bound c))))
 
@@ -167,12 +171,12 @@ module _ (d : Design) (lawful : IsLawfulDesign d) (h : Habit) (early_law : Early
         below : c.place < (signal_at d c.thing).width
         below = ltb-true _ _ (and_parts (dump.bound c.thing) _ x).1
 
-    at_early : (c : Cell) → (c.thing == s) ≡ false → sets.early p c.thing ≡ true → Allows (read_of (clean_store st p s wk) c) (evaluated.entry c)
+    at_early : (c : Cell) → (c.thing == s) ≡ false → sets.early p c.thing ≡ true → Allows (seen_of (clean_store st p s wk) c) (evaluated.entry c)
     at_early c e early =
         at_true (λ z. Allows z (evaluated.entry c)) _ _ _ (or_right (c.thing == s) _ early)
         (at_false (λ z. Allows z (evaluated.entry c)) _ _ _ e (⊎_elim (λ i. at_true (λ z. Allows z (evaluated.entry c)) _ _ _ i (of_input c i (cases_Bool (is_dumped d dump.bound c)))) (λ i. at_false (λ z. Allows z (evaluated.entry c)) _ _ _ i tt) (cases_Bool (signal_at d c.thing).input)))
 
-    at_other : (c : Cell) → (c.thing == s) ≡ false → sets.early p c.thing ≡ false → Allows (read_of (clean_store st p s wk) c) (evaluated.entry c)
+    at_other : (c : Cell) → (c.thing == s) ≡ false → sets.early p c.thing ≡ false → Allows (seen_of (clean_store st p s wk) c) (evaluated.entry c)
     at_other c e late = at_false (λ z. Allows z (evaluated.entry c)) _ _ _ (or_from (c.thing == s) _ e late) (⊎_elim kept moved (inv.start_or c))
       where
         not_early : IsEarlyAt d h dump (suc t) p (cell s 0) c.thing → ⊥
@@ -187,7 +191,7 @@ module _ (d : Design) (lawful : IsLawfulDesign d) (h : Habit) (early_law : Early
         moved : (q : ℕ) × Ran q × ((machine d).blocking q c ≡ true) → Allows (wk.kept c) (evaluated.entry c)
         moved q = absurd (not_early (others_early d lawful h dump (suc t) early_law are.first_round p q.0 (cell s 0) (all_clean q.0 q.1).0 is_clean (all_clean q.0 q.1).1 (λ e. fresh (subst Ran e q.1)) c q.2))
 
-    pub reads_entry : AllowsState (read_of (clean_store st p s wk)) evaluated.entry
+    pub reads_entry : AllowsState (seen_of (clean_store st p s wk)) evaluated.entry
     reads_entry c = ⊎_elim (at_trigger c) (λ e. ⊎_elim (at_early c e) (at_other c e) (cases_Bool (sets.early p c.thing))) (cases_Bool (c.thing == s))
 
     own_shown : IsClocked (process_at d p) → (c : Cell) → body_assigns c.thing (body_at d p) ≡ true → ((c.thing == s) || sets.early p c.thing) ≡ false

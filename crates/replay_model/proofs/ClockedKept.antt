@@ -10,8 +10,10 @@ use Rattle.design_model.specs.Design.{AreDistinct, Design, In, IsClocked, body_a
 use Rattle.design_model.specs.Mentions.{blocking_target, body_assigns, nonblocking_target}
 use Rattle.design_model.specs.Machine.{machine}
 use Rattle.design_model.specs.Shows.{BoundDump}
-use Rattle.replay_model.specs.Kept.{Kept, flush}
-use Rattle.replay_model.specs.Body.{Outcome, Runs, Store, clean, flushed, read_of, weak}
+use Rattle.body_replay.specs.Contract.{Outcome, clean, flushed, weak}
+use Rattle.body_replay.specs.Replay.{flush}
+use Rattle.body_replay.specs.Runs.{Runs, StoreView, seen_of}
+use Rattle.body_replay.specs.Store.{Kept}
 use Rattle.replay_model.specs.Sets.{AreSets, Sets}
 use Rattle.replay_model.specs.Tables.{Tables}
 use Rattle.replay_model.specs.Step.{Closing, Replay, Working, after_clocked, all_run, clean_store, clocked_run, entry_kept, is_dumped, is_loose, is_touched, opened, plain_store, run_all_clean, run_all_settling, run_all_weak, run_clean, run_weak, settle_start}
@@ -68,8 +70,8 @@ module _ (d : Design) (h : Habit) (early_law : EarlyLaw (machine d)) (dump : Bou
 
   -- what a clean block leaves of a cell of its own
   pub record OwnRun (p s : ℕ) (c : Cell) (wk : Working) : Type 0 where
-    pub store : Store
-    pub reads : (b : Cell) → read_of store b ≡ entry_kept st p s b
+    pub store : StoreView
+    pub reads : (b : Cell) → seen_of store b ≡ entry_kept st p s b
     pub hides : store.hidden ≡ (λ x. (x == s) || sets.early p x)
     pub kept : store.kept c ≡ a.kept c
     pub left : Left c (run p store (clean (suc t))).kept (λ b. flush b (run p store (clean (suc t))).queue) wk

@@ -22,8 +22,9 @@ use Rattle.design_model.proofs.Named.{WritesCell-from, has_cell-from}
 use Rattle.design_model.proofs.Told.{put_append, put_same, told_by}
 use Rattle.design_model.proofs.Untouched.{put_other}
 use Rattle.replay_model.specs.Asked.{AskedLaws}
-use Rattle.replay_model.specs.Kept.{Kept, sure_in}
-use Rattle.replay_model.specs.Body.{Runs, all_written}
+use Rattle.body_replay.specs.Contract.{all_written, sure_in}
+use Rattle.body_replay.specs.Runs.{Runs}
+use Rattle.body_replay.specs.Store.{Kept}
 use Rattle.replay_model.specs.Tables.{Tables}
 use Rattle.replay_model.specs.Step.{is_comb, is_dumped, surely_differ}
 use Rattle.replay_model.specs.Start.{all_first, contradicts_first}

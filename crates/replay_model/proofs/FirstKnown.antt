@@ -20,8 +20,9 @@ use Rattle.design_model.proofs.Mentions.{execute_reads}
 use Rattle.design_model.proofs.Named.{WritesCell-from}
 use Rattle.design_model.proofs.Told.{put_covered, told_blocking, told_by, told_nonblocking}
 use Rattle.replay_model.specs.Asked.{AskedLaws}
-use Rattle.replay_model.specs.Kept.{Kept, sure_in}
-use Rattle.replay_model.specs.Body.{Runs, all_written, quiet}
+use Rattle.body_replay.specs.Contract.{all_written, quiet, sure_in}
+use Rattle.body_replay.specs.Runs.{Runs}
+use Rattle.body_replay.specs.Store.{Kept}
 use Rattle.replay_model.specs.Tables.{Drives, StandsBefore, Tables}
 use Rattle.replay_model.specs.Step.{is_comb, is_dumped}
 use Rattle.replay_model.specs.Start.{Starting, after_first, all_first, first_kept, first_store, run_all_first, run_first, started}

@@ -12,8 +12,10 @@ use Rattle.design_model.specs.Run.{Run, settled}
 use Rattle.design_model.specs.Shows.{BoundDump, IsShown}
 use Rattle.design_model.proofs.Sound.{pick_cell}
 use Rattle.design_model.proofs.StepLaws.{StepLaws}
-use Rattle.replay_model.specs.Kept.{Allows, AllowsState, Kept}
-use Rattle.replay_model.specs.Body.{Runs, quiet}
+use Rattle.body_replay.specs.Contract.{quiet}
+use Rattle.body_replay.specs.KnownBits.{Allows}
+use Rattle.body_replay.specs.Runs.{Runs}
+use Rattle.body_replay.specs.Store.{AllowsState, Kept}
 use Rattle.replay_model.specs.Tables.{Tables}
 use Rattle.replay_model.specs.Step.{is_comb, is_dumped, plain_store, settled_kept}
 use Rattle.replay_model.specs.Start.{Starting, after_first, all_first, contradicts_first, first_kept, first_store, run_all_first, run_first}

@@ -18,7 +18,8 @@ use Rattle.design_model.specs.Open.{ActionOnWord, AreAsked, Asked, FollowsAll, F
 use Rattle.design_model.proofs.Agree.{value_same}
 use Rattle.design_model.proofs.Prefix.{visits_on_all}
 use Rattle.design_model.proofs.Told.{inside_outer}
-use Rattle.replay_model.specs.Kept.{Kept, sure_in}
+use Rattle.body_replay.specs.Contract.{sure_in}
+use Rattle.body_replay.specs.Store.{Kept}
 
 -- the first map has no other values than the second
 abbrev pub Within : Known → Known → Type 0

@@ -23,8 +23,10 @@ use Rattle.design_model.specs.MayMove.{CanWakeSome, IsCleanAt}
 use Rattle.design_model.specs.Points.{HitIn, IsBlock}
 use Rattle.design_model.proofs.Hits.{step_here}
 use Rattle.design_model.proofs.StepLaws.{StepLaws}
-use Rattle.replay_model.specs.Kept.{Kept}
-use Rattle.replay_model.specs.Body.{Doubted, HasDoubtNote, HasHitNote, Note, Runs, Spot, Visited, clean, line, node, perhaps, quiet, spot_at, spot_of, word_read, word_write}
+use Rattle.body_replay.specs.Contract.{Doubted, HasHitNote, Note, clean, perhaps, quiet, spot_at}
+use Rattle.body_replay.specs.Replay.{Spot, Visited, line, node, spot_of, word_read, word_write}
+use Rattle.body_replay.specs.Runs.{HasDoubtNote, Runs}
+use Rattle.body_replay.specs.Store.{Kept}
 use Rattle.replay_model.specs.Tables.{Tables}
 use Rattle.replay_model.specs.Marks.{Told, all_told_by, of_process}
 use Rattle.replay_model.specs.Step.{Closing, certainty, certainty_from, first_unsure, has_changed, is_still, not_assigned}

@@ -17,8 +17,10 @@ use Rattle.design_model.proofs.Assigns.{machine_lawful}
 use Rattle.design_model.proofs.Mentions.{execute_reads}
 use Rattle.design_model.proofs.Named.{WritesCell-from}
 use Rattle.design_model.proofs.Told.{put_covered, told_blocking, told_by, told_nonblocking}
-use Rattle.replay_model.specs.Kept.{Kept, flush, sure_in}
-use Rattle.replay_model.specs.Body.{Outcome, Runs, all_written}
+use Rattle.body_replay.specs.Contract.{Outcome, all_written, sure_in}
+use Rattle.body_replay.specs.Replay.{flush}
+use Rattle.body_replay.specs.Runs.{Runs}
+use Rattle.body_replay.specs.Store.{Kept}
 use Rattle.replay_model.specs.Sets.{AreSets, Sets}
 use Rattle.replay_model.specs.Tables.{Tables}
 use Rattle.replay_model.specs.Step.{Closing, Replay, Working, acts, after_settling, all_run, certainty, clocked_run, is_comb, is_dumped, is_loose, is_touched, plain_store, run_all_settling, run_settling, settle_start, settled_kept}

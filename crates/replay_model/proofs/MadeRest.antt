@@ -20,8 +20,10 @@ use Rattle.design_model.proofs.Lawful.{same_bit_is}
 use Rattle.design_model.proofs.Mentions.{execute_reads}
 use Rattle.design_model.proofs.Told.{put_covered, told_by}
 use Rattle.replay_model.specs.Asked.{AskedLaws}
-use Rattle.replay_model.specs.Kept.{Kept, flush, sure_in}
-use Rattle.replay_model.specs.Body.{Runs, all_written}
+use Rattle.body_replay.specs.Contract.{all_written, sure_in}
+use Rattle.body_replay.specs.Replay.{flush}
+use Rattle.body_replay.specs.Runs.{Runs}
+use Rattle.body_replay.specs.Store.{Kept}
 use Rattle.replay_model.specs.Sets.{AreSets, Sets}
 use Rattle.replay_model.specs.Tables.{Tables}
 use Rattle.replay_model.specs.Step.{Closing, Replay, Working, acts, after_settling, all_run, certainty, clocked_run, contradicts, is_comb, is_dumped, is_loose, is_touched, opened, plain_store, run_all_clean, run_all_settling, run_all_weak, run_clean, run_settling, run_weak, sees_change, settle_start, settled_kept, surely_differ}

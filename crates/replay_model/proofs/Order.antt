@@ -12,8 +12,10 @@ use Rattle.design_model.specs.Machine.{is_level, machine}
 use Rattle.design_model.specs.Shows.{BoundDump}
 use Rattle.design_model.proofs.Assigns.{machine_lawful}
 use Rattle.design_model.proofs.Lawful.{any_gives, may_any, place_from}
-use Rattle.replay_model.specs.Kept.{Kept, flush}
-use Rattle.replay_model.specs.Body.{Note, Runs}
+use Rattle.body_replay.specs.Contract.{Note}
+use Rattle.body_replay.specs.Replay.{flush}
+use Rattle.body_replay.specs.Runs.{Runs}
+use Rattle.body_replay.specs.Store.{Kept}
 use Rattle.replay_model.specs.Sets.{AreSets, Sets}
 use Rattle.replay_model.specs.Tables.{Drives, StandsBefore, Tables}
 use Rattle.replay_model.specs.Step.{Closing, Replay, Working, after_settling, all_run, certainty, clocked_run, is_dumped, is_loose, is_touched, plain_store, run_all_settling, run_settling, settle_start, settled_kept}

@@ -15,8 +15,8 @@ use Rattle.replay_model.proofs.Existing.{signal_has}
 use Rattle.replay_model.proofs.SettleReasons.{bound_clear, sure_at}
 use Rattle.design_model.specs.Shows.{BoundDump, IsListed, IsWindow}
 use Rattle.design_model.specs.Clear.{HasChanged, clear}
-use Rattle.replay_model.specs.Kept.{sure_in}
-use Rattle.replay_model.specs.Body.{Doubted, Runs}
+use Rattle.body_replay.specs.Contract.{Doubted, sure_in}
+use Rattle.body_replay.specs.Runs.{Runs}
 use Rattle.replay_model.specs.Tables.{Tables}
 use Rattle.replay_model.specs.Marks.{IsToldDoubt, IsToldHit, Told}
 use Rattle.replay_model.specs.Step.{Replay, all_run, contradicts, is_comb, is_dumped, is_touched}

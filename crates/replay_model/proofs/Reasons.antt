@@ -23,8 +23,10 @@ use Rattle.design_model.specs.Doubt.{BlockDoubt, IsInDoubt, early, not_clean, of
 use Rattle.design_model.proofs.Bound.{clear-thing}
 use Rattle.design_model.proofs.Lawful.{edge_one}
 use Rattle.replay_model.specs.Asked.{AskedLaws}
-use Rattle.replay_model.specs.Kept.{Kept, sure_in}
-use Rattle.replay_model.specs.Body.{Doubted, HasDoubtNote, HasHitNote, IsUnsure, Note, Runs, Spot, clean, line, node, read_of, spot_at, spot_of, word_read, word_write}
+use Rattle.body_replay.specs.Contract.{Doubted, HasHitNote, IsUnsure, Note, clean, spot_at, sure_in}
+use Rattle.body_replay.specs.Replay.{Spot, line, node, spot_of, word_read, word_write}
+use Rattle.body_replay.specs.Runs.{HasDoubtNote, Runs, seen_of}
+use Rattle.body_replay.specs.Store.{Kept}
 use Rattle.replay_model.specs.Sets.{AreSets, Sets}
 use Rattle.replay_model.specs.Tables.{Tables}
 use Rattle.replay_model.specs.Step.{Closing, Replay}
@@ -107,28 +109,28 @@ module _ (d : Design) (h : Habit) (dump : BoundDump) (run : Runs) (tables : Tabl
     one : ((cell k.trigger 0).place ≡ 0) × (k.trigger < length d.signals) × ((signal_at d k.trigger).width ≡ 1)
     one = edge_one d (process_at d p) (are.trigger p k.trigger k.is_trigger).can_wake.0.0 (cell k.trigger 0) (are.trigger p k.trigger k.is_trigger).can_wake.0.1 (is.lawful.events p)
 
-    shown_trigger : (c : Cell) → In c (signal_cells d k.trigger) → read_of k.store c ≡ Some (dump.values (suc t) c)
+    shown_trigger : (c : Cell) → In c (signal_cells d k.trigger) → seen_of k.store c ≡ Some (dump.values (suc t) c)
     shown_trigger c x =
         let at = in_signal d k.trigger c x in
         k.reads c ∙ at_true (λ z. z ≡ Some (dump.values (suc t) c)) _ _ _ (or_left (c.thing == k.trigger) _ (eq-eqb c.thing k.trigger at.0))
         (at_true (λ z. z ≡ Some (dump.values (suc t) c)) _ _ _ (eq-eqb c.thing k.trigger at.0)
         (at_true (λ z. z ≡ Some (dump.values (suc t) c)) _ _ _ (and_from (dump.bound c.thing) _ (subst (λ z. dump.bound z ≡ true) (sym at.0) (single_input d dump (suc t) are.first_round (cell k.trigger 0) is_clean.is_single).1) (lt-ltb _ _ (subst (λ z. c.place < (signal_at d z).width) (sym at.0) at.1))) refl))
 
-    not_hidden : (c : Cell) → c.thing ≢ k.trigger → (IsEarlyAt d h dump (suc t) p (cell k.trigger 0) c.thing → ⊥) → read_of k.store c ≡ a.kept c
+    not_hidden : (c : Cell) → c.thing ≢ k.trigger → (IsEarlyAt d h dump (suc t) p (cell k.trigger 0) c.thing → ⊥) → seen_of k.store c ≡ a.kept c
     not_hidden c other late =
         k.reads c ∙ at_false (λ z. z ≡ a.kept c) _ _ _ (Rattle.std.proofs.lemmas.Bool.or_from (c.thing == k.trigger) _ (Rattle.std.proofs.lemmas.Bool.ne_eqb c.thing k.trigger other) (false_from_ne_true _ (λ e. late ((are.early p (cell k.trigger 0) is_clean c.thing).0 e)))) refl
 
     -- what the block knows on entry is sure as it reads
-    pub entry_within : Within (KnownOnEntry d h dump (suc t) p) (sure_in d (read_of k.store))
+    pub entry_within : Within (KnownOnEntry d h dump (suc t) p) (sure_in d (seen_of k.store))
     entry_within x bits known = go (subst (λ c. EntryFrom d h dump (suc t) (clear_before d h dump (suc t)) p c x bits) (is_clean.alone known.0 known.1.can_wake) known.2)
       where
-        of_trigger : (y : Thing) → y ≡ a_signal k.trigger → map (read_of k.store) (cells d y) ≡ map Some (thing_bits d (dump.values (suc t)) y)
-        of_trigger y e = subst (λ z. map (read_of k.store) (cells d z) ≡ map Some (thing_bits d (dump.values (suc t)) z)) (sym e) (map_sure (read_of k.store) (dump.values (suc t)) (signal_cells d k.trigger) shown_trigger)
+        of_trigger : (y : Thing) → y ≡ a_signal k.trigger → map (seen_of k.store) (cells d y) ≡ map Some (thing_bits d (dump.values (suc t)) y)
+        of_trigger y e = subst (λ z. map (seen_of k.store) (cells d z) ≡ map Some (thing_bits d (dump.values (suc t)) z)) (sym e) (map_sure (seen_of k.store) (dump.values (suc t)) (signal_cells d k.trigger) shown_trigger)
 
-        go : EntryFrom d h dump (suc t) (clear_before d h dump (suc t)) p (cell k.trigger 0) x bits → sure_in d (read_of k.store) x bits
+        go : EntryFrom d h dump (suc t) (clear_before d h dump (suc t)) p (cell k.trigger 0) x bits → sure_in d (seen_of k.store) x bits
         go (inl e) = of_trigger x e.0 ∙ ap (map Some) (sym e.1)
         go (inr e) =
-            map_same (read_of k.store) a.kept (cells d x)
+            map_same (seen_of k.store) a.kept (cells d x)
             (λ c y. not_hidden c (λ q. apart k.trigger one.1 x e.0 (clear-thing d h dump t x bits (subst (λ u. clear d h dump u x bits) last e.2)) (sym (in_owner d x c y) ∙ q)) (λ q. e.1 (subst (IsEarlyAt d h dump (suc t) p (cell k.trigger 0)) (in_owner d x c y) q)))
             ∙ start_sure x bits e.2
 
@@ -136,10 +138,10 @@ module _ (d : Design) (h : Habit) (dump : BoundDump) (run : Runs) (tables : Tabl
     pub clean_reached : (x : Point) → ReachesFrom d (KnownOnEntry d h dump (suc t) p) (body_at d p) x → (s : Spot) × (spot_at x ≡ Some s) × HasHitNote s ns
     clean_reached x (inl y) =
         let s = visit_spot x y.0 y.1 in
-        (s.0, s.2, subst (HasHitNote s.0) (sym k.notes) (is.runs.prefix_hit p k.store (suc t) s.0 y.0 s.1 (visits_more d (KnownOnEntry d h dump (suc t) p) (sure_in d (read_of k.store)) entry_within (sample (read_of k.store)) (sample_agrees d (read_of k.store)) (body_at d p) y.0 y.2)))
+        (s.0, s.2, subst (HasHitNote s.0) (sym k.notes) (is.runs.prefix_hit p k.store (suc t) s.0 y.0 s.1 (visits_more d (KnownOnEntry d h dump (suc t) p) (sure_in d (seen_of k.store)) entry_within (sample (seen_of k.store)) (sample_agrees d (seen_of k.store)) (body_at d p) y.0 y.2)))
     clean_reached x (inr surely) =
         let s = surely_spot d (KnownOnEntry d h dump (suc t) p) (body_at d p) x surely in
-        (s.0, s.1, subst (HasHitNote s.0) (sym k.notes) (is.runs.surely_open_hit p k.store (suc t) x s.0 s.1 (surely_more d (KnownOnEntry d h dump (suc t) p) (sure_in d (read_of k.store)) entry_within (sample (read_of k.store)) (sample_agrees d (read_of k.store)) (body_at d p) x surely)))
+        (s.0, s.1, subst (HasHitNote s.0) (sym k.notes) (is.runs.surely_open_hit p k.store (suc t) x s.0 s.1 (surely_more d (KnownOnEntry d h dump (suc t) p) (sure_in d (seen_of k.store)) entry_within (sample (seen_of k.store)) (sample_agrees d (seen_of k.store)) (body_at d p) x surely)))
 
     -- and each doubt that it tells is one
     pub clean_doubt : (x : Point) (s : Spot) (y : Doubted) → spot_at x ≡ Some s → IsBlock d x p → HasDoubtNote s y ns → (y.time ≡ suc t) × IsInDoubt d h dump x (suc t) y.thing
@@ -148,29 +150,29 @@ module _ (d : Design) (h : Habit) (dump : BoundDump) (run : Runs) (tables : Tabl
         note : HasDoubtNote s y (run p k.store (clean (suc t))).notes
         note = subst (HasDoubtNote s y) k.notes told
 
-        blame : (y.time ≡ suc t) × IsUnsure d (read_of k.store) y.thing × Rattle.replay_model.specs.Body.ReadsBare d (body_at d p) y.thing
+        blame : (y.time ≡ suc t) × IsUnsure d (seen_of k.store) y.thing × Rattle.body_replay.specs.Contract.ReadsBare d (body_at d p) y.thing
         blame = is.runs.blames p k.store (suc t) s y (subst (HasDoubtNote s y) k.notes told)
 
         open_for : IsOpenFor d h dump (suc t) p x
-        open_for = inl ((cell k.trigger 0, is_clean.can_wake), inr (open_less d (KnownOnEntry d h dump (suc t) p) (sure_in d (read_of k.store)) entry_within (sample (read_of k.store)) (sample_agrees d (read_of k.store)) (body_at d p) x (is.runs.doubt_open p k.store (suc t) x s y spot (subst (HasDoubtNote s y) k.notes told))))
+        open_for = inl ((cell k.trigger 0, is_clean.can_wake), inr (open_less d (KnownOnEntry d h dump (suc t) p) (sure_in d (seen_of k.store)) entry_within (sample (seen_of k.store)) (sample_agrees d (seen_of k.store)) (body_at d p) x (is.runs.doubt_open p k.store (suc t) x s y spot (subst (HasDoubtNote s y) k.notes told))))
 
         untold : IsTold d (KnownOnEntry d h dump (suc t) p) (body_at d p) → ⊥
-        untold f = is.runs.no_doubt p k.store (suc t) (sample (read_of k.store), sample_agrees d (read_of k.store)) (within_told d (KnownOnEntry d h dump (suc t) p) (sure_in d (read_of k.store)) (body_at d p) entry_within f) s y (subst (HasDoubtNote s y) k.notes told)
+        untold f = is.runs.no_doubt p k.store (suc t) (sample (seen_of k.store), sample_agrees d (seen_of k.store)) (within_told d (KnownOnEntry d h dump (suc t) p) (sure_in d (seen_of k.store)) (body_at d p) entry_within f) s y (subst (HasDoubtNote s y) k.notes told)
 
         thing : Thing
         thing = (is.runs.blames p k.store (suc t) s y (subst (HasDoubtNote s y) k.notes told)).1.0
 
-        from : (b : (y.time ≡ suc t) × IsUnsure d (read_of k.store) y.thing × Rattle.replay_model.specs.Body.ReadsBare d (body_at d p) y.thing) → ReadsFrom d (KnownOnEntry d h dump (suc t) p) (body_at d p) b.1.0
+        from : (b : (y.time ≡ suc t) × IsUnsure d (seen_of k.store) y.thing × Rattle.body_replay.specs.Contract.ReadsBare d (body_at d p) y.thing) → ReadsFrom d (KnownOnEntry d h dump (suc t) p) (body_at d p) b.1.0
         from b = inr (untold, subst (λ z. Rattle.design_model.specs.Mentions.body_mentions z (body_at d p) ≡ true) (sym b.1.1) (asked.path_mentions p y.thing b.2), b.1.2)
 
-        late : (b : (y.time ≡ suc t) × IsUnsure d (read_of k.store) y.thing × Rattle.replay_model.specs.Body.ReadsBare d (body_at d p) y.thing) → sets.early p y.thing ≡ false → BlockDoubt d h dump (suc t) y.thing p
+        late : (b : (y.time ≡ suc t) × IsUnsure d (seen_of k.store) y.thing × Rattle.body_replay.specs.Contract.ReadsBare d (body_at d p) y.thing) → sets.early p y.thing ≡ false → BlockDoubt d h dump (suc t) y.thing p
         late b e =
             unclear_at_start b.1.0 b.1.2 b.1.1 (cell k.trigger 0, is_clean.can_wake) (from b) (λ c c_clean q. trigger_sure (q ∙ ap (λ z. a_signal z.thing) (is_clean.alone c c_clean.can_wake)))
             (λ v. sure_bit a.kept (cells d b.1.0) v.0 (start_sure b.1.0 v.0 v.1) b.1.3.0 b.1.3.1 (sym (not_hidden b.1.3.0 other not_early) ∙ b.1.3.2))
           where
             trigger_sure : b.1.0 ≡ a_signal k.trigger → ⊥
             trigger_sure q =
-                sure_bit (read_of k.store) (signal_cells d k.trigger) (thing_bits d (dump.values (suc t)) (a_signal k.trigger)) (map_sure (read_of k.store) (dump.values (suc t)) (signal_cells d k.trigger) shown_trigger) b.1.3.0 (subst (λ z. In b.1.3.0 (cells d z)) q b.1.3.1) b.1.3.2
+                sure_bit (seen_of k.store) (signal_cells d k.trigger) (thing_bits d (dump.values (suc t)) (a_signal k.trigger)) (map_sure (seen_of k.store) (dump.values (suc t)) (signal_cells d k.trigger) shown_trigger) b.1.3.0 (subst (λ z. In b.1.3.0 (cells d z)) q b.1.3.1) b.1.3.2
 
             other : b.1.3.0.thing ≢ k.trigger
             other q = apart k.trigger one.1 b.1.0 trigger_sure b.1.2 (sym (in_owner d b.1.0 b.1.3.0 b.1.3.1) ∙ q)

@@ -22,8 +22,10 @@ use Rattle.design_model.specs.Open.{HasChangedWakeBit, IsOpen, IsOpenFor, KnownA
 use Rattle.design_model.specs.Doubt.{BlockDoubt, IsInDoubt, IsUnclear, of_block, own_target, unclear_signal, unclear_word}
 use Rattle.design_model.proofs.Lawful.{same_bit_is}
 use Rattle.replay_model.specs.Asked.{AskedLaws}
-use Rattle.replay_model.specs.Kept.{Kept, sure_in}
-use Rattle.replay_model.specs.Body.{Certainty, Doubted, HasDoubtNote, HasHitNote, IsUnsure, Note, ReadsBare, Runs, Spot, clean, perhaps, quiet, spot_at}
+use Rattle.body_replay.specs.Contract.{Certainty, Doubted, HasHitNote, IsUnsure, Note, ReadsBare, clean, perhaps, quiet, spot_at, sure_in}
+use Rattle.body_replay.specs.Replay.{Spot}
+use Rattle.body_replay.specs.Runs.{HasDoubtNote, Runs}
+use Rattle.body_replay.specs.Store.{Kept}
 use Rattle.replay_model.specs.Sets.{AreSets, Sets}
 use Rattle.replay_model.specs.Tables.{Tables, all_cells, word_indexes, words_cells}
 use Rattle.replay_model.specs.Step.{Closing, Replay, all_run, certainty, first_unsure, has_changed, is_comb, is_dumped, is_still, plain_store, settled_kept, surely_differ, surely_same, wake_cells}

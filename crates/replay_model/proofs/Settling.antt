@@ -19,8 +19,10 @@ use Rattle.design_model.proofs.Lawful.{any_weaker}
 use Rattle.design_model.proofs.Mentions.{AllReads, execute_reads}
 use Rattle.design_model.proofs.Sound.{cells_eq}
 use Rattle.design_model.proofs.Told.{execution_same, inside_outer, put_same, told_blocking, told_nonblocking}
-use Rattle.replay_model.specs.Kept.{Allows, AllowsState, Kept}
-use Rattle.replay_model.specs.Body.{AreRuns, Certainty, IsStrong, Outcome, Runs, all_written, clean, flushed}
+use Rattle.body_replay.specs.Contract.{Certainty, IsStrong, Outcome, all_written, clean, flushed}
+use Rattle.body_replay.specs.KnownBits.{Allows}
+use Rattle.body_replay.specs.Runs.{AreRuns, Runs}
+use Rattle.body_replay.specs.Store.{AllowsState, Kept}
 use Rattle.replay_model.specs.Sets.{Sets}
 use Rattle.replay_model.specs.Tables.{AreTables, Tables, all_cells, word_indexes, words_cells}
 use Rattle.replay_model.specs.Step.{Closing, Replay, Working, after_settling, acts, certainty, certainty_from, first_unsure, has_changed, is_clean_way, is_comb, is_dumped, is_touched, not_assigned, plain_store, run_all_settling, run_settling, sees_change, settled_kept, surely_differ, wake_cells}

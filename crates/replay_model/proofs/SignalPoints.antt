@@ -19,8 +19,11 @@ use Rattle.design_model.specs.Assignment.{signal_range}
 use Rattle.design_model.specs.Points.{HitIn, IsHitAt, indexed_cell, toggle_cell}
 use Rattle.design_model.proofs.Hits.{step_here}
 use Rattle.design_model.proofs.StepLaws.{StepLaws}
-use Rattle.replay_model.specs.Kept.{Allows, AllowsState, Kept}
-use Rattle.replay_model.specs.Body.{Doubted, Runs, Spot, line, node, spot_at, word_read, word_write}
+use Rattle.body_replay.specs.Contract.{Doubted, spot_at}
+use Rattle.body_replay.specs.KnownBits.{Allows}
+use Rattle.body_replay.specs.Replay.{Spot, line, node, word_read, word_write}
+use Rattle.body_replay.specs.Runs.{Runs}
+use Rattle.body_replay.specs.Store.{AllowsState, Kept}
 use Rattle.replay_model.specs.Sets.{AreSets, Sets}
 use Rattle.replay_model.specs.Tables.{Tables}
 use Rattle.replay_model.specs.Marks.{Told, of_point}

@@ -26,8 +26,10 @@ use Rattle.design_model.proofs.Assigns.{machine_lawful}
 use Rattle.design_model.proofs.Hits.{StepHere, step_here}
 use Rattle.design_model.proofs.StepLaws.{StepLaws, step_laws}
 use Rattle.replay_model.specs.Asked.{AskedLaws}
-use Rattle.replay_model.specs.Body.{Runs, Spot, line, node, spot_at, word_read, word_write}
-use Rattle.replay_model.specs.Kept.{AllowsState}
+use Rattle.body_replay.specs.Contract.{spot_at}
+use Rattle.body_replay.specs.Replay.{Spot, line, node, word_read, word_write}
+use Rattle.body_replay.specs.Runs.{Runs}
+use Rattle.body_replay.specs.Store.{AllowsState}
 use Rattle.replay_model.specs.Sets.{AreSets, Sets}
 use Rattle.replay_model.specs.Tables.{Tables}
 use Rattle.replay_model.specs.Marks.{IsKeyOf, IsToldDoubt, IsToldHit, IsUntold, Told}

@@ -24,8 +24,10 @@ use Rattle.design_model.specs.Open.{IsReached}
 use Rattle.design_model.specs.Doubt.{IsInDoubt, IsUnclear, of_signal}
 use Rattle.design_model.specs.Lawful.{is_signal}
 use Rattle.replay_model.specs.Asked.{AskedLaws}
-use Rattle.replay_model.specs.Kept.{Kept, sure_in}
-use Rattle.replay_model.specs.Body.{Doubted, HasHitNote, Note, Runs, Spot, spot_at}
+use Rattle.body_replay.specs.Contract.{Doubted, HasHitNote, Note, spot_at, sure_in}
+use Rattle.body_replay.specs.Replay.{Spot}
+use Rattle.body_replay.specs.Runs.{Runs}
+use Rattle.body_replay.specs.Store.{Kept}
 use Rattle.replay_model.specs.Sets.{AreSets, Sets}
 use Rattle.replay_model.specs.Tables.{Tables}
 use Rattle.replay_model.specs.Marks.{IsKeyOf, IsToldDoubt, IsToldHit, Told, all_told_by, of_process}

@@ -11,7 +11,8 @@ use Rattle.design_model.specs.Shows.{BoundDump}
 use Rattle.design_model.specs.MayMove.{IsCleanAt}
 use Rattle.design_model.specs.Lawful.{IsLawfulDesign}
 use Rattle.design_model.specs.declared.point.Point.{Point}
-use Rattle.replay_model.specs.Body.{AreRuns, Doubted, Note, Runs, Store, clean, read_of, weak}
+use Rattle.body_replay.specs.Contract.{Doubted, Note, clean, weak}
+use Rattle.body_replay.specs.Runs.{AreRuns, Runs, StoreView, seen_of}
 use Rattle.replay_model.specs.Sets.{AreSets, Sets}
 use Rattle.replay_model.specs.Tables.{Tables}
 use Rattle.replay_model.specs.Marks.{IsKeyOf, IsToldDoubt, IsToldHit, Told, all_told_by}
@@ -82,15 +83,15 @@ module _ (d : Design) (lawful : IsLawfulDesign d) (h : Habit) (early_law : Early
   pub record CleanRun (p : ℕ) (ns : List Note) : Type 0 where
     pub trigger : ℕ
     pub is_trigger : sets.trigger p ≡ Some trigger
-    pub store : Store
-    pub reads : (c : Cell) → read_of store c ≡ entry_kept st p trigger c
+    pub store : StoreView
+    pub reads : (c : Cell) → seen_of store c ≡ entry_kept st p trigger c
     pub notes : ns ≡ (run p store (clean (suc t))).notes
 
   pub record WeakRun (p : ℕ) (ns : List Note) : Type 0 where
     pub not_clean : sets.trigger p ≡ None
     pub thing : ℕ
     pub by : sets.wakes p ≡ Some thing
-    pub store : Store
+    pub store : StoreView
     pub notes : ns ≡ (run p store (weak (suc t) thing)).notes
 
   -- what is kept is as at the start, but for what the clean blocks that ran write by blocking assignments
@@ -100,7 +101,7 @@ module _ (d : Design) (lawful : IsLawfulDesign d) (h : Habit) (early_law : Early
   abbrev pub AllClean : (ℕ → Type 0) → Type 0
   AllClean Ran = (q : ℕ) → Ran q → (e : Cell) × IsCleanAt d dump (suc t) q e
 
-  pub reads_entry : (Ran : ℕ → Type 0) (wk : Working) → KeptOr Ran wk → AllClean Ran → (p : ℕ) → (Ran p → ⊥) → (s : ℕ) → sets.trigger p ≡ Some s → (c : Cell) → read_of (clean_store st p s wk) c ≡ entry_kept st p s c
+  pub reads_entry : (Ran : ℕ → Type 0) (wk : Working) → KeptOr Ran wk → AllClean Ran → (p : ℕ) → (Ran p → ⊥) → (s : ℕ) → sets.trigger p ≡ Some s → (c : Cell) → seen_of (clean_store st p s wk) c ≡ entry_kept st p s c
   reads_entry Ran wk kept all_clean p fresh s is c = go ((c.thing == s) || sets.early p c.thing) refl
     where
       same : ((c.thing == s) || sets.early p c.thing) ≡ false → wk.kept c ≡ a.kept c

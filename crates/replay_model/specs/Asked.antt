@@ -12,7 +12,7 @@ use Rattle.design_model.specs.Shows.{BoundDump}
 use Rattle.design_model.specs.Reads.{HasValue}
 use Rattle.design_model.specs.Clear.{clear}
 use Rattle.design_model.specs.Open.{IsWakeBit}
-use Rattle.replay_model.specs.Body.{ReadsBare}
+use Rattle.body_replay.specs.Contract.{ReadsBare}
 use Rattle.replay_model.specs.Tables.{all_cells}
 
 -- What an Assign visits depends on its wake cells alone.

@@ -14,7 +14,8 @@ use Rattle.design_model.specs.Doubt.{IsInDoubt}
 use Rattle.design_model.specs.Open.{IsReached}
 use Rattle.design_model.specs.Lawful.{IsLawfulDesign}
 use Rattle.replay_model.specs.Asked.{AskedLaws}
-use Rattle.replay_model.specs.Body.{AreRuns, Doubted, Runs}
+use Rattle.body_replay.specs.Contract.{Doubted}
+use Rattle.body_replay.specs.Runs.{AreRuns, Runs}
 use Rattle.replay_model.specs.Sets.{AreSets, Sets}
 use Rattle.replay_model.specs.Tables.{AreTables, Tables}
 use Rattle.replay_model.specs.Marks.{Hit, IsVerdict, Missed, Undetermined}

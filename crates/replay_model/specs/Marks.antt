@@ -3,7 +3,8 @@ use Rattle.std.specs.Prelude.{◌≡◌, ◌⊎◌, ℕ, List, [], ◌∷◌, �
 use Rattle.design_model.specs.Design.{Design}
 use Rattle.design_model.specs.declared.point.Point.{Point}
 use Rattle.design_model.specs.Points.{IsBlock}
-use Rattle.replay_model.specs.Body.{Doubted, Note, Spot, spot_at}
+use Rattle.body_replay.specs.Contract.{Doubted, Note, spot_at}
+use Rattle.body_replay.specs.Replay.{Spot}
 
 -- of what something is told: a spot of a process, or a point on a signal
 pub data Key : Type 0 where

@@ -15,8 +15,8 @@ use Rattle.design_model.specs.Points.{IsHitAt}
 use Rattle.design_model.specs.Clear.{HasChanged, IsForced, clear}
 use Rattle.design_model.specs.Open.{IsReached}
 use Rattle.design_model.specs.Doubt.{IsInDoubt}
-use Rattle.replay_model.specs.Kept.{AllowsState, Kept, sure_in}
-use Rattle.replay_model.specs.Body.{Doubted, all_written}
+use Rattle.body_replay.specs.Contract.{Doubted, all_written, sure_in}
+use Rattle.body_replay.specs.Store.{AllowsState, Kept}
 use Rattle.replay_model.specs.Tables.{Tables}
 use Rattle.replay_model.specs.Marks.{IsToldDoubt, IsToldHit}
 use Rattle.replay_model.specs.Step.{Replay, is_comb}

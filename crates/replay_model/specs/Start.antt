@@ -4,8 +4,9 @@ use Rattle.event_machine.specs.Cell.{Cell, Values}
 use Rattle.four_state.specs.declared.bit.Bit.{Bit}
 use Rattle.design_model.specs.Design.{Design, body_at, is_assign, process_at, signal_at}
 use Rattle.design_model.specs.Mentions.{blocking_target}
-use Rattle.replay_model.specs.Kept.{Kept}
-use Rattle.replay_model.specs.Body.{Outcome, Runs, Store, quiet}
+use Rattle.body_replay.specs.Contract.{Outcome, quiet}
+use Rattle.body_replay.specs.Runs.{Runs, StoreView}
+use Rattle.body_replay.specs.Store.{Kept}
 use Rattle.replay_model.specs.Tables.{Tables}
 use Rattle.replay_model.specs.Step.{Replay, is_dumped, surely_differ}
 
@@ -19,7 +20,7 @@ module _ (d : Design) (bound : ℕ → Bool) (run : Runs) (tables : Tables) (new
   abbrev pub first_kept : Kept
   first_kept c = if is_dumped d bound c then Some (new c) else None
 
-  abbrev pub first_store : Kept → Store
+  abbrev pub first_store : Kept → StoreView
   first_store k = record { kept = k; hidden = λ x. false; shown = k }
 
   -- what an Assign makes of its targets

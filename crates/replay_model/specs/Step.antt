@@ -12,8 +12,11 @@ use Rattle.design_model.specs.Mentions.{blocking_target, body_assigns, body_ment
 use Rattle.design_model.specs.declared.point.Point.{Point}
 use Rattle.design_model.specs.declared.point.Point.TheVariants.{Toggle as toggle_point, State as state_point, Arc as arc_point}
 use Rattle.design_model.specs.Points.{toggle_cell}
-use Rattle.replay_model.specs.Kept.{Kept, KnownWrite, flush, join_bit}
-use Rattle.replay_model.specs.Body.{Certainty, Outcome, Runs, Store, clean, perhaps, quiet, weak}
+use Rattle.body_replay.specs.Contract.{Certainty, Outcome, clean, perhaps, quiet, weak}
+use Rattle.body_replay.specs.Replay.{flush}
+use Rattle.body_replay.specs.Runs.{Runs, StoreView}
+use Rattle.body_replay.specs.Store.{Kept, KnownWrite}
+use Rattle.known_state.specs.Join.{join_bit}
 use Rattle.replay_model.specs.Sets.{Sets}
 use Rattle.replay_model.specs.Tables.{Tables, all_cells}
 use Rattle.replay_model.specs.Marks.{Told, all_told_by, of_point}
@@ -75,7 +78,7 @@ pub record Closing : Type 0 where
   pub start : Replay
 
 -- a store in which nothing is hidden
-abbrev pub plain_store : Kept → Store
+abbrev pub plain_store : Kept → StoreView
 plain_store k = record { kept = k; hidden = λ x. false; shown = k }
 
 -- a Comb meets its own targets as unknown
@@ -122,7 +125,7 @@ entry st trigger c =
     if c.thing == trigger then dumped st c else (if (signal_at st.design c.thing).input then join_bit (st.start.kept c) (dumped st c) else None)
 
 -- the store as a clean block meets it
-abbrev pub clean_store : Closing → ℕ → ℕ → Working → Store
+abbrev pub clean_store : Closing → ℕ → ℕ → Working → StoreView
 clean_store st p trigger w = record { kept = w.kept; hidden = λ x. (x == trigger) || st.sets.early p x; shown = entry st trigger }
 
 -- what it so reads: all else as it was at the start of the step
