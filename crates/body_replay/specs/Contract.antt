@@ -1,6 +1,6 @@
 -- The four ways of a run, what it does to a store and which marks it makes, and what it promises.
 use Rattle.std.specs.Prelude.{◌≡◌, ◌⊎◌, ℕ, Bool, true, false, if◌then◌else◌, List, [], ◌∷◌, ◌++◌, map, Option, Some, None, ⊤}
-use Rattle.event_machine.specs.Cell.{Cell, Values, Write, Update, put_all}
+use Rattle.event_machine.specs.Cell.{Cell, Values, Write, Update, join, put_all}
 use Rattle.four_state.specs.declared.bit.Bit.{Bit}
 use Rattle.four_state.specs.declared.operator.Binary.{Binary}
 use Rattle.four_state.specs.declared.operator.Binary.TheVariants.{BitwiseAnd, BitwiseOr, LogicalAnd, LogicalOr}
@@ -265,19 +265,14 @@ abbrev pub NoDoubtAdded : Type 0
 NoDoubtAdded =
     (d : Design) (s : Stmt) (st : Store) (time : ℕ) (v : Values Bit) → Agrees d (sure_in d (read_of st)) v → IsTold d (sure_in d (read_of st)) s → (x : Spot) (thing : ℕ) → HasDoubt x thing (outcome d s st (clean time)).notes → ⊥
 
--- the writes of all updates, in order
-abbrev pub joined_updates : List (Update Bit) → List (Write Bit)
-joined_updates [] = []
-joined_updates (u ∷ us) = u ++ joined_updates us
-
 -- all that an execution writes, the updates last
-abbrev pub all_writes : Design → Stmt → Values Bit → List (Write Bit)
-all_writes d s v = (execution d s v).blocking ++ joined_updates (execution d s v).nonblocking
+abbrev pub all_written : Design → Stmt → Values Bit → List (Write Bit)
+all_written d s v = (execution d s v).blocking ++ join (execution d s v).nonblocking
 
 -- *sure writes*: where every read is wholly sure, each bit that is written is sure after the flush, and no other bit that is kept changes
 abbrev pub SureWrites : Type 0
 SureWrites =
-    (d : Design) (s : Stmt) (st : Store) (how : Certainty) → IsStrong how → (v : Values Bit) → Agrees d (sure_in d (read_of st)) v → IsTold d (sure_in d (read_of st)) s → (c : Cell) → st.hidden c.thing ≡ false → ((has_cell (all_writes d s v) c ≡ true → (flushed (outcome d s st how) c) ≡ Some (left_by d s v v c)) × (has_cell (all_writes d s v) c ≡ false → (flushed (outcome d s st how) c) ≡ st.kept c))
+    (d : Design) (s : Stmt) (st : Store) (how : Certainty) → IsStrong how → (v : Values Bit) → Agrees d (sure_in d (read_of st)) v → IsTold d (sure_in d (read_of st)) s → (c : Cell) → st.hidden c.thing ≡ false → ((has_cell (all_written d s v) c ≡ true → (flushed (outcome d s st how) c) ≡ Some (left_by d s v v c)) × (has_cell (all_written d s v) c ≡ false → (flushed (outcome d s st how) c) ≡ st.kept c))
 
 -- *frame*: what no target of the body names stays as it was, at the run and at the flush
 abbrev pub Frame : Type 0
