@@ -1,22 +1,22 @@
 -- A toggle, state or arc point for which nothing is in doubt is hit in each run that shows the dump, or in none.
-use Rattle.std.proofs.Common.{◌≡◌, ◌≢◌, ◌⊎◌, inl, inr, ⊎_elim, ℕ, zero, suc, ◌-◌, ◌<◌, Bool, true, false, List, [], ◌∷◌, ◌++◌, append-nil, refl, sym, ap, subst, ◌∙◌, arith}
+use Rattle.std.proofs.Common.{◌≡◌, ◌≢◌, inl, inr, ⊎_elim, ℕ, zero, suc, ◌-◌, ◌<◌, true, false, [], append-nil, refl, sym, ap, subst, ◌∙◌, arith}
 use Rattle.event_machine.specs.Cell.{Cell, Values}
 use Rattle.event_machine.specs.Habit.{Habit}
 use Rattle.four_state.specs.declared.bit.Bit.{Bit}
 use Rattle.four_state.specs.declared.bit.Bit.TheVariants.{One, Zero}
-use Rattle.design_model.specs.Design.{Design, a_signal, signal_at, signal_bits, thing_bits}
+use Rattle.design_model.specs.Design.{Design, a_signal, signal_at, signal_bits}
 use Rattle.design_model.specs.Reads.{HasValue}
 use Rattle.design_model.specs.Machine.{machine}
 use Rattle.design_model.specs.Run.{IsRun, Run, StepOf, settled}
-use Rattle.design_model.specs.Shows.{BoundDump, IsDumpOf, IsListed, IsShown, IsWindow, Shows}
-use Rattle.design_model.specs.Points.{HitAt, HitIn, IsHitAt, Point, StandAtEnds, arc_point, line_point, logic_point, state_point, toggle_cell, toggle_point, word_point}
+use Rattle.design_model.specs.Shows.{BoundDump, IsDumpOf, IsShown, IsWindow, Shows}
+use Rattle.design_model.specs.Points.{HitAt, HitIn, IsHitAt, Point, arc_point, line_point, logic_point, state_point, toggle_cell, toggle_point, word_point}
 use Rattle.design_model.specs.MayMove.{MayMoveAt, told_at}
 use Rattle.design_model.specs.Clear.{clear, clear_before}
 use Rattle.design_model.specs.Doubt.{IsInDoubt, IsPointOn, IsUnclear, MayMoveUnlisted, of_signal}
 use Rattle.design_model.specs.Lawful.{IsLawfulDesign}
-use Rattle.design_model.specs.DecidedLaw.{IsDecided, IsSignalPoint, SignalDecidedLaw}
+use Rattle.design_model.specs.DecidedLaw.{IsSignalPoint, SignalDecidedLaw}
 use Rattle.design_model.proofs.ForcedSound.{clear_law}
-use Rattle.design_model.proofs.Hits.{StepHere, step_here}
+use Rattle.design_model.proofs.Hits.{step_here}
 use Rattle.design_model.proofs.Sound.{as_told, cells_eq, pick_cell, step_or}
 use Rattle.design_model.proofs.StepLaws.{StepLaws}
 use Rattle.design_model.proofs.Times.{StepTo}

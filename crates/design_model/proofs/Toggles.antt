@@ -45,7 +45,7 @@ module _ (d : Design) (h : Habit) where
       ∙ ap (λ z. z.values) (sym (passed (machine d) h t s y (before ++ x ∷ later) (omega (arith, at, later_time y.time next before x later steps.2))))
 
   module _ (r : Run) (is_run : IsRun d h r) where
-    split_steps : (k : StepOf r) → AreSteps (machine d) h r.begins r.start (k.before ++ k.step ∷ k.later)
+    pub split_steps : (k : StepOf r) → AreSteps (machine d) h r.begins r.start (k.before ++ k.step ∷ k.later)
     split_steps k = subst (AreSteps (machine d) h r.begins r.start) k.splits is_run.steps
 
     pub start_values : (k : StepOf r) (t : ℕ) → k.step.time ≡ suc t → (start_of d r k).values ≡ settled d r t

@@ -1,10 +1,10 @@
 -- A point for which nothing is in doubt at a time is hit then in each run that shows the dump, or in none.
-use Rattle.std.specs.Prelude.{◌≡◌, ◌≢◌, ◌<◌, ℕ, List, ⊤}
+use Rattle.std.specs.Prelude.{◌≢◌, ◌<◌, ℕ, ⊤}
 use Rattle.event_machine.specs.Habit.{Habit}
-use Rattle.design_model.specs.Design.{Design, signal_at}
+use Rattle.design_model.specs.Design.{Design, IsClocked, IsThing, a_word, process_at, signal_at}
 use Rattle.design_model.specs.Run.{IsRun, Run}
 use Rattle.design_model.specs.Shows.{BoundDump, IsDumpOf, IsWindow, Shows}
-use Rattle.design_model.specs.Points.{IsHitAt, Point, arc_point, state_point, toggle_point}
+use Rattle.design_model.specs.Points.{IsBlock, IsHitAt, Point, arc_point, line_point, logic_point, state_point, toggle_point, word_point}
 use Rattle.design_model.specs.Doubt.{IsInDoubt}
 
 -- at a window time at which nothing is in doubt for the point, it is not hit in one run that shows the dump and not hit in another.
@@ -23,3 +23,18 @@ IsSignalPoint d _ = ⊥
 -- Decided law of signals: such a point is decided where nothing is in doubt for it.
 abbrev pub SignalDecidedLaw : Design → Habit → Type 0
 SignalDecidedLaw d h = (x : Point) → IsSignalPoint d x → IsDecided d h x
+
+-- a line or logic point, or one of a word of the design
+abbrev pub IsBlockPoint : Design → Point → Type 0
+IsBlockPoint d (line_point p n at w) = ⊤
+IsBlockPoint d (logic_point p n at op c) = ⊤
+IsBlockPoint d (word_point m i w) = IsThing d (a_word m i)
+IsBlockPoint d _ = ⊥
+
+-- each block of the point is a Clocked
+abbrev pub HasClockedBlocks : Design → Point → Type 0
+HasClockedBlocks d x = (p : ℕ) → IsBlock d x p → IsClocked (process_at d p)
+
+-- Decided law of Clocked blocks: such a point with Clocked blocks alone is decided where nothing is in doubt for it.
+abbrev pub ClockedDecidedLaw : Design → Habit → Type 0
+ClockedDecidedLaw d h = (x : Point) → IsBlockPoint d x → HasClockedBlocks d x → IsDecided d h x

@@ -23,6 +23,7 @@ pub mod Lawful
 pub mod Laws
 pub mod MoreKnown
 pub mod StillLaw
+pub mod VisitedOpen
 pub mod DecidedLaw
 pub mod View
 pub mod ExampleParts
