@@ -49,7 +49,7 @@ from_scored (comb i wakes s) d r k p v is h = absurd is
 from_scored (clocked i events s) d r k p v is h = h
 
 -- a step of a run is one of the machine
-step_of : (d : Design) (h : Habit) (now : ℕ) (s : State Bit) (before : List (Timed Bit)) (x : Timed Bit) (later : List (Timed Bit)) → AreSteps (machine d) h now s (before ++ x ∷ later) → IsStep (machine d) h (state_after_steps d s before) x.events
+pub step_of : (d : Design) (h : Habit) (now : ℕ) (s : State Bit) (before : List (Timed Bit)) (x : Timed Bit) (later : List (Timed Bit)) → AreSteps (machine d) h now s (before ++ x ∷ later) → IsStep (machine d) h (state_after_steps d s before) x.events
 step_of d h now s [] x later steps = steps.1
 step_of d h now s (y ∷ before) x later steps = step_of d h y.time (step_start (end_state (machine d) s y.events)) before x later steps.2
 
@@ -100,7 +100,7 @@ module _ (d : Design) (lawful : IsLawfulDesign d) (h : Habit) (laws : StepLaws (
         (λ s. (s.step, s.at))
         (step_here d h r is_run t)
 
-no_time_hit : (d : Design) (x : Point) → IsBlockPoint d x → (r : Run) (t : ℕ) → HitAt d r t x → ⊥
+pub no_time_hit : (d : Design) (x : Point) → IsBlockPoint d x → (r : Run) (t : ℕ) → HitAt d r t x → ⊥
 no_time_hit d (line_point p n at w) is r t hit = hit
 no_time_hit d (logic_point p n at op c) is r t hit = hit
 no_time_hit d (word_point m i w) is r t hit = hit

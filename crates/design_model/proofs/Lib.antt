@@ -45,3 +45,4 @@ pub mod ReadThings
 pub mod VisitedOpen
 pub mod BlockVisits
 pub mod DecidedClocked
+pub mod DecidedSettled

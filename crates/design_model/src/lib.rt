@@ -10,7 +10,7 @@ ghost use Rattle.design_model.specs.ToggleLaw.{ToggleLaw};
 ghost use Rattle.design_model.specs.MoreKnown.{MoreKnownLaw};
 ghost use Rattle.design_model.specs.StillLaw.{StillLaw};
 ghost use Rattle.design_model.specs.VisitedOpen.{VisitedOpenLaw};
-ghost use Rattle.design_model.specs.DecidedLaw.{SignalDecidedLaw, ClockedDecidedLaw};
+ghost use Rattle.design_model.specs.DecidedLaw.{SignalDecidedLaw, ClockedDecidedLaw, SettledDecidedLaw};
 ghost use Rattle.design_model.specs.Laws.{ClearLaw, ForcedLaw, ClearValueLaw, ClearRoundsLaw, ClearClosedLaw, ClearLeastLaw, ReachedLaw, DefinitenessLaw, BoundPointLaw};
 
 mod design;
@@ -84,4 +84,5 @@ pub fn visited_open_law<K: PartialMap>()
 pub fn decided_law()
     ensures signals { (d : DesignTree) (h : Habit) → IsLawfulDesign d → SignalDecidedLaw d h }
     ensures clocked { (d : DesignTree) (h : Habit) → IsLawfulDesign d → ClockedDecidedLaw d h }
+    ensures settled { (d : DesignTree) (h : Habit) → IsLawfulDesign d → SettledDecidedLaw d h }
 {}
