@@ -43,3 +43,8 @@ pub mod Definite
 pub mod MoreKnown
 pub mod StillClear
 pub mod DecidedSignals
+pub mod ReadThings
+pub mod VisitedOpen
+pub mod BlockVisits
+pub mod DecidedClocked
+pub mod DecidedSettled

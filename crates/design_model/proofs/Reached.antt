@@ -58,7 +58,7 @@ sees_hit d dump r (state_point i name s state bits) p k window is_block v counts
 sees_hit d dump r (arc_point i name s from to old new) p k window is_block v counts sees = absurd sees
 
 -- states that agree on what a body mentions
-body_outer : (d : Design) (b : Stmt) (u w : Values Bit) → ((c : Cell) → body_mentions c.thing b ≡ true → u c ≡ w c) → (xs : List Visit) → AllReads (λ y. body_mentions y b ≡ true) xs → AllOuter d u w xs
+pub body_outer : (d : Design) (b : Stmt) (u w : Values Bit) → ((c : Cell) → body_mentions c.thing b ≡ true → u c ≡ w c) → (xs : List Visit) → AllReads (λ y. body_mentions y b ≡ true) xs → AllOuter d u w xs
 body_outer d b u w same [] a = tt
 body_outer d b u w same (at_line n ∷ xs) a = (tt, body_outer d b u w same xs a.1)
 body_outer d b u w same (at_node n c ∷ xs) a = (tt, body_outer d b u w same xs a.1)

@@ -25,6 +25,7 @@ pub mod Laws
 pub mod StepLaws
 pub mod MoreKnown
 pub mod StillLaw
+pub mod VisitedOpen
 pub mod DecidedLaw
 pub mod View
 pub mod ExampleParts

@@ -10,8 +10,9 @@ ghost use Rattle.design_model.specs.ToggleLaw.{ToggleLaw};
 ghost use Rattle.design_model.specs.StepLaws.{StepFactsLaw, EventFactsLaw, CleanStepLaw, UnlistedLaw};
 ghost use Rattle.design_model.specs.MoreKnown.{MoreKnownLaw};
 ghost use Rattle.design_model.specs.StillLaw.{StillLaw};
-ghost use Rattle.design_model.specs.DecidedLaw.{SignalDecidedLaw};
 ghost use Rattle.design_model.specs.Laws.{BoundClearLaw, ClearLaw, ContradictionLaw, ForcedLaw, ClearValueLaw, ClearRoundsLaw, ClearClosedLaw, ClearLeastLaw, ReachedLaw, DefinitenessLaw, BoundPointLaw};
+ghost use Rattle.design_model.specs.VisitedOpen.{VisitedOpenLaw};
+ghost use Rattle.design_model.specs.DecidedLaw.{SignalDecidedLaw, ClockedDecidedLaw, SettledDecidedLaw};
 
 mod design;
 mod examples;
@@ -88,8 +89,15 @@ pub fn more_known_law<K: PartialMap, L: PartialMap>()
     ensures { (d : DesignTree) → MoreKnownLaw d K.has L.has }
 {}
 
+/// What a body visits, on a state that agrees with a partial map, is open from the map.
+pub fn visited_open_law<K: PartialMap>()
+    ensures { (d : DesignTree) → VisitedOpenLaw d K.has }
+{}
+
 /// At a window time at which nothing is in doubt for a point, two runs that show the dump do not differ in whether it is
 /// hit.
 pub fn decided_law()
-    ensures { (d : DesignTree) (h : Habit) → IsLawfulDesign d → SignalDecidedLaw d h }
+    ensures signals { (d : DesignTree) (h : Habit) → IsLawfulDesign d → SignalDecidedLaw d h }
+    ensures clocked { (d : DesignTree) (h : Habit) → IsLawfulDesign d → ClockedDecidedLaw d h }
+    ensures settled { (d : DesignTree) (h : Habit) → IsLawfulDesign d → SettledDecidedLaw d h }
 {}
