@@ -146,7 +146,7 @@ module _ (d : Design) (lawful : IsLawfulDesign d) (h : Habit) (laws : StepLaws (
 
     -- what it reads from outside would be in doubt
     outside : (z : Thing) → UpToOutside (KnownOnEntry d h dump (suc t) p) (reads z false) (execution d (body_at d p) visits.0).visits → (HasValue (KnownOnEntry d h dump (suc t) p) z → ⊥) → ⊥
-    outside z upto unknown = unclear (λ has. unknown (has.0, (c, clean, inr (apart c clean, (λ e. doubt (owner z) (early z c refl clean from e)), has.1))))
+    outside z upto unknown = unclear (λ has. unknown (has.0, (c, clean, inr (apart c clean, (λ e. doubt (owner z) (early (record { thing = z; trigger = c; of_owner = refl; is_clean = clean; is_read = from; is_early = e }))), has.1))))
       where
         from : ReadsFrom d (KnownOnEntry d h dump (suc t) p) (body_at d p) z
         from = inl (visits.0, agrees, upto)
@@ -158,7 +158,7 @@ module _ (d : Design) (lawful : IsLawfulDesign d) (h : Habit) (laws : StepLaws (
         apart e clean_e same = unknown (thing_bits d (dump.values (suc t)) z, (e, clean_e, inl (same, refl)))
 
         unclear : (HasValue (clear_before d h dump (suc t)) z → ⊥) → ⊥
-        unclear u = doubt (owner z) (unclear_at_start z thing refl wakes from apart u)
+        unclear u = doubt (owner z) (unclear_at_start (record { thing = z; is_thing = thing; of_owner = refl; can_wake = wakes; is_read = from; no_trigger = apart; unclear = u }))
 
     pub differ : ⊥
     differ =
@@ -178,7 +178,7 @@ module _ (d : Design) (lawful : IsLawfulDesign d) (h : Habit) (laws : StepLaws (
       woken never = subst (In visits.0) (none_unwoken d lawful h laws dump fits t window r r_run r_shows k at p is_clocked never) evaluated
 
       is_not_clean : CanWakeSome d dump (suc t) p → IsNotClean d dump (suc t) p → ⊥
-      is_not_clean wakes unclean = none wakes.0.thing (of_block p window is_block (inl (wakes, inl unclean)) (not_clean wakes.0 refl wakes.1 unclean))
+      is_not_clean wakes unclean = none wakes.0.thing (of_block p window is_block (inl (wakes, inl unclean)) (not_clean (record { event = wakes.0; of_signal = refl; can_wake = wakes.1; not_clean = unclean })))
 
 pub clocked_decided_law : (d : Design) (h : Habit) → IsLawfulDesign d → StepLaws (machine d) h → ClockedDecidedLaw d h
 clocked_decided_law d h lawful laws x point blocks dump r q fits r_run q_run r_shows q_shows zero window none hit other = no_window_at dump.times window

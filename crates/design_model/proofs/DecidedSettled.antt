@@ -210,7 +210,7 @@ module _ (d : Design) (lawful : IsLawfulDesign d) (h : Habit) (laws : StepLaws (
       may_wake = inr (c.thing, wake.0, moves)
 
       clear_signal : (s n : ℕ) → IsWakeBit d p (cell s n) → IsUnclear d h dump (suc t) (a_signal s) → ⊥
-      clear_signal s n bit unclear = doubt s (unclear_signal n plain.not_clocked may_wake bit unclear)
+      clear_signal s n bit unclear = doubt s (unclear_signal (record { place = n; not_clocked = plain.not_clocked; may_wake = may_wake; wake_bit = bit; unclear = unclear }))
 
       -- what it reads from outside would be in doubt
       outside_signal : (s : ℕ) → IsSignal d s → UpToOutside K (reads (a_signal s) false) (execution d (body_at d p) v).visits → (HasValue K (a_signal s) → ⊥) → ⊥
@@ -222,7 +222,7 @@ module _ (d : Design) (lawful : IsLawfulDesign d) (h : Habit) (laws : StepLaws (
           of_comb : body_assigns s (body_at d p) ≡ true → IsComb (process_at d p) → ⊥
           of_comb mine is_comb =
               ⊎_elim
-              (λ early. doubt s (own_target is_comb may_wake mine early))
+              (λ early. doubt s (own_target (record { is_comb = is_comb; may_wake = may_wake; target = mine; reads_first = early })))
               (λ late. no_outer s (execution d (body_at d p) v).visits (body_inner d (body_at d p) s v (comb_blocks d (process_at d p) is_comb (lawful.targets p)) late) (upto_in K (reads (a_signal s) false) (execution d (body_at d p) v).visits upto))
               (cases_Bool (reads_before_writing d (body_at d p) s))
 
