@@ -7,6 +7,7 @@ use Rattle.event_machine.specs.Event.{end_state}
 use Rattle.event_machine.specs.Habit.{Habit}
 use Rattle.event_machine.specs.Step.{evaluations, outputs}
 use Rattle.event_machine.specs.Told.{IsAsTold, IsToldCell}
+use Rattle.event_machine.specs.ToldStep.{ToldStep}
 use Rattle.event_machine.specs.Laws.{EvaluatesOnce, EvaluatesSettled, IsIdle}
 use Rattle.four_state.specs.declared.bit.Bit.{Bit}
 use Rattle.design_model.specs.Tree.{Process, assign, clocked, comb}
@@ -96,8 +97,11 @@ module _ (d : Design) (lawful : IsLawfulDesign d) (h : Habit) (laws : StepLaws (
     to : (c : Cell) → (end_state (machine d) s.start s.events).values c ≡ settled d r (suc t) c
     to c = ap (λ f. f c) s.ends
 
+    abbrev pub told_step : ToldStep (machine d) h (told_at dump (suc t))
+    told_step = record { start = s.start; events = s.events; is_step = s.is_step; as_told = as_told s }
+
     step_unmoved : (c : Cell) → (MayMoveAt d dump (suc t) c.thing → ⊥) → settled d r (suc t) c ≡ settled d r t c
-    step_unmoved c never = sym (to c) ∙ laws.unchanged (dump.round (suc t)) h (told_at dump (suc t)) s.start s.events s.is_step (as_told s) c never s.events [] (sym (append-nil s.events)) ∙ from c
+    step_unmoved c never = sym (to c) ∙ laws.unchanged (dump.round (suc t)) h (told_at dump (suc t)) told_step c never s.events [] (sym (append-nil s.events)) ∙ from c
 
     step_clean : (p : ℕ) (c : Cell) → IsCleanAt d dump (suc t) p c → Once d h dump t (settled d r t) (settled d r (suc t)) p c
     step_clean p c clean =
@@ -110,7 +114,7 @@ module _ (d : Design) (lawful : IsLawfulDesign d) (h : Habit) (laws : StepLaws (
         }
       where
         one : EvaluatesOnce (machine d) (told_at dump (suc t)) (IsSingleAt d dump (suc t)) h p c s.start s.events
-        one = laws.edge (dump.round (suc t)) (told_at dump (suc t)) s.start s.events s.is_step (as_told s) p c clean
+        one = laws.edge (dump.round (suc t)) (told_at dump (suc t)) told_step p c clean
 
     -- the same, with the values on which it is evaluated
     pub step_entry : (p : ℕ) (c : Cell) → IsCleanAt d dump (suc t) p c → (o : Once d h dump t (settled d r t) (settled d r (suc t)) p c) × (evaluations (machine d) p s.start s.events ≡ o.entry ∷ [])
@@ -126,10 +130,10 @@ module _ (d : Design) (lawful : IsLawfulDesign d) (h : Habit) (laws : StepLaws (
     )
       where
         one : EvaluatesOnce (machine d) (told_at dump (suc t)) (IsSingleAt d dump (suc t)) h p c s.start s.events
-        one = laws.edge (dump.round (suc t)) (told_at dump (suc t)) s.start s.events s.is_step (as_told s) p c clean
+        one = laws.edge (dump.round (suc t)) (told_at dump (suc t)) told_step p c clean
 
     pub step_unwoken : (p : ℕ) → IsClocked (process_at d p) → (CanWakeSome d dump (suc t) p → ⊥) → evaluations (machine d) p s.start s.events ≡ []
-    step_unwoken p is_clocked never = laws.no_wake (dump.round (suc t)) h (told_at dump (suc t)) s.start s.events s.is_step (as_told s) p (no_level (process_at d p) is_clocked) (λ b can. never (b, can))
+    step_unwoken p is_clocked never = laws.no_wake (dump.round (suc t)) h (told_at dump (suc t)) told_step p (no_level (process_at d p) is_clocked) (λ b can. never (b, can))
 
     step_wakes : (p : ℕ) → (vs : List (Values Bit)) × ((c : Cell) → IsTarget (machine d) p c → settled d r (suc t) c ≡ put_all (settled d r t) (outputs (machine d) p vs) c)
     step_wakes p =
@@ -137,7 +141,7 @@ module _ (d : Design) (lawful : IsLawfulDesign d) (h : Habit) (laws : StepLaws (
 
     step_asleep : (p : ℕ) → IsClocked (process_at d p) → (CanWakeSome d dump (suc t) p → ⊥) → (c : Cell) → IsTarget (machine d) p c → settled d r (suc t) c ≡ settled d r t c
     step_asleep p is_clocked never c target =
-        let none : evaluations (machine d) p s.start s.events ≡ [] = laws.no_wake (dump.round (suc t)) h (told_at dump (suc t)) s.start s.events s.is_step (as_told s) p (no_level (process_at d p) is_clocked) (λ b can. never (b, can)) in
+        let none : evaluations (machine d) p s.start s.events ≡ [] = laws.no_wake (dump.round (suc t)) h (told_at dump (suc t)) told_step p (no_level (process_at d p) is_clocked) (λ b can. never (b, can)) in
         sym (to c) ∙ laws.write h s.start s.events s.is_step p c target ∙ ap (λ vs. put_all s.start.values (outputs (machine d) p vs) c) none ∙ from c
 
     step_settles : (p : ℕ) → IsLeft d p (settled d r (suc t)) ⊎ (((c : Cell) → is_level (process_at d p) c.thing ≡ true → settled d r (suc t) c ≡ settled d r t c) × ((c : Cell) → (machine d).blocking p c ≡ true → settled d r (suc t) c ≡ settled d r t c))

@@ -19,7 +19,8 @@ use Rattle.design_model.specs.Points.{IsBlock}
 use Rattle.design_model.specs.Reads.{IsTold, Known, ReadsFrom}
 use Rattle.design_model.specs.Clear.{EntryFrom, clear, clear_before}
 use Rattle.design_model.specs.Open.{IsOpenFor, IsSurelyOpen, IsVisitOf, KnownOnEntry, ReachesFrom}
-use Rattle.design_model.specs.Doubt.{BlockDoubt, IsInDoubt, early, not_clean, of_block, unclear_at_start}
+use Rattle.design_model.specs.Doubt.{BlockDoubt, IsInDoubt, of_block}
+use Rattle.replay_model.proofs.Causes.{doubt_at_start, doubt_early, doubt_unclean}
 use Rattle.design_model.proofs.Bound.{clear-thing}
 use Rattle.design_model.proofs.Lawful.{edge_one}
 use Rattle.replay_model.specs.Asked.{AskedLaws}
@@ -167,7 +168,7 @@ module _ (d : Design) (h : Habit) (dump : BoundDump) (run : Runs) (tables : Tabl
 
         late : (b : (y.time ≡ suc t) × IsUnsure d (seen_of k.store) y.thing × Rattle.body_replay.specs.Contract.ReadsBare d (body_at d p) y.thing) → sets.early p y.thing ≡ false → BlockDoubt d h dump (suc t) y.thing p
         late b e =
-            unclear_at_start b.1.0 b.1.2 b.1.1 (cell k.trigger 0, is_clean.can_wake) (from b) (λ c c_clean q. trigger_sure (q ∙ ap (λ z. a_signal z.thing) (is_clean.alone c c_clean.can_wake)))
+            doubt_at_start b.1.0 b.1.2 b.1.1 (cell k.trigger 0, is_clean.can_wake) (from b) (λ c c_clean q. trigger_sure (q ∙ ap (λ z. a_signal z.thing) (is_clean.alone c c_clean.can_wake)))
             (λ v. sure_bit a.kept (cells d b.1.0) v.0 (start_sure b.1.0 v.0 v.1) b.1.3.0 b.1.3.1 (sym (not_hidden b.1.3.0 other not_early) ∙ b.1.3.2))
           where
             trigger_sure : b.1.0 ≡ a_signal k.trigger → ⊥
@@ -181,11 +182,11 @@ module _ (d : Design) (h : Habit) (dump : BoundDump) (run : Runs) (tables : Tabl
             not_early q = both_ways _ e ((are.early p (cell k.trigger 0) is_clean y.thing).1 (subst (IsEarlyAt d h dump (suc t) p (cell k.trigger 0)) (in_owner d b.1.0 b.1.3.0 b.1.3.1 ∙ b.1.1) q))
 
         why : (sets.early p y.thing ≡ true) ⊎ (sets.early p y.thing ≡ false) → BlockDoubt d h dump (suc t) y.thing p
-        why (inl e) = early blame.1.0 (cell k.trigger 0) blame.1.1 is_clean (from blame) ((are.early p (cell k.trigger 0) is_clean y.thing).0 e)
+        why (inl e) = doubt_early blame.1.0 (cell k.trigger 0) blame.1.1 is_clean (from blame) ((are.early p (cell k.trigger 0) is_clean y.thing).0 e)
         why (inr e) = late blame e
 
   -- so is each of a weak run
   pub weak_doubt : (p : ℕ) (ns : List Note) → WeakRun d is.lawful h early_law dump run is.runs tables t sets are a p ns → (x : Point) (s : Spot) (y : Doubted) → IsBlock d x p → HasDoubtNote s y ns → (y.time ≡ suc t) × IsInDoubt d h dump x (suc t) y.thing
   weak_doubt p ns k x s y block told =
       let e : y ≡ record { time = suc t; thing = k.thing } = is.runs.weak_as_told p k.store (suc t) k.thing s y (subst (HasDoubtNote s y) k.notes told) in
-      (ap (λ z. z.time) e, of_block p window block (inl ((cell k.thing 0, are.wakes p k.thing k.by), inl (are.no_trigger p k.not_clean))) (not_clean (cell k.thing 0) (ap (λ z. z.thing) (sym e)) (are.wakes p k.thing k.by) (are.no_trigger p k.not_clean)))
+      (ap (λ z. z.time) e, of_block p window block (inl ((cell k.thing 0, are.wakes p k.thing k.by), inl (are.no_trigger p k.not_clean))) (doubt_unclean (cell k.thing 0) (ap (λ z. z.thing) (sym e)) (are.wakes p k.thing k.by) (are.no_trigger p k.not_clean)))

@@ -170,8 +170,8 @@ module _ (d : Design) (h : Habit) (dump : BoundDump) (run : Runs) (tables : Tabl
 
   quiet_step : (k : StepOf r) → k.step.time ≡ suc t → k.step.events ≡ []
   quiet_step k at =
-      no_event_law (machine d) (machine_lawful d is.lawful) h (told_at dump (suc t)) (start_of d r k) k.step.events (to d h r showing.is_run k t at).is_step
-      (Rattle.replay_model.proofs.Facts.as_told d is.lawful h (step_laws (machine d) (machine_lawful d is.lawful) h) dump is.fits r showing.is_run t (showing.shows.shows t shown.0 (omega arith)) (showing.shows.shows (suc t) shown.1 (omega arith)) (to d h r showing.is_run k t at))
+      no_event_law (machine d) (machine_lawful d is.lawful) h (told_at dump (suc t))
+      (Rattle.replay_model.proofs.Facts.told_step d is.lawful h (step_laws (machine d) (machine_lawful d is.lawful) h) dump is.fits r showing.is_run t (showing.shows.shows t shown.0 (omega arith)) (showing.shows.shows (suc t) shown.1 (omega arith)) (to d h r showing.is_run k t at))
       (λ c input. (is.fits.inputs c input, ap (λ y. dump.values y c) back ∙ ap (λ f. f c) (sym (is.fits.stays t unlisted))))
 
   pub same_settled : settled d r (suc t) ≡ settled d r t
