@@ -23,6 +23,7 @@ pub mod Shape
 pub mod Lawful
 pub mod Laws
 pub mod StepLaws
+pub mod RoundLaws
 pub mod View
 pub mod ExampleParts
 pub mod FlipFlop
