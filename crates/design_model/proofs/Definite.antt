@@ -8,14 +8,13 @@ use Rattle.event_machine.specs.Event.{writes}
 use Rattle.event_machine.specs.Habit.{Habit}
 use Rattle.event_machine.specs.Told.{Told}
 use Rattle.event_machine.specs.Early.{IsEarly}
-use Rattle.four_state.specs.Vector.{bit_of}
 use Rattle.design_model.specs.Tree.{Process, Stmt, assign, clocked, comb}
 use Rattle.design_model.specs.Design.{Design, IsClocked, IsComb, IsThing, Thing, a_signal, a_word, body_at, owner, process_at, signal_bits}
 use Rattle.design_model.specs.Value.{value}
 use Rattle.design_model.specs.Mentions.{body_mentions}
 use Rattle.design_model.specs.Execution.{Visit, execution, execution_start, reads}
 use Rattle.design_model.specs.Reads.{HasValue, Known, ReadsFrom, UpToOutside}
-use Rattle.design_model.specs.Machine.{is_level, machine}
+use Rattle.design_model.specs.Machine.{machine}
 use Rattle.design_model.specs.Shows.{BindsSignals, BoundDump, IsShown, IsShownOf, IsWindow, IsWindowOf}
 use Rattle.design_model.specs.Points.{IsBlock, Point, arc_point, line_point, logic_point, state_point, toggle_point, word_point}
 use Rattle.design_model.specs.MayMove.{IsSingleAt, told_at}

@@ -7,7 +7,7 @@ use Rattle.design_model.specs.Design.{Design, a_signal, signal_bits}
 use Rattle.design_model.specs.Reads.{Agrees}
 use Rattle.design_model.specs.Machine.{machine}
 use Rattle.design_model.specs.Run.{IsRun, Run, settled}
-use Rattle.design_model.specs.Shows.{BindsSignals, BoundDump, IsShown, IsWindow, ShowsUpTo}
+use Rattle.design_model.specs.Shows.{BindsSignals, BoundDump, IsWindow, ShowsUpTo}
 use Rattle.design_model.specs.MayMove.{MayMoveAt, told_at}
 use Rattle.design_model.specs.Clear.{IsForcedBy, IsWrittenValue, at_first, by_clocked, by_comb, by_net, clear, clear_before, unmoved}
 use Rattle.design_model.specs.Lawful.{IsLawfulDesign}

@@ -16,7 +16,7 @@ use Rattle.design_model.specs.Execution.{Visit, at_line, at_node}
 use Rattle.design_model.specs.Reads.{Agrees, Known, UpToOutside, VisitsFrom}
 use Rattle.design_model.specs.Machine.{lists_edge, machine}
 use Rattle.design_model.specs.Run.{IsRun, Run, StepOf, evaluations_of, settled, start_of, state_after_steps}
-use Rattle.design_model.specs.Shows.{BindsSignals, BoundDump, InWindow, IsShown, IsWindow, ShowsUpTo}
+use Rattle.design_model.specs.Shows.{BindsSignals, BoundDump, InWindow, IsWindow, ShowsUpTo}
 use Rattle.design_model.specs.Scored.{IsScored, IsScoredOf, VisitsIn}
 use Rattle.design_model.specs.Points.{IsBlock, IsHit, Point, arc_point, line_point, logic_point, state_point, toggle_point, word_point}
 use Rattle.design_model.specs.MayMove.{IsCleanAt, IsSingleAt, told_at}

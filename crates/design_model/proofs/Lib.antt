@@ -29,6 +29,8 @@ pub mod OpenNodes
 pub mod OpenWords
 pub mod Reached
 pub mod Rounds
+pub mod Finite
+pub mod FiniteRounds
 pub mod Closed
 pub mod MemoryPath
 pub mod FlipFlopRun

@@ -17,7 +17,7 @@ use Rattle.design_model.specs.Paths.{each_writes_whole, reads_before_writing}
 use Rattle.design_model.specs.Reads.{Agrees, Known}
 use Rattle.design_model.specs.Machine.{is_level, machine}
 use Rattle.design_model.specs.Run.{IsRun, Run, settled}
-use Rattle.design_model.specs.Shows.{BindsSignals, BoundDump, IsShown, IsWindow, ShowsUpTo}
+use Rattle.design_model.specs.Shows.{BindsSignals, BoundDump, IsWindow, ShowsUpTo}
 use Rattle.design_model.specs.Clear.{HasChanged, IsCombValue, clear}
 use Rattle.design_model.specs.Lawful.{IsLawfulDesign, target_once}
 use Rattle.design_model.proofs.Agree.{AllOuter}

@@ -1,21 +1,20 @@
 -- Where each path of a body names a thing in at most one target, an evaluation writes each cell of it at most once.
-use Rattle.std.proofs.Common.{◌≡◌, ◌⊎◌, inl, inr, ⊎_elim, ℕ, zero, suc, ◌+◌, ◌*◌, ◌<◌, ◌≤◌, Bool, true, false, ◌==◌, List, [], ◌∷◌, ◌++◌, map, take, drop, refl, sym, ap, subst, ◌∙◌, arith, eq-eqb, ℤ, pos, negsuc, ◌+ℤ◌, Option, Some, None, if◌then◌else◌}
+use Rattle.std.proofs.Common.{◌≡◌, ◌⊎◌, inl, inr, ℕ, zero, suc, ◌+◌, ◌*◌, ◌<◌, ◌≤◌, Bool, true, false, ◌==◌, List, [], ◌∷◌, ◌++◌, map, take, drop, refl, sym, ap, subst, ◌∙◌, arith, eq-eqb, ℤ, pos, negsuc, ◌+ℤ◌, Option, Some, None, if◌then◌else◌}
 use Rattle.std.specs.Prelude.{⊤, nat_le, nat_lt}
 use Rattle.std.specs.List.{list_all, range_with_len}
-use Rattle.std.proofs.lemmas.Bool.{and_parts, cases_Bool, eqb-true, leb-true, false≢true}
-use Rattle.event_machine.specs.Cell.{Cell, Update, Values, Write, WritesCell, join, times}
+use Rattle.std.proofs.lemmas.Bool.{and_parts, leb-true, false≢true}
+use Rattle.event_machine.specs.Cell.{Cell, Values, join, times}
 use Rattle.event_machine.specs.Machine.{output}
 use Rattle.event_machine.proofs.Times.{times-append, times_here, times_there, unwritten_never}  -- #keep
 use Rattle.event_machine.proofs.Writes.{cases_cell, join-append}  -- #keep
-use Rattle.four_state.specs.Parts.{within}
 use Rattle.four_state.specs.Vector.{extend}
 use Rattle.four_state.specs.declared.bit.Bit.{Bit}
-use Rattle.design_model.specs.Tree.{Target, Targets, Term, a_target, all_of, bits_of, no_targets, several, word_of}
+use Rattle.design_model.specs.Tree.{Target, Targets, a_target, all_of, bits_of, no_targets, several, word_of}
 use Rattle.design_model.specs.Design.{Design, In, body_at, cell, memory_at, signal_at}
 use Rattle.design_model.specs.Value.{head, value, word_named}
 use Rattle.design_model.specs.Assignment.{bit_writes, bit_writes_option, option_cell, target_width, target_writes, targets_width, targets_writes, word_writes, writes_to}
 use Rattle.design_model.specs.Execution.{Execution, assignment_writes, execution, execution_start}
-use Rattle.design_model.specs.Paths.{Action, Path, PathStep, assigns, compares, paths, reaches, selects, tests}
+use Rattle.design_model.specs.Paths.{Action, Path, assigns, compares, paths, reaches, selects, tests}
 use Rattle.design_model.specs.Once.{action_targets_on, all_parts_on, names_once, parts_on, path_targets_on}
 use Rattle.design_model.specs.Machine.{machine}
 use Rattle.design_model.proofs.Along.{Along, do_action, do_path, execute_along}

@@ -12,7 +12,7 @@ use Rattle.design_model.specs.Execution.{Visit, at_line, at_node, execution, exe
 use Rattle.design_model.specs.Reads.{Agrees, Known}
 use Rattle.design_model.specs.Machine.{machine}
 use Rattle.design_model.specs.Run.{IsRun, Run, StepOf, settled}
-use Rattle.design_model.specs.Shows.{BindsSignals, BoundDump, InWindow, IsShown, IsWindow, ShowsUpTo}
+use Rattle.design_model.specs.Shows.{BindsSignals, BoundDump, InWindow, IsWindow, ShowsUpTo}
 use Rattle.design_model.specs.Scored.{IsScoredOf, VisitsIn}
 use Rattle.design_model.specs.Points.{IsBlock, IsHit, Point, arc_point, line_point, logic_point, state_point, toggle_point, word_point}
 use Rattle.design_model.specs.MayMove.{IsCleanAt}

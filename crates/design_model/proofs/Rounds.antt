@@ -12,7 +12,6 @@ use Rattle.design_model.specs.Clear.{IsClearBy, IsCombValue, IsNetValue, clear, 
 use Rattle.design_model.specs.Lawful.{is_signal}
 use Rattle.design_model.specs.Laws.{ClearLaw, ClearLeastLaw, ClearRoundsLaw, ClearValueLaw}
 use Rattle.design_model.proofs.FlipFlopDoubt.{agrees}
-use Rattle.design_model.proofs.FlipFlopRun.{is_run, shows}
 
 -- what the one map has, the other has
 abbrev MoreKnown : Known → Known → Type 0

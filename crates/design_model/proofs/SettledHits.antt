@@ -15,7 +15,7 @@ use Rattle.design_model.specs.Execution.{Visit, at_line, at_node, execution, exe
 use Rattle.design_model.specs.Reads.{Agrees, HasValue, Known, UpToOutside, VisitsFrom}
 use Rattle.design_model.specs.Machine.{is_level, machine}
 use Rattle.design_model.specs.Run.{IsRun, Run, StepOf, evaluations_of, settled, start_of}
-use Rattle.design_model.specs.Shows.{BindsSignals, BoundDump, InWindow, IsShown, IsWindow, ShowsUpTo}
+use Rattle.design_model.specs.Shows.{BindsSignals, BoundDump, InWindow, IsWindow, ShowsUpTo}
 use Rattle.design_model.specs.Scored.{ChangesOver, IsScoredOf, VisitsIn}
 use Rattle.design_model.specs.Points.{IsBlock, IsHit, Point}
 use Rattle.design_model.specs.Open.{KnownAtEnd, HasChangedWakeBit, IsNotClocked, IsVisitOf}

@@ -1,8 +1,8 @@
 -- The laws of the machine, joined to the steps of a run that shows the dump up to a time.
-use Rattle.std.proofs.Common.{◌≡◌, ◌≢◌, ◌⊎◌, inl, inr, ⊎_elim, ℕ, suc, ◌-◌, ◌<◌, true, List, [], ◌∷◌, ◌++◌, append-nil, refl, sym, ap, subst, ◌∙◌, arith}
+use Rattle.std.proofs.Common.{◌≡◌, ◌⊎◌, inl, inr, ⊎_elim, ℕ, suc, ◌-◌, ◌<◌, true, List, [], ◌∷◌, ◌++◌, append-nil, refl, sym, ap, subst, ◌∙◌, arith}
 use Rattle.std.proofs.lemmas.Bool.{and_parts, ltb-true, both_ways}
 use Rattle.event_machine.specs.Cell.{Cell, Values, put_all}
-use Rattle.event_machine.specs.Machine.{Edge as MachineEdge, IsTarget, IsWakeCell, output}
+use Rattle.event_machine.specs.Machine.{Edge as MachineEdge, IsTarget, output}
 use Rattle.event_machine.specs.State.{State}
 use Rattle.event_machine.specs.Event.{Event, end_state}
 use Rattle.event_machine.specs.Habit.{Habit}
@@ -17,20 +17,19 @@ use Rattle.four_state.specs.declared.bit.Bit.{Bit}
 use Rattle.design_model.specs.Design.{Design, IsClocked, body_at, process_at, signal_at}
 use Rattle.design_model.specs.Mentions.{may_write}
 use Rattle.design_model.specs.Reads.{Agrees}
-use Rattle.design_model.specs.Machine.{is_level, machine}
-use Rattle.design_model.specs.Run.{IsRun, Run, StepOf, end_of, evaluations_of, settled, start_of, state_after_steps}
+use Rattle.design_model.specs.Machine.{machine}
+use Rattle.design_model.specs.Run.{IsRun, Run, StepOf, settled, start_of, state_after_steps}
 use Rattle.design_model.specs.Shows.{BindsSignals, BoundDump, IsDumpOf, IsListed, IsShowing, IsShown, IsWindow, SameBound}
 use Rattle.design_model.specs.MayMove.{CanWakeSome, IsCleanAt, IsSingleAt, MayMoveAt, told_at}
-use Rattle.design_model.specs.Early.{IsEarlyAt}
 use Rattle.design_model.specs.Clear.{EntryFrom, clear, clear_before}
 use Rattle.design_model.specs.Open.{KnownOnEntry}
 use Rattle.design_model.specs.Lawful.{IsLawfulDesign}
-use Rattle.design_model.specs.StepLaws.{AreKept, CleanEvaluation, CleanStepLaw, EventFacts, EventFactsLaw, IsLeft, StepFacts, StepFactsLaw, UnlistedLaw}
+use Rattle.design_model.specs.StepLaws.{AreKept, AssignQueuesLaw, CleanEvaluation, CleanStepLaw, EventFacts, EventFactsLaw, IsLeft, StepFacts, StepFactsLaw, UnlistedLaw}
 use Rattle.design_model.proofs.Assigns.{machine_lawful}
 use Rattle.design_model.proofs.ForcedSound.{clear_at}
-use Rattle.design_model.proofs.Hits.{StepHere, step_here}
+use Rattle.design_model.proofs.Hits.{step_here}
 use Rattle.design_model.proofs.Lawful.{any_gives, may_any, place_from}
-use Rattle.design_model.proofs.Sound.{entry_agrees, no_level, pick_cell}
+use Rattle.design_model.proofs.Sound.{entry_agrees, no_level, no_queue, pick_cell}
 use Rattle.design_model.proofs.StepLaws.{StepLaws}
 use Rattle.design_model.proofs.Times.{StepTo}
 use Rattle.design_model.proofs.Toggles.{end_values, split_steps, start_values, window_shown_at}
@@ -198,7 +197,7 @@ module _ (d : Design) (lawful : IsLawfulDesign d) (h : Habit) (laws : StepLaws (
             unmoved = unmoved_events d lawful h laws dump binds r showing.is_run t old new s;
             clean = λ p c clean.
                 let one = once d lawful h laws dump binds r showing.is_run t old new s p c clean in
-                (step_clean d lawful h laws dump binds r showing.is_run t old new s p c clean, one.evaluated, knows p c clean one);
+                record { once = step_clean d lawful h laws dump binds r showing.is_run t old new s p c clean; evaluated = one.evaluated; knows = knows p c clean one };
             asleep = step_asleep d lawful h laws dump binds r showing.is_run t old new s;
             settles = laws.idle h s.start s.events s.is_step;
             woken = λ p c wake changes. laws.settled h s.start s.events s.is_step p c wake (λ e. changes (sym (ap (λ f. f c) s.ends) ∙ e ∙ ap (λ f. f c) s.starts));
@@ -233,3 +232,6 @@ module _ (d : Design) (lawful : IsLawfulDesign d) (h : Habit) (laws : StepLaws (
     where
       over : (s : StepTo (machine d) h (settled d r t) (settled d r (suc t))) → s.events ≡ [] → settled d r (suc t) ≡ settled d r t
       over s none = sym s.ends ∙ ap (λ es. (end_state (machine d) s.start es).values) none ∙ s.starts
+
+pub assign_queues_law : (d : Design) → AssignQueuesLaw d
+assign_queues_law d p v assign = no_queue d (process_at d p) v assign

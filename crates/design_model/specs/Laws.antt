@@ -43,12 +43,15 @@ ClearRoundsLaw d h =
 -- Least law: what is clear stands in each map that is closed under the rules.
 abbrev pub ClearLeastLaw : Design → Habit → Type 0
 ClearLeastLaw d h =
-    (dump : BoundDump) (t : ℕ) (has : Thing → List Bit → Bool) → ((x : Thing) (bits : List Bit) → IsClearBy d h dump t (clear_start d h dump t) (λ y w. has y w ≡ true) x bits → has x bits ≡ true) → (x : Thing) (bits : List Bit) → clear d h dump t x bits → has x bits ≡ true
+    (dump : BoundDump) (t : ℕ) (has : Thing → List Bit → Bool)
+    → ((x : Thing) (bits : List Bit) → IsClearBy d h dump t (clear_start d h dump t) (λ y w. has y w ≡ true) x bits → has x bits ≡ true)
+    → (x : Thing) (bits : List Bit) → clear d h dump t x bits → has x bits ≡ true
 
 -- Closed law: where some state agrees with what is clear, what a rule gives from it is clear.
 abbrev pub ClearClosedLaw : Design → Habit → Type 0
 ClearClosedLaw d h =
-    (dump : BoundDump) (t : ℕ) (v : Values Bit) → Agrees d (clear d h dump t) v → (x : Thing) (bits : List Bit) → IsClearBy d h dump t (clear_start d h dump t) (clear d h dump t) x bits → clear d h dump t x bits
+    (dump : BoundDump) (t : ℕ) (v : Values Bit) → Agrees d (clear d h dump t) v
+    → (x : Thing) (bits : List Bit) → IsClearBy d h dump t (clear_start d h dump t) (clear d h dump t) x bits → clear d h dump t x bits
 
 -- One-value law: where a run shows the dump up to a time that the dump shows, what is clear there has one value.
 abbrev pub ClearValueLaw : Design → Habit → Type 0

@@ -27,6 +27,7 @@ pub mod MoreKnown
 pub mod StillLaw
 pub mod VisitedOpen
 pub mod DecidedLaw
+pub mod RoundLaws
 pub mod View
 pub mod ExampleParts
 pub mod FlipFlop

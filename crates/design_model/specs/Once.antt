@@ -1,5 +1,5 @@
 -- Bodies that name a signal in at most one target of each path.
-use Rattle.std.specs.Prelude.{◌+◌, ◌==◌, ◌∷◌, if◌then◌else◌, ℕ, Bool, List, [], nat_le}
+use Rattle.std.specs.Prelude.{◌+◌, ◌==◌, ◌∷◌, if◌then◌else◌, ℕ, Bool, [], nat_le}
 use Rattle.std.specs.List.{list_all}
 use Rattle.design_model.specs.Tree.{Stmt, Target, Targets, a_target, all_of, bits_of, no_targets, several, word_of}
 use Rattle.design_model.specs.Paths.{Action, Path, assigns, paths}

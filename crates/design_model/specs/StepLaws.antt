@@ -7,7 +7,8 @@ use Rattle.event_machine.specs.Habit.{Habit}
 use Rattle.event_machine.specs.Step.{outputs}
 use Rattle.event_machine.specs.Laws.{EvaluatesSettled, IsIdle}
 use Rattle.four_state.specs.declared.bit.Bit.{Bit}
-use Rattle.design_model.specs.Design.{Design, IsClocked, process_at, signal_at}
+use Rattle.design_model.specs.Design.{Design, IsClocked, body_at, is_assign, process_at, signal_at}
+use Rattle.design_model.specs.Execution.{execution}
 use Rattle.design_model.specs.Reads.{Agrees}
 use Rattle.design_model.specs.Machine.{is_level, machine}
 use Rattle.design_model.specs.Run.{Run, StepOf, end_of, evaluations_of, settled, start_of}
@@ -48,14 +49,20 @@ pub record StepFacts (d : Design) (h : Habit) (dump : BoundDump) (t : ℕ) (u w 
   pub unwritten : (c : Cell) → ((machine d).is_input c ≡ true → ⊥) → ((p : ℕ) → IsTarget (machine d) p c → ⊥) → w c ≡ u c
   pub settles : (p : ℕ) → IsLeft d p w ⊎ AreKept d p u w
 
+-- clean block p with trigger c is evaluated once in step k of the run, at suc t, on values that agree with what it knows on entry
+pub record CleanAct (d : Design) (h : Habit) (dump : BoundDump) (r : Run) (t : ℕ) (k : StepOf r) (p : ℕ) (c : Cell) : Type 0 where
+  pub once : CleanEvaluation d h dump t (settled d r t) (settled d r (suc t)) p c
+  pub evaluated : evaluations_of d r k p ≡ once.entry ∷ []
+  pub knows : Agrees d (KnownOnEntry d h dump (suc t) p) once.entry
+
 -- what holds of the events of step k of the run, which is at suc t
 pub record EventFacts (d : Design) (h : Habit) (dump : BoundDump) (r : Run) (t : ℕ) (k : StepOf r) : Type 0 where
   pub start : (start_of d r k).values ≡ settled d r t
   pub ends : (end_of d r k).values ≡ settled d r (suc t)
   -- what may not move does not change at any event
-  pub unmoved : (c : Cell) → (MayMoveAt d dump (suc t) c.thing → ⊥) → (before after : List (Event Bit)) → k.step.events ≡ before ++ after → (end_state (machine d) (start_of d r k) before).values c ≡ settled d r t c
-  -- a clean block is evaluated once, on values that agree with what it knows on entry
-  pub clean : (p : ℕ) (c : Cell) → IsCleanAt d dump (suc t) p c → (o : CleanEvaluation d h dump t (settled d r t) (settled d r (suc t)) p c) × (evaluations_of d r k p ≡ o.entry ∷ []) × Agrees d (KnownOnEntry d h dump (suc t) p) o.entry
+  pub unmoved : (c : Cell) → (MayMoveAt d dump (suc t) c.thing → ⊥)
+      → (before after : List (Event Bit)) → k.step.events ≡ before ++ after → (end_state (machine d) (start_of d r k) before).values c ≡ settled d r t c
+  pub clean : (p : ℕ) (c : Cell) → IsCleanAt d dump (suc t) p c → CleanAct d h dump r t k p c
   pub asleep : (p : ℕ) → IsClocked (process_at d p) → (CanWakeSome d dump (suc t) p → ⊥) → evaluations_of d r k p ≡ []
   -- each process is evaluated, at last on settled wake cells, or nothing that it is sensitive to changes
   pub settles : (p : ℕ) → EvaluatesSettled (machine d) p (start_of d r k) k.step.events ⊎ IsIdle (machine d) p (start_of d r k) k.step.events
@@ -65,19 +72,27 @@ pub record EventFacts (d : Design) (h : Habit) (dump : BoundDump) (r : Run) (t :
 -- Step law: what holds of the settled values over each window time up to which the run shows the dump.
 abbrev pub StepFactsLaw : Design → Habit → Type 0
 StepFactsLaw d h =
-    (dump : BoundDump) (r : Run) (t : ℕ) → BindsSignals d dump → IsShowing d h dump (suc t) r → IsWindow dump (suc t) → StepFacts d h dump t (settled d r t) (settled d r (suc t))
+    (dump : BoundDump) (r : Run) (t : ℕ) → BindsSignals d dump → IsShowing d h dump (suc t) r → IsWindow dump (suc t)
+    → StepFacts d h dump t (settled d r t) (settled d r (suc t))
 
 -- Event law: what holds of the events of each window step up to which the run shows the dump.
 abbrev pub EventFactsLaw : Design → Habit → Type 0
 EventFactsLaw d h =
-    (dump : BoundDump) (r : Run) (t : ℕ) → BindsSignals d dump → IsShowing d h dump (suc t) r → IsWindow dump (suc t) → (k : StepOf r) → k.step.time ≡ suc t → EventFacts d h dump r t k
+    (dump : BoundDump) (r : Run) (t : ℕ) → BindsSignals d dump → IsShowing d h dump (suc t) r → IsWindow dump (suc t)
+    → (k : StepOf r) → k.step.time ≡ suc t → EventFacts d h dump r t k
 
 -- Clean-step law: at a window time at which a block is clean the run has a step.
 abbrev pub CleanStepLaw : Design → Habit → Type 0
 CleanStepLaw d h =
-    (dump : BoundDump) (r : Run) (t : ℕ) → BindsSignals d dump → IsShowing d h dump (suc t) r → IsWindow dump (suc t) → (p : ℕ) (c : Cell) → IsCleanAt d dump (suc t) p c → (k : StepOf r) × (k.step.time ≡ suc t)
+    (dump : BoundDump) (r : Run) (t : ℕ) → BindsSignals d dump → IsShowing d h dump (suc t) r → IsWindow dump (suc t)
+    → (p : ℕ) (c : Cell) → IsCleanAt d dump (suc t) p c → (k : StepOf r) × (k.step.time ≡ suc t)
 
 -- Rest law: at a window time that the dump does not list, where all inputs are bound, nothing changes and a step has no events.
 abbrev pub UnlistedLaw : Design → Habit → Type 0
 UnlistedLaw d h =
-    (dump : BoundDump) (r : Run) (t : ℕ) → IsDumpOf d dump → IsShowing d h dump (suc t) r → IsWindow dump (suc t) → (IsListed dump (suc t) → ⊥) → (settled d r (suc t) ≡ settled d r t) × ((k : StepOf r) → k.step.time ≡ suc t → k.step.events ≡ [])
+    (dump : BoundDump) (r : Run) (t : ℕ) → IsDumpOf d dump → IsShowing d h dump (suc t) r → IsWindow dump (suc t) → (IsListed dump (suc t) → ⊥)
+    → (settled d r (suc t) ≡ settled d r t) × ((k : StepOf r) → k.step.time ≡ suc t → k.step.events ≡ [])
+
+-- Queue law: an Assign queues no update.
+abbrev pub AssignQueuesLaw : Design → Type 0
+AssignQueuesLaw d = (p : ℕ) (v : Values Bit) → is_assign (process_at d p) ≡ true → (execution d (body_at d p) v).nonblocking ≡ []

@@ -7,7 +7,8 @@ ghost use Rattle.design_model.specs.Design.{Design as DesignTree};
 ghost use Rattle.design_model.specs.Machine.{machine};
 ghost use Rattle.design_model.specs.Lawful.{IsLawfulDesign};
 ghost use Rattle.design_model.specs.ToggleLaw.{ToggleLaw};
-ghost use Rattle.design_model.specs.StepLaws.{StepFactsLaw, EventFactsLaw, CleanStepLaw, UnlistedLaw};
+ghost use Rattle.design_model.specs.RoundLaws.{DecidedRoundsLaw, EndingRoundsLaw, GrowingRoundsLaw};
+ghost use Rattle.design_model.specs.StepLaws.{AssignQueuesLaw, StepFactsLaw, EventFactsLaw, CleanStepLaw, UnlistedLaw};
 ghost use Rattle.design_model.specs.MoreKnown.{MoreKnownLaw};
 ghost use Rattle.design_model.specs.StillLaw.{StillLaw};
 ghost use Rattle.design_model.specs.Laws.{BoundClearLaw, ClearLaw, ContradictionLaw, ForcedLaw, ClearValueLaw, ClearRoundsLaw, ClearClosedLaw, ClearLeastLaw, ReachedLaw, DefinitenessLaw, BoundPointLaw};
@@ -29,6 +30,19 @@ pub use tree::{CaseArm, Form, Process, Stmt, StmtForm, Target, Term};
 /// The machine of a lawful design is lawful, so the laws of the event machine hold for it.
 pub fn lawful_machine()
     ensures { (d : DesignTree) → IsLawfulDesign d → IsLawful (machine d) }
+{}
+
+/// An Assign queues no update.
+pub fn assign_law()
+    ensures { (d : DesignTree) → AssignQueuesLaw d }
+{}
+
+/// In each round of single cells finite tests decide which process can wake, and so each round grows on the one before,
+/// and there is a last one.
+pub fn rounds_law()
+    ensures decided { (d : DesignTree) → IsLawfulDesign d → DecidedRoundsLaw d }
+    ensures grows { (d : DesignTree) → IsLawfulDesign d → GrowingRoundsLaw d }
+    ensures ends { (d : DesignTree) → IsLawfulDesign d → EndingRoundsLaw d }
 {}
 
 /// What the dump decides holds in each run that shows it up to the time: what is clear, and, where there is such a run,

@@ -1,9 +1,9 @@
 -- From a round on whose single cells are those of the next, nothing changes.
-use Rattle.std.proofs.Common.{◌≡◌, ◌⊎◌, inl, inr, ⊎_elim, ℕ, zero, suc, ◌+◌, ◌-◌, ◌≤◌, ◌↔◌, subst, arith}
+use Rattle.std.proofs.Common.{◌≡◌, inl, inr, ⊎_elim, ℕ, zero, suc, ◌+◌, ◌-◌, ◌↔◌, subst, arith}
 use Rattle.event_machine.specs.Cell.{Cell}
 use Rattle.event_machine.specs.Machine.{Machine}
-use Rattle.event_machine.specs.Told.{IsToldInput, Told}
-use Rattle.event_machine.specs.MayMove.{CanWake, IsClean, MayMove}
+use Rattle.event_machine.specs.Told.{Told}
+use Rattle.event_machine.specs.MayMove.{IsClean}
 use Rattle.event_machine.specs.Single.{IsSameNext, IsSingle, IsWrittenOnce}
 use Rattle.event_machine.specs.LastRound.{AreSameRounds, LastRoundLaw}
 use Rattle.event_machine.proofs.Grow.{can_wake_less, may_move_less}
