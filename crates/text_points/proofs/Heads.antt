@@ -1,5 +1,5 @@
 -- What a term has beside its form.
-use Rattle.std.proofs.Common.{◌≡◌, ◌∙◌, ℕ, List, [], Some, None, map, refl, ap}
+use Rattle.std.proofs.Common.{◌≡◌, ◌∙◌, ℕ, [], Some, None, map, refl, ap}
 use Rattle.design_model.specs.Tree as t
 use Rattle.design_model.specs.Execution.{node_cases}
 use Rattle.design_model.specs.Value.{head}

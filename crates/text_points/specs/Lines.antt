@@ -6,7 +6,7 @@ use Rattle.text_points.specs.declared.points.Owner.{Owner}
 
 -- a line point in a text, of a process
 abbrev pub line_with : Owner → LineAt → LinePoint
-line_with o a = record { rank = o.rank; line = a.line; process = o.process; place = a.place; word = a.of_word }
+line_with o a = record { instance = o.instance; line = a.line; process = o.process; place = a.place; word = a.of_word }
 
 -- line points in a text, of a process
 abbrev pub lines_with : Owner → List LineAt → List LinePoint

@@ -1,5 +1,5 @@
 -- The cases of the counted nodes of a process.
-use Rattle.std.specs.Prelude.{ℕ, List, [], ◌∷◌, ◌++◌, map, codes, Option, Some, None}
+use Rattle.std.specs.Prelude.{ℕ, List, [], ◌++◌, map, codes, Option, Some, None}
 use Rattle.std.specs.List.{flat_map}
 use Rattle.cov_host.specs.declared.place.Place.{Place}
 use Rattle.design_model.specs.Execution.{node_cases}
@@ -27,7 +27,7 @@ operator_text (Binary op) = binary_text op
 
 -- a case of a node by its number, place and operator
 abbrev pub node_at : Owner → ℕ → Place → NodeOperator → NodeCase → NodePoint
-node_at o n p op c = record { rank = o.rank; node = n; case = c; process = o.process; place = p; operator = op }
+node_at o n p op c = record { instance = o.instance; node = n; case = c; process = o.process; place = p; operator = op }
 
 -- the cases of a term with this number, if it is a counted node
 abbrev pub numbered_cases : Owner → Option ℕ → Term → List NodePoint

@@ -89,7 +89,7 @@ fn push_line(
     ensures { OnOk result (found.new.items ≡ found.old.items ++ lines_with owner (line_at line place word ∷ [])) }
 {
     found.push(LinePoint {
-        rank: owner.rank,
+        instance: owner.instance,
         line,
         process: owner.process,
         place,

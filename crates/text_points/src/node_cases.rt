@@ -16,11 +16,7 @@ static AND_CASES: [NodeCase; 3] = [
 ];
 
 /// The cases of an operator that one true operand decides.
-static OR_CASES: [NodeCase; 3] = [
-    NodeCase::LeftTrue,
-    NodeCase::RightTrue,
-    NodeCase::BothFalse,
-];
+static OR_CASES: [NodeCase; 3] = [NodeCase::LeftTrue, NodeCase::RightTrue, NodeCase::BothFalse];
 
 /// The cases of any other operator with two operands.
 static FOUR_CASES: [NodeCase; 4] = [

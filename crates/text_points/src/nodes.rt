@@ -140,7 +140,10 @@ fn push_inner(owner: Owner, term: &Term, found: &mut Vec<NodePoint>) -> Result<(
         Form::Bit { of, index } => push_two(owner, of, index, found),
         Form::Part { of, high, low } => push_three(owner, of, high, low, found),
         Form::Slide {
-            of, base, width, ..
+            of,
+            base,
+            width,
+            ..
         } => push_three(owner, of, base, width, found),
         Form::Unary(_, a) | Form::Sign(_, a) => push_term(owner, a, found),
         Form::Binary(_, a, b) => push_two(owner, a, b, found),
@@ -212,7 +215,7 @@ fn push_each(
     let operator = operator_of(term);
     for case in cases {
         found.push(NodePoint {
-            rank: owner.rank,
+            instance: owner.instance,
             node,
             case: *case,
             process: owner.process,

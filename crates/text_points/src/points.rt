@@ -5,8 +5,8 @@ use four_state::{Binary, Unary};
 /// The process that a point belongs to.
 #[derive(Clone, Copy, Debug, PartialEq, Eq)]
 pub struct Owner {
-    /// The place of its instance in the order of the paths.
-    pub rank: u32,
+    /// The number of its instance in the design.
+    pub instance: u32,
     /// Its number in the design.
     pub process: u32,
 }
@@ -14,8 +14,8 @@ pub struct Owner {
 /// A statement of a process.
 #[derive(Clone, Copy, Debug, PartialEq, Eq)]
 pub struct LinePoint {
-    /// The place of its instance in the order of the paths.
-    pub rank: u32,
+    /// The number of its instance in the design.
+    pub instance: u32,
     pub line: u32,
     pub process: u32,
     pub place: Place,
@@ -25,8 +25,8 @@ pub struct LinePoint {
 /// A case of a counted node of a process.
 #[derive(Clone, Copy, Debug, PartialEq, Eq)]
 pub struct NodePoint {
-    /// The place of its instance in the order of the paths.
-    pub rank: u32,
+    /// The number of its instance in the design.
+    pub instance: u32,
     pub node: u32,
     pub case: NodeCase,
     pub process: u32,

@@ -1,4 +1,4 @@
-use Rattle.std.proofs.Common.{◌≡◌, ◌∙◌, ◌++◌, [], sym, ap, append-nil}
+use Rattle.std.proofs.Common.{◌∙◌, ◌++◌, sym, ap, append-nil}
 use Rattle.text_points.proofs.Heads.{cases_none, cases_some}
 use Rattle.text_points.proofs.nodes.push_cases.Goals as goal
 
