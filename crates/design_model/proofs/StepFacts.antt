@@ -112,6 +112,11 @@ module _ (d : Design) (lawful : IsLawfulDesign d) (h : Habit) (laws : StepLaws (
           leaves = λ b target. sym (to b) ∙ one.leaves b target ∙ ap (λ f. put_all f (output (machine d) p one.entry) b) s.starts;
         }
 
+    -- the same, as the one evaluation of the block
+    pub step_entry : (p : ℕ) (c : Cell) → IsCleanAt d dump (suc t) p c → (o : CleanEvaluation d h dump t (settled d r t) (settled d r (suc t)) p c) × (evaluations (machine d) p s.start s.events ≡ o.entry ∷ [])
+    unfolding step_clean once
+    step_entry p c clean = (step_clean p c clean, (once p c clean).evaluated)
+
     pub step_asleep : (p : ℕ) → IsClocked (process_at d p) → (CanWakeSome d dump (suc t) p → ⊥) → evaluations (machine d) p s.start s.events ≡ []
     step_asleep p is_clocked never =
         laws.no_wake (dump.round (suc t)) h (told_at dump (suc t)) (told_step s) p (no_level (process_at d p) is_clocked) (λ b can. never (b, can))
