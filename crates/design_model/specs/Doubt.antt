@@ -4,7 +4,7 @@ use Rattle.event_machine.specs.Cell.{Cell}
 use Rattle.event_machine.specs.Habit.{Habit}
 use Rattle.design_model.specs.Design.{Design, IsComb, IsThing, Thing, a_signal, a_word, body_at, cell, owner, process_at}
 use Rattle.design_model.specs.Mentions.{body_assigns, body_mentions}
-use Rattle.design_model.specs.Paths.{reads_before_writing}
+use Rattle.design_model.specs.Paths.{reads_signal_before_writing}
 use Rattle.design_model.specs.Reads.{HasValue, ReadsFrom}
 use Rattle.design_model.specs.Machine.{is_level}
 use Rattle.design_model.specs.Shows.{BoundDump, IsListed, IsWindow}
@@ -40,7 +40,7 @@ pub data BlockDoubt (d : Design) (h : Habit) (dump : BoundDump) (t : ℕ) (s p :
   not_clean : (c : Cell) → c.thing ≡ s → CanWakeAt d dump t c p → IsNotClean d dump t p → BlockDoubt d h dump t s p
   unclear_signal : (k : ℕ) → IsNotClocked d p → MayWakeUnlisted d dump t p → IsWakeBit d p (cell s k) → IsUnclear d h dump t (a_signal s) → BlockDoubt d h dump t s p
   unclear_word : (k : ℕ) → IsNotClocked d p → MayWakeUnlisted d dump t p → body_mentions s (body_at d p) ≡ true → IsThing d (a_word s k) → IsUnclear d h dump t (a_word s k) → ReadsFrom d (KnownAtEnd d h dump t p) (body_at d p) (a_word s k) ⊎ MayMoveAt d dump t s → BlockDoubt d h dump t s p
-  own_target : IsComb (process_at d p) → MayWakeUnlisted d dump t p → body_assigns s (body_at d p) ≡ true → reads_before_writing d (body_at d p) s ≡ true → BlockDoubt d h dump t s p
+  own_target : IsComb (process_at d p) → MayWakeUnlisted d dump t p → body_assigns s (body_at d p) ≡ true → reads_signal_before_writing d (body_at d p) s ≡ true → BlockDoubt d h dump t s p
 
 -- signal or memory s is in doubt for the point at window time t
 pub data IsInDoubt (d : Design) (h : Habit) (dump : BoundDump) (x : Point) (t : ℕ) (s : ℕ) : Type 0 where
