@@ -19,6 +19,7 @@ pub mod Clear
 pub mod Open
 pub mod Doubt
 pub mod Shape
+pub mod WellFormed
 pub mod Lawful
 pub mod Laws
 pub mod View
