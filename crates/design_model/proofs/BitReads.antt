@@ -21,7 +21,7 @@ use Rattle.design_model.specs.Lawful.{is_plain, may_read, slide_writes, some_may
 use Rattle.design_model.proofs.ConstantTerms.{value_constant}
 use Rattle.design_model.proofs.Named.{WritesCell-from, length-fit, option_bits_range}
 
-if_cases : (b x y : Bool) → (if b then x else y) ≡ true → (x ≡ true) ⊎ (y ≡ true)
+pub if_cases : (b x y : Bool) → (if b then x else y) ≡ true → (x ≡ true) ⊎ (y ≡ true)
 if_cases true x y e = inl e
 if_cases false x y e = inr e
 
@@ -32,17 +32,17 @@ if_three false false true p q r s e = inr (inr (inl e))
 if_three false false false p q r s e = inr (inr (inr e))
 
 -- what `is_shaped` asks of two operands
-abbrev binary_shaped : Design → ℕ → Bool → Binary → Term → Term → Bool
+abbrev pub binary_shaped : Design → ℕ → Bool → Binary → Term → Term → Bool
 binary_shaped d w g op t y =
     if is_wide_binary op then is_shaped d w g t && is_shaped d w g y else (if is_shift op then is_shaped d w g t && is_shaped d (own_width d y) (own_sign d y) y else (if is_logic op then is_shaped d (own_width d t) (own_sign d t) t && is_shaped d (own_width d y) (own_sign d y) y else is_shaped d (max (own_width d t) (own_width d y)) (own_sign d t && own_sign d y) t && is_shaped d (max (own_width d t) (own_width d y)) (own_sign d t && own_sign d y) y))
 
-abbrev TwoShapes : Design → Term → Term → Type 0
+abbrev pub TwoShapes : Design → Term → Term → Type 0
 TwoShapes d t y = (w1 : ℕ) × (g1 : Bool) × (w2 : ℕ) × (g2 : Bool) × (is_shaped d w1 g1 t ≡ true) × (is_shaped d w2 g2 y ≡ true)
 
 two_shapes : (d : Design) (w1 w2 : ℕ) (g1 g2 : Bool) (t y : Term) → (is_shaped d w1 g1 t && is_shaped d w2 g2 y) ≡ true → TwoShapes d t y
 two_shapes d w1 w2 g1 g2 t y e = let q = and_parts (is_shaped d w1 g1 t) (is_shaped d w2 g2 y) e in (w1, g1, w2, g2, q.0, q.1)
 
-binary_shape : (d : Design) (w : ℕ) (g : Bool) (op : Binary) (t y : Term) → binary_shaped d w g op t y ≡ true → TwoShapes d t y
+pub binary_shape : (d : Design) (w : ℕ) (g : Bool) (op : Binary) (t y : Term) → binary_shaped d w g op t y ≡ true → TwoShapes d t y
 binary_shape d w g op t y e =
     ⊎_elim (two_shapes d w w g g t y)
     (⊎_elim (two_shapes d w (own_width d y) g (own_sign d y) t y)

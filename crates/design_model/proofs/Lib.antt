@@ -37,4 +37,10 @@ pub mod FlipFlopExample
 pub mod GateClear
 pub mod PipeClear
 pub mod RamClear
+pub mod WordBitReads
 pub mod Definite
+pub mod VisitKinds
+pub mod MentionedPaths
+pub mod BodyLaws
+pub mod AssignVisits
+pub mod AssignLaws

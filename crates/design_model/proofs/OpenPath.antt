@@ -29,7 +29,7 @@ use Rattle.design_model.proofs.Untouched.{put_other}
 
 -- where an assignment passes a test, the body has one that does
 mutual
-  each_any : (s : Stmt) → EachSet (λ n b x t. (f : Bool → Target → Term → Bool) → f b x t ≡ true → any_set f s ≡ true) s
+  pub each_any : (s : Stmt) → EachSet (λ n b x t. (f : Bool → Target → Term → Bool) → f b x t ≡ true → any_set f s ≡ true) s
   each_any (block p ss) = each_any_of ss
   each_any (branch p n t s other) = (each_gives (λ n b x t k f e. or_left (any_set f s) (any_set_of f other) (k f e)) s (each_any s), each_gives_of (λ n b x t k f e. or_right (any_set f s) (any_set_of f other) (k f e)) other (each_any_of other))
   each_any (select p n kind t arms) = each_any_in arms

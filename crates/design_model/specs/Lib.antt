@@ -22,9 +22,11 @@ pub mod Shape
 pub mod WellFormed
 pub mod Lawful
 pub mod Laws
+pub mod BodyLaws
 pub mod View
 pub mod ExampleParts
 pub mod FlipFlop
 pub mod Gate
 pub mod Pipe
 pub mod Ram
+pub mod WordBit
