@@ -27,7 +27,7 @@ use Rattle.design_model.proofs.Named.{WritesCell-from, WritesCell-left, WritesCe
 
 -- a bit that a term may read is one of a thing that it mentions
 mutual
-  read_mentions : (d : Design) (t : Term) (c : Cell) → may_read d t c ≡ true → mentions c.thing t ≡ true
+  pub read_mentions : (d : Design) (t : Term) (c : Cell) → may_read d t c ≡ true → mentions c.thing t ≡ true
   read_mentions d (number h n) c r = absurd (false≢true r)
   read_mentions d (signal h s) c r = eq-eqb s c.thing (sym (eqb-true c.thing s r))
   read_mentions d (word h m i) c r =
@@ -113,7 +113,7 @@ follows d (assign i x t counted) c a once shape away w =
         go false e = refl
         go true e = absurd (both_ways (may_write d x b && may_read d t b) (away b) (and_from (may_write d x b) (may_read d t b) e r))
 
-is_assign_from : (x : Process) → is_assign x ≡ true → IsAssign x
+pub is_assign_from : (x : Process) → is_assign x ≡ true → IsAssign x
 is_assign_from (assign i x t counted) e = tt
 is_assign_from (comb i wakes s) e = absurd (false≢true e)
 is_assign_from (clocked i events s) e = absurd (false≢true e)

@@ -14,7 +14,7 @@ use Rattle.design_model.specs.Tree.{Process, assign, clocked, comb}
 use Rattle.design_model.specs.Design.{Design, In, IsClocked, IsComb, IsThing, Thing, a_signal, a_word, body, body_at, cell, is_assign, is_memory, no_signal, owner, process_at, signal_at, signal_bits, thing_bits}
 use Rattle.design_model.specs.Mentions.{body_assigns, body_mentions, may_write}
 use Rattle.design_model.specs.Execution.{Visit, execution, execution_start, reads}
-use Rattle.design_model.specs.Paths.{reads_before_writing}
+use Rattle.design_model.specs.Paths.{reads_signal_before_writing}
 use Rattle.design_model.specs.Reads.{Agrees, HasValue, Known, UpToOutside}
 use Rattle.design_model.specs.Machine.{is_level, machine}
 use Rattle.design_model.specs.Run.{IsRun, Run, StepOf, evaluations_of, settled, start_of}
@@ -224,7 +224,7 @@ module _ (d : Design) (lawful : IsLawfulDesign d) (h : Habit) (laws : StepLaws (
               ⊎_elim
               (λ early. doubt s (own_target (record { is_comb = is_comb; may_wake = may_wake; target = mine; reads_first = early })))
               (λ late. no_outer s (execution d (body_at d p) v).visits (body_inner d (body_at d p) s v (comb_blocks d (process_at d p) is_comb (lawful.targets p)) late) (upto_in K (reads (a_signal s) false) (execution d (body_at d p) v).visits upto))
-              (cases_Bool (reads_before_writing d (body_at d p) s))
+              (cases_Bool (reads_signal_before_writing d (body_at d p) s))
 
           owned : body_assigns s (body_at d p) ≡ true → ⊥
           owned mine = ⊎_elim (of_comb mine) (λ is_an_assign. both_ways _ (plain.others is_an_assign s mentioned) mine) (kind_of (process_at d p) plain.not_clocked)

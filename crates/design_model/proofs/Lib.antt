@@ -41,6 +41,7 @@ pub mod FlipFlopExample
 pub mod GateClear
 pub mod PipeClear
 pub mod RamClear
+pub mod WordBitReads
 pub mod Definite
 pub mod MoreKnown
 pub mod StillClear
@@ -50,3 +51,8 @@ pub mod VisitedOpen
 pub mod BlockVisits
 pub mod DecidedClocked
 pub mod DecidedSettled
+pub mod VisitKinds
+pub mod MentionedPaths
+pub mod BodyLaws
+pub mod AssignVisits
+pub mod AssignLaws

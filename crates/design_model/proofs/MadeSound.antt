@@ -13,7 +13,7 @@ use Rattle.design_model.specs.Tree.{Process, Stmt, Target, Term, assign, clocked
 use Rattle.design_model.specs.Design.{Design, IsComb, a_signal, a_word, body, body_at, cell, memory_at, process_at, signal_at, signal_bits, signal_cells, thing_bits}
 use Rattle.design_model.specs.Mentions.{body_assigns, body_mentions, has_cell, may_write}
 use Rattle.design_model.specs.Execution.{Execution, Visit, at_line, at_node, covers, execute_assignment, execution, execution_start, reads, writes_word}
-use Rattle.design_model.specs.Paths.{each_writes_whole, reads_before_writing}
+use Rattle.design_model.specs.Paths.{each_writes_whole, reads_signal_before_writing}
 use Rattle.design_model.specs.Reads.{Agrees, Known}
 use Rattle.design_model.specs.Machine.{is_level, machine}
 use Rattle.design_model.specs.Run.{IsRun, Run, settled}
@@ -95,7 +95,7 @@ module _ (d : Design) (lawful : IsLawfulDesign d) (p : ℕ) (is_comb : IsComb (p
         (⊎_elim (λ own. no_words m i (lawful.comb_writes p m is_comb own)) (λ nope. cells_eq d u v (a_word m i) (λ c is. same c (wakes m c is a.0 nope))) (cases_Bool (body_assigns m (body_at d p))), outer_of xs a.1 (λ q o. (inner q o).1))
 
   -- a Comb that writes s whole on each path and reads no own target before writing it is combinational for each bit of s that it may write
-  pub combinational : ((x : ℕ) → body_assigns x (body_at d p) ≡ true → reads_before_writing d (body_at d p) x ≡ false) → (s : ℕ) → each_writes_whole d (body_at d p) s ≡ true → (c : Cell) → c.thing ≡ s → (machine d).blocking p c ≡ true → IsCombinational (machine d) p c
+  pub combinational : ((x : ℕ) → body_assigns x (body_at d p) ≡ true → reads_signal_before_writing d (body_at d p) x ≡ false) → (s : ℕ) → each_writes_whole d (body_at d p) s ≡ true → (c : Cell) → c.thing ≡ s → (machine d).blocking p c ≡ true → IsCombinational (machine d) p c
   combinational is_early s whole c is at =
       record {
         reads = λ u v same. both u v (execution_same d u v (body_at d p) (outer_of u v same _ (execute_reads (λ y. body_mentions y (body_at d p) ≡ true) d (body_at d p) (λ y e. e) (execution_start u) tt) (λ q own. body_inner d (body_at d p) q u blocks (is_early q own))));

@@ -4,7 +4,7 @@ use Rattle.event_machine.specs.Cell.{Cell}
 use Rattle.event_machine.specs.Habit.{Habit}
 use Rattle.design_model.specs.Design.{Design, IsComb, IsThing, Thing, a_signal, a_word, body_at, cell, owner, process_at}
 use Rattle.design_model.specs.Mentions.{body_assigns, body_mentions}
-use Rattle.design_model.specs.Paths.{reads_before_writing}
+use Rattle.design_model.specs.Paths.{reads_signal_before_writing}
 use Rattle.design_model.specs.Reads.{HasValue, ReadsFrom}
 use Rattle.design_model.specs.Machine.{is_level}
 use Rattle.design_model.specs.Shows.{BoundDump, IsListed, IsWindow}
@@ -82,7 +82,7 @@ pub record ReadsOwnTarget (d : Design) (dump : BoundDump) (t s p : ℕ) : Type 0
   pub is_comb : IsComb (process_at d p)
   pub may_wake : MayWakeUnlisted d dump t p
   pub target : body_assigns s (body_at d p) ≡ true
-  pub reads_first : reads_before_writing d (body_at d p) s ≡ true
+  pub reads_first : reads_signal_before_writing d (body_at d p) s ≡ true
 
 -- why signal or memory s is in doubt for block p at t
 pub data BlockDoubt (d : Design) (h : Habit) (dump : BoundDump) (t : ℕ) (s p : ℕ) : Type 0 where

@@ -20,6 +20,7 @@ pub mod Clear
 pub mod Open
 pub mod Doubt
 pub mod Shape
+pub mod WellFormed
 pub mod Lawful
 pub mod Laws
 pub mod StepLaws
@@ -28,9 +29,11 @@ pub mod StillLaw
 pub mod VisitedOpen
 pub mod DecidedLaw
 pub mod RoundLaws
+pub mod BodyLaws
 pub mod View
 pub mod ExampleParts
 pub mod FlipFlop
 pub mod Gate
 pub mod Pipe
 pub mod Ram
+pub mod WordBit

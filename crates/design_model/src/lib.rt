@@ -7,6 +7,7 @@ ghost use Rattle.design_model.specs.Design.{Design as DesignTree};
 ghost use Rattle.design_model.specs.Machine.{machine};
 ghost use Rattle.design_model.specs.Lawful.{IsLawfulDesign};
 ghost use Rattle.design_model.specs.ToggleLaw.{ToggleLaw};
+ghost use Rattle.design_model.specs.BodyLaws.{AssignLineLaw, AssignVisitsLaw, ListedMemoryLaw, MentionReadLaw, OwnNotClearLaw, OwnUnclearLaw, OwnWakeLaw, PathMentionsLaw, SettledSignalsLaw, WordVisitsLaw, WrittenCellsLaw};
 ghost use Rattle.design_model.specs.RoundLaws.{DecidedRoundsLaw, EndingRoundsLaw, GrowingRoundsLaw};
 ghost use Rattle.design_model.specs.StepLaws.{AssignQueuesLaw, StepFactsLaw, EventFactsLaw, CleanStepLaw, UnlistedLaw};
 ghost use Rattle.design_model.specs.MoreKnown.{MoreKnownLaw};
@@ -22,7 +23,9 @@ mod point;
 mod tree;
 
 pub use design::{Alias, Constant, Design, Instance, Memory, Range, Signal};
-pub use examples::{memory_word, moving_input, steady_register, undumped_net, undumped_register};
+pub use examples::{
+    bit_of_word, memory_word, moving_input, steady_register, undumped_net, undumped_register,
+};
 pub use map::PartialMap;
 pub use point::{LineWord, NodeCase, Point};
 pub use tree::{CaseArm, Form, Process, Stmt, StmtForm, Target, Term};
@@ -30,11 +33,6 @@ pub use tree::{CaseArm, Form, Process, Stmt, StmtForm, Target, Term};
 /// The machine of a lawful design is lawful, so the laws of the event machine hold for it.
 pub fn lawful_machine()
     ensures { (d : DesignTree) → IsLawfulDesign d → IsLawful (machine d) }
-{}
-
-/// An Assign queues no update.
-pub fn assign_law()
-    ensures { (d : DesignTree) → AssignQueuesLaw d }
 {}
 
 /// In each round of single cells finite tests decide which process can wake, and so each round grows on the one before,
@@ -114,4 +112,26 @@ pub fn decided_law()
     ensures signals { (d : DesignTree) (h : Habit) → IsLawfulDesign d → SignalDecidedLaw d h }
     ensures clocked { (d : DesignTree) (h : Habit) → IsLawfulDesign d → ClockedDecidedLaw d h }
     ensures settled { (d : DesignTree) (h : Habit) → IsLawfulDesign d → SettledDecidedLaw d h }
+{}
+
+/// What a process writes is of the design and among its targets, and what it may read on some path it mentions.
+pub fn body_law()
+    ensures written_cells { (d : DesignTree) → IsLawfulDesign d → WrittenCellsLaw d }
+    ensures word_visits { (d : DesignTree) → IsLawfulDesign d → WordVisitsLaw d }
+    ensures path_mentions { (d : DesignTree) → PathMentionsLaw d }
+    ensures settled_signals { (d : DesignTree) → IsLawfulDesign d → SettledSignalsLaw d }
+    ensures listed_memory { (d : DesignTree) → IsLawfulDesign d → ListedMemoryLaw d }
+{}
+
+/// An Assign queues no update. What it visits depends on its wake cells alone, it reads each signal that it mentions, and no line of it is a
+/// line point. A signal that it both drives and mentions has a wake bit of it, or no bit that it reads, and is clear only
+/// where the dump has it.
+pub fn assign_law()
+    ensures queues { (d : DesignTree) → AssignQueuesLaw d }
+    ensures visits { (d : DesignTree) → IsLawfulDesign d → AssignVisitsLaw d }
+    ensures lines { (d : DesignTree) → AssignLineLaw d }
+    ensures mention_read { (d : DesignTree) → IsLawfulDesign d → MentionReadLaw d }
+    ensures own_unclear { (d : DesignTree) → IsLawfulDesign d → OwnUnclearLaw d }
+    ensures own_not_clear { (d : DesignTree) → IsLawfulDesign d → OwnNotClearLaw d }
+    ensures own_wake { (d : DesignTree) → IsLawfulDesign d → OwnWakeLaw d }
 {}

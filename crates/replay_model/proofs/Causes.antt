@@ -4,7 +4,7 @@ use Rattle.event_machine.specs.Cell.{Cell}
 use Rattle.event_machine.specs.Habit.{Habit}
 use Rattle.design_model.specs.Design.{Design, IsComb, IsThing, Thing, a_signal, a_word, body_at, cell, owner, process_at}
 use Rattle.design_model.specs.Mentions.{body_assigns, body_mentions}
-use Rattle.design_model.specs.Paths.{reads_before_writing}
+use Rattle.design_model.specs.Paths.{reads_signal_before_writing}
 use Rattle.design_model.specs.Reads.{HasValue, ReadsFrom}
 use Rattle.design_model.specs.Shows.{BoundDump}
 use Rattle.design_model.specs.MayMove.{CanWakeAt, CanWakeSome, IsCleanAt, MayMoveAt}
@@ -29,5 +29,5 @@ module _ {d : Design} {h : Habit} {dump : BoundDump} {t s p : ℕ} where
   pub doubt_word : (i : ℕ) → IsNotClocked d p → MayWakeUnlisted d dump t p → body_mentions s (body_at d p) ≡ true → IsThing d (a_word s i) → IsUnclear d h dump t (a_word s i) → ReadsFrom d (KnownAtEnd d h dump t p) (body_at d p) (a_word s i) ⊎ MayMoveAt d dump t s → BlockDoubt d h dump t s p
   doubt_word i settles wakes mentioned is_thing unclear moves = unclear_word (record { word = i; not_clocked = settles; may_wake = wakes; mentioned = mentioned; is_thing = is_thing; unclear = unclear; read_or_moves = moves })
 
-  pub doubt_own : IsComb (process_at d p) → MayWakeUnlisted d dump t p → body_assigns s (body_at d p) ≡ true → reads_before_writing d (body_at d p) s ≡ true → BlockDoubt d h dump t s p
+  pub doubt_own : IsComb (process_at d p) → MayWakeUnlisted d dump t p → body_assigns s (body_at d p) ≡ true → reads_signal_before_writing d (body_at d p) s ≡ true → BlockDoubt d h dump t s p
   doubt_own comb wakes mine first = own_target (record { is_comb = comb; may_wake = wakes; target = mine; reads_first = first })
