@@ -1,0 +1,4 @@
+pub mod Entry
+pub mod ResetDoubt
+pub mod LoopDoubt
+pub mod LatchDoubt

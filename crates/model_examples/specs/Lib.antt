@@ -1,0 +1,3 @@
+pub mod Reset
+pub mod Loop
+pub mod Latch
