@@ -5,6 +5,9 @@
 ghost use Rattle.model_examples.specs.Reset.{IsBothExample, IsReleaseExample};
 ghost use Rattle.model_examples.specs.Loop.{IsLoopExample};
 ghost use Rattle.model_examples.specs.Latch.{IsLatchExample};
+ghost use Rattle.model_examples.specs.Hold.{IsHoldExample};
+ghost use Rattle.model_examples.specs.Rom.{IsRomExample};
+ghost use Rattle.model_examples.specs.Race.{IsRaceExample};
 
 /// A register whose clock rises and whose reset falls at one time: its block is not clean, so each point is open and in
 /// doubt, and none is reached.
@@ -26,4 +29,19 @@ pub fn own_target()
 /// A latch that the dump lacks is never clear, so it is in doubt for what reads it, by a Clocked and by a net.
 pub fn undumped_latch()
     ensures { IsLatchExample }
+{}
+
+/// A register with an enable: whichever way the undecided test goes, one line is never reached and another always is.
+pub fn branch_closed()
+    ensures { IsHoldExample }
+{}
+
+/// A net that reads a memory of which no word is ever clear: the memory is in doubt for its value.
+pub fn unwritten_memory()
+    ensures { IsRomExample }
+{}
+
+/// A blocking write that another block reads at the same edge: early for the reader, and not for the writer.
+pub fn blocking_race()
+    ensures { IsRaceExample }
 {}
