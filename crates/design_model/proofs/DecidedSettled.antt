@@ -1,26 +1,25 @@
 -- A point of Assigns and Combs for which nothing is in doubt is hit in each run that shows the dump, or in none.
-use Rattle.std.proofs.Common.{◌≡◌, ◌≢◌, ◌⊎◌, inl, inr, ⊎_elim, ℕ, zero, suc, ◌-◌, ◌<◌, ◌≤◌, ◌==◌, ◌&&◌, Bool, true, false, List, [], ◌∷◌, ◌++◌, length, nat_le, nat_lt, refl, sym, ap, subst, ◌∙◌, arith, if◌then◌else◌}
+use Rattle.std.proofs.Common.{◌≡◌, ◌≢◌, ◌⊎◌, inl, inr, ⊎_elim, ℕ, zero, suc, ◌<◌, ◌≤◌, ◌==◌, Bool, true, false, List, [], ◌∷◌, ◌++◌, length, nat_le, nat_lt, refl, sym, ap, subst, ◌∙◌, arith, if◌then◌else◌}
 use Rattle.std.specs.Prelude.{slice_index_or}
 use Rattle.std.specs.List.{list_all}
-use Rattle.std.proofs.lemmas.Bool.{and_parts, both_ways, cases_Bool, cases_lt, false_from_ne_true, leb-true, ltb-true, or_left}
+use Rattle.std.proofs.lemmas.Bool.{and_parts, both_ways, cases_Bool, cases_lt, false_from_ne_true, leb-true, ltb-true}
 use Rattle.event_machine.specs.Cell.{Cell, Values}
 use Rattle.event_machine.specs.Machine.{IsWakeCell}
 use Rattle.event_machine.specs.Habit.{Habit}
-use Rattle.event_machine.specs.Step.{IsStep}
 use Rattle.event_machine.specs.Laws.{EvaluatesSettled}
 use Rattle.four_state.specs.declared.bit.Bit.{Bit}
 use Rattle.design_model.specs.declared.design.Signal.{Signal}
 use Rattle.design_model.specs.Tree.{Process, assign, clocked, comb}
-use Rattle.design_model.specs.Design.{Design, In, IsClocked, IsComb, IsThing, Thing, a_signal, a_word, body, body_at, cell, is_assign, is_memory, no_signal, owner, process_at, signal_at, signal_bits, thing_bits}
+use Rattle.design_model.specs.Design.{Design, In, IsClocked, IsComb, IsThing, Thing, a_signal, a_word, body_at, cell, is_assign, no_signal, owner, process_at, signal_at}
 use Rattle.design_model.specs.Mentions.{body_assigns, body_mentions, may_write}
 use Rattle.design_model.specs.Execution.{Visit, execution, execution_start, reads}
 use Rattle.design_model.specs.Paths.{reads_signal_before_writing}
 use Rattle.design_model.specs.Reads.{Agrees, HasValue, Known, UpToOutside}
-use Rattle.design_model.specs.Machine.{is_level, machine}
+use Rattle.design_model.specs.Machine.{machine}
 use Rattle.design_model.specs.Run.{IsRun, Run, StepOf, evaluations_of, settled, start_of}
 use Rattle.design_model.specs.Shows.{BoundDump, IsDumpOf, IsShown, IsWindow, Shows, ShowsUpTo}
 use Rattle.design_model.specs.Scored.{ChangesOver, IsScored, IsScoredOf, VisitsIn}
-use Rattle.design_model.specs.Points.{IsBlock, IsHitAt, Point}
+use Rattle.design_model.specs.Points.{IsBlock, Point}
 use Rattle.design_model.specs.MayMove.{MayMoveAt}
 use Rattle.design_model.specs.Clear.{IsSignal, clear, clear_before}
 use Rattle.design_model.specs.Open.{IsOpenFor, IsVisitOf, IsWakeBit, KnownAtEnd}
@@ -33,7 +32,7 @@ use Rattle.design_model.proofs.Combs.{AllInnerOf, IsInnerOf, body_inner}
 use Rattle.design_model.proofs.DecidedClocked.{no_time_hit, step_of}
 use Rattle.design_model.proofs.DecidedSignals.{clear_end_bits, clear_start_bits, stays}
 use Rattle.design_model.proofs.ForcedSound.{clear_at}
-use Rattle.design_model.proofs.Hits.{StepHere, step_here, upto_in}
+use Rattle.design_model.proofs.Hits.{step_here, upto_in}
 use Rattle.design_model.proofs.Lawful.{any_gives, assigns_any, may_any, place_from}
 use Rattle.design_model.proofs.MadeSound.{comb_blocks}
 use Rattle.design_model.proofs.Mentions.{AllReads, IsReadOf, execute_reads}

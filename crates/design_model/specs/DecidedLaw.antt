@@ -1,5 +1,5 @@
 -- A point for which nothing is in doubt at a time is hit then in each run that shows the dump, or in none.
-use Rattle.std.specs.Prelude.{◌≡◌, ◌≢◌, ◌<◌, ℕ, true, false, List, ⊤}
+use Rattle.std.specs.Prelude.{◌≡◌, ◌≢◌, ◌<◌, ℕ, true, false, ⊤}
 use Rattle.event_machine.specs.Habit.{Habit}
 use Rattle.design_model.specs.Design.{Design, IsClocked, IsThing, a_word, body_at, is_assign, process_at, signal_at}
 use Rattle.design_model.specs.Mentions.{body_assigns, body_mentions}

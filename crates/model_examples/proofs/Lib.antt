@@ -1,0 +1,9 @@
+pub mod Entry
+pub mod ResetDoubt
+pub mod LoopDoubt
+pub mod LatchDoubt
+pub mod PathSteps
+pub mod HoldDoubt
+pub mod HoldRun
+pub mod RomDoubt
+pub mod RaceDoubt
