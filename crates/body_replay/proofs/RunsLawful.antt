@@ -109,7 +109,7 @@ runs_law d lawful =
       local = λ p st st' how same. local d lawful p st st' how same;
       blames = λ p st time x y h.
           let b = blame_sound d (body_at d p) (own_store st) time (lawful.bodies p) x y.thing (doubt_noted x y _ h) in
-          (doubt_time d lawful p st time x y h, subst (λ z. Rattle.body_replay.specs.Contract.IsUnsure d (seen_of st) z) b.1 b.2, subst (λ z. Rattle.body_replay.specs.Contract.ReadsBare d (body_at d p) z) b.1 b.3);
+          (doubt_time d lawful p st time x y h, subst (λ z. Rattle.body_replay.specs.Contract.IsUnsure d (seen_of st) z) b.1 b.2, subst (λ z. Rattle.design_model.specs.Paths.ReadsUnwritten d (body_at d p) z) b.1 b.3);
       surely_open_hit = λ p st time q x e here. surely_open_hit d (body_at d p) (own_store st) time q x e here;
       doubt_open = λ p st time q x y e h. marked_open d (body_at d p) (own_store st) (clean time) tt q x e (has_note x y _ h);
       quiet_notes = λ p st. refl;

@@ -13,7 +13,7 @@ use Rattle.design_model.specs.Shape.{is_body}
 use Rattle.design_model.specs.Value.{head}
 use Rattle.design_model.specs.Numbered.{LineAt, lines}
 use Rattle.design_model.specs.Mentions.{body_mentions, body_terms, body_assigns, has_cell}
-use Rattle.design_model.specs.Paths.{Path, paths, reads_unwritten, action_mentions, PathStep}
+use Rattle.design_model.specs.Paths.{Path, PathStep, ReadsUnwritten, action_mentions, paths, reads_signal_unwritten}
 use Rattle.design_model.specs.Reads.{Known, Agrees, IsTold, VisitsFrom}
 use Rattle.design_model.specs.Open.{IsOpen, IsSurelyOpen}
 use Rattle.design_model.specs.declared.point.Point.{Point}
@@ -324,14 +324,10 @@ WeakMarks =
 abbrev pub IsUnsure : Design → Kept → ℕ → Type 0
 IsUnsure d b y = (x : Thing) × (owner x ≡ y) × IsThing d x × ((c : Cell) × In c (cells d x) × (b c ≡ None))
 
--- some path reads y, for a signal before it has written it whole by blocking writes
-abbrev pub ReadsBare : Design → Stmt → ℕ → Type 0
-ReadsBare d s y = (path : Path) × In path (paths [] s) × ((reads_unwritten d y [] path ≡ true) ⊎ ((is_memory d y ≡ true) × ((x : PathStep) × In x path × (action_mentions y x.action ≡ true))))
-
 -- *blame*: the thing of each doubt is the blame of a signal or memory that is not wholly sure as bodies read it, and that some path reads. The numbers in the body name things of the design.
 abbrev pub BlameSound : Type 0
 BlameSound =
-    (d : Design) (s : Stmt) (st : Store) (time : ℕ) → is_body d s ≡ true → (x : Spot) (thing : ℕ) → HasDoubt x thing (outcome d s st (clean time)).notes → (y : ℕ) × (st.blame y ≡ thing) × IsUnsure d (read_of st) y × ReadsBare d s y
+    (d : Design) (s : Stmt) (st : Store) (time : ℕ) → is_body d s ≡ true → (x : Spot) (thing : ℕ) → HasDoubt x thing (outcome d s st (clean time)).notes → (y : ℕ) × (st.blame y ≡ thing) × IsUnsure d (read_of st) y × ReadsUnwritten d s y
 
 -- the spot of a line, logic or memory point
 abbrev pub spot_at : Point → Option Spot

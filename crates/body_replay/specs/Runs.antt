@@ -1,4 +1,5 @@
 -- The runs of the processes of a design, in which each signal and memory is blamed by its own number, and what they promise.
+use Rattle.design_model.specs.Paths.{ReadsUnwritten}
 use Rattle.std.specs.Prelude.{◌≡◌, ◌⊎◌, ℕ, Bool, true, false, if◌then◌else◌, List, [], ◌∷◌, ◌++◌, Option, Some, None, ⊤}
 use Rattle.event_machine.specs.Cell.{Cell, Values, put_all}
 use Rattle.four_state.specs.declared.bit.Bit.{Bit}
@@ -12,7 +13,7 @@ use Rattle.design_model.specs.Open.{IsOpen, IsSurelyOpen}
 use Rattle.body_replay.specs.KnownBits.{Allows}
 use Rattle.body_replay.specs.Store.{AllowsState, Kept}
 use Rattle.body_replay.specs.Replay.{Spot, Visited, flush, spot_of}
-use Rattle.body_replay.specs.Contract.{Arises, Certainty, Doubted, HasHitNote, IsStrong, IsUnsure, Note, Outcome, ReadsBare, Store, all_written, clean, flushed, outcome, perhaps, quiet, spot_at, sure_in, weak}
+use Rattle.body_replay.specs.Contract.{Arises, Certainty, Doubted, HasHitNote, IsStrong, IsUnsure, Note, Outcome, Store, all_written, clean, flushed, outcome, perhaps, quiet, spot_at, sure_in, weak}
 
 -- a store as bodies meet it: what is kept of each cell, and the things of which they read something else
 pub record StoreView : Type 0 where
@@ -62,7 +63,7 @@ pub record AreRuns (d : Design) (run : Runs) : Type 0 where
   -- what is noted depends on what is read of the things that the body mentions alone
   pub local : (p : ℕ) (st st' : StoreView) (how : Certainty) → ((c : Cell) → body_mentions c.thing (body_at d p) ≡ true → seen_of st c ≡ seen_of st' c) → (run p st how).notes ≡ (run p st' how).notes
   -- the thing of a doubt is a signal or memory that is not wholly sure as bodies read it, and that some path reads
-  pub blames : (p : ℕ) (st : StoreView) (time : ℕ) (x : Spot) (y : Doubted) → HasDoubtNote x y (run p st (clean time)).notes → (y.time ≡ time) × IsUnsure d (seen_of st) y.thing × ReadsBare d (body_at d p) y.thing
+  pub blames : (p : ℕ) (st : StoreView) (time : ℕ) (x : Spot) (y : Doubted) → HasDoubtNote x y (run p st (clean time)).notes → (y.time ≡ time) × IsUnsure d (seen_of st) y.thing × ReadsUnwritten d (body_at d p) y.thing
   -- what is surely open is hit, and what gets a doubt is open
   pub surely_open_hit : (p : ℕ) (st : StoreView) (time : ℕ) (q : Point) (x : Spot) → spot_at q ≡ Some x → IsSurelyOpen d (sure_in d (seen_of st)) (body_at d p) q → HasHitNote x (run p st (clean time)).notes
   pub doubt_open : (p : ℕ) (st : StoreView) (time : ℕ) (q : Point) (x : Spot) (y : Doubted) → spot_at q ≡ Some x → HasDoubtNote x y (run p st (clean time)).notes → IsOpen d (sure_in d (seen_of st)) (body_at d p) q

@@ -19,14 +19,15 @@ use Rattle.design_model.specs.Shows.{BoundDump, IsWindow}
 use Rattle.design_model.specs.Points.{HitIn, IsBlock}
 use Rattle.design_model.proofs.Mentions.{AllReads, execute_reads}
 use Rattle.design_model.proofs.StepLaws.{StepLaws}
-use Rattle.replay_model.specs.Asked.{AskedLaws}
+use Rattle.replay_model.proofs.AskedLaws.{AskedLaws}
 use Rattle.body_replay.specs.Contract.{Certainty, Doubted, HasHitNote, Note, clean, perhaps, spot_at}
 use Rattle.body_replay.specs.KnownBits.{Allows}
 use Rattle.body_replay.specs.Replay.{Spot, Visited, line, node, word_read, word_write}
 use Rattle.body_replay.specs.Runs.{HasDoubtNote, Runs, seen_of}
 use Rattle.body_replay.specs.Store.{AllowsState}
 use Rattle.replay_model.specs.Sets.{AreSets, Sets}
-use Rattle.replay_model.specs.Tables.{Tables, all_cells}
+use Rattle.design_model.specs.BodyLaws.{all_cells}
+use Rattle.replay_model.specs.Tables.{Tables}
 use Rattle.replay_model.specs.Marks.{IsKeyOf, Told, all_told_by, of_process}
 use Rattle.replay_model.specs.Step.{Closing, Replay, all_run, certainty, clocked_run, entry_kept, is_touched, opened, plain_store, run_all_clean, settled_kept, surely_same, wake_cells}
 use Rattle.replay_model.specs.Stands.{IsLeft, IsShowing}

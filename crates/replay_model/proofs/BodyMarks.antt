@@ -15,14 +15,15 @@ use Rattle.design_model.specs.Run.{Run, StepOf, settled}
 use Rattle.design_model.specs.Shows.{BoundDump, IsWindow}
 use Rattle.design_model.specs.Points.{HitIn, IsBlock}
 use Rattle.design_model.proofs.StepLaws.{StepLaws}
-use Rattle.replay_model.specs.Asked.{AskedLaws}
+use Rattle.replay_model.proofs.AskedLaws.{AskedLaws}
 use Rattle.body_replay.specs.Contract.{Certainty, HasHitNote, Note, clean, perhaps, quiet, spot_at}
 use Rattle.body_replay.specs.KnownBits.{Allows}
 use Rattle.body_replay.specs.Replay.{Spot, Visited}
 use Rattle.body_replay.specs.Runs.{Runs}
 use Rattle.body_replay.specs.Store.{AllowsState, Kept}
 use Rattle.replay_model.specs.Sets.{AreSets, Sets}
-use Rattle.replay_model.specs.Tables.{Tables, all_cells}
+use Rattle.design_model.specs.BodyLaws.{all_cells}
+use Rattle.replay_model.specs.Tables.{Tables}
 use Rattle.replay_model.specs.Marks.{IsKeyOf, Told, all_told_by, of_process}
 use Rattle.replay_model.specs.Step.{Closing, Replay, Working, all_run, certainty, clocked_run, entry_kept, has_changed, is_comb, is_touched, opened, plain_store, run_all_clean, run_all_settling, run_settling, settle_start, settled_kept, surely_differ, wake_cells}
 use Rattle.replay_model.specs.Stands.{IsLeft, IsShowing}

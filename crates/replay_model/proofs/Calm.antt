@@ -16,7 +16,7 @@ use Rattle.design_model.specs.MayMove.{CanWakeSome}
 use Rattle.design_model.specs.Shows.{BoundDump, IsListed, IsShown, IsWindow}
 use Rattle.design_model.specs.Clear.{clear}
 use Rattle.design_model.proofs.Lawful.{same_bit_is}
-use Rattle.replay_model.specs.Asked.{AskedLaws}
+use Rattle.replay_model.proofs.AskedLaws.{AskedLaws}
 use Rattle.body_replay.specs.Contract.{sure_in}
 use Rattle.body_replay.specs.Replay.{flush}
 use Rattle.body_replay.specs.Runs.{Runs}

@@ -19,7 +19,7 @@ use Rattle.design_model.specs.Clear.{EntryFrom, IsClockedTarget, IsUnbound, IsWr
 use Rattle.design_model.proofs.Named.{has_cell-from}
 use Rattle.design_model.proofs.Told.{put_covered}
 use Rattle.design_model.proofs.Untouched.{put_other}
-use Rattle.replay_model.specs.Asked.{AskedLaws}
+use Rattle.replay_model.proofs.AskedLaws.{AskedLaws}
 use Rattle.body_replay.specs.Contract.{all_written, clean, flushed, sure_in}
 use Rattle.body_replay.specs.Replay.{flush}
 use Rattle.body_replay.specs.Runs.{Runs, StoreView, seen_of}

@@ -28,7 +28,7 @@ use Rattle.design_model.proofs.Mentions.{AllReads, execute_reads}
 use Rattle.design_model.proofs.Named.{has_cell-from, WritesCell-from}
 use Rattle.design_model.proofs.Told.{put_append, put_same, told_by}
 use Rattle.design_model.proofs.Untouched.{put_other}
-use Rattle.replay_model.specs.Asked.{AskedLaws}
+use Rattle.replay_model.proofs.AskedLaws.{AskedLaws}
 use Rattle.body_replay.specs.Contract.{all_written, sure_in}
 use Rattle.body_replay.specs.Runs.{Runs}
 use Rattle.body_replay.specs.Store.{Kept}

@@ -14,8 +14,7 @@ use Rattle.design_model.specs.Machine.{machine}
 use Rattle.design_model.specs.Shows.{BoundDump}
 use Rattle.design_model.proofs.Named.{WritesCell-halves}
 use Rattle.design_model.proofs.Untouched.{put_other}
-use Rattle.replay_model.specs.Asked.{WrittenCellsLaw}
-use Rattle.replay_model.specs.Tables.{all_cells, word_indexes, words_cells}
+use Rattle.design_model.specs.BodyLaws.{WrittenCellsLaw, all_cells, word_indexes, words_cells}
 use Rattle.replay_model.proofs.Bits.{any_in, none_in}
 use Rattle.replay_model.proofs.Facts.{Facts}
 

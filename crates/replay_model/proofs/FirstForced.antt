@@ -21,7 +21,7 @@ use Rattle.design_model.proofs.Mentions.{execute_reads}
 use Rattle.design_model.proofs.Named.{WritesCell-from, has_cell-from}
 use Rattle.design_model.proofs.Told.{put_append, put_same, told_by}
 use Rattle.design_model.proofs.Untouched.{put_other}
-use Rattle.replay_model.specs.Asked.{AskedLaws}
+use Rattle.replay_model.proofs.AskedLaws.{AskedLaws, asked_of}
 use Rattle.body_replay.specs.Contract.{all_written, sure_in}
 use Rattle.body_replay.specs.Runs.{Runs}
 use Rattle.body_replay.specs.Store.{Kept}
@@ -29,7 +29,7 @@ use Rattle.replay_model.specs.Tables.{Tables}
 use Rattle.replay_model.specs.Step.{is_comb, is_dumped, surely_differ}
 use Rattle.replay_model.specs.Start.{all_first, contradicts_first}
 use Rattle.replay_model.specs.Stands.{made_kept}
-use Rattle.replay_model.specs.Laws.{FirstForcedLaw, IsReplayOf}
+use Rattle.replay_model.specs.Laws.{FirstForcedLaw, FirstForcedLawBy, IsReplayOf}
 use Rattle.replay_model.proofs.Allows.{past}
 use Rattle.replay_model.proofs.ClearRounds.{assign_level, inside_as, inside_read, read_in}
 use Rattle.replay_model.proofs.Clocked.{UpdatesCell-join, at_false}
@@ -160,5 +160,8 @@ module _ (d : Design) (h : Habit) (dump : BoundDump) (run : Runs) (tables : Tabl
   forced_first u s bits le bound plain (by_comb p window moves value) = absurd (not_window dump.times t u first window le)
   forced_first u s bits le bound plain (by_clocked p c window moves value) = absurd (not_window dump.times t u first window le)
 
+pub first_forced_by : FirstForcedLawBy AskedLaws
+first_forced_by d h dump run tables points is asked t first shown agreed u s bits le forced = forced_first d h dump run tables points is asked t first agreed u s bits le forced.is_bound forced.no_input forced.forced
+
 pub first_forced_law : FirstForcedLaw
-first_forced_law d h dump run tables points is asked t first shown agreed u s bits le forced = forced_first d h dump run tables points is asked t first agreed u s bits le forced.is_bound forced.no_input forced.forced
+first_forced_law d h dump run tables points is own = first_forced_by d h dump run tables points is (asked_of d is.lawful own)

@@ -19,7 +19,7 @@ use Rattle.design_model.proofs.Lawful.{any_gives, may_any, place_from}
 use Rattle.design_model.proofs.Mentions.{execute_reads}
 use Rattle.design_model.proofs.Named.{WritesCell-from}
 use Rattle.design_model.proofs.Told.{put_covered, told_blocking, told_by, told_nonblocking}
-use Rattle.replay_model.specs.Asked.{AskedLaws}
+use Rattle.replay_model.proofs.AskedLaws.{AskedLaws, asked_of}
 use Rattle.body_replay.specs.Contract.{all_written, quiet, sure_in}
 use Rattle.body_replay.specs.Runs.{Runs}
 use Rattle.body_replay.specs.Store.{Kept}
@@ -27,7 +27,7 @@ use Rattle.replay_model.specs.Tables.{Drives, StandsBefore, Tables}
 use Rattle.replay_model.specs.Step.{is_comb, is_dumped}
 use Rattle.replay_model.specs.Start.{Starting, after_first, all_first, first_kept, first_store, run_all_first, run_first, started}
 use Rattle.replay_model.specs.Stands.{AreKnown, IsMade, made_kept}
-use Rattle.replay_model.specs.Laws.{FirstKnownLaw, IsReplayOf}
+use Rattle.replay_model.specs.Laws.{FirstKnownLaw, FirstKnownLawBy, IsReplayOf}
 use Rattle.replay_model.proofs.Bits.{any_in, in_halves, in_left, in_right, none_in}
 use Rattle.replay_model.proofs.ClearRounds.{clear_placed, clear_sure, inside_as, read_in}
 use Rattle.replay_model.proofs.Clocked.{at_false, at_true, distinct_left, output_targets}
@@ -315,5 +315,8 @@ module _ (d : Design) (h : Habit) (dump : BoundDump) (run : Runs) (tables : Tabl
   pub known_first : AreKnown d h dump tables t (started d dump.bound run tables (dump.values t))
   known_first = record { is_clear = is_sure; has_acted = no_change; made = made }
 
+pub first_known_by : FirstKnownLawBy AskedLaws
+first_known_by d h dump run tables points is asked t first shown agreed = known_first d h dump run tables points is asked t first
+
 pub first_known_law : FirstKnownLaw
-first_known_law d h dump run tables points is asked t first shown agreed = known_first d h dump run tables points is asked t first
+first_known_law d h dump run tables points is own = first_known_by d h dump run tables points is (asked_of d is.lawful own)

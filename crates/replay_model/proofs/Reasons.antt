@@ -23,7 +23,7 @@ use Rattle.design_model.specs.Doubt.{BlockDoubt, IsInDoubt, of_block}
 use Rattle.replay_model.proofs.Causes.{doubt_at_start, doubt_early, doubt_unclean}
 use Rattle.design_model.proofs.Bound.{clear-thing}
 use Rattle.design_model.proofs.Lawful.{edge_one}
-use Rattle.replay_model.specs.Asked.{AskedLaws}
+use Rattle.replay_model.proofs.AskedLaws.{AskedLaws}
 use Rattle.body_replay.specs.Contract.{Doubted, HasHitNote, IsUnsure, Note, clean, spot_at, sure_in}
 use Rattle.body_replay.specs.Replay.{Spot, line, node, spot_of, word_read, word_write}
 use Rattle.body_replay.specs.Runs.{HasDoubtNote, Runs, seen_of}
@@ -151,7 +151,7 @@ module _ (d : Design) (h : Habit) (dump : BoundDump) (run : Runs) (tables : Tabl
         note : HasDoubtNote s y (run p k.store (clean (suc t))).notes
         note = subst (HasDoubtNote s y) k.notes told
 
-        blame : (y.time ≡ suc t) × IsUnsure d (seen_of k.store) y.thing × Rattle.body_replay.specs.Contract.ReadsBare d (body_at d p) y.thing
+        blame : (y.time ≡ suc t) × IsUnsure d (seen_of k.store) y.thing × Rattle.design_model.specs.Paths.ReadsUnwritten d (body_at d p) y.thing
         blame = is.runs.blames p k.store (suc t) s y (subst (HasDoubtNote s y) k.notes told)
 
         open_for : IsOpenFor d h dump (suc t) p x
@@ -163,10 +163,10 @@ module _ (d : Design) (h : Habit) (dump : BoundDump) (run : Runs) (tables : Tabl
         thing : Thing
         thing = (is.runs.blames p k.store (suc t) s y (subst (HasDoubtNote s y) k.notes told)).1.0
 
-        from : (b : (y.time ≡ suc t) × IsUnsure d (seen_of k.store) y.thing × Rattle.body_replay.specs.Contract.ReadsBare d (body_at d p) y.thing) → ReadsFrom d (KnownOnEntry d h dump (suc t) p) (body_at d p) b.1.0
+        from : (b : (y.time ≡ suc t) × IsUnsure d (seen_of k.store) y.thing × Rattle.design_model.specs.Paths.ReadsUnwritten d (body_at d p) y.thing) → ReadsFrom d (KnownOnEntry d h dump (suc t) p) (body_at d p) b.1.0
         from b = inr (untold, subst (λ z. Rattle.design_model.specs.Mentions.body_mentions z (body_at d p) ≡ true) (sym b.1.1) (asked.path_mentions p y.thing b.2), b.1.2)
 
-        late : (b : (y.time ≡ suc t) × IsUnsure d (seen_of k.store) y.thing × Rattle.body_replay.specs.Contract.ReadsBare d (body_at d p) y.thing) → sets.early p y.thing ≡ false → BlockDoubt d h dump (suc t) y.thing p
+        late : (b : (y.time ≡ suc t) × IsUnsure d (seen_of k.store) y.thing × Rattle.design_model.specs.Paths.ReadsUnwritten d (body_at d p) y.thing) → sets.early p y.thing ≡ false → BlockDoubt d h dump (suc t) y.thing p
         late b e =
             doubt_at_start b.1.0 b.1.2 b.1.1 (cell k.trigger 0, is_clean.can_wake) (from b) (λ c c_clean q. trigger_sure (q ∙ ap (λ z. a_signal z.thing) (is_clean.alone c c_clean.can_wake)))
             (λ v. sure_bit a.kept (cells d b.1.0) v.0 (start_sure b.1.0 v.0 v.1) b.1.3.0 b.1.3.1 (sym (not_hidden b.1.3.0 other not_early) ∙ b.1.3.2))

@@ -12,7 +12,7 @@ use Rattle.design_model.specs.declared.design.Memory.{Memory}
 use Rattle.design_model.specs.declared.point.Point.{Point}
 use Rattle.design_model.specs.Design.{Design, In, no_memory, IsClocked, IsThing, Thing, a_signal, a_word, body_at, cell, cells, is_memory, memory_at, owner, process_at, signal_at, signal_bits, signal_cells, word_cells}
 use Rattle.design_model.specs.Mentions.{blocking_target, body_assigns, body_mentions}
-use Rattle.design_model.specs.Paths.{paths, reads_unwritten}
+use Rattle.design_model.specs.Paths.{ReadsUnwritten, paths, reads_signal_unwritten}
 use Rattle.design_model.specs.Machine.{is_level, machine}
 use Rattle.design_model.specs.Shows.{BoundDump, IsListed, IsShown, IsWindow}
 use Rattle.design_model.specs.Points.{IsBlock}
@@ -22,13 +22,14 @@ use Rattle.design_model.specs.Open.{HasChangedWakeBit, IsOpen, IsOpenFor, KnownA
 use Rattle.design_model.specs.Doubt.{BlockDoubt, IsInDoubt, IsUnclear, of_block}
 use Rattle.replay_model.proofs.Causes.{doubt_own, doubt_signal, doubt_word}
 use Rattle.design_model.proofs.Lawful.{same_bit_is}
-use Rattle.replay_model.specs.Asked.{AskedLaws}
-use Rattle.body_replay.specs.Contract.{Certainty, Doubted, HasHitNote, IsUnsure, Note, ReadsBare, clean, perhaps, quiet, spot_at, sure_in}
+use Rattle.replay_model.proofs.AskedLaws.{AskedLaws}
+use Rattle.body_replay.specs.Contract.{Certainty, Doubted, HasHitNote, IsUnsure, Note, clean, perhaps, quiet, spot_at, sure_in}
 use Rattle.body_replay.specs.Replay.{Spot}
 use Rattle.body_replay.specs.Runs.{HasDoubtNote, Runs}
 use Rattle.body_replay.specs.Store.{Kept}
 use Rattle.replay_model.specs.Sets.{AreSets, Sets}
-use Rattle.replay_model.specs.Tables.{Tables, all_cells, word_indexes, words_cells}
+use Rattle.design_model.specs.BodyLaws.{all_cells, word_indexes, words_cells}
+use Rattle.replay_model.specs.Tables.{Tables}
 use Rattle.replay_model.specs.Step.{Closing, Replay, all_run, certainty, first_unsure, has_changed, is_comb, is_dumped, is_still, plain_store, settled_kept, surely_differ, surely_same, wake_cells}
 use Rattle.replay_model.specs.Laws.{IsReplayOf, closing_at}
 use Rattle.replay_model.proofs.Allows.{window_shown_at}
@@ -201,14 +202,14 @@ module _ (d : Design) (h : Habit) (early_law : EarlyLaw (machine d)) (dump : Bou
     opens x open_here = inr (settles, open_less d (KnownAtEnd d h dump (suc t) p) (sure_in d (settled_kept d p met)) end_within (sample (settled_kept d p met)) (sample_agrees d (settled_kept d p met)) (body_at d p) x open_here)
 
     -- why a thing that is unsure as the body reads it is in doubt
-    module _ (y : ℕ) (b : IsUnsure d (settled_kept d p met) y) (bare : ReadsBare d (body_at d p) y) (untold : IsTold d (KnownAtEnd d h dump (suc t) p) (body_at d p) → ⊥) where
+    module _ (y : ℕ) (b : IsUnsure d (settled_kept d p met) y) (bare : ReadsUnwritten d (body_at d p) y) (untold : IsTold d (KnownAtEnd d h dump (suc t) p) (body_at d p) → ⊥) where
       mentioned : body_mentions y (body_at d p) ≡ true
       mentioned = asked.path_mentions p y bare
 
       of_comb : body_assigns y (body_at d p) ≡ true → is_comb (process_at d p) ≡ true → BlockDoubt d h dump (suc t) y p
       of_comb mine e =
           doubt_own (is_comb-from (process_at d p) e) (inl listed) mine
-          (⊎_elim (λ f. in_any (reads_unwritten d y []) (paths [] (body_at d p)) bare.0 bare.1 f)
+          (⊎_elim (λ f. in_any (reads_signal_unwritten d y []) (paths [] (body_at d p)) bare.0 bare.1 f)
           (λ f. absurd (omega (arith, is.lawful.comb_writes p y (is_comb-from (process_at d p) e) mine, leb-true (length d.signals) y (and_parts (nat_le (length d.signals) y) _ f.0).0))) bare.2)
 
       -- a bound signal is sure

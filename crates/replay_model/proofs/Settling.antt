@@ -24,7 +24,8 @@ use Rattle.body_replay.specs.KnownBits.{Allows}
 use Rattle.body_replay.specs.Runs.{AreRuns, Runs}
 use Rattle.body_replay.specs.Store.{AllowsState, Kept}
 use Rattle.replay_model.specs.Sets.{Sets}
-use Rattle.replay_model.specs.Tables.{AreTables, Tables, all_cells, word_indexes, words_cells}
+use Rattle.design_model.specs.BodyLaws.{all_cells, word_indexes, words_cells}
+use Rattle.replay_model.specs.Tables.{AreTables, Tables}
 use Rattle.replay_model.specs.Step.{Closing, Replay, Working, after_settling, acts, certainty, certainty_from, first_unsure, has_changed, is_clean_way, is_comb, is_dumped, is_touched, not_assigned, plain_store, run_all_settling, run_settling, sees_change, settled_kept, surely_differ, wake_cells}
 use Rattle.replay_model.specs.Stands.{IsLeft}
 use Rattle.replay_model.specs.Laws.{closing_at}

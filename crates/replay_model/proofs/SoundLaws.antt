@@ -25,7 +25,7 @@ use Rattle.design_model.specs.Points.{HitAt, HitIn, IsHit, IsHitAt}
 use Rattle.design_model.proofs.Assigns.{machine_lawful}
 use Rattle.design_model.proofs.Hits.{StepHere, step_here}
 use Rattle.design_model.proofs.StepLaws.{StepLaws, step_laws}
-use Rattle.replay_model.specs.Asked.{AskedLaws}
+use Rattle.replay_model.proofs.AskedLaws.{AskedLaws, asked_of}
 use Rattle.body_replay.specs.Contract.{spot_at}
 use Rattle.body_replay.specs.Replay.{Spot, line, node, word_read, word_write}
 use Rattle.body_replay.specs.Runs.{Runs}
@@ -35,7 +35,7 @@ use Rattle.replay_model.specs.Tables.{Tables}
 use Rattle.replay_model.specs.Marks.{IsKeyOf, IsToldDoubt, IsToldHit, IsUntold, Told}
 use Rattle.replay_model.specs.Step.{Replay, all_point_notes, all_run, contradicts}
 use Rattle.replay_model.specs.Stands.{IsLeft, IsShowing, IsSound}
-use Rattle.replay_model.specs.Laws.{ContradictionLaw, FirstContradictionLaw, FirstSoundLaw, IsReplayOf, RestSoundLaw, SoundVerdictLaw, StepSoundLaw, closed_at, closing_at}
+use Rattle.replay_model.specs.Laws.{ContradictionLaw, FirstContradictionLaw, FirstSoundLaw, IsReplayOf, RestSoundLaw, SoundVerdictLaw, StepSoundLaw, StepSoundLawBy, closed_at, closing_at}
 use Rattle.replay_model.proofs.Allows.{all_sound, contradicts_none, window_shown_at}
 use Rattle.replay_model.proofs.Bits.{in_halves, in_left, in_right}
 use Rattle.replay_model.proofs.BodyComplete.{body_marked}
@@ -157,8 +157,8 @@ module _ (h : Habit) (d : Design) (dump : BoundDump) (run : Runs) (tables : Tabl
         marked = λ x member r showing. marked_step r showing x member;
       }
 
-pub step_sound_law : (h : Habit) → StepSoundLaw h
-step_sound_law h d dump run tables points is asked t sets a window listed are sound = step_sound h d dump run tables points is asked t sets a window listed are sound
+pub step_sound_by : (h : Habit) → StepSoundLawBy AskedLaws h
+step_sound_by h d dump run tables points is asked t sets a window listed are sound = step_sound h d dump run tables points is asked t sets a window listed are sound
 
 -- over a time that the dump does not list nothing happens
 module _ (d : Design) (h : Habit) (dump : BoundDump) (run : Runs) (tables : Tables) (points : List Point) (is : IsReplayOf d h dump run tables points) (t : ℕ) (window : IsWindow dump (suc t)) (unlisted : IsListed dump (suc t) → ⊥) (r : Run) (showing : IsShowing d h dump (suc t) r) where
@@ -247,3 +247,6 @@ sound_verdict_law d h dump points t a ends shown sound =
   where
     showing : (r : Run) → IsRun d h r → Shows d dump r → IsShowing d h dump t r
     showing r is_run shows = record { is_run = is_run; shows = record { starts = shows.starts; shows = λ s is_shown le. shows.shows s is_shown } }
+
+pub step_sound_law : (h : Habit) → StepSoundLaw h
+step_sound_law h d dump run tables points is own = step_sound_by h d dump run tables points is (asked_of d is.lawful own)

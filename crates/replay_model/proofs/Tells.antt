@@ -23,7 +23,7 @@ use Rattle.design_model.specs.Clear.{clear}
 use Rattle.design_model.specs.Open.{IsReached}
 use Rattle.design_model.specs.Doubt.{IsInDoubt, IsUnclear, of_signal}
 use Rattle.design_model.specs.Lawful.{is_signal}
-use Rattle.replay_model.specs.Asked.{AskedLaws}
+use Rattle.replay_model.proofs.AskedLaws.{AskedLaws}
 use Rattle.body_replay.specs.Contract.{Doubted, HasHitNote, Note, spot_at, sure_in}
 use Rattle.body_replay.specs.Replay.{Spot}
 use Rattle.body_replay.specs.Runs.{Runs}

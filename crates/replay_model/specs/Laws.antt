@@ -13,7 +13,7 @@ use Rattle.design_model.specs.Points.{IsHit, IsHitAt, IsPoint, StateNames}
 use Rattle.design_model.specs.Doubt.{IsInDoubt}
 use Rattle.design_model.specs.Open.{IsReached}
 use Rattle.design_model.specs.Lawful.{IsLawfulDesign}
-use Rattle.replay_model.specs.Asked.{AskedLaws}
+use Rattle.replay_model.specs.Asked.{OwnLaws}
 use Rattle.body_replay.specs.Contract.{Doubted}
 use Rattle.body_replay.specs.Runs.{AreRuns, Runs}
 use Rattle.replay_model.specs.Sets.{AreSets, Sets}
@@ -55,44 +55,65 @@ abbrev pub FirstSoundLaw : Type 0
 FirstSoundLaw =
     (d : Design) (h : Habit) (dump : BoundDump) (run : Runs) (tables : Tables) (points : List Point) → IsReplayOf d h dump run tables points → (t : ℕ) → IsFirst dump t → IsShown dump t → IsSound d h dump points t (started d dump.bound run tables (dump.values t))
 
+abbrev pub StepSoundLawBy : (Design → Type 0) → Habit → Type 0
+StepSoundLawBy premise h =
+    (d : Design) (dump : BoundDump) (run : Runs) (tables : Tables) (points : List Point) → IsReplayOf d h dump run tables points → premise d → (t : ℕ) (sets : Sets) (a : Replay) → IsWindow dump (suc t) → IsListed dump (suc t) → AreSets d h dump (suc t) sets → IsSound d h dump points t a → IsSound d h dump points (suc t) (closed_at d dump run tables points sets t a)
+
 abbrev pub StepSoundLaw : Habit → Type 0
-StepSoundLaw h =
-    (d : Design) (dump : BoundDump) (run : Runs) (tables : Tables) (points : List Point) → IsReplayOf d h dump run tables points → AskedLaws d → (t : ℕ) (sets : Sets) (a : Replay) → IsWindow dump (suc t) → IsListed dump (suc t) → AreSets d h dump (suc t) sets → IsSound d h dump points t a → IsSound d h dump points (suc t) (closed_at d dump run tables points sets t a)
+StepSoundLaw h = StepSoundLawBy OwnLaws h
 
 abbrev pub RestSoundLaw : Type 0
 RestSoundLaw =
     (d : Design) (h : Habit) (dump : BoundDump) (run : Runs) (tables : Tables) (points : List Point) → IsReplayOf d h dump run tables points → (t : ℕ) (a : Replay) → IsWindow dump (suc t) → (IsListed dump (suc t) → ⊥) → IsSound d h dump points t a → IsSound d h dump points (suc t) a
 
 -- Known laws: where there was no contradiction, what is clear is sure.
+abbrev pub FirstKnownLawBy : (Design → Type 0) → Type 0
+FirstKnownLawBy premise =
+    (d : Design) (h : Habit) (dump : BoundDump) (run : Runs) (tables : Tables) (points : List Point) → IsReplayOf d h dump run tables points → premise d → (t : ℕ) → IsFirst dump t → IsShown dump t → ((c : Cell) → contradicts_first d dump.bound run tables (dump.values t) c ≡ false) → AreKnown d h dump tables t (started d dump.bound run tables (dump.values t))
+
 abbrev pub FirstKnownLaw : Type 0
-FirstKnownLaw =
-    (d : Design) (h : Habit) (dump : BoundDump) (run : Runs) (tables : Tables) (points : List Point) → IsReplayOf d h dump run tables points → AskedLaws d → (t : ℕ) → IsFirst dump t → IsShown dump t → ((c : Cell) → contradicts_first d dump.bound run tables (dump.values t) c ≡ false) → AreKnown d h dump tables t (started d dump.bound run tables (dump.values t))
+FirstKnownLaw = FirstKnownLawBy OwnLaws
+
+abbrev pub StepKnownLawBy : (Design → Type 0) → Habit → Type 0
+StepKnownLawBy premise h =
+    (d : Design) (dump : BoundDump) (run : Runs) (tables : Tables) (points : List Point) → IsReplayOf d h dump run tables points → premise d → (t : ℕ) (sets : Sets) (a : Replay) → IsWindow dump (suc t) → IsListed dump (suc t) → AreSets d h dump (suc t) sets → AreKnown d h dump tables t a → ((c : Cell) → contradicts (closing_at d dump run tables sets t a) c ≡ false) → AreKnown d h dump tables (suc t) (closed_at d dump run tables points sets t a)
 
 abbrev pub StepKnownLaw : Habit → Type 0
-StepKnownLaw h =
-    (d : Design) (dump : BoundDump) (run : Runs) (tables : Tables) (points : List Point) → IsReplayOf d h dump run tables points → AskedLaws d → (t : ℕ) (sets : Sets) (a : Replay) → IsWindow dump (suc t) → IsListed dump (suc t) → AreSets d h dump (suc t) sets → AreKnown d h dump tables t a → ((c : Cell) → contradicts (closing_at d dump run tables sets t a) c ≡ false) → AreKnown d h dump tables (suc t) (closed_at d dump run tables points sets t a)
+StepKnownLaw h = StepKnownLawBy OwnLaws h
+
+abbrev pub RestKnownLawBy : (Design → Type 0) → Type 0
+RestKnownLawBy premise =
+    (d : Design) (h : Habit) (dump : BoundDump) (run : Runs) (tables : Tables) (points : List Point) → IsReplayOf d h dump run tables points → premise d → (t : ℕ) (a : Replay) → IsWindow dump (suc t) → (IsListed dump (suc t) → ⊥) → AreKnown d h dump tables t a → AreKnown d h dump tables (suc t) a
 
 abbrev pub RestKnownLaw : Type 0
-RestKnownLaw =
-    (d : Design) (h : Habit) (dump : BoundDump) (run : Runs) (tables : Tables) (points : List Point) → IsReplayOf d h dump run tables points → AskedLaws d → (t : ℕ) (a : Replay) → IsWindow dump (suc t) → (IsListed dump (suc t) → ⊥) → AreKnown d h dump tables t a → AreKnown d h dump tables (suc t) a
+RestKnownLaw = RestKnownLawBy OwnLaws
 
 -- Told laws: what is told is reasoned.
+abbrev pub StepToldLawBy : (Design → Type 0) → Habit → Type 0
+StepToldLawBy premise h =
+    (d : Design) (dump : BoundDump) (run : Runs) (tables : Tables) (points : List Point) → IsReplayOf d h dump run tables points → premise d → (t : ℕ) (sets : Sets) (a : Replay) → IsWindow dump (suc t) → IsListed dump (suc t) → AreSets d h dump (suc t) sets → AreKnown d h dump tables t a → ((c : Cell) → contradicts (closing_at d dump run tables sets t a) c ≡ false) → AreTold d h dump t a → AreTold d h dump (suc t) (closed_at d dump run tables points sets t a)
+
 abbrev pub StepToldLaw : Habit → Type 0
-StepToldLaw h =
-    (d : Design) (dump : BoundDump) (run : Runs) (tables : Tables) (points : List Point) → IsReplayOf d h dump run tables points → AskedLaws d → (t : ℕ) (sets : Sets) (a : Replay) → IsWindow dump (suc t) → IsListed dump (suc t) → AreSets d h dump (suc t) sets → AreKnown d h dump tables t a → ((c : Cell) → contradicts (closing_at d dump run tables sets t a) c ≡ false) → AreTold d h dump t a → AreTold d h dump (suc t) (closed_at d dump run tables points sets t a)
+StepToldLaw h = StepToldLawBy OwnLaws h
 
 abbrev pub RestToldLaw : Type 0
 RestToldLaw =
     (d : Design) (h : Habit) (dump : BoundDump) (run : Runs) (tables : Tables) (points : List Point) → IsReplayOf d h dump run tables points → (t : ℕ) (a : Replay) → IsWindow dump (suc t) → (IsListed dump (suc t) → ⊥) → AreTold d h dump t a → AreTold d h dump (suc t) a
 
 -- Forced laws: where there was no contradiction no forced value differs.
+abbrev pub FirstForcedLawBy : (Design → Type 0) → Type 0
+FirstForcedLawBy premise =
+    (d : Design) (h : Habit) (dump : BoundDump) (run : Runs) (tables : Tables) (points : List Point) → IsReplayOf d h dump run tables points → premise d → (t : ℕ) → IsFirst dump t → IsShown dump t → ((c : Cell) → contradicts_first d dump.bound run tables (dump.values t) c ≡ false) → AreForced d h dump t
+
 abbrev pub FirstForcedLaw : Type 0
-FirstForcedLaw =
-    (d : Design) (h : Habit) (dump : BoundDump) (run : Runs) (tables : Tables) (points : List Point) → IsReplayOf d h dump run tables points → AskedLaws d → (t : ℕ) → IsFirst dump t → IsShown dump t → ((c : Cell) → contradicts_first d dump.bound run tables (dump.values t) c ≡ false) → AreForced d h dump t
+FirstForcedLaw = FirstForcedLawBy OwnLaws
+
+abbrev pub StepForcedLawBy : (Design → Type 0) → Habit → Type 0
+StepForcedLawBy premise h =
+    (d : Design) (dump : BoundDump) (run : Runs) (tables : Tables) (points : List Point) → IsReplayOf d h dump run tables points → premise d → (t : ℕ) (sets : Sets) (a : Replay) → IsWindow dump (suc t) → IsListed dump (suc t) → AreSets d h dump (suc t) sets → AreKnown d h dump tables t a → ((c : Cell) → contradicts (closing_at d dump run tables sets t a) c ≡ false) → AreForced d h dump t → AreForced d h dump (suc t)
 
 abbrev pub StepForcedLaw : Habit → Type 0
-StepForcedLaw h =
-    (d : Design) (dump : BoundDump) (run : Runs) (tables : Tables) (points : List Point) → IsReplayOf d h dump run tables points → AskedLaws d → (t : ℕ) (sets : Sets) (a : Replay) → IsWindow dump (suc t) → IsListed dump (suc t) → AreSets d h dump (suc t) sets → AreKnown d h dump tables t a → ((c : Cell) → contradicts (closing_at d dump run tables sets t a) c ≡ false) → AreForced d h dump t → AreForced d h dump (suc t)
+StepForcedLaw h = StepForcedLawBy OwnLaws h
 
 -- Contradiction law: where the replay contradicts, no run shows the dump up to that time.
 abbrev pub ContradictionLaw : Habit → Type 0

@@ -18,7 +18,8 @@ use Rattle.body_replay.specs.Runs.{Runs, StoreView}
 use Rattle.body_replay.specs.Store.{Kept, KnownWrite}
 use Rattle.known_state.specs.Join.{join_bit}
 use Rattle.replay_model.specs.Sets.{Sets}
-use Rattle.replay_model.specs.Tables.{Tables, all_cells}
+use Rattle.design_model.specs.BodyLaws.{all_cells}
+use Rattle.replay_model.specs.Tables.{Tables}
 use Rattle.replay_model.specs.Marks.{Told, all_told_by, of_point}
 
 -- what the replay keeps from step to step
