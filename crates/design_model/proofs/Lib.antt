@@ -44,3 +44,4 @@ pub mod MentionedPaths
 pub mod BodyLaws
 pub mod AssignVisits
 pub mod AssignLaws
+pub mod TargetCells

@@ -1,15 +1,15 @@
 -- What the bodies of a lawful design read, write and visit.
-use Rattle.std.specs.Prelude.{◌≡◌, ◌⊎◌, ◌<◌, ◌+◌, ◌-◌, ◌&&◌, ◌++◌, ◌∷◌, if◌then◌else◌, ℕ, suc, Bool, true, false, List, [], length, is_none, max, min, nat_lt}
+use Rattle.std.specs.Prelude.{◌≡◌, ◌⊎◌, ◌<◌, ◌+◌, ◌-◌, ◌==◌, ◌&&◌, ◌||◌, ◌++◌, ◌∷◌, if◌then◌else◌, ℕ, suc, Bool, true, false, List, [], length, is_none, max, min, nat_lt}
 use Rattle.std.specs.List.{list_any, range_with_len}
 use Rattle.event_machine.specs.Cell.{Cell, Values, WritesCell}
 use Rattle.event_machine.specs.Habit.{Habit}
 use Rattle.event_machine.specs.Machine.{IsTarget, IsWakeCell, output}
 use Rattle.four_state.specs.Parts.{index}
 use Rattle.four_state.specs.declared.bit.Bit.{Bit}
-use Rattle.design_model.specs.Tree.{Term, bit, part, slide}
+use Rattle.design_model.specs.Tree.{Target, Targets, Term, a_target, all_of, bit, bits_of, no_targets, part, several, slide, word_of}
 use Rattle.design_model.specs.Design.{Design, In, IsClocked, a_signal, body_at, cell, is_assign, is_memory, memory_at, process_at, signal_cells, word_cells}
 use Rattle.design_model.specs.Value.{head, value}
-use Rattle.design_model.specs.Mentions.{blank, body_assigns, body_mentions, body_terms, is_constant, mentions}
+use Rattle.design_model.specs.Mentions.{any_set, blank, body_assigns, body_mentions, body_terms, is_constant, mentions}
 use Rattle.design_model.specs.Execution.{at_line, execution, reads, writes_word}
 use Rattle.design_model.specs.Paths.{ReadsUnwritten}
 use Rattle.design_model.specs.Reads.{Agrees, HasValue}
@@ -43,6 +43,26 @@ AssignLineLaw d = (p n : ℕ) (v : Values Bit) → is_assign (process_at d p) �
 -- Written cells: a process writes cells that the design has.
 abbrev pub WrittenCellsLaw : Design → Type 0
 WrittenCellsLaw d = (p : ℕ) (v : Values Bit) (c : Cell) → WritesCell (output (machine d) p v) c → In c (all_cells d c.thing)
+
+-- a part of the target is one of signal x at a constant index with an x or z, which writes no bit
+abbrev mutual
+  pub is_unknown_target : Design → ℕ → Target → Bool
+  is_unknown_target d x (all_of s) = false
+  is_unknown_target d x (bits_of s low w) = (s == x) && (is_constant low && is_none (index (head low).signed (value d blank low)))
+  is_unknown_target d x (word_of m i) = false
+  is_unknown_target d x (several ts) = are_unknown_targets d x ts
+
+  pub are_unknown_targets : Design → ℕ → Targets → Bool
+  are_unknown_targets d x no_targets = false
+  are_unknown_targets d x (a_target t ts) = is_unknown_target d x t || are_unknown_targets d x ts
+
+-- Targets by name: what a process assigns by name it may write by cell, unless it names it at an unknown index.
+abbrev pub TargetNamesLaw : Design → Type 0
+TargetNamesLaw d = (p x : ℕ) → body_assigns x (body_at d p) ≡ true → ((c : Cell) × (c.thing ≡ x) × IsTarget (machine d) p c) ⊎ (any_set (λ b y t. is_unknown_target d x y) (body_at d p) ≡ true)
+
+-- Targets by cell: what a process may write by cell it assigns by name.
+abbrev pub TargetCellsLaw : Design → Type 0
+TargetCellsLaw d = (p : ℕ) (c : Cell) → IsTarget (machine d) p c → body_assigns c.thing (body_at d p) ≡ true
 
 -- Written words: a word that an execution writes is one of a memory that the process may write.
 abbrev pub WordVisitsLaw : Design → Type 0
