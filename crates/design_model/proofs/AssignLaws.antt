@@ -243,11 +243,11 @@ module _ (d : Design) (lawful : IsLawfulDesign d) (h : Habit) (dump : BoundDump)
   not_clear_from start v agrees (suc n) bits k = not_in_round start n v (λ x w e. agrees x w (n, e)) (bits, k)
 
 pub own_unclear_law : (d : Design) → IsLawfulDesign d → OwnUnclearLaw d
-own_unclear_law d lawful h dump t p y n v a m mine free agrees has = not_in_round d lawful h dump t p y a m mine free (clear_start d h dump t) n v agrees has
+own_unclear_law d lawful h dump t p y n v own free agrees has = not_in_round d lawful h dump t p y own.0 own.1 own.2 free (clear_start d h dump t) n v agrees has
 
 pub own_not_clear_law : (d : Design) → IsLawfulDesign d → OwnNotClearLaw d
-own_not_clear_law d lawful h dump zero p y v a m mine free agrees has = not_clear_from d lawful h dump 0 p y a m mine free nothing_known v agrees has.1.0 has.0 has.1.1
-own_not_clear_law d lawful h dump (suc t) p y v a m mine free agrees has = not_clear_from d lawful h dump (suc t) p y a m mine free (clear d h dump t) v agrees has.1.0 has.0 has.1.1
+own_not_clear_law d lawful h dump zero p y v own free agrees has = not_clear_from d lawful h dump 0 p y own.0 own.1 own.2 free nothing_known v agrees has.1.0 has.0 has.1.1
+own_not_clear_law d lawful h dump (suc t) p y v own free agrees has = not_clear_from d lawful h dump (suc t) p y own.0 own.1 own.2 free (clear d h dump t) v agrees has.1.0 has.0 has.1.1
 
 -- ---- own wake bits
 
@@ -455,7 +455,7 @@ assign_level (comb i wakes s) y a m = absurd (false≢true a)
 assign_level (clocked i events s) y a m = absurd (false≢true a)
 
 pub own_wake_law : (d : Design) → IsLawfulDesign d → OwnWakeLaw d
-own_wake_law d lawful p y a m mine =
-    let less = settled_signals_law d lawful p y (not_assigned (process_at d p) a) mine in
-    ⊎_elim (λ k. inl (k.0, (less, k.1, (assign_level (process_at d p) y a m, k.2)))) (λ k. inr k)
-    (own_bit d (process_at d p) y a (lawful.targets p) (lawful.bodies p) (lawful.well_formed p) (λ b. lawful.reads_no_own p b (is_assign_from (process_at d p) a)) m less (has_bit d lawful y less))
+own_wake_law d lawful p y own =
+    let less = settled_signals_law d lawful p y (not_assigned (process_at d p) own.0) own.2 in
+    ⊎_elim (λ k. inl (k.0, (less, k.1, (assign_level (process_at d p) y own.0 own.1, k.2)))) (λ k. inr k)
+    (own_bit d (process_at d p) y own.0 (lawful.targets p) (lawful.bodies p) (lawful.well_formed p) (λ b. lawful.reads_no_own p b (is_assign_from (process_at d p) own.0)) own.1 less (has_bit d lawful y less))

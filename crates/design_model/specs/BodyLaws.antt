@@ -12,7 +12,7 @@ use Rattle.design_model.specs.Value.{head, value}
 use Rattle.design_model.specs.Mentions.{any_set, blank, body_assigns, body_mentions, body_terms, is_constant, mentions}
 use Rattle.design_model.specs.Execution.{at_line, execution, reads, writes_word}
 use Rattle.design_model.specs.Paths.{ReadsUnwritten}
-use Rattle.design_model.specs.Reads.{Agrees, HasValue}
+use Rattle.design_model.specs.Reads.{Agrees, HasValue, Known}
 use Rattle.design_model.specs.Machine.{is_level, machine}
 use Rattle.design_model.specs.Shows.{BoundDump}
 use Rattle.design_model.specs.Clear.{clear, clear_in, clear_start}
@@ -76,15 +76,23 @@ PathMentionsLaw d = (p y : ℕ) → ReadsUnwritten d (body_at d p) y → body_me
 abbrev pub MentionReadLaw : Design → Type 0
 MentionReadLaw d = (p x : ℕ) → is_assign (process_at d p) ≡ true → body_mentions x (body_at d p) ≡ true → x < length d.signals → (v : Values Bit) → In (reads (a_signal x) false) (execution d (body_at d p) v).visits
 
--- Own signals: a signal that the dump lacks and that an Assign both drives and mentions is clear in no round, where some state agrees with the round before.
+-- process p is an Assign that both drives and mentions signal y
+abbrev pub DrivesAndMentions : Design → ℕ → ℕ → Type 0
+DrivesAndMentions d p y = (is_assign (process_at d p) ≡ true) × (body_mentions y (body_at d p) ≡ true) × (body_assigns y (body_at d p) ≡ true)
+
+-- what is clear at t by so many rounds
+abbrev pub clear_round : Design → Habit → BoundDump → ℕ → ℕ → Known
+clear_round d h dump t n = clear_in d h dump t (clear_start d h dump t) n
+
+-- Own signals: where some state agrees with a round, a signal that the dump lacks and an Assign drives and mentions is not clear in the next.
 abbrev pub OwnUnclearLaw : Design → Type 0
 OwnUnclearLaw d =
-    (h : Habit) (dump : BoundDump) (t p y n : ℕ) (v : Values Bit) → is_assign (process_at d p) ≡ true → body_mentions y (body_at d p) ≡ true → body_assigns y (body_at d p) ≡ true → dump.bound y ≡ false → Agrees d (clear_in d h dump t (clear_start d h dump t) n) v → HasValue (clear_in d h dump t (clear_start d h dump t) (suc n)) (a_signal y) → ⊥
+    (h : Habit) (dump : BoundDump) (t p y n : ℕ) (v : Values Bit) → DrivesAndMentions d p y → dump.bound y ≡ false → Agrees d (clear_round d h dump t n) v → HasValue (clear_round d h dump t (suc n)) (a_signal y) → ⊥
 
--- so it is not clear
+-- so where some state agrees with what is clear, it is not clear
 abbrev pub OwnNotClearLaw : Design → Type 0
 OwnNotClearLaw d =
-    (h : Habit) (dump : BoundDump) (t p y : ℕ) (v : Values Bit) → is_assign (process_at d p) ≡ true → body_mentions y (body_at d p) ≡ true → body_assigns y (body_at d p) ≡ true → dump.bound y ≡ false → Agrees d (clear d h dump t) v → HasValue (clear d h dump t) (a_signal y) → ⊥
+    (h : Habit) (dump : BoundDump) (t p y : ℕ) (v : Values Bit) → DrivesAndMentions d p y → dump.bound y ≡ false → Agrees d (clear d h dump t) v → HasValue (clear d h dump t) (a_signal y) → ⊥
 
 -- Settled signals: what an Assign or Comb assigns is a signal.
 abbrev pub SettledSignalsLaw : Design → Type 0
@@ -97,10 +105,9 @@ is_unknown_select d y (part h t i j) = mentions y t && is_none (index (head j).s
 is_unknown_select d y (slide h t b w up) = mentions y t && (is_constant b && is_none (index (head b).signed (value d blank b)))
 is_unknown_select d y _ = false
 
--- Own wake bits: an Assign that mentions a signal which it drives has a wake bit of it, a bit that it does not drive; or it selects it by a constant index with an x or z.
+-- Own wake bits: of a signal that an Assign drives and mentions it has a wake bit, one that it does not drive; or it selects it by a constant index with an x or z.
 abbrev pub OwnWakeLaw : Design → Type 0
-OwnWakeLaw d =
-    (p y : ℕ) → is_assign (process_at d p) ≡ true → body_mentions y (body_at d p) ≡ true → body_assigns y (body_at d p) ≡ true → ((k : ℕ) × IsWakeBit d p (cell y k)) ⊎ (list_any (is_unknown_select d y) (body_terms (body_at d p)) ≡ true)
+OwnWakeLaw d = (p y : ℕ) → DrivesAndMentions d p y → ((k : ℕ) × IsWakeBit d p (cell y k)) ⊎ (list_any (is_unknown_select d y) (body_terms (body_at d p)) ≡ true)
 
 -- Listed memories: a list of names has signals alone, so a memory that wakes a process is one that it mentions.
 abbrev pub ListedMemoryLaw : Design → Type 0
