@@ -1,5 +1,5 @@
 -- What an Assign of a lawful design visits, reads and wakes on, and why a signal of its own is not clear.
-use Rattle.std.proofs.Common.{◌≡◌, ◌⊎◌, inl, inr, ⊎_elim, ℕ, zero, suc, ◌+◌, ◌<◌, ◌≤◌, ◌==◌, ◌&&◌, ◌||◌, Bool, true, false, not, if◌then◌else◌, List, [], ◌∷◌, ◌++◌, map, length, ℤ, pos, negsuc, ◌+ℤ◌, Option, Some, None, refl, sym, ap, ap₂, subst, ◌∙◌, arith, eq-eqb, slice_index_or}
+use Rattle.std.proofs.Common.{◌≡◌, ◌⊎◌, inl, inr, ⊎_elim, ℕ, zero, suc, ◌+◌, ◌<◌, ◌≤◌, ◌==◌, ◌&&◌, ◌||◌, Bool, true, false, not, if◌then◌else◌, List, [], ◌∷◌, ◌++◌, map, length, ℤ, pos, negsuc, ◌+ℤ◌, Option, Some, None, refl, sym, ap, subst, ◌∙◌, arith, eq-eqb, slice_index_or}
 use Rattle.std.specs.Prelude.{is_none, nat_le, nat_lt}
 use Rattle.std.specs.List.{list_all, list_any, range_with_len}
 use Rattle.std.proofs.lemmas.Bool.{and_from, and_parts, both_ways, eqb-true, false≢true, leb-true, lt-ltb, or_cases, or_left, or_right}
@@ -27,14 +27,12 @@ use Rattle.design_model.specs.Reads.{Agrees, AllInside, HasValue, IsInside, Know
 use Rattle.design_model.specs.Shows.{BoundDump}
 use Rattle.design_model.specs.Clear.{IsClearBy, IsNetValue, clear, clear_from, clear_in, clear_start, of_assigns, of_clean, of_comb, of_dump, of_unwoken}
 use Rattle.design_model.specs.BodyLaws.{AssignVisitsLaw, MentionReadLaw, OwnNotClearLaw, OwnUnclearLaw, OwnWakeLaw, is_unknown_select}
+use Rattle.design_model.proofs.Along.{In-left, In-right}
 use Rattle.design_model.proofs.Assigns.{is_assign_from, read_mentions}
-use Rattle.design_model.proofs.AssignVisits.{constant_mentions, visits_reads}
+use Rattle.design_model.proofs.AssignVisits.{both, constant_mentions, visits_reads}
 use Rattle.design_model.proofs.BitReads.{binary_shape, binary_shaped, if_cases}
 use Rattle.design_model.proofs.BodyLaws.{settled_signals_law}
 use Rattle.design_model.proofs.Rounds.{rounds_grow}
-
-both : {xs ys zs ws : List Visit} → xs ≡ ys → zs ≡ ws → xs ++ zs ≡ ys ++ ws
-both e f = ap₂ (λ a b. a ++ b) e f
 
 -- ---- visits
 
@@ -88,15 +86,6 @@ assign_visits_law d lawful p a u v same =
 
 -- ---- reads
 
-in_left : {A : Type 0} (x : A) (xs ys : List A) → In x xs → In x (xs ++ ys)
-in_left x [] ys h = absurd h
-in_left x (z ∷ xs) ys (inl e) = inl e
-in_left x (z ∷ xs) ys (inr h) = inr (in_left x xs ys h)
-
-in_right : {A : Type 0} (x : A) (xs ys : List A) → In x ys → In x (xs ++ ys)
-in_right x [] ys h = h
-in_right x (z ∷ xs) ys h = inr (in_right x xs ys h)
-
 module _ (d : Design) (v : Values Bit) (inner : Thing → Bool) (x : ℕ) (less : x < length d.signals) where
   read : Visit
   read = reads (a_signal x) (inner (a_signal x))
@@ -105,10 +94,10 @@ module _ (d : Design) (v : Values Bit) (inner : Thing → Bool) (x : ℕ) (less 
   IsRead xs = In (reads (a_signal x) (inner (a_signal x))) xs
 
   first : (xs ys : List Visit) → IsRead xs → IsRead (xs ++ ys)
-  first xs ys h = in_left _ xs ys h
+  first xs ys h = In-left _ xs ys h
 
   second : (xs ys : List Visit) → IsRead ys → IsRead (xs ++ ys)
-  second xs ys h = in_right _ xs ys h
+  second xs ys h = In-right _ xs ys h
 
   mutual
     pub mention_read : (w : ℕ) (g : Bool) (t : Term) → is_shaped d w g t ≡ true → mentions x t ≡ true → IsRead (visits_of d v inner t)
@@ -179,7 +168,7 @@ nth_passes p (x ∷ xs) zero h less = (and_parts (p x) (list_all p xs) h).0
 nth_passes p (x ∷ xs) (suc n) h less = nth_passes p xs n (and_parts (p x) (list_all p xs) h).1 (omega (arith, less))
 
 -- a signal has a bit
-has_bit : (d : Design) → IsLawfulDesign d → (x : ℕ) → x < length d.signals → 1 ≤ (signal_at d x).width
+pub has_bit : (d : Design) → IsLawfulDesign d → (x : ℕ) → x < length d.signals → 1 ≤ (signal_at d x).width
 has_bit d lawful x less =
     let s = signal_at d x in
     let p = and_parts _ (s.ranged || ((s.high == 0) && (s.low == 0))) (nth_passes (is_signal d) d.signals x lawful.signals less) in
@@ -197,7 +186,7 @@ assign_reads d (assign i y t counted) x a once is m less one v =
     let inner = is_inner d (execution_start v) in
     let there = ⊎_elim (λ e. absurd (fixed_mentions x y fixed e)) (mention_read d v inner x less _ _ t (and_parts (is_target d y) _ is).1) (or_cases (index_mentions x y) _ m) in
     let outer = subst (λ b. In (reads (a_signal x) b) (visits_of d v inner t)) (uncovered x 0 (signal_at d x).width one) there in
-    in_left (reads (a_signal x) false) ((at_line 0 ∷ index_visits d v inner y) ++ visits_of d v inner t) (words_written d v y) (in_right (reads (a_signal x) false) (at_line 0 ∷ index_visits d v inner y) (visits_of d v inner t) outer)
+    In-left (reads (a_signal x) false) ((at_line 0 ∷ index_visits d v inner y) ++ visits_of d v inner t) (words_written d v y) (In-right (reads (a_signal x) false) (at_line 0 ∷ index_visits d v inner y) (visits_of d v inner t) outer)
 assign_reads d (comb i wakes s) x a once is m less one v = absurd (false≢true a)
 assign_reads d (clocked i events s) x a once is m less one v = absurd (false≢true a)
 
@@ -254,16 +243,16 @@ module _ (d : Design) (lawful : IsLawfulDesign d) (h : Habit) (dump : BoundDump)
   not_clear_from start v agrees (suc n) bits k = not_in_round start n v (λ x w e. agrees x w (n, e)) (bits, k)
 
 pub own_unclear_law : (d : Design) → IsLawfulDesign d → OwnUnclearLaw d
-own_unclear_law d lawful h dump t p y n v a m mine free agrees has = not_in_round d lawful h dump t p y a m mine free (clear_start d h dump t) n v agrees has
+own_unclear_law d lawful h dump t p y n v own free agrees has = not_in_round d lawful h dump t p y own.0 own.1 own.2 free (clear_start d h dump t) n v agrees has
 
 pub own_not_clear_law : (d : Design) → IsLawfulDesign d → OwnNotClearLaw d
-own_not_clear_law d lawful h dump zero p y v a m mine free agrees has = not_clear_from d lawful h dump 0 p y a m mine free nothing_known v agrees has.1.0 has.0 has.1.1
-own_not_clear_law d lawful h dump (suc t) p y v a m mine free agrees has = not_clear_from d lawful h dump (suc t) p y a m mine free (clear d h dump t) v agrees has.1.0 has.0 has.1.1
+own_not_clear_law d lawful h dump zero p y v own free agrees has = not_clear_from d lawful h dump 0 p y own.0 own.1 own.2 free nothing_known v agrees has.1.0 has.0 has.1.1
+own_not_clear_law d lawful h dump (suc t) p y v own free agrees has = not_clear_from d lawful h dump (suc t) p y own.0 own.1 own.2 free (clear d h dump t) v agrees has.1.0 has.0 has.1.1
 
 -- ---- own wake bits
 
 -- bits among those of a signal are written, unless their offset is not known
-among_written : (s n w : ℕ) (o : Option ℤ) → 1 ≤ w → are_among n w o ≡ true → (is_none o ≡ true) ⊎ ((k : ℕ) × (k < n) × (has_cell (bit_writes_option s n o (fill w X)) (cell s k) ≡ true))
+pub among_written : (s n w : ℕ) (o : Option ℤ) → 1 ≤ w → are_among n w o ≡ true → (is_none o ≡ true) ⊎ ((k : ℕ) × (k < n) × (has_cell (bit_writes_option s n o (fill w X)) (cell s k) ≡ true))
 among_written s n w None one h = inl refl
 among_written s n w (Some (negsuc k)) one h = absurd (false≢true h)
 among_written s n zero (Some (pos k)) one h = absurd (omega (arith, one))
@@ -281,7 +270,7 @@ any_left p xs ys h = list_any-append p xs ys ∙ or_left (list_any p xs) (list_a
 any_right : (p : Term → Bool) (xs ys : List Term) → list_any p ys ≡ true → list_any p (xs ++ ys) ≡ true
 any_right p xs ys h = list_any-append p xs ys ∙ or_right (list_any p xs) (list_any p ys) h
 
-offset_none : (r : Range) (o : Option ℤ) → is_none (offset_option r o) ≡ true → is_none o ≡ true
+pub offset_none : (r : Range) (o : Option ℤ) → is_none (offset_option r o) ≡ true → is_none o ≡ true
 offset_none r None h = refl
 offset_none r (Some z) h = absurd (false≢true h)
 
@@ -466,7 +455,7 @@ assign_level (comb i wakes s) y a m = absurd (false≢true a)
 assign_level (clocked i events s) y a m = absurd (false≢true a)
 
 pub own_wake_law : (d : Design) → IsLawfulDesign d → OwnWakeLaw d
-own_wake_law d lawful p y a m mine =
-    let less = settled_signals_law d lawful p y (not_assigned (process_at d p) a) mine in
-    ⊎_elim (λ k. inl (k.0, (less, k.1, (assign_level (process_at d p) y a m, k.2)))) (λ k. inr k)
-    (own_bit d (process_at d p) y a (lawful.targets p) (lawful.bodies p) (lawful.well_formed p) (λ b. lawful.reads_no_own p b (is_assign_from (process_at d p) a)) m less (has_bit d lawful y less))
+own_wake_law d lawful p y own =
+    let less = settled_signals_law d lawful p y (not_assigned (process_at d p) own.0) own.2 in
+    ⊎_elim (λ k. inl (k.0, (less, k.1, (assign_level (process_at d p) y own.0 own.1, k.2)))) (λ k. inr k)
+    (own_bit d (process_at d p) y own.0 (lawful.targets p) (lawful.bodies p) (lawful.well_formed p) (λ b. lawful.reads_no_own p b (is_assign_from (process_at d p) own.0)) own.1 less (has_bit d lawful y less))

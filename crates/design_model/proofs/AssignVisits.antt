@@ -58,7 +58,7 @@ no_node : (o : Option ℕ) (xs ys : List NodeCase) → is_none o ≡ true → no
 no_node None xs ys h = refl
 no_node (Some n) xs ys h = absurd (false≢true h)
 
-both : {xs ys zs ws : List Visit} → xs ≡ ys → zs ≡ ws → xs ++ zs ≡ ys ++ ws
+pub both : {xs ys zs ws : List Visit} → xs ≡ ys → zs ≡ ws → xs ++ zs ≡ ys ++ ws
 both e f = ap₂ (λ a b. a ++ b) e f
 
 -- a term that is no operator and no condition has no number

@@ -19,7 +19,7 @@ use Rattle.design_model.specs.Lawful.{IsLawfulDesign, are_fixed_targets, is_fixe
 use Rattle.design_model.specs.Machine.{is_level, machine}
 use Rattle.design_model.specs.Open.{SomeTargetWord, TargetWord}
 use Rattle.design_model.specs.BodyLaws.{ListedMemoryLaw, SettledSignalsLaw, WordVisitsLaw, WrittenCellsLaw, all_cells, word_indexes, words_cells}
-use Rattle.design_model.proofs.Along.{execute_along}
+use Rattle.design_model.proofs.Along.{In-left, In-right, execute_along}
 use Rattle.design_model.proofs.Execution.{EachSet, EachSetIn, EachSetOf, each_gives, execute_keeps}
 use Rattle.design_model.proofs.Named.{WritesCell-halves, option_bits_range}
 use Rattle.design_model.proofs.OpenPath.{each_any}
@@ -43,19 +43,10 @@ signal_has d s c e below = range_has s 0 (signal_at d s).width c e (start (cases
     start (inl lt) = inr lt
     start (inr le) = inl (omega (arith, le))
 
-in_first : (c : Cell) (xs ys : List Cell) → In c xs → In c (xs ++ ys)
-in_first c [] ys h = absurd h
-in_first c (x ∷ xs) ys (inl e) = inl e
-in_first c (x ∷ xs) ys (inr h) = inr (in_first c xs ys h)
-
-in_second : (c : Cell) (xs ys : List Cell) → In c ys → In c (xs ++ ys)
-in_second c [] ys h = h
-in_second c (x ∷ xs) ys h = inr (in_second c xs ys h)
-
 words_have : (d : Design) (m i : ℕ) (is : List ℕ) (c : Cell) → In i is → In c (word_cells d m i) → In c (words_cells d m is)
 words_have d m i [] c h k = absurd h
-words_have d m i (j ∷ js) c (inl e) k = in_first c (word_cells d m j) _ (subst (λ z. In c (word_cells d m z)) (sym e) k)
-words_have d m i (j ∷ js) c (inr h) k = in_second c (word_cells d m j) _ (words_have d m i js c h k)
+words_have d m i (j ∷ js) c (inl e) k = In-left c (word_cells d m j) _ (subst (λ z. In c (word_cells d m z)) (sym e) k)
+words_have d m i (j ∷ js) c (inr h) k = In-right c (word_cells d m j) _ (words_have d m i js c h k)
 
 number_has : (n k i : ℕ) → n ≤ i → i < n + k → In i (range_with_len n k)
 number_has n zero i a b = absurd (omega (arith, a, b))
@@ -123,7 +114,7 @@ mutual
 
 -- each target of a body is one of the design
 mutual
-  each_target : (d : Design) (s : Stmt) → is_body d s ≡ true → EachSet (λ n b x t. is_target d x ≡ true) s
+  pub each_target : (d : Design) (s : Stmt) → is_body d s ≡ true → EachSet (λ n b x t. is_target d x ≡ true) s
   each_target d (block p ss) h = each_target_of d ss h
   each_target d (branch p n t s other) h = let q = and_parts _ (are_bodies d other) h in (each_target d s (and_parts _ (is_body d s) q.0).1, each_target_of d other q.1)
   each_target d (select p n kind t arms) h = each_target_in d _ _ arms (and_parts _ (is_arms d _ _ arms) h).1
@@ -141,7 +132,7 @@ mutual
 
 -- two facts of each assignment give a third
 mutual
-  each_both : {S R T : ℕ → Bool → Target → Term → Type 0} → ((n : ℕ) (b : Bool) (x : Target) (t : Term) → S n b x t → R n b x t → T n b x t) → (s : Stmt) → EachSet S s → EachSet R s → EachSet T s
+  pub each_both : {S R T : ℕ → Bool → Target → Term → Type 0} → ((n : ℕ) (b : Bool) (x : Target) (t : Term) → S n b x t → R n b x t → T n b x t) → (s : Stmt) → EachSet S s → EachSet R s → EachSet T s
   each_both g (block p ss) a b = each_both_of g ss a b
   each_both g (branch p n t s other) a b = (each_both g s a.0 b.0, each_both_of g other a.1 b.1)
   each_both g (select p n kind t arms) a b = each_both_in g arms a b

@@ -56,3 +56,4 @@ pub mod MentionedPaths
 pub mod BodyLaws
 pub mod AssignVisits
 pub mod AssignLaws
+pub mod TargetCells

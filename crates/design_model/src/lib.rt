@@ -7,7 +7,7 @@ ghost use Rattle.design_model.specs.Design.{Design as DesignTree};
 ghost use Rattle.design_model.specs.Machine.{machine};
 ghost use Rattle.design_model.specs.Lawful.{IsLawfulDesign};
 ghost use Rattle.design_model.specs.ToggleLaw.{ToggleLaw};
-ghost use Rattle.design_model.specs.BodyLaws.{AssignLineLaw, AssignVisitsLaw, ListedMemoryLaw, MentionReadLaw, OwnNotClearLaw, OwnUnclearLaw, OwnWakeLaw, PathMentionsLaw, SettledSignalsLaw, WordVisitsLaw, WrittenCellsLaw};
+ghost use Rattle.design_model.specs.BodyLaws.{AssignLineLaw, AssignVisitsLaw, ListedMemoryLaw, MentionReadLaw, OwnNotClearLaw, OwnUnclearLaw, OwnWakeLaw, PathMentionsLaw, SettledSignalsLaw, TargetCellsLaw, TargetNamesLaw, WordVisitsLaw, WrittenCellsLaw};
 ghost use Rattle.design_model.specs.RoundLaws.{DecidedRoundsLaw, EndingRoundsLaw, GrowingRoundsLaw};
 ghost use Rattle.design_model.specs.StepLaws.{AssignQueuesLaw, StepFactsLaw, EventFactsLaw, CleanStepLaw, UnlistedLaw};
 ghost use Rattle.design_model.specs.MoreKnown.{MoreKnownLaw};
@@ -114,9 +114,12 @@ pub fn decided_law()
     ensures settled { (d : DesignTree) (h : Habit) → IsLawfulDesign d → SettledDecidedLaw d h }
 {}
 
-/// What a process writes is of the design and among its targets, and what it may read on some path it mentions.
+/// What a process writes is of the design and among its targets, which are the same by name and by cell; what it may
+/// read on some path it mentions; an Assign or Comb assigns and lists signals alone.
 pub fn body_law()
     ensures written_cells { (d : DesignTree) → IsLawfulDesign d → WrittenCellsLaw d }
+    ensures target_names { (d : DesignTree) → IsLawfulDesign d → TargetNamesLaw d }
+    ensures target_cells { (d : DesignTree) → TargetCellsLaw d }
     ensures word_visits { (d : DesignTree) → IsLawfulDesign d → WordVisitsLaw d }
     ensures path_mentions { (d : DesignTree) → PathMentionsLaw d }
     ensures settled_signals { (d : DesignTree) → IsLawfulDesign d → SettledSignalsLaw d }
