@@ -7,3 +7,4 @@ pub mod HoldDoubt
 pub mod HoldRun
 pub mod RomDoubt
 pub mod RaceDoubt
+pub mod ArmsOpen

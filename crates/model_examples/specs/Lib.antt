@@ -4,3 +4,4 @@ pub mod Latch
 pub mod Hold
 pub mod Rom
 pub mod Race
+pub mod Arms
