@@ -8,3 +8,5 @@ pub mod HoldRun
 pub mod RomDoubt
 pub mod RaceDoubt
 pub mod ArmsOpen
+pub mod SwapForced
+pub mod ReverseOpen

@@ -5,3 +5,5 @@ pub mod Hold
 pub mod Rom
 pub mod Race
 pub mod Arms
+pub mod Swap
+pub mod Reverse

@@ -9,6 +9,8 @@ ghost use Rattle.model_examples.specs.Hold.{IsHoldExample};
 ghost use Rattle.model_examples.specs.Rom.{IsRomExample};
 ghost use Rattle.model_examples.specs.Race.{IsRaceExample};
 ghost use Rattle.model_examples.specs.Arms.{IsArmsExample};
+ghost use Rattle.model_examples.specs.Swap.{IsSwapExample};
+ghost use Rattle.model_examples.specs.Reverse.{IsReverseExample};
 
 /// A register whose clock rises and whose reset falls at one time: its block is not clean, so each point is open and in
 /// doubt, and none is reached.
@@ -51,4 +53,14 @@ pub fn blocking_race()
 /// an undecided test.
 pub fn case_arms()
     ensures { IsArmsExample }
+{}
+
+/// Two registers that swap: nothing is early, and the dump's value of a register is forced.
+pub fn swapped_registers()
+    ensures { IsSwapExample }
+{}
+
+/// A loop that reverses bits: each turn has its own copy of the assignment, and each copy is surely open.
+pub fn reversed_bits()
+    ensures { IsReverseExample }
 {}
