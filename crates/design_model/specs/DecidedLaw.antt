@@ -12,10 +12,12 @@ use Rattle.design_model.specs.Open.{IsNotClocked}
 use Rattle.design_model.specs.Doubt.{IsInDoubt}
 
 -- at a window time at which nothing is in doubt for the point, it is not hit in one run that shows the dump and not hit in another.
--- Constructively 'hit in both or in neither' would ask to decide what is clear and early; this form says the same, and is what a proof that a hit is told needs
+-- 'Hit in both or in neither' would ask to decide what is clear and early; this says the same, as the proof needs it that a hit is told
 abbrev pub IsDecided : Design → Habit → Point → Type 0
 IsDecided d h x =
-    (dump : BoundDump) (r q : Run) → IsDumpOf d dump → IsRun d h r → IsRun d h q → Shows d dump r → Shows d dump q → (t : ℕ) → IsWindow dump t → ((s : ℕ) → IsInDoubt d h dump x t s → ⊥) → IsHitAt d dump r x t → (IsHitAt d dump q x t → ⊥) → ⊥
+    (dump : BoundDump) (r q : Run) → IsDumpOf d dump → IsRun d h r → IsRun d h q → Shows d dump r → Shows d dump q
+    → (t : ℕ) → IsWindow dump t → ((s : ℕ) → IsInDoubt d h dump x t s → ⊥)
+    → IsHitAt d dump r x t → (IsHitAt d dump q x t → ⊥) → ⊥
 
 -- a toggle or state point of a signal with bits, or an arc between two different values
 abbrev pub IsSignalPoint : Design → Point → Type 0

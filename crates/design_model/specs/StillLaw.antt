@@ -17,7 +17,10 @@ BindsInputs d dump = (c : Cell) → (machine d).is_input c ≡ true → dump.bou
 abbrev pub KeepsValues : BoundDump → Type 0
 KeepsValues dump = (t : ℕ) → (IsListed dump (suc t) → ⊥) → dump.values (suc t) ≡ dump.values t
 
--- Still law: where each input is bound, what is clear at a window time that the dump does not list is what was clear the moment before, if some state agrees with it.
+-- Still law: where each input is bound, what is clear at a window time that the dump does not list is what was clear the moment before.
+-- Some state must agree with what was clear then, as where a run shows the dump
 abbrev pub StillLaw : Design → Habit → Type 0
 StillLaw d h =
-    (dump : BoundDump) → BindsInputs d dump → KeepsValues dump → (t : ℕ) → IsWindow dump (suc t) → (IsListed dump (suc t) → ⊥) → (v : Values Bit) → Agrees d (clear d h dump t) v → (x : Thing) (bits : List Bit) → clear d h dump (suc t) x bits ↔ clear d h dump t x bits
+    (dump : BoundDump) → BindsInputs d dump → KeepsValues dump → (t : ℕ) → IsWindow dump (suc t) → (IsListed dump (suc t) → ⊥)
+    → (v : Values Bit) → Agrees d (clear d h dump t) v
+    → (x : Thing) (bits : List Bit) → clear d h dump (suc t) x bits ↔ clear d h dump t x bits

@@ -7,3 +7,6 @@ pub mod HoldDoubt
 pub mod HoldRun
 pub mod RomDoubt
 pub mod RaceDoubt
+pub mod ArmsOpen
+pub mod SwapForced
+pub mod ReverseOpen

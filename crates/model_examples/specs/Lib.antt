@@ -4,3 +4,6 @@ pub mod Latch
 pub mod Hold
 pub mod Rom
 pub mod Race
+pub mod Arms
+pub mod Swap
+pub mod Reverse

@@ -8,6 +8,9 @@ ghost use Rattle.model_examples.specs.Latch.{IsLatchExample};
 ghost use Rattle.model_examples.specs.Hold.{IsHoldExample};
 ghost use Rattle.model_examples.specs.Rom.{IsRomExample};
 ghost use Rattle.model_examples.specs.Race.{IsRaceExample};
+ghost use Rattle.model_examples.specs.Arms.{IsArmsExample};
+ghost use Rattle.model_examples.specs.Swap.{IsSwapExample};
+ghost use Rattle.model_examples.specs.Reverse.{IsReverseExample};
 
 /// A register whose clock rises and whose reset falls at one time: its block is not clean, so each point is open and in
 /// doubt, and none is reached.
@@ -44,4 +47,20 @@ pub fn unwritten_memory()
 /// A blocking write that another block reads at the same edge: early for the reader, and not for the writer.
 pub fn blocking_race()
     ensures { IsRaceExample }
+{}
+
+/// The arms of a case whose selector is known: the other arms are closed, and the one that matches is surely open up to
+/// an undecided test.
+pub fn case_arms()
+    ensures { IsArmsExample }
+{}
+
+/// Two registers that swap: nothing is early, and the dump's value of a register is forced.
+pub fn swapped_registers()
+    ensures { IsSwapExample }
+{}
+
+/// A loop that reverses bits: each turn has its own copy of the assignment, and each copy is surely open.
+pub fn reversed_bits()
+    ensures { IsReverseExample }
 {}
