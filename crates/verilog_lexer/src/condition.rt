@@ -14,7 +14,7 @@ use smallvec::SmallVec;
 
 /// Whether the branch of a condition is read, may still come, or lies behind. In a part that is left out all
 /// branches lie behind.
-#[derive(Clone, Copy, Debug, PartialEq, Eq)]
+#[derive(Clone, Copy, PartialEq, Eq)]
 pub(crate) enum Branch {
     Read,
     Waiting,
@@ -22,7 +22,7 @@ pub(crate) enum Branch {
 }
 
 /// An open condition: its branch here, and whether that is the last one.
-#[derive(Clone, Copy, Debug, PartialEq, Eq)]
+#[derive(Clone, Copy, PartialEq, Eq)]
 pub(crate) struct Condition {
     branch: Branch,
     ended: bool,

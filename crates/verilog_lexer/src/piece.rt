@@ -16,7 +16,7 @@ use crate::{LexKind, TokenKind};
 use cov_host::{begins_name, is_identifier, is_keyword};
 
 /// What a directive of conditions asks (IEEE 1364-2001 clause 19.4). A name that is not there is empty.
-#[derive(Clone, Copy, Debug)]
+#[derive(Clone, Copy)]
 pub(crate) enum Test<'a> {
     IfDefined(&'a [u8]),
     IfUndefined(&'a [u8]),
@@ -26,7 +26,7 @@ pub(crate) enum Test<'a> {
 }
 
 /// What stands at the front of a text.
-#[derive(Clone, Copy, Debug)]
+#[derive(Clone, Copy)]
 pub(crate) enum Piece<'a> {
     /// White space, a comment, an attribute or what is passed over.
     Blank {

@@ -18,7 +18,7 @@ use std::alloc::Global;
 use std::mem;
 
 /// What is to be read in the place of a directive or a macro.
-#[derive(Clone, Copy, Debug)]
+#[derive(Clone, Copy)]
 pub(crate) enum Entry<'a> {
     MacroText(&'a [u8]),
     File(&'a [u8]),

@@ -4,7 +4,7 @@ ghost use Rattle.verilog_lexer.specs.Spot.{next_place, after, after_all, IsInRan
 use cov_host::Place;
 
 /// Where something stands. Within a macro this is where the outermost macro is used.
-#[derive(Clone, Copy, Debug, PartialEq, Eq)]
+#[derive(Clone, Copy, PartialEq, Eq)]
 pub(crate) struct Spot {
     pub(crate) place: Place,
     pub(crate) inside: bool,

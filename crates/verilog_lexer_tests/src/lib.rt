@@ -2,4 +2,12 @@
 #![tactic(auto)]
 
 #[cfg(test)]
-mod tests;
+mod cases;
+#[cfg(test)]
+mod files;
+#[cfg(test)]
+mod limits;
+#[cfg(test)]
+mod sources;
+#[cfg(test)]
+mod tokens;

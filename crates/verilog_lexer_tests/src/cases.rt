@@ -1,27 +1,24 @@
-use cov_host::{Bytes, Name, Place};
-use std::alloc::Global;
-use std::process::Abort;
-use std::test::Fail;
-use verilog_lexer::{Defines, LexFault, LexKind, Sources, Token, TokenKind, Tokens, lex};
+//! Short sources, and their tokens or their faults.
+use verilog_lexer::LexKind;
 
 /// A source, the kinds of its tokens by their first letters, and their texts with grave accents between.
-struct Case {
-    source: &'static str,
-    kinds: &'static str,
-    texts: &'static str,
+pub(crate) struct Case {
+    pub(crate) source: &'static str,
+    pub(crate) kinds: &'static str,
+    pub(crate) texts: &'static str,
 }
 
-/// A source, and the fault that stands in it.
-struct Refusal {
-    source: &'static str,
-    kind: LexKind,
-    line: u32,
-    column: u32,
-    detail: &'static str,
+/// A source, and the fault in it.
+pub(crate) struct Refusal {
+    pub(crate) source: &'static str,
+    pub(crate) kind: LexKind,
+    pub(crate) line: u32,
+    pub(crate) column: u32,
+    pub(crate) detail: &'static str,
 }
 
 #[rattlefmt::skip]
-const CASES: [Case; 61] = [
+pub(crate) const CASES: &[Case] = &[
     // clause 2.7.3: keywords are not identifiers
     Case { source: "module m;", kinds: "KIO", texts: "module`m`;" },
     // clause 2.2: spaces, tabs, newlines and formfeeds separate tokens
@@ -88,7 +85,7 @@ const CASES: [Case; 61] = [
     Case { source: "4'b12", kinds: "DBD", texts: "4`'b1`2" },
     // the same for x among decimal digits
     Case { source: "4'd1x 4'dx1", kinds: "DBIDBD", texts: "4`'d1`x`4`'dx`1" },
-    // the same for a word behind the digits
+    // the same for a word after the digits
     Case { source: "4'o7and", kinds: "DBK", texts: "4`'o7`and" },
     // clause 2.5.1, example 1: 4af is no number; its parts are two tokens, which the grammar refuses
     Case { source: "4af", kinds: "DI", texts: "4`af" },
@@ -140,14 +137,14 @@ const CASES: [Case; 61] = [
     Case { source: "`define S \"a//b\"\n`S;", kinds: "QO", texts: "\"a//b\"`;" },
     // a backslash directly before the line's end continues a text in a string too; Icarus Verilog does so
     Case { source: "`define A \"abc\\\\\nx\n;", kinds: "O", texts: ";" },
-    // a string stands on one line, so the comment of the next one ends the text; Icarus Verilog does so
+    // a string is on one line, so the comment of the next one ends the text; Icarus Verilog does so
     Case { source: "`define A \" \\\n // c \\\ny;", kinds: "IO", texts: "y`;" },
     // clauses 19.1, 19.2, 19.6 to 19.8: directives that give no tokens
     Case { source: "`timescale 1ns / 1ps\n`default_nettype none\n`celldefine\n`resetall\n`line 3 \"x\" 0\na\n`endcelldefine", kinds: "I", texts: "a" },
 ];
 
 #[rattlefmt::skip]
-const REFUSALS: [Refusal; 61] = [
+pub(crate) const REFUSALS: &[Refusal] = &[
     // a byte of no token
     Refusal { source: "a\n  \x7f", kind: LexKind::BadByte, line: 2, column: 3, detail: "" },
     // a backslash begins no token
@@ -271,415 +268,3 @@ const REFUSALS: [Refusal; 61] = [
     // example case unknown-macro-within-macro
     Refusal { source: "`define OUTER `INNER\nmodule m(input [`OUTER:0] a);\nendmodule\n", kind: LexKind::UnknownMacro, line: 2, column: 17, detail: "INNER" },
 ];
-
-/// Sources with one root.
-fn one_root(alloc: Global, text: &str) -> Result<Sources, Fail> {
-    let mut sources = Sources::new(alloc);
-    let bytes = Bytes::from_vec(text.as_bytes().to_vec(alloc)?);
-    sources.add_root("m.v", bytes)?;
-    Ok(sources)
-}
-
-/// Sources from their names and texts, each read by itself or only where it is included.
-fn sources_of(alloc: Global, files: &[(&str, &str, bool)]) -> Result<Sources, Fail> {
-    let mut sources = Sources::new(alloc);
-    for (name, text, root) in files {
-        let bytes = Bytes::from_vec(text.as_bytes().to_vec(alloc)?);
-        if *root {
-            sources.add_root(name, bytes)?;
-        } else {
-            sources.add_include(name, bytes)?;
-        }
-    }
-    Ok(sources)
-}
-
-/// The letter of a kind.
-fn letter(kind: TokenKind) -> u8 {
-    match kind {
-        TokenKind::Identifier => b'I',
-        TokenKind::Keyword => b'K',
-        TokenKind::System => b'S',
-        TokenKind::Decimal => b'D',
-        TokenKind::Based => b'B',
-        TokenKind::Quoted => b'Q',
-        TokenKind::Operator => b'O',
-    }
-}
-
-/// The letters of all kinds.
-fn kinds(alloc: Global, tokens: &Tokens<'_>) -> Result<Vec<u8>, Fail> {
-    let mut letters = Vec::new(alloc);
-    for token in tokens.as_slice() {
-        letters.push(letter(token.kind))?;
-    }
-    Ok(letters)
-}
-
-/// All texts, with grave accents between.
-fn texts(alloc: Global, tokens: &Tokens<'_>) -> Result<Vec<u8>, Fail> {
-    let mut all = Vec::new(alloc);
-    for token in tokens.as_slice() {
-        if !all.is_empty() {
-            all.push(b'`')?;
-        }
-        all.extend_from_slice(token.text)?;
-    }
-    Ok(all)
-}
-
-/// The tokens of the source are those of the case.
-fn assert_case(rt: &impl Abort, alloc: Global, case: &Case) -> Result<(), Fail> {
-    let sources = one_root(alloc, case.source)?;
-    let defines = Defines::new(alloc);
-    let tokens = lex(alloc, &sources, &defines)?;
-    let kinds = kinds(alloc, &tokens)?;
-    let texts = texts(alloc, &tokens)?;
-    assert!(rt; kinds.as_slice() == case.kinds.as_bytes());
-    assert!(rt; texts.as_slice() == case.texts.as_bytes());
-    Ok(())
-}
-
-#[test]
-fn tokens_of_sources(rt: HostRuntime) -> Result<(), Fail> {
-    for case in &CASES {
-        assert_case(&rt, rt.alloc(), case)?;
-    }
-    Ok(())
-}
-
-/// The fault of the sources is of this kind and stands at this place. Gives its detail.
-fn assert_fault(
-    rt: &impl Abort,
-    alloc: Global,
-    sources: &Sources,
-    kind: LexKind,
-    place: Place,
-) -> Result<Option<Name>, Fail> {
-    let defines = Defines::new(alloc);
-    let Err(
-        LexFault::At {
-            kind: found,
-            place: Some(at),
-            detail,
-        },
-    ) = lex(alloc, sources, &defines)
-    else {
-        return Err(Fail::new("no fault at a place"));
-    };
-    assert_eq!(rt; found, kind);
-    assert_eq!(rt; at, place);
-    Ok(detail)
-}
-
-/// The fault of the source is that of the refusal.
-fn assert_refusal(rt: &impl Abort, alloc: Global, refusal: &Refusal) -> Result<(), Fail> {
-    let sources = one_root(alloc, refusal.source)?;
-    let place = Place {
-        source: 1,
-        line: refusal.line,
-        column: refusal.column,
-    };
-    match assert_fault(rt, alloc, &sources, refusal.kind, place)? {
-        Some(name) => assert!(rt; name.as_slice() == refusal.detail.as_bytes()),
-        None => assert!(rt; refusal.detail.is_empty()),
-    }
-    Ok(())
-}
-
-#[test]
-fn faults_of_sources(rt: HostRuntime) -> Result<(), Fail> {
-    for refusal in &REFUSALS {
-        assert_refusal(&rt, rt.alloc(), refusal)?;
-    }
-    Ok(())
-}
-
-/// A root that uses a macro of the command line and includes a file twice.
-fn with_include(alloc: Global) -> Result<Sources, Fail> {
-    let mut sources = one_root(alloc, "`W a\n `include \"x.vh\" b\n`include \"x.vh\"")?;
-    let bytes = Bytes::from_vec(b"c\n d".as_slice().to_vec(alloc)?);
-    sources.add_include("x.vh", bytes)?;
-    Ok(sources)
-}
-
-#[test]
-fn tokens_stand_in_their_files(rt: HostRuntime) -> Result<(), Fail> {
-    let sources = with_include(rt.alloc())?;
-    let mut defines = Defines::new(rt.alloc());
-    defines.add("W", "no")?;
-    defines.add("W", "x y")?;
-    let tokens = lex(rt.alloc(), &sources, &defines)?;
-    let texts = texts(rt.alloc(), &tokens)?;
-    assert!(&rt; texts.as_slice() == b"x`y`a`c`d`b`c`d".as_slice());
-    let places = [
-        (1, 1, 1),
-        (1, 1, 1),
-        (1, 1, 4),
-        (2, 1, 1),
-        (2, 2, 2),
-        (1, 2, 18),
-        (2, 1, 1),
-        (2, 2, 2),
-    ];
-    for (token, (source, line, column)) in tokens.as_slice().iter().zip(places) {
-        assert_eq!(&rt;
-            token.place,
-            Place {
-                source,
-                line,
-                column
-            }
-        );
-    }
-    assert_eq!(&rt; sources.name(1), Some("m.v"));
-    assert_eq!(&rt; sources.name(2), Some("x.vh"));
-    assert_eq!(&rt; sources.name(0), None);
-    assert_eq!(&rt; sources.name(3), None);
-    Ok(())
-}
-
-/// Sources, and the fault that stands in one of them.
-fn assert_fault_of(
-    rt: &impl Abort,
-    alloc: Global,
-    files: &[(&str, &str, bool)],
-    kind: LexKind,
-    place: (u32, u32, u32),
-) -> Result<(), Fail> {
-    let sources = sources_of(alloc, files)?;
-    let (source, line, column) = place;
-    let place = Place {
-        source,
-        line,
-        column,
-    };
-    let _ = assert_fault(rt, alloc, &sources, kind, place)?;
-    Ok(())
-}
-
-#[test]
-fn faults_stand_in_their_files(rt: HostRuntime) -> Result<(), Fail> {
-    let alloc = rt.alloc();
-    // example case condition-closes-in-other-file
-    let files = [
-        ("m.v", "`ifdef NO\n`else\n`include \"x.vh\"\n", true),
-        ("x.vh", "`endif\n", false),
-    ];
-    assert_fault_of(&rt, alloc, &files, LexKind::OpenCondition, (2, 1, 1))?;
-    // example case condition-open-in-included-file
-    let files = [
-        (
-            "m.v",
-            "`include \"x.vh\"\nmodule m(input a);\nendmodule\n`endif\n",
-            true,
-        ),
-        ("x.vh", "`ifdef NO\n", false),
-    ];
-    assert_fault_of(&rt, alloc, &files, LexKind::OpenCondition, (2, 2, 1))?;
-    // example case fault-in-file-of-folder
-    let files = [
-        (
-            "m.v",
-            "`include \"x.vh\"\nmodule m(input a);\nendmodule\n",
-            true,
-        ),
-        ("x.vh", "\\\n", false),
-    ];
-    assert_fault_of(&rt, alloc, &files, LexKind::BadByte, (2, 1, 1))?;
-    // example case fault-in-second-source
-    let files = [
-        ("a.v", "module m(input a);\nendmodule\n", true),
-        ("b.v", "\n  \\\n", true),
-    ];
-    assert_fault_of(&rt, alloc, &files, LexKind::BadByte, (2, 2, 3))?;
-    // example case include-that-includes-itself
-    let files = [
-        (
-            "m.v",
-            "`include \"a.vh\"\nmodule m(input a);\nendmodule\n",
-            true,
-        ),
-        ("a.vh", "`include \"a.vh\"\n", false),
-    ];
-    assert_fault_of(&rt, alloc, &files, LexKind::MacroDepth, (2, 1, 1))
-}
-
-/// The texts of the tokens of the sources are these, with grave accents between.
-fn assert_texts(
-    rt: &impl Abort,
-    alloc: Global,
-    sources: &Sources,
-    defines: &Defines,
-    want: &str,
-) -> Result<(), Fail> {
-    let tokens = lex(alloc, sources, defines)?;
-    let texts = texts(alloc, &tokens)?;
-    assert!(rt; texts.as_slice() == want.as_bytes());
-    Ok(())
-}
-
-#[test]
-fn files_are_one_text(rt: HostRuntime) -> Result<(), Fail> {
-    let alloc = rt.alloc();
-    let defines = Defines::new(alloc);
-    // example cases module-split-over-two-sources and define-carries-over-to-next-source
-    let files = [
-        ("a.v", "`define NAME a\nmodule m(\n", true),
-        ("m.v", "input `NAME);\nendmodule\n", true),
-    ];
-    let sources = sources_of(alloc, &files)?;
-    let want = "module`m`(`input`a`)`;`endmodule";
-    assert_texts(&rt, alloc, &sources, &defines, want)?;
-    // example case include-within-include
-    let files = [
-        (
-            "m.v",
-            "`include \"b.vh\"\n`include \"a.vh\"\nmodule m(input [`TOP:0] a);",
-            true,
-        ),
-        ("b.vh", "`include \"c.vh\"\n", false),
-        ("c.vh", "`define TOP 3\n", false),
-        ("a.vh", "\n", false),
-    ];
-    let sources = sources_of(alloc, &files)?;
-    let want = "module`m`(`input`[`3`:`0`]`a`)`;";
-    assert_texts(&rt, alloc, &sources, &defines, want)?;
-    // example case includes-after-all-roots
-    let files = [
-        ("a.v", "`include \"x.vh\"\n", true),
-        ("m.v", "module m(input [`TOP:0] a);", true),
-        ("x.vh", "`define TOP 3\n", false),
-    ];
-    let sources = sources_of(alloc, &files)?;
-    assert_texts(&rt, alloc, &sources, &defines, want)?;
-    // example case include-left-out-is-not-opened
-    let files = [("m.v", "`ifdef NO\n`include \"none.vh\"\n`endif\nm", true)];
-    let sources = sources_of(alloc, &files)?;
-    assert_texts(&rt, alloc, &sources, &defines, "m")
-}
-
-#[test]
-fn defines_of_the_call_count(rt: HostRuntime) -> Result<(), Fail> {
-    let alloc = rt.alloc();
-    let mut defines = Defines::new(alloc);
-    // example cases define-by-word-later-replaces, define-by-word-with-expression and define-by-word-in-condition
-    defines.add("TOP", "1")?;
-    defines.add("TOP", "3")?;
-    defines.add("R", "3:0")?;
-    defines.add("SLIM", "")?;
-    let text = "`ifdef WIDE\njunk\n`endif\n`ifdef SLIM\n[`TOP:0] [`R] `SLIM\n`endif\n";
-    let sources = one_root(alloc, text)?;
-    assert_texts(&rt, alloc, &sources, &defines, "[`3`:`0`]`[`3`:`0`]")
-}
-
-/// The name of a macro: so many letters.
-fn push_name(text: &mut Vec<u8>, letters: usize) -> Result<(), Fail> {
-    for _ in 0..letters {
-        text.push(b'x')?;
-    }
-    Ok(())
-}
-
-/// So many macros, each of which names the next, and a use of the first.
-fn nested_macros(alloc: Global, count: usize) -> Result<Sources, Fail> {
-    let mut text = Vec::new(alloc);
-    for letters in 1..count {
-        text.extend_from_slice(b"`define ".as_slice())?;
-        push_name(&mut text, letters)?;
-        text.extend_from_slice(b" `".as_slice())?;
-        push_name(&mut text, letters)?;
-        text.extend_from_slice(b"x\n".as_slice())?;
-    }
-    text.extend_from_slice(b"`define ".as_slice())?;
-    push_name(&mut text, count)?;
-    text.extend_from_slice(b" 3\nmodule m(input [`x:0] a);\nendmodule\n".as_slice())?;
-    let mut sources = Sources::new(alloc);
-    sources.add_root("m.v", Bytes::from_vec(text))?;
-    Ok(sources)
-}
-
-#[test]
-fn macros_nest_64_deep(rt: HostRuntime) -> Result<(), Fail> {
-    let alloc = rt.alloc();
-    // example case macros-64-deep
-    let sources = nested_macros(alloc, 64)?;
-    let defines = Defines::new(alloc);
-    let want = "module`m`(`input`[`3`:`0`]`a`)`;`endmodule";
-    assert_texts(&rt, alloc, &sources, &defines, want)?;
-    // example case macros-65-deep
-    let sources = nested_macros(alloc, 65)?;
-    let place = Place {
-        source: 1,
-        line: 66,
-        column: 17,
-    };
-    let _ = assert_fault(&rt, alloc, &sources, LexKind::MacroDepth, place)?;
-    Ok(())
-}
-
-#[test]
-fn an_identifier_has_255_bytes(rt: HostRuntime) -> Result<(), Fail> {
-    let alloc = rt.alloc();
-    // example case identifier-of-256-bytes
-    let mut text = b"module m(input ".as_slice().to_vec(alloc)?;
-    push_name(&mut text, 256)?;
-    text.extend_from_slice(b");\nendmodule\n".as_slice())?;
-    let mut sources = Sources::new(alloc);
-    sources.add_root("m.v", Bytes::from_vec(text))?;
-    let place = Place {
-        source: 1,
-        line: 1,
-        column: 271,
-    };
-    let _ = assert_fault(&rt, alloc, &sources, LexKind::BadByte, place)?;
-    Ok(())
-}
-
-/// The source is not added, by this kind of fault, which names the file.
-fn assert_not_added(
-    rt: &impl Abort,
-    added: Result<(), LexFault>,
-    kind: LexKind,
-) -> Result<(), Fail> {
-    let Err(
-        LexFault::At {
-            kind: found,
-            place: None,
-            detail: Some(name),
-        },
-    ) = added
-    else {
-        return Err(Fail::new("no fault without a place"));
-    };
-    assert_eq!(rt; found, kind);
-    assert!(rt; name.as_slice() == b"m.v".as_slice());
-    Ok(())
-}
-
-#[test]
-fn no_source_is_added_past_the_limit(rt: HostRuntime) -> Result<(), Fail> {
-    // example case too-many-sources
-    let mut sources = Sources::new(rt.alloc());
-    for _ in 0..256 {
-        sources.add_root("m.v", Bytes::new(rt.alloc()))?;
-    }
-    let added = sources.add_root("m.v", Bytes::new(rt.alloc()));
-    assert_not_added(&rt, added, LexKind::TooManySources)
-}
-
-/// As many blanks as a source of the longest sources has.
-fn blanks(alloc: Global) -> Result<Bytes, Fail> {
-    Ok(Bytes::from_vec(vec![in alloc; b' '; 262_145]?))
-}
-
-#[test]
-fn sources_are_no_longer_than_the_most(rt: HostRuntime) -> Result<(), Fail> {
-    // example case sources-too-long
-    let mut sources = Sources::new(rt.alloc());
-    for _ in 0..255 {
-        sources.add_root("m.v", blanks(rt.alloc())?)?;
-    }
-    let added = sources.add_root("m.v", blanks(rt.alloc())?);
-    assert_not_added(&rt, added, LexKind::SourcesTooLong)
-}
