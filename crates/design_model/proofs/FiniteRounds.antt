@@ -23,7 +23,7 @@ use Rattle.design_model.specs.Shape.{are_bodies, are_targets, is_arms, is_body, 
 use Rattle.design_model.specs.Shows.{BoundDump}
 use Rattle.design_model.specs.MayMove.{told_at}
 use Rattle.design_model.specs.Lawful.{IsLawfulDesign}
-use Rattle.design_model.specs.RoundLaws.{DecidedRoundsLaw, EndingRoundsLaw, GrowingRoundsLaw}
+use Rattle.design_model.specs.RoundLaws.{DecidedRoundsLaw, EndingRoundsLaw, FirstRoundsLaw, GrowingRoundsLaw, LastRoundsLaw}
 use Rattle.design_model.proofs.Assigns.{machine_lawful}
 use Rattle.design_model.proofs.Finite.{Dec, any_below_from, base_reached, below_next, closed_turn, count, count_less, count_most, dec_and, dec_bool, dec_each, dec_if, dec_map, dec_not, dec_or, dec_some, from_any_below, from_holds, holds, holds_from, same_or_more, turns_reach}
 use Rattle.design_model.proofs.Lawful.{any_gives, any_weaker, edge_one, may_any, place_from, same_bit_is, same_bit_self}
@@ -396,3 +396,11 @@ decided_law d lawful dump t = decided d lawful dump t
 
 pub growing_law : (d : Design) → IsLawfulDesign d → GrowingRoundsLaw d
 growing_law d lawful dump t n = rounds_law (machine d) (told_at dump t) (decided d lawful dump t) n
+
+-- in round 0 the told inputs are single
+pub first_rounds_law : (d : Design) → FirstRoundsLaw d
+first_rounds_law d dump first t c =
+    (λ one. subst (λ n. IsSingle (machine d) (told_at dump t) n c) (first t) one, λ told. told_single (machine d) (told_at dump t) (dump.round t) c told)
+
+pub last_rounds_law : (d : Design) → IsLawfulDesign d → LastRoundsLaw d
+last_rounds_law d lawful dump = (λ t. (last_round d lawful dump t).0, λ t. (last_round d lawful dump t).1)

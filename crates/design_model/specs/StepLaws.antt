@@ -32,21 +32,28 @@ pub record AreKept (d : Design) (p : ℕ) (u w : Values Bit) : Type 0 where
 pub record CleanEvaluation (d : Design) (h : Habit) (dump : BoundDump) (t : ℕ) (u w : Values Bit) (p : ℕ) (c : Cell) : Type 0 where
   pub entry : Values Bit
   pub trigger : entry c ≡ dump.values (suc t) c
+  -- a bound input is old or new, bit by bit
   pub inputs : (b : Cell) → (machine d).is_input b ≡ true → dump.bound b.thing ≡ true → (entry b ≡ dump.values t b) ⊎ (entry b ≡ dump.values (suc t) b)
+  -- what is neither the trigger nor early is as at the start
   pub others : (b : Cell) → b.thing ≢ c.thing → (IsEarlyAt d h dump (suc t) p c b.thing → ⊥) → entry b ≡ u b
+  -- its targets end the step as it leaves them
   pub leaves : (b : Cell) → IsTarget (machine d) p b → w b ≡ put_all u (output (machine d) p entry) b
 
 -- what holds of the settled values u and w at the ends of the step at suc t, whether the run has a step there or not
 pub record StepFacts (d : Design) (h : Habit) (dump : BoundDump) (t : ℕ) (u w : Values Bit) : Type 0 where
+  -- bound signals have the dump's values
   pub old : (c : Cell) → dump.bound c.thing ≡ true → c.place < (signal_at d c.thing).width → u c ≡ dump.values t c
   pub new : (c : Cell) → dump.bound c.thing ≡ true → c.place < (signal_at d c.thing).width → w c ≡ dump.values (suc t) c
+  -- what may not move stays
   pub unmoved : (c : Cell) → (MayMoveAt d dump (suc t) c.thing → ⊥) → w c ≡ u c
   pub clean : (p : ℕ) (c : Cell) → IsCleanAt d dump (suc t) p c → CleanEvaluation d h dump t u w p c
   -- each process leaves its targets as some evaluations of it, in order, do
   pub evaluated : (p : ℕ) → (vs : List (Values Bit)) × ((c : Cell) → IsTarget (machine d) p c → w c ≡ put_all u (outputs (machine d) p vs) c)
+  -- so do the targets of a Clocked that cannot wake
   pub asleep : (p : ℕ) → IsClocked (process_at d p) → (CanWakeSome d dump (suc t) p → ⊥) → (c : Cell) → IsTarget (machine d) p c → w c ≡ u c
   -- what is no input and no target stays
   pub unwritten : (c : Cell) → ((machine d).is_input c ≡ true → ⊥) → ((p : ℕ) → IsTarget (machine d) p c → ⊥) → w c ≡ u c
+  -- the blocking targets of a process are as an evaluation leaves them that knew its settled wake cells, or nothing changes
   pub settles : (p : ℕ) → IsLeft d p w ⊎ AreKept d p u w
 
 -- clean block p with trigger c is evaluated once in step k of the run, at suc t, on values that agree with what it knows on entry

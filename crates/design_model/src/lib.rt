@@ -8,7 +8,7 @@ ghost use Rattle.design_model.specs.Machine.{machine};
 ghost use Rattle.design_model.specs.Lawful.{IsLawfulDesign};
 ghost use Rattle.design_model.specs.ToggleLaw.{ToggleLaw};
 ghost use Rattle.design_model.specs.BodyLaws.{AssignLineLaw, AssignVisitsLaw, ListedMemoryLaw, MentionReadLaw, OwnNotClearLaw, OwnUnclearLaw, OwnWakeLaw, PathMentionsLaw, SettledSignalsLaw, TargetCellsLaw, TargetNamesLaw, WordVisitsLaw, WrittenCellsLaw};
-ghost use Rattle.design_model.specs.RoundLaws.{DecidedRoundsLaw, EndingRoundsLaw, GrowingRoundsLaw};
+ghost use Rattle.design_model.specs.RoundLaws.{DecidedRoundsLaw, EndingRoundsLaw, FirstRoundsLaw, GrowingRoundsLaw, LastRoundsLaw};
 ghost use Rattle.design_model.specs.StepLaws.{AssignQueuesLaw, StepFactsLaw, EventFactsLaw, CleanStepLaw, UnlistedLaw};
 ghost use Rattle.design_model.specs.MoreKnown.{MoreKnownLaw};
 ghost use Rattle.design_model.specs.StillLaw.{StillLaw};
@@ -36,11 +36,14 @@ pub fn lawful_machine()
 {}
 
 /// In each round of single cells finite tests decide which process can wake, and so each round grows on the one before,
-/// and there is a last one.
+/// and there is a last one. A dump that is read by first rounds has its bound inputs alone as single cells, and each dump
+/// can be read by last rounds.
 pub fn rounds_law()
     ensures decided { (d : DesignTree) → IsLawfulDesign d → DecidedRoundsLaw d }
     ensures grows { (d : DesignTree) → IsLawfulDesign d → GrowingRoundsLaw d }
     ensures ends { (d : DesignTree) → IsLawfulDesign d → EndingRoundsLaw d }
+    ensures first { (d : DesignTree) → FirstRoundsLaw d }
+    ensures last { (d : DesignTree) → IsLawfulDesign d → LastRoundsLaw d }
 {}
 
 /// What the dump decides holds in each run that shows it up to the time: what is clear, and, where there is such a run,
