@@ -137,7 +137,7 @@ pub record IsLawfulDesign (d : Design) : Type 0 where
   pub bodies : (p : ℕ) → is_body d (body_at d p) ≡ true
   pub constants : list_all (λ c. nat_lt c.instance (length d.instances)) d.constants ≡ true
   pub aliases : list_all (is_alias d) d.aliases ≡ true
-  pub well_formed : (p : ℕ) → is_well_formed_body d (body_at d p) ≡ true  -- nodes are numbered only where they are counted, and selects by a constant index lie in their ranges
+  pub well_formed : (p : ℕ) → is_well_formed_body d (body_at d p) ≡ true  -- only counted nodes are numbered, and selects by a constant index are in their ranges
   pub lists : (p : ℕ) → list_all (λ x. nat_lt x (length d.signals)) (wakes_of (process_at d p)) ≡ true  -- a list of names has signals alone
   pub instance_paths : AreDistinct (map (λ i. i.path) d.instances)
   pub names : AreDistinct (names_of d)  -- the names in one instance differ

@@ -1,4 +1,4 @@
--- Well formed bodies: numbers of nodes stand only at counted nodes, and selects by a constant index lie in their ranges.
+-- Well formed bodies: only counted nodes are numbered, and selects by a constant index are in their ranges.
 use Rattle.std.specs.Prelude.{◌+◌, ◌&&◌, ◌||◌, ℕ, Bool, true, false, not, ℤ, pos, negsuc, Option, Some, None, is_none, min, max, nat_le}
 use Rattle.four_state.specs.Arithmetic.{natural}
 use Rattle.four_state.specs.Parts.{index}
@@ -35,7 +35,7 @@ is_word_index m None = true
 is_word_index m (Some (negsuc k)) = false
 is_word_index m (Some (pos k)) = nat_le (min m.first m.last) k && nat_le k (max m.first m.last)
 
--- a select by a constant index lies in the range of what it is taken of, and an indexed part has a bit
+-- a select by a constant index is in the range of what it is taken of, and an indexed part has a bit
 abbrev pub is_select_inside : Design → Term → Bool
 is_select_inside d (word h m i) = not (is_constant i) || is_word_index (memory_at d m) (index (head i).signed (value d blank i))
 is_select_inside d (bit h t i) = not (is_constant i) || are_among (own_width d t) 1 (offset_option (range_of d t) (index (head i).signed (value d blank i)))
@@ -68,7 +68,7 @@ abbrev mutual
   are_well_formed d no_terms = true
   are_well_formed d (a_term t ts) = is_well_formed d false t && are_well_formed d ts
 
--- the indexes of a target are well formed, and its parts and words by a constant index lie inside
+-- the indexes of a target are well formed, and its parts and words by a constant index are inside
 abbrev mutual
   pub is_well_formed_target : Design → Target → Bool
   is_well_formed_target d (all_of s) = true

@@ -40,7 +40,7 @@ name_well d (Some an_instance) p c = refl
 name_well d (Some no_constant) p c = refl
 name_well d (Some a_faulty_one) p c = refl
 
--- a number stands only where it is given
+-- a node is numbered only where it is counted
 numbered_if : (b : Bool) (n : ℕ) (x : Bool) → (b ≡ true → x ≡ true) → (is_none (number_if b n) || x) ≡ true
 numbered_if true n x f = f refl
 numbered_if false n x f = refl
