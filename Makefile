@@ -1,38 +1,48 @@
-# make example   builds the program, scores two dumps of the example, merges their databases and shows the report
-# make test      the gate: proves every crate, tries the edits that must fail, runs the tests and the program
-# make rows      builds the program and runs the example cases of the stage that is reached, where they are at hand
-# make built-rows   runs the same cases with the program that stands, as the gate leaves it
-# make install   puts the program into $(PREFIX)/bin and its man page into $(PREFIX)/share/man/man1
+# make example        builds the program, scores two dumps of the example, merges their databases and shows the report
+# make try            shows the example with a program that is not proved, in a minute or two
+# make test           the gate: proves every crate, tries the wrong bodies, runs the tests, the program and the example cases
+# make cases          builds the program and runs the example cases of the stage that is reached
+# make built-cases    runs the same cases with the program that the gate has built
+# make wrong-bodies   tries the wrong bodies of all crates, also those that the gate passes over; CRATES='NAME ..' of some
+# make install        puts the program into $(PREFIX)/bin, and its man page and documents into $(PREFIX)/share
 
 PREFIX ?= /usr/local
 PROGRAM = crates/covered/out/covered
 STAGE = hierarchy
-# parts of later stages that stand already: dumps, bindings, merge and report
+# parts of later stages that are already there: dumps, bindings, merge and report
 AHEAD = merge-report pieces assigns
-ROWS ?= $(firstword $(wildcard ../*/rows))
+PADS = examples/pads
+DOCUMENTS = USER_GUIDE.md LANGUAGE.md FORMATS.md
 
-.PHONY: example test rows built-rows install
+.PHONY: build example try test cases built-cases wrong-bodies install
 
-$(PROGRAM): FORCE
-	mkdir -p crates/covered/out && cd crates/covered && { rt run -- score > out/build.log 2>&1 || test -x out/covered; }
+build:
+	@bash .ci/build
 
-FORCE:
-
-example: $(PROGRAM)
-	cd examples/pads && COVERED=../../$(PROGRAM) \
+example: build
+	cd $(PADS) && COVERED=../../$(PROGRAM) \
 	  && $$COVERED score -t pads -i tb.dut -v pads.v -vcd pads.vcd -o pads.db && cat pads.db \
 	  && $$COVERED score -t pads -i tb.dut -v pads.v -vcd icarus.vcd -o icarus.db \
 	  && $$COVERED merge -o all.db pads.db icarus.db && $$COVERED report -d v all.db
 
+try:
+	@echo 'covered: this program is compiled without any proof; `make example` proves it first'
+	cd crates/covered && rt try --data pads.v=../../$(PADS)/pads.v --data icarus.vcd=../../$(PADS)/icarus.vcd \
+	  -- score -t pads -i tb.dut -v pads.v -vcd icarus.vcd -o /dev/stdout
+
 test:
 	bash .ci/run
 
-rows: $(PROGRAM) built-rows
+cases: build built-cases
 
-built-rows:
-	if test -f '$(ROWS)/run.py' && command -v python3 > /dev/null; then \
-	  python3 '$(ROWS)/run.py' $(PROGRAM) --stage $(STAGE) $(AHEAD:%=--ahead %); fi
+built-cases:
+	python3 cases/run.py $(PROGRAM) --stage $(STAGE) $(AHEAD:%=--ahead %)
 
-install: $(PROGRAM)
+wrong-bodies:
+	bash .ci/wrong-bodies $(CRATES)
+
+install: build
 	install -D $(PROGRAM) $(DESTDIR)$(PREFIX)/bin/covered
 	install -D -m 644 docs/covered.1 $(DESTDIR)$(PREFIX)/share/man/man1/covered.1
+	for document in $(DOCUMENTS); do \
+	  install -D -m 644 docs/$$document $(DESTDIR)$(PREFIX)/share/doc/covered/$$document; done

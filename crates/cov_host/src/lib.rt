@@ -15,8 +15,6 @@ mod planned_faults;
 mod retry;
 mod sequence;
 mod sure_host;
-#[cfg(test)]
-mod tests;
 mod words;
 
 pub use decimal::read_decimal;
@@ -28,6 +26,7 @@ pub use identifier::{
 };
 pub use memory_host::MemoryHost;
 pub use place::Place;
+pub use retry::{read_some, write_some};
 pub use sequence::{Bytes, Calls, Name, Sequence, Text};
 pub use sure_host::SureHost;
 pub use words::Words;

@@ -9,7 +9,7 @@ use std::io::{ErrorKind, Read, Write};
 const TRIES: u32 = 1 << 16;
 
 /// Reads once, and again where a signal interrupts. A failed read takes nothing from the file.
-pub(crate) fn read_some<F: Read>(file: &mut F, piece: &mut [u8]) -> io::Result<usize>
+pub fn read_some<F: Read>(file: &mut F, piece: &mut [u8]) -> io::Result<usize>
     ensures bound { ReadsAtMost result piece.new }
     ensures bytes { ReadConsumes (F.remaining file.old) (F.remaining file.new) result piece.new }
 {
@@ -25,7 +25,7 @@ pub(crate) fn read_some<F: Read>(file: &mut F, piece: &mut [u8]) -> io::Result<u
 
 /// Writes once, and again where a signal interrupts. It is an error if none of a piece is taken that is not empty.
 /// After an error nothing was written.
-pub(crate) fn write_some<F: Write>(file: &mut F, piece: &[u8]) -> io::Result<usize>
+pub fn write_some<F: Write>(file: &mut F, piece: &[u8]) -> io::Result<usize>
     ensures bound { WritesAtMost result piece.now }
     ensures some { piece.now ≢ [] → IfOk result (λ count. 0 < count) }
     ensures bytes { WriteAppends (F.contents file.old) (F.contents file.new) result piece.now }

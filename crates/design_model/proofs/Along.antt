@@ -68,12 +68,12 @@ actions_append : (S : Bool → Target → Term → Type 0) (p q : Path) → AllA
 actions_append S [] q a b = b
 actions_append S (x ∷ xs) q a b = (a.0, actions_append S xs q a.1 b)
 
-In-left : {A : Type 0} (x : A) (xs ys : List A) → In x xs → In x (xs ++ ys)
+pub In-left : {A : Type 0} (x : A) (xs ys : List A) → In x xs → In x (xs ++ ys)
 In-left x [] ys h = absurd h
 In-left x (z ∷ xs) ys (inl e) = inl e
 In-left x (z ∷ xs) ys (inr h) = inr (In-left x xs ys h)
 
-In-right : {A : Type 0} (x : A) (xs ys : List A) → In x ys → In x (xs ++ ys)
+pub In-right : {A : Type 0} (x : A) (xs ys : List A) → In x ys → In x (xs ++ ys)
 In-right x [] ys h = h
 In-right x (z ∷ xs) ys h = inr (In-right x xs ys h)
 

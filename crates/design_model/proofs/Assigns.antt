@@ -22,11 +22,12 @@ use Rattle.design_model.proofs.BitReads.{value_reads}
 use Rattle.design_model.proofs.ConstantTerms.{value_constant}
 use Rattle.design_model.proofs.EventSignals.{event_signals}
 use Rattle.design_model.proofs.Lawful.{blocking_kept, input_has_one_bit, inputs_kept, no_edge, not_both, one_writer, queued_kept, same_bit_is, same_bit_self, target_has_one_bit}
+use Rattle.design_model.proofs.Once.{written_once}
 use Rattle.design_model.proofs.Named.{WritesCell-from, WritesCell-left, WritesCell-right, has_place, length-fit, option_bits_same}
 
 -- a bit that a term may read is one of a thing that it mentions
 mutual
-  read_mentions : (d : Design) (t : Term) (c : Cell) → may_read d t c ≡ true → mentions c.thing t ≡ true
+  pub read_mentions : (d : Design) (t : Term) (c : Cell) → may_read d t c ≡ true → mentions c.thing t ≡ true
   read_mentions d (number h n) c r = absurd (false≢true r)
   read_mentions d (signal h s) c r = eq-eqb s c.thing (sym (eqb-true c.thing s r))
   read_mentions d (word h m i) c r =
@@ -112,7 +113,7 @@ follows d (assign i x t counted) c a once shape away w =
         go false e = refl
         go true e = absurd (both_ways (may_write d x b && may_read d t b) (away b) (and_from (may_write d x b) (may_read d t b) e r))
 
-is_assign_from : (x : Process) → is_assign x ≡ true → IsAssign x
+pub is_assign_from : (x : Process) → is_assign x ≡ true → IsAssign x
 is_assign_from (assign i x t counted) e = tt
 is_assign_from (comb i wakes s) e = absurd (false≢true e)
 is_assign_from (clocked i events s) e = absurd (false≢true e)
@@ -127,6 +128,7 @@ machine_lawful d lawful =
       event_signals = event_signals d;
       blocking_kept = λ p v c h. blocking_kept d c (body_at d p) v h;
       nonblocking_kept = λ p v c h. queued_kept d c (body_at d p) v h;
+      once_kept = λ p v c once. written_once d p v c once;
       inputs_kept = inputs_kept d lawful;
       not_both = not_both d lawful;
       one_writer = one_writer d lawful;

@@ -13,7 +13,7 @@ use Rattle.design_model.specs.Value.{head, value, word_named}
 use Rattle.design_model.specs.Assignment.{target_width, target_writes, targets_width, targets_writes}
 use Rattle.design_model.specs.Mentions.{all_sure_writes, has_cell, index_mentions, indexes_mention, is_constant, mentions, mentions_any, static_writes, sure_writes}
 use Rattle.design_model.specs.Execution.{Execution, NodeCase, Visit, all_words_written, assignment_writes, at_line, covers, execution, execution_start, index_visits, indexes_visits, is_inner, node_visits, reads, visits_of, visits_of_all, word_read, word_written, words_written}
-use Rattle.design_model.specs.Paths.{Action, Path, action_blocking_writes, action_mentions, action_writes, assigns, compares, each_writes_whole, path_writes, paths, reaches, reads_before_writing, reads_unwritten, selects, tests}
+use Rattle.design_model.specs.Paths.{Action, Path, action_blocking_writes, action_mentions, action_writes, assigns, compares, each_writes_whole, path_writes, paths, reaches, reads_signal_before_writing, reads_signal_unwritten, selects, tests}
 use Rattle.design_model.proofs.Along.{AllActions, ActionHas, assign_visits, do_action, do_path, execute_along}
 use Rattle.design_model.proofs.Execution.{EachSet}
 use Rattle.design_model.proofs.Named.{WritesCell-from, WritesCell-left, WritesCell-places, WritesCell-right, cell_halves, has_cell-from, has_place, length-fit, static_written}
@@ -165,7 +165,7 @@ module _ (d : Design) where
       go false = visits
 
   -- along a path that reads the signal only after it has written it whole each read is inner
-  path_inner : (s : ℕ) (path : Path) (written : List (Write Bit)) (r : Execution) → Sub written r.blocking → reads_unwritten d s written path ≡ false → AllInnerOf s r.visits → AllInnerOf s (do_path d path r).visits
+  path_inner : (s : ℕ) (path : Path) (written : List (Write Bit)) (r : Execution) → Sub written r.blocking → reads_signal_unwritten d s written path ≡ false → AllInnerOf s r.visits → AllInnerOf s (do_path d path r).visits
   path_inner s [] written r sub e a = a
   path_inner s (x ∷ xs) written r sub e a =
       let p = or_parts (action_mentions s x.action && not (covers written (signal_cells d s))) _ e in
@@ -215,10 +215,10 @@ module _ (d : Design) where
   none_of_list f x (y ∷ ys) h (inr k) = none_of_list f x ys (or_parts (f y) _ h).1 k
 
   -- so for whole bodies of blocking assignments
-  pub body_inner : (b : Stmt) (s : ℕ) (v : Values Bit) → EachSet (λ n k x t. k ≡ true) b → reads_before_writing d b s ≡ false → AllInnerOf s (execution d b v).visits
+  pub body_inner : (b : Stmt) (s : ℕ) (v : Values Bit) → EachSet (λ n k x t. k ≡ true) b → reads_signal_before_writing d b s ≡ false → AllInnerOf s (execution d b v).visits
   body_inner b s v blocks e =
       let a = execute_along d Blocks [] b blocks (execution_start v) in
-      subst (λ y. AllInnerOf s y.visits) (sym a.is) (path_inner s a.path [] (execution_start v) (λ c h. h) (none_of_list (reads_unwritten d s []) a.path (paths [] b) e a.is_path) tt)
+      subst (λ y. AllInnerOf s y.visits) (sym a.is) (path_inner s a.path [] (execution_start v) (λ c h. h) (none_of_list (reads_signal_unwritten d s []) a.path (paths [] b) e a.is_path) tt)
 
   pub body_writes : (b : Stmt) (s : ℕ) (v : Values Bit) → EachSet (λ n k x t. k ≡ true) b → each_writes_whole d b s ≡ true → covers (execution d b v).blocking (signal_cells d s) ≡ true
   body_writes b s v blocks e =

@@ -14,7 +14,7 @@ use Rattle.design_model.specs.Execution.{Visit, execution, execution_start, read
 use Rattle.design_model.specs.Reads.{Agrees, HasValue, Known, ReadsFrom, UpToOutside}
 use Rattle.design_model.specs.Machine.{is_level, machine}
 use Rattle.design_model.specs.Run.{IsRun, Run, StepOf, evaluations_of, settled, start_of, state_after_steps}
-use Rattle.design_model.specs.Shows.{BoundDump, IsDumpOf, IsShown, IsWindow, Shows}
+use Rattle.design_model.specs.Shows.{BoundDump, IsDumpOf, IsShown, IsWindow, Shows, ShowsUpTo}
 use Rattle.design_model.specs.Scored.{IsScoredOf, VisitsIn}
 use Rattle.design_model.specs.Points.{HitAt, IsBlock, Point, arc_point, line_point, logic_point, state_point, toggle_point, word_point}
 use Rattle.design_model.specs.MayMove.{CanWakeSome, IsCleanAt, IsSingleAt, told_at}
@@ -24,10 +24,10 @@ use Rattle.design_model.specs.Doubt.{BlockDoubt, IsInDoubt, early, not_clean, of
 use Rattle.design_model.specs.Lawful.{IsLawfulDesign}
 use Rattle.design_model.specs.DecidedLaw.{ClockedDecidedLaw, IsBlockPoint}
 use Rattle.design_model.proofs.BlockVisits.{all_inside, hit_visit, same_visit, upto_thing, visit_hit}
-use Rattle.design_model.proofs.ForcedSound.{clear_law}
+use Rattle.design_model.proofs.ForcedSound.{clear_at}
 use Rattle.design_model.proofs.Hits.{step_here}
 use Rattle.design_model.proofs.ReadThings.{execute_things}
-use Rattle.design_model.proofs.Sound.{as_told, clean_moves, entry_agrees}
+use Rattle.design_model.proofs.Sound.{IsSeen, clean_moves, entry_agrees, told_step}
 use Rattle.design_model.proofs.StepLaws.{StepLaws}
 use Rattle.design_model.proofs.Times.{StepTo}
 use Rattle.design_model.proofs.Toggles.{end_values, no_window_at, split_steps, start_values, window_shown_at}
@@ -57,6 +57,15 @@ module _ (d : Design) (lawful : IsLawfulDesign d) (h : Habit) (laws : StepLaws (
   shown : IsShown dump t × IsShown dump (suc t)
   shown = window_shown_at dump.times t window
 
+  up_to : ShowsUpTo d dump r (suc t)
+  up_to = record { starts = shows.starts; shows = λ u seen before. shows.shows u seen }
+
+  now : IsSeen dump (suc t) t
+  now = (shown.0, omega arith)
+
+  next : IsSeen dump (suc t) (suc t)
+  next = (shown.1, omega arith)
+
   abbrev step_to : (k : StepOf r) → k.step.time ≡ suc t → StepTo (machine d) h (settled d r t) (settled d r (suc t))
   step_to k at =
       record {
@@ -71,17 +80,17 @@ module _ (d : Design) (lawful : IsLawfulDesign d) (h : Habit) (laws : StepLaws (
   pub none_unwoken : (k : StepOf r) → k.step.time ≡ suc t → (p : ℕ) → IsClocked (process_at d p) → (CanWakeSome d dump (suc t) p → ⊥) → evaluations_of d r k p ≡ []
   none_unwoken k at p is_clocked never =
       let s : StepTo (machine d) h (settled d r t) (settled d r (suc t)) = step_to k at in
-      laws.no_wake 0 h (told_at dump (suc t)) (start_of d r k) k.step.events s.is_step (as_told d lawful h dump fits r is_run shows laws.net laws.no_wake laws.write laws.edge t shown.0 shown.1 s) p (no_level (process_at d p) is_clocked) (λ b wakes. never (b, wakes))
+      laws.no_wake (dump.round (suc t)) h (told_at dump (suc t)) (told_step d lawful h dump fits.signals r is_run (suc t) up_to laws.net laws.no_wake laws.write laws.edge t now next s) p (no_level (process_at d p) is_clocked) (λ b wakes. never (b, wakes))
 
   module _ (p : ℕ) (c : Cell) (clean : IsCleanAt d dump (suc t) p c) where
     pub once : (k : StepOf r) (at : k.step.time ≡ suc t) → EvaluatesOnce (machine d) (told_at dump (suc t)) (IsSingleAt d dump (suc t)) h p c (start_of d r k) k.step.events
     once k at =
         let s : StepTo (machine d) h (settled d r t) (settled d r (suc t)) = step_to k at in
-        laws.edge 0 (told_at dump (suc t)) (start_of d r k) k.step.events s.is_step (as_told d lawful h dump fits r is_run shows laws.net laws.no_wake laws.write laws.edge t shown.0 shown.1 s) p c clean
+        laws.edge (dump.round (suc t)) (told_at dump (suc t)) (told_step d lawful h dump fits.signals r is_run (suc t) up_to laws.net laws.no_wake laws.write laws.edge t now next s) p c clean
 
     -- on entry it has what it knows
     pub knows : (k : StepOf r) (at : k.step.time ≡ suc t) → Agrees d (KnownOnEntry d h dump (suc t) p) (once k at).entry
-    knows k at x bits known = entry_agrees d lawful h dump fits r is_run shows laws.net laws.no_wake laws.write laws.edge t p c (step_to k at) (clear_law d lawful h laws dump r fits is_run shows t shown.0) clean (once k at) x bits at_start
+    knows k at x bits known = entry_agrees d lawful h dump fits.signals r is_run (suc t) up_to laws.net laws.no_wake laws.write laws.edge t p c (step_to k at) (clear_at d lawful h laws dump r fits.signals is_run (suc t) up_to t now) clean (once k at) x bits at_start
       where
         at_c : EntryFrom d h dump (suc t) (clear_before d h dump (suc t)) p c x bits
         at_c = subst (λ b. EntryFrom d h dump (suc t) (clear_before d h dump (suc t)) p b x bits) (clean.alone known.0 known.1.can_wake) known.2
@@ -96,7 +105,7 @@ module _ (d : Design) (lawful : IsLawfulDesign d) (h : Habit) (laws : StepLaws (
     pub a_step : (k : StepOf r) × (k.step.time ≡ suc t)
     a_step =
         ⊎_elim
-        (λ same. absurd (clean_moves d lawful h dump fits r is_run shows laws.net laws.no_wake laws.write laws.edge t p c shown.0 shown.1 clean same))
+        (λ same. absurd (clean_moves d lawful h dump fits.signals r is_run (suc t) up_to laws.net laws.no_wake laws.write laws.edge t p c now next clean same))
         (λ s. (s.step, s.at))
         (step_here d h r is_run t)
 
@@ -137,7 +146,7 @@ module _ (d : Design) (lawful : IsLawfulDesign d) (h : Habit) (laws : StepLaws (
 
     -- what it reads from outside would be in doubt
     outside : (z : Thing) → UpToOutside (KnownOnEntry d h dump (suc t) p) (reads z false) (execution d (body_at d p) visits.0).visits → (HasValue (KnownOnEntry d h dump (suc t) p) z → ⊥) → ⊥
-    outside z upto unknown = unclear (λ has. unknown (has.0, (c, clean, inr (apart c clean, (λ e. doubt (owner z) (early z c refl clean from e)), has.1))))
+    outside z upto unknown = unclear (λ has. unknown (has.0, (c, clean, inr (apart c clean, (λ e. doubt (owner z) (early (record { thing = z; trigger = c; of_owner = refl; is_clean = clean; is_read = from; is_early = e }))), has.1))))
       where
         from : ReadsFrom d (KnownOnEntry d h dump (suc t) p) (body_at d p) z
         from = inl (visits.0, agrees, upto)
@@ -149,7 +158,7 @@ module _ (d : Design) (lawful : IsLawfulDesign d) (h : Habit) (laws : StepLaws (
         apart e clean_e same = unknown (thing_bits d (dump.values (suc t)) z, (e, clean_e, inl (same, refl)))
 
         unclear : (HasValue (clear_before d h dump (suc t)) z → ⊥) → ⊥
-        unclear u = doubt (owner z) (unclear_at_start z thing refl wakes from apart u)
+        unclear u = doubt (owner z) (unclear_at_start (record { thing = z; is_thing = thing; of_owner = refl; can_wake = wakes; is_read = from; no_trigger = apart; unclear = u }))
 
     pub differ : ⊥
     differ =
@@ -169,7 +178,7 @@ module _ (d : Design) (lawful : IsLawfulDesign d) (h : Habit) (laws : StepLaws (
       woken never = subst (In visits.0) (none_unwoken d lawful h laws dump fits t window r r_run r_shows k at p is_clocked never) evaluated
 
       is_not_clean : CanWakeSome d dump (suc t) p → IsNotClean d dump (suc t) p → ⊥
-      is_not_clean wakes unclean = none wakes.0.thing (of_block p window is_block (inl (wakes, inl unclean)) (not_clean wakes.0 refl wakes.1 unclean))
+      is_not_clean wakes unclean = none wakes.0.thing (of_block p window is_block (inl (wakes, inl unclean)) (not_clean (record { event = wakes.0; of_signal = refl; can_wake = wakes.1; not_clean = unclean })))
 
 pub clocked_decided_law : (d : Design) (h : Habit) → IsLawfulDesign d → StepLaws (machine d) h → ClockedDecidedLaw d h
 clocked_decided_law d h lawful laws x point blocks dump r q fits r_run q_run r_shows q_shows zero window none hit other = no_window_at dump.times window

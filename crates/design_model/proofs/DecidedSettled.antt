@@ -13,11 +13,11 @@ use Rattle.design_model.specs.Tree.{Process, assign, clocked, comb}
 use Rattle.design_model.specs.Design.{Design, In, IsClocked, IsComb, IsThing, Thing, a_signal, a_word, body_at, cell, is_assign, no_signal, owner, process_at, signal_at}
 use Rattle.design_model.specs.Mentions.{body_assigns, body_mentions, may_write}
 use Rattle.design_model.specs.Execution.{Visit, execution, execution_start, reads}
-use Rattle.design_model.specs.Paths.{reads_before_writing}
+use Rattle.design_model.specs.Paths.{reads_signal_before_writing}
 use Rattle.design_model.specs.Reads.{Agrees, HasValue, Known, UpToOutside}
 use Rattle.design_model.specs.Machine.{machine}
 use Rattle.design_model.specs.Run.{IsRun, Run, StepOf, evaluations_of, settled, start_of}
-use Rattle.design_model.specs.Shows.{BoundDump, IsDumpOf, IsShown, IsWindow, Shows}
+use Rattle.design_model.specs.Shows.{BoundDump, IsDumpOf, IsShown, IsWindow, Shows, ShowsUpTo}
 use Rattle.design_model.specs.Scored.{ChangesOver, IsScored, IsScoredOf, VisitsIn}
 use Rattle.design_model.specs.Points.{IsBlock, Point}
 use Rattle.design_model.specs.MayMove.{MayMoveAt}
@@ -31,7 +31,7 @@ use Rattle.design_model.proofs.BlockVisits.{all_inside, hit_visit, same_visit, u
 use Rattle.design_model.proofs.Combs.{AllInnerOf, IsInnerOf, body_inner}
 use Rattle.design_model.proofs.DecidedClocked.{no_time_hit, step_of}
 use Rattle.design_model.proofs.DecidedSignals.{clear_end_bits, clear_start_bits, stays}
-use Rattle.design_model.proofs.ForcedSound.{clear_law}
+use Rattle.design_model.proofs.ForcedSound.{clear_at}
 use Rattle.design_model.proofs.Hits.{step_here, upto_in}
 use Rattle.design_model.proofs.Lawful.{any_gives, assigns_any, may_any, place_from}
 use Rattle.design_model.proofs.MadeSound.{comb_blocks}
@@ -39,7 +39,7 @@ use Rattle.design_model.proofs.Mentions.{AllReads, IsReadOf, execute_reads}
 use Rattle.design_model.proofs.ReadThings.{execute_things}
 use Rattle.design_model.proofs.Reached.{body_outer}
 use Rattle.design_model.proofs.SettledHits.{settling_level}
-use Rattle.design_model.proofs.Sound.{cells_eq, pick_cell, step_or}
+use Rattle.design_model.proofs.Sound.{IsSeen, cells_eq, pick_cell, step_or}
 use Rattle.design_model.proofs.StepLaws.{StepLaws}
 use Rattle.design_model.proofs.Times.{StepTo}
 use Rattle.design_model.proofs.Toggles.{end_values, no_window_at, split_steps, start_values, window_shown_at}
@@ -123,9 +123,18 @@ module _ (d : Design) (lawful : IsLawfulDesign d) (h : Habit) (laws : StepLaws (
   shown : IsShown dump t × IsShown dump (suc t)
   shown = window_shown_at dump.times t window
 
+  up_to : ShowsUpTo d dump r (suc t)
+  up_to = record { starts = shows.starts; shows = λ u seen before. shows.shows u seen }
+
+  now : IsSeen dump (suc t) t
+  now = (shown.0, omega arith)
+
+  next : IsSeen dump (suc t) (suc t)
+  next = (shown.1, omega arith)
+
   -- a bit that a signal does not have does not change
   beyond : (c : Cell) → IsSignal d c.thing → (signal_at d c.thing).width ≤ c.place → settled d r (suc t) c ≡ settled d r t c
-  beyond c signal past = ⊎_elim (λ same. ap (λ f. f c) same) over (step_or d lawful h dump fits r is_run shows laws.net laws.no_wake laws.write laws.edge t)
+  beyond c signal past = ⊎_elim (λ same. ap (λ f. f c) same) over (step_or d lawful h dump fits.signals r is_run (suc t) up_to laws.net laws.no_wake laws.write laws.edge t)
     where
       no_place : c.place < (signal_at d c.thing).width → ⊥
       no_place below = omega (arith, below, past)
@@ -163,7 +172,7 @@ module _ (d : Design) (lawful : IsLawfulDesign d) (h : Habit) (laws : StepLaws (
         cells_eq d state (settled d r (suc t)) y
         (λ b is. mixed_settled d p acts.entry (settled d r (suc t)) b
         (λ m. on_wakes b (settling_level (process_at d p) b.thing not_clocked m, false_from_ne_true _ (λ e. both_ways (body_assigns (owner y) (body_at d p)) known.0 (subst (λ q. body_assigns q (body_at d p) ≡ true) is (assigns_any d (body_at d p) b (inl e)))))))
-        ∙ clear_law d lawful h laws dump r fits is_run shows (suc t) shown.1 y bits known.1
+        ∙ clear_at d lawful h laws dump r fits.signals is_run (suc t) up_to (suc t) next y bits known.1
 
 module _ (d : Design) (lawful : IsLawfulDesign d) (h : Habit) (laws : StepLaws (machine d) h) (x : Point) (dump : BoundDump) (fits : IsDumpOf d dump) (t : ℕ) (window : IsWindow dump (suc t)) (none : (s : ℕ) → IsInDoubt d h dump x (suc t) s → ⊥) (r q : Run) (r_run : IsRun d h r) (q_run : IsRun d h q) (r_shows : Shows d dump r) (q_shows : Shows d dump q) (p : ℕ) (plain : IsSignalBlock d p) (is_block : IsBlock d x p) (k : StepOf r) (at : k.step.time ≡ suc t) (y : Visit) (is : IsVisitOf x y) (visits : VisitsIn d r k p y) (other : (kq : StepOf q) → kq.step.time ≡ suc t → VisitsIn d q kq p y → ⊥) where
   counts : Settles d r k p visits.0
@@ -200,7 +209,7 @@ module _ (d : Design) (lawful : IsLawfulDesign d) (h : Habit) (laws : StepLaws (
       may_wake = inr (c.thing, wake.0, moves)
 
       clear_signal : (s n : ℕ) → IsWakeBit d p (cell s n) → IsUnclear d h dump (suc t) (a_signal s) → ⊥
-      clear_signal s n bit unclear = doubt s (unclear_signal n plain.not_clocked may_wake bit unclear)
+      clear_signal s n bit unclear = doubt s (unclear_signal (record { place = n; not_clocked = plain.not_clocked; may_wake = may_wake; wake_bit = bit; unclear = unclear }))
 
       -- what it reads from outside would be in doubt
       outside_signal : (s : ℕ) → IsSignal d s → UpToOutside K (reads (a_signal s) false) (execution d (body_at d p) v).visits → (HasValue K (a_signal s) → ⊥) → ⊥
@@ -212,9 +221,9 @@ module _ (d : Design) (lawful : IsLawfulDesign d) (h : Habit) (laws : StepLaws (
           of_comb : body_assigns s (body_at d p) ≡ true → IsComb (process_at d p) → ⊥
           of_comb mine is_comb =
               ⊎_elim
-              (λ early. doubt s (own_target is_comb may_wake mine early))
+              (λ early. doubt s (own_target (record { is_comb = is_comb; may_wake = may_wake; target = mine; reads_first = early })))
               (λ late. no_outer s (execution d (body_at d p) v).visits (body_inner d (body_at d p) s v (comb_blocks d (process_at d p) is_comb (lawful.targets p)) late) (upto_in K (reads (a_signal s) false) (execution d (body_at d p) v).visits upto))
-              (cases_Bool (reads_before_writing d (body_at d p) s))
+              (cases_Bool (reads_signal_before_writing d (body_at d p) s))
 
           owned : body_assigns s (body_at d p) ≡ true → ⊥
           owned mine = ⊎_elim (of_comb mine) (λ is_an_assign. both_ways _ (plain.others is_an_assign s mentioned) mine) (kind_of (process_at d p) plain.not_clocked)

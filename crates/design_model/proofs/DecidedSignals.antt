@@ -8,16 +8,16 @@ use Rattle.design_model.specs.Design.{Design, a_signal, signal_at, signal_bits}
 use Rattle.design_model.specs.Reads.{HasValue}
 use Rattle.design_model.specs.Machine.{machine}
 use Rattle.design_model.specs.Run.{IsRun, Run, StepOf, settled}
-use Rattle.design_model.specs.Shows.{BoundDump, IsDumpOf, IsShown, IsWindow, Shows}
+use Rattle.design_model.specs.Shows.{BoundDump, IsDumpOf, IsShown, IsWindow, Shows, ShowsUpTo}
 use Rattle.design_model.specs.Points.{HitAt, HitIn, IsHitAt, Point, arc_point, line_point, logic_point, state_point, toggle_cell, toggle_point, word_point}
 use Rattle.design_model.specs.MayMove.{MayMoveAt, told_at}
 use Rattle.design_model.specs.Clear.{clear, clear_before}
 use Rattle.design_model.specs.Doubt.{IsInDoubt, IsPointOn, IsUnclear, MayMoveUnlisted, of_signal}
 use Rattle.design_model.specs.Lawful.{IsLawfulDesign}
 use Rattle.design_model.specs.DecidedLaw.{IsSignalPoint, SignalDecidedLaw}
-use Rattle.design_model.proofs.ForcedSound.{clear_law}
+use Rattle.design_model.proofs.ForcedSound.{clear_at}
 use Rattle.design_model.proofs.Hits.{step_here}
-use Rattle.design_model.proofs.Sound.{as_told, cells_eq, pick_cell, step_or}
+use Rattle.design_model.proofs.Sound.{IsSeen, cells_eq, pick_cell, step_or, told_step}
 use Rattle.design_model.proofs.StepLaws.{StepLaws}
 use Rattle.design_model.proofs.Times.{StepTo}
 use Rattle.design_model.proofs.Toggles.{end_values, no_window_at, start_values, toggle_cell_in, window_shown_at}
@@ -33,14 +33,23 @@ module _ (d : Design) (lawful : IsLawfulDesign d) (h : Habit) (laws : StepLaws (
   shown : IsShown dump t × IsShown dump (suc t)
   shown = window_shown_at dump.times t window
 
+  up_to : ShowsUpTo d dump r (suc t)
+  up_to = record { starts = shows.starts; shows = λ u seen before. shows.shows u seen }
+
+  now : IsSeen dump (suc t) t
+  now = (shown.0, omega arith)
+
+  next : IsSeen dump (suc t) (suc t)
+  next = (shown.1, omega arith)
+
   -- what may not move does not change
   pub stays : (c : Cell) → (MayMoveAt d dump (suc t) c.thing → ⊥) → settled d r (suc t) c ≡ settled d r t c
-  stays c still = ⊎_elim (λ same. ap (λ f. f c) same) over (step_or d lawful h dump fits r is_run shows laws.net laws.no_wake laws.write laws.edge t)
+  stays c still = ⊎_elim (λ same. ap (λ f. f c) same) over (step_or d lawful h dump fits.signals r is_run (suc t) up_to laws.net laws.no_wake laws.write laws.edge t)
     where
       over : StepTo (machine d) h (settled d r t) (settled d r (suc t)) → settled d r (suc t) c ≡ settled d r t c
       over s =
           ap (λ f. f c) (sym s.ends)
-          ∙ laws.unchanged 0 h (told_at dump (suc t)) s.start s.events s.is_step (as_told d lawful h dump fits r is_run shows laws.net laws.no_wake laws.write laws.edge t shown.0 shown.1 s) c still s.events [] (sym (append-nil s.events))
+          ∙ laws.unchanged (dump.round (suc t)) h (told_at dump (suc t)) (told_step d lawful h dump fits.signals r is_run (suc t) up_to laws.net laws.no_wake laws.write laws.edge t now next s) c still s.events [] (sym (append-nil s.events))
           ∙ ap (λ f. f c) s.starts
 
   pub bits_stay : (s : ℕ) → (MayMoveAt d dump (suc t) s → ⊥) → signal_bits d (settled d r (suc t)) s ≡ signal_bits d (settled d r t) s
@@ -50,10 +59,10 @@ module _ (d : Design) (lawful : IsLawfulDesign d) (h : Habit) (laws : StepLaws (
   pub clear_start_bits : (s : ℕ) (has : HasValue (clear_before d h dump (suc t)) (a_signal s)) → signal_bits d (settled d r t) s ≡ has.0
   clear_start_bits s has =
       let last : suc t - 1 ≡ t = omega arith in
-      clear_law d lawful h laws dump r fits is_run shows t shown.0 (a_signal s) has.0 (subst (λ u. clear d h dump u (a_signal s) has.0) last has.1)
+      clear_at d lawful h laws dump r fits.signals is_run (suc t) up_to t now (a_signal s) has.0 (subst (λ u. clear d h dump u (a_signal s) has.0) last has.1)
 
   pub clear_end_bits : (s : ℕ) (has : HasValue (clear d h dump (suc t)) (a_signal s)) → signal_bits d (settled d r (suc t)) s ≡ has.0
-  clear_end_bits s has = clear_law d lawful h laws dump r fits is_run shows (suc t) shown.1 (a_signal s) has.0 has.1
+  clear_end_bits s has = clear_at d lawful h laws dump r fits.signals is_run (suc t) up_to (suc t) next (a_signal s) has.0 has.1
 
 -- how the point looks at the values at the two ends of a step
 abbrev LooksAt : Design → Point → Values Bit → Values Bit → Type 0

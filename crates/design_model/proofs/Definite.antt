@@ -8,22 +8,21 @@ use Rattle.event_machine.specs.Event.{writes}
 use Rattle.event_machine.specs.Habit.{Habit}
 use Rattle.event_machine.specs.Told.{Told}
 use Rattle.event_machine.specs.Early.{IsEarly}
-use Rattle.four_state.specs.Vector.{bit_of}
 use Rattle.design_model.specs.Tree.{Process, Stmt, assign, clocked, comb}
 use Rattle.design_model.specs.Design.{Design, IsClocked, IsComb, IsThing, Thing, a_signal, a_word, body_at, owner, process_at, signal_bits}
 use Rattle.design_model.specs.Value.{value}
 use Rattle.design_model.specs.Mentions.{body_mentions}
 use Rattle.design_model.specs.Execution.{Visit, execution, execution_start, reads}
 use Rattle.design_model.specs.Reads.{HasValue, Known, ReadsFrom, UpToOutside}
-use Rattle.design_model.specs.Machine.{is_level, machine}
-use Rattle.design_model.specs.Shows.{BoundDump, IsDumpOf, IsShown, IsShownOf, IsWindow, IsWindowOf}
+use Rattle.design_model.specs.Machine.{machine}
+use Rattle.design_model.specs.Shows.{BindsSignals, BoundDump, IsShown, IsShownOf, IsWindow, IsWindowOf}
 use Rattle.design_model.specs.Points.{IsBlock, Point, arc_point, line_point, logic_point, state_point, toggle_point, word_point}
 use Rattle.design_model.specs.MayMove.{IsSingleAt, told_at}
 use Rattle.design_model.specs.Clear.{clear, clear_before, of_dump}
 use Rattle.design_model.specs.Open.{KnownOnEntry}
 use Rattle.design_model.specs.Doubt.{BlockDoubt, IsInDoubt, IsPointOn, IsUnclear, early, not_clean, of_block, of_signal, own_target, unclear_at_start, unclear_signal, unclear_word}
 use Rattle.design_model.specs.Lawful.{is_signal}
-use Rattle.design_model.specs.Laws.{BoundPointLaw, DefinitenessLaw, IsDefinite, IsLineOrLogic}
+use Rattle.design_model.specs.Laws.{BoundClearLaw, BoundPointLaw, DefinitenessLaw, IsDefinite, IsLineOrLogic}
 use Rattle.design_model.specs.ExampleParts.{at, counted}
 use Rattle.design_model.proofs.Mentions.{AllReads, IsReadOf, execute_reads}
 
@@ -39,10 +38,10 @@ reads_mentioned d K b x (inl from) =
     read_owner (λ y. body_mentions y b ≡ true) K x (execution d b from.0).visits
     (execute_reads (λ y. body_mentions y b ≡ true) d b (λ y m. m) (execution_start from.0) tt)
     from.2
-reads_mentioned d K b x (inr from) = from.3
+reads_mentioned d K b x (inr from) = from.1
 
 -- a bound signal is clear at each shown time
-bound_is_clear : (d : Design) (h : Habit) (dump : BoundDump) (t s : ℕ) → IsShown dump t → dump.bound s ≡ true → s < length d.signals → HasValue (clear d h dump t) (a_signal s)
+pub bound_is_clear : (d : Design) (h : Habit) (dump : BoundDump) (t s : ℕ) → IsShown dump t → dump.bound s ≡ true → s < length d.signals → HasValue (clear d h dump t) (a_signal s)
 bound_is_clear d h dump zero s shown bound is_signal = (signal_bits d (dump.values zero) s, (1, of_dump s (signal_bits d (dump.values zero) s) shown bound is_signal refl))
 bound_is_clear d h dump (suc t) s shown bound is_signal = (signal_bits d (dump.values (suc t)) s, (1, of_dump s (signal_bits d (dump.values (suc t)) s) shown bound is_signal refl))
 
@@ -62,26 +61,26 @@ not_comb (assign i y t counted) is_clocked is_comb = is_comb
 not_comb (comb i wakes s) is_clocked is_comb = is_clocked
 not_comb (clocked i events s) is_clocked is_comb = is_comb
 
-module _ (d : Design) (h : Habit) (dump : BoundDump) (fits : IsDumpOf d dump) (p : ℕ) (definite : IsDefinite d h dump p) where
+module _ (d : Design) (h : Habit) (dump : BoundDump) (binds : BindsSignals d dump) (p : ℕ) (definite : IsDefinite d h dump p) where
   -- a thing of the design that is mentioned is clear at the start of a window time
   mentioned_clear : (t : ℕ) → IsWindow dump t → (x : Thing) → IsThing d x → body_mentions (owner x) (body_at d p) ≡ true → HasValue (clear_before d h dump t) x
   mentioned_clear t window (a_signal s) thing mentioned =
       bound_is_clear d h dump (t - 1) s (shown_before dump.times t window) (definite.all_bound s mentioned) thing
   mentioned_clear t window (a_word m i) thing mentioned =
-      let below : m < length d.signals = fits.signals m (definite.all_bound m mentioned) in
+      let below : m < length d.signals = binds m (definite.all_bound m mentioned) in
       let above : length d.signals ≤ m = leb-true (length d.signals) m (and_parts (nat_le (length d.signals) m) _ thing.0).0 in
       absurd (omega (arith, below, above))
 
   no_block_doubt : (t s : ℕ) → IsWindow dump t → BlockDoubt d h dump t s p → ⊥
-  no_block_doubt t s window (unclear_at_start x thing own wakes_it from other unclear) =
-      unclear (mentioned_clear t window x thing (reads_mentioned d (KnownOnEntry d h dump t p) (body_at d p) x from))
-  no_block_doubt t s window (early x c own clean from is_early) =
-      let mentioned : body_mentions s (body_at d p) ≡ true = subst (λ y. body_mentions y (body_at d p) ≡ true) own (reads_mentioned d (KnownOnEntry d h dump t p) (body_at d p) x from) in
-      definite.none_early t c window clean s mentioned (early_apart (machine d) (told_at dump t) (IsSingleAt d dump t) h p c s is_early) is_early
-  no_block_doubt t s window (not_clean c own wakes_it unclean) = let clean = definite.clean t window (c, wakes_it) in unclean clean.0 clean.1
-  no_block_doubt t s window (unclear_signal k is_level may_wake bit_of unclear) = is_level definite.clocked
-  no_block_doubt t s window (unclear_word k is_level may_wake mentioned thing unclear from) = is_level definite.clocked
-  no_block_doubt t s window (own_target is_comb may_wake assigns_it early_read) = not_comb (process_at d p) definite.clocked is_comb
+  no_block_doubt t s window (unclear_at_start why) =
+      why.unclear (mentioned_clear t window why.thing why.is_thing (reads_mentioned d (KnownOnEntry d h dump t p) (body_at d p) why.thing why.is_read))
+  no_block_doubt t s window (early why) =
+      let mentioned : body_mentions s (body_at d p) ≡ true = subst (λ y. body_mentions y (body_at d p) ≡ true) why.of_owner (reads_mentioned d (KnownOnEntry d h dump t p) (body_at d p) why.thing why.is_read) in
+      definite.none_early t why.trigger window why.is_clean s mentioned (early_apart (machine d) (told_at dump t) (IsSingleAt d dump t) h p why.trigger s why.is_early) why.is_early
+  no_block_doubt t s window (not_clean why) = let clean = definite.clean t window (why.event, why.can_wake) in why.not_clean clean.0 clean.1
+  no_block_doubt t s window (unclear_signal why) = why.not_clocked definite.clocked
+  no_block_doubt t s window (unclear_word why) = why.not_clocked definite.clocked
+  no_block_doubt t s window (own_target why) = not_comb (process_at d p) definite.clocked why.is_comb
 
   no_doubt : (x : Point) → IsLineOrLogic x → IsBlock d x p → (t s : ℕ) → IsInDoubt d h dump x t s → ⊥
   no_doubt (line_point q n at w) is block_is t s (of_block r window block_of is_open doubt) = no_block_doubt t s window (subst (BlockDoubt d h dump t s) (block_of ∙ sym block_is) doubt)
@@ -94,7 +93,7 @@ module _ (d : Design) (h : Habit) (dump : BoundDump) (fits : IsDumpOf d dump) (p
   no_doubt (word_point m i write) is block_is t s doubt = is
 
 pub definiteness_law : (d : Design) (h : Habit) → DefinitenessLaw d h
-definiteness_law d h dump fits p definite x is block_is t s doubt = no_doubt d h dump fits p definite x is block_is t s doubt
+definiteness_law d h dump binds p definite x is block_is t s doubt = no_doubt d h dump binds p definite x is block_is t s doubt
 
 -- a point of a signal has no block
 no_block : (d : Design) (x : Point) (s p : ℕ) → IsPointOn x s → IsBlock d x p → ⊥
@@ -128,3 +127,8 @@ pub bound_point_law : (d : Design) (h : Habit) → BoundPointLaw d h
 bound_point_law d h dump x s on is_signal bound t q (of_block p window block_is is_open doubt) = no_block d x s p on block_is
 bound_point_law d h dump x s on is_signal bound t q (of_signal window on_q may_move unclear) =
     bound_not_unclear d h dump t s window bound is_signal (subst (λ y. IsUnclear d h dump t (a_signal y)) (sym (one_signal x s q on on_q)) unclear)
+
+-- a bound signal is clear, with the dump's value
+pub bound_clear_law : (d : Design) (h : Habit) → BoundClearLaw d h
+bound_clear_law d h dump zero s shown bound is_signal = (1, of_dump s (signal_bits d (dump.values zero) s) shown bound is_signal refl)
+bound_clear_law d h dump (suc t) s shown bound is_signal = (1, of_dump s (signal_bits d (dump.values (suc t)) s) shown bound is_signal refl)

@@ -197,4 +197,13 @@ open_2 = (_, record { is_path = inl refl; follows = (tt, ((λ fixed. absurd (not
 -- a is in doubt for line 2 at 5
 pub doubt_2 : IsInDoubt flip_flop Free falling_dump line_two 5 1
 doubt_2 =
-    of_block 0 (lit< tt, lit< tt) refl (inl ((cell 0 0, (is_clean Zero).can_wake), inr open_2)) (early (a_signal 1) (cell 0 0) refl (is_clean Zero) (inl (flip_flop_values One Zero X, agrees_2 Zero, inr (tt, inl refl))) a_early)
+    of_block 0 (lit< tt, lit< tt) refl (inl ((cell 0 0, (is_clean Zero).can_wake), inr open_2))
+    (early
+    (record {
+      thing = a_signal 1;
+      trigger = cell 0 0;
+      of_owner = refl;
+      is_clean = is_clean Zero;
+      is_read = inl (flip_flop_values One Zero X, agrees_2 Zero, inr (tt, inl refl));
+      is_early = a_early;
+    }))

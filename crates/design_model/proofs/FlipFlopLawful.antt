@@ -16,6 +16,7 @@ use Rattle.design_model.specs.Shows.{IsDumpOf, Shows}
 use Rattle.design_model.specs.Points.{IsHit}
 use Rattle.design_model.specs.Early.{IsEarlyAt}
 use Rattle.design_model.specs.Shape.{is_body}
+use Rattle.design_model.specs.WellFormed.{is_well_formed_body}
 use Rattle.design_model.specs.Lawful.{IsLawfulDesign, target_once, wakes_of}
 use Rattle.design_model.specs.FlipFlop.{flip_flop, flip_flop_dump, flip_flop_values, line_two}
 use Rattle.design_model.proofs.Assigns.{machine_lawful}
@@ -60,6 +61,10 @@ nodes_once zero zero x y (inr none) b = absurd none
 nodes_once zero (suc q) x y a none = absurd none
 nodes_once (suc p) q x y none b = absurd none
 
+well_formed : (p : ℕ) → is_well_formed_body flip_flop (body_at flip_flop p) ≡ true
+well_formed zero = refl
+well_formed (suc p) = refl
+
 -- the first letters of two names differ
 other_name : (n : ℕ) {x y : Named} → y ≡ x → slice_index_or y.1 0 0 ≡ n → (slice_index_or x.1 0 0 ≡ n → ⊥) → ⊥
 other_name n e is differ = differ (sym (ap (λ z. slice_index_or z.1 0 0) e) ∙ is)
@@ -71,6 +76,7 @@ flip_flop_lawful =
       memories = refl;
       instances = refl;
       bodies = bodies;
+      well_formed = well_formed;
       constants = refl;
       aliases = refl;
       lists = lists;
@@ -103,7 +109,7 @@ flip_flop_lawful =
     bodies zero = refl
     bodies (suc p) = refl
 
-    lists : (p : ℕ) → list_all (is_number flip_flop) (wakes_of (process_at flip_flop p)) ≡ true
+    lists : (p : ℕ) → list_all (λ x. nat_lt x (length flip_flop.signals)) (wakes_of (process_at flip_flop p)) ≡ true
     lists zero = refl
     lists (suc p) = refl
 
@@ -156,4 +162,4 @@ flip_flop_fits a = record { rising = (lit< tt, (lit< tt, tt)); signals = λ s b.
 -- where a is not early line 2 is hit in every run that shows the dump
 pub line_two_hit : (h : Habit) (a : Bit) → ((x : ℕ) → IsEarlyAt flip_flop h (flip_flop_dump a) 5 0 (cell 0 0) x → ⊥) → (r : Run) → IsRun flip_flop h r → Shows flip_flop (flip_flop_dump a) r → IsHit flip_flop (flip_flop_dump a) r line_two
 line_two_hit h a not_early r is_run shows =
-    reached_law flip_flop h flip_flop_lawful (step_laws (machine flip_flop) (machine_lawful flip_flop flip_flop_lawful) h) (flip_flop_dump a) r (flip_flop_fits a) is_run shows 5 0 line_two (reached_two h a not_early)
+    reached_law flip_flop h flip_flop_lawful (step_laws (machine flip_flop) (machine_lawful flip_flop flip_flop_lawful) h) (flip_flop_dump a) r 5 (flip_flop_fits a).signals (record { is_run = is_run; shows = record { starts = shows.starts; shows = λ t now le. shows.shows t now } }) 0 line_two (reached_two h a not_early)

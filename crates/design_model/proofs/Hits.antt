@@ -16,16 +16,16 @@ use Rattle.design_model.specs.Execution.{Visit, at_line, at_node}
 use Rattle.design_model.specs.Reads.{Agrees, Known, UpToOutside, VisitsFrom}
 use Rattle.design_model.specs.Machine.{lists_edge, machine}
 use Rattle.design_model.specs.Run.{IsRun, Run, StepOf, evaluations_of, settled, start_of, state_after_steps}
-use Rattle.design_model.specs.Shows.{BoundDump, InWindow, IsDumpOf, IsShown, IsWindow, Shows}
+use Rattle.design_model.specs.Shows.{BindsSignals, BoundDump, InWindow, IsWindow, ShowsUpTo}
 use Rattle.design_model.specs.Scored.{IsScored, IsScoredOf, VisitsIn}
 use Rattle.design_model.specs.Points.{IsBlock, IsHit, Point, arc_point, line_point, logic_point, state_point, toggle_point, word_point}
 use Rattle.design_model.specs.MayMove.{IsCleanAt, IsSingleAt, told_at}
 use Rattle.design_model.specs.Clear.{EntryFrom, clear, clear_before}
 use Rattle.design_model.specs.Open.{IsVisitOf, KnownOnEntry}
 use Rattle.design_model.specs.Lawful.{IsLawfulDesign}
-use Rattle.design_model.proofs.ForcedSound.{clear_law}
+use Rattle.design_model.proofs.ForcedSound.{clear_at}
 use Rattle.design_model.proofs.Prefix.{visits_on_all}
-use Rattle.design_model.proofs.Sound.{as_told, clean_moves, entry_agrees, no_window, window_shown}
+use Rattle.design_model.proofs.Sound.{IsSeen, told_step, clean_moves, entry_agrees, no_window, window_shown}
 use Rattle.design_model.proofs.StepLaws.{StepLaws}
 use Rattle.design_model.proofs.Times.{StepTo}
 
@@ -97,19 +97,19 @@ hit_of d dump r (arc_point i name s from to old new) p y k window is_block is vi
 hit_of d dump r (word_point m i true) p y k window is_block is visits = inl (k, window, (p, subst (VisitsIn d r k p) is visits))
 hit_of d dump r (word_point m i false) p y k window is_block is visits = inl (k, window, (p, is.0, subst (VisitsIn d r k p) is.1 visits))
 
-module _ (d : Design) (lawful : IsLawfulDesign d) (h : Habit) (laws : StepLaws (machine d) h) (dump : BoundDump) (r : Run) (fits : IsDumpOf d dump) (is_run : IsRun d h r) (shows : Shows d dump r) where
+module _ (d : Design) (lawful : IsLawfulDesign d) (h : Habit) (laws : StepLaws (machine d) h) (dump : BoundDump) (r : Run) (binds : BindsSignals d dump) (is_run : IsRun d h r) (end : ℕ) (shows : ShowsUpTo d dump r end) where
   -- a clean block acts in the step, on values that agree with what it knows
-  pub clean_acts : (t p : ℕ) (c : Cell) → IsWindow dump (suc t) → IsCleanAt d dump (suc t) p c → (k : StepOf r) × InWindow dump r k × (entry : Values Bit) × IsScored d r k p entry × Agrees d (KnownOnEntry d h dump (suc t) p) entry
-  clean_acts t p c window clean = go (step_here d h r is_run t)
+  pub clean_acts : (t p : ℕ) (c : Cell) → IsWindow dump (suc t) → suc t ≤ end → IsCleanAt d dump (suc t) p c → (k : StepOf r) × InWindow dump r k × (entry : Values Bit) × IsScored d r k p entry × Agrees d (KnownOnEntry d h dump (suc t) p) entry
+  clean_acts t p c window le clean = go (step_here d h r is_run t)
     where
-      both : IsShown dump t × IsShown dump (suc t)
-      both = window_shown d lawful h dump fits r is_run shows laws.net laws.no_wake laws.write laws.edge t window
+      both : IsSeen dump end t × IsSeen dump end (suc t)
+      both = window_shown d lawful h dump binds r is_run end shows laws.net laws.no_wake laws.write laws.edge t window le
 
       evaluated : (s : StepHere d h r t) → EvaluatesOnce (machine d) (told_at dump (suc t)) (IsSingleAt d dump (suc t)) h p c s.to.start s.to.events
-      evaluated s = laws.edge 0 (told_at dump (suc t)) s.to.start s.to.events s.to.is_step (as_told d lawful h dump fits r is_run shows laws.net laws.no_wake laws.write laws.edge t both.0 both.1 s.to) p c clean
+      evaluated s = laws.edge (dump.round (suc t)) (told_at dump (suc t)) (told_step d lawful h dump binds r is_run end shows laws.net laws.no_wake laws.write laws.edge t both.0 both.1 s.to) p c clean
 
       knows : (s : StepHere d h r t) → Agrees d (KnownOnEntry d h dump (suc t) p) (evaluated s).entry
-      knows s x bits k = entry_agrees d lawful h dump fits r is_run shows laws.net laws.no_wake laws.write laws.edge t p c s.to (clear_law d lawful h laws dump r fits is_run shows t both.0) clean (evaluated s) x bits at_start
+      knows s x bits k = entry_agrees d lawful h dump binds r is_run end shows laws.net laws.no_wake laws.write laws.edge t p c s.to (clear_at d lawful h laws dump r binds is_run end shows t both.0) clean (evaluated s) x bits at_start
         where
           at_c : EntryFrom d h dump (suc t) (clear_before d h dump (suc t)) p c x bits
           at_c = subst (λ b. EntryFrom d h dump (suc t) (clear_before d h dump (suc t)) p b x bits) (clean.alone k.0 k.1.can_wake) k.2
@@ -121,18 +121,18 @@ module _ (d : Design) (lawful : IsLawfulDesign d) (h : Habit) (laws : StepLaws (
           at_start = subst (λ u. EntryFrom d h dump (suc t) (clear d h dump u) p c x bits) last at_c
 
       go : (settled d r (suc t) ≡ settled d r t) ⊎ StepHere d h r t → (k : StepOf r) × InWindow dump r k × (entry : Values Bit) × IsScored d r k p entry × Agrees d (KnownOnEntry d h dump (suc t) p) entry
-      go (inl same) = absurd (clean_moves d lawful h dump fits r is_run shows laws.net laws.no_wake laws.write laws.edge t p c both.0 both.1 clean same)
+      go (inl same) = absurd (clean_moves d lawful h dump binds r is_run end shows laws.net laws.no_wake laws.write laws.edge t p c both.0 both.1 clean same)
       go (inr s) =
           let one : evaluations (machine d) p (start_of d r s.step) s.step.step.events ≡ (evaluated s).entry ∷ [] = ap (λ es. evaluations (machine d) p (start_of d r s.step) es) (sym s.events) ∙ ap (λ u. evaluations (machine d) p u s.to.events) (sym s.start) ∙ (evaluated s).evaluated in
           (s.step, subst (IsWindow dump) (sym s.at) window, (evaluated s).entry, scored (process_at d p) clean.can_wake.0.0 c d r s.step p (evaluated s).entry clean.can_wake.0.1 (subst (In (evaluated s).entry) (sym one) (inl refl)), knows s)
 
   -- what a clean block visits from what it knows, it visits in the step
-  clean_visits : (t p : ℕ) (c : Cell) (y : Visit) → IsWindow dump (suc t) → IsCleanAt d dump (suc t) p c → VisitsFrom d (KnownOnEntry d h dump (suc t) p) (body_at d p) y → (k : StepOf r) × InWindow dump r k × VisitsIn d r k p y
-  clean_visits t p c y window clean from =
-      let a = clean_acts t p c window clean in
+  clean_visits : (t p : ℕ) (c : Cell) (y : Visit) → IsWindow dump (suc t) → suc t ≤ end → IsCleanAt d dump (suc t) p c → VisitsFrom d (KnownOnEntry d h dump (suc t) p) (body_at d p) y → (k : StepOf r) × InWindow dump r k × VisitsIn d r k p y
+  clean_visits t p c y window le clean from =
+      let a = clean_acts t p c window le clean in
       (a.0, a.1, (a.2, a.3, upto_in (KnownOnEntry d h dump (suc t) p) y _ (visits_on_all d (KnownOnEntry d h dump (suc t) p) (body_at d p) y from a.2 a.4)))
 
   -- so the points that a clean block visits up to its first read outside are hit
-  pub clean_hits : (t p : ℕ) (c : Cell) (x : Point) (y : Visit) → IsWindow dump t → IsBlock d x p → IsCleanAt d dump t p c → IsVisitOf x y → VisitsFrom d (KnownOnEntry d h dump t p) (body_at d p) y → IsHit d dump r x
-  clean_hits zero p c x y window is_block clean is from = absurd (no_window d lawful h dump fits r is_run shows laws.net laws.no_wake laws.write laws.edge window)
-  clean_hits (suc t) p c x y window is_block clean is from = let v = clean_visits t p c y window clean from in hit_of d dump r x p y v.0 v.1 is_block is v.2
+  pub clean_hits : (t p : ℕ) (c : Cell) (x : Point) (y : Visit) → IsWindow dump t → t ≤ end → IsBlock d x p → IsCleanAt d dump t p c → IsVisitOf x y → VisitsFrom d (KnownOnEntry d h dump t p) (body_at d p) y → IsHit d dump r x
+  clean_hits zero p c x y window le is_block clean is from = absurd (no_window d lawful h dump binds r is_run end shows laws.net laws.no_wake laws.write laws.edge window)
+  clean_hits (suc t) p c x y window le is_block clean is from = let v = clean_visits t p c y window le clean from in hit_of d dump r x p y v.0 v.1 is_block is v.2

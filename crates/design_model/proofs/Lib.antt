@@ -7,6 +7,8 @@ pub mod Agree
 pub mod Told
 pub mod Bound
 pub mod BitReads
+pub mod Along
+pub mod Once
 pub mod Assigns
 pub mod StepLaws
 pub mod NodeCases
@@ -16,17 +18,19 @@ pub mod Untouched
 pub mod Times
 pub mod Toggles
 pub mod Sound
-pub mod Along
 pub mod Combs
 pub mod MadeSound
 pub mod ForcedSound
 pub mod Hits
+pub mod StepFacts
 pub mod SettledHits
 pub mod OpenPath
 pub mod OpenNodes
 pub mod OpenWords
 pub mod Reached
 pub mod Rounds
+pub mod Finite
+pub mod FiniteRounds
 pub mod Closed
 pub mod MemoryPath
 pub mod FlipFlopRun
@@ -37,6 +41,7 @@ pub mod FlipFlopExample
 pub mod GateClear
 pub mod PipeClear
 pub mod RamClear
+pub mod WordBitReads
 pub mod Definite
 pub mod MoreKnown
 pub mod StillClear
@@ -46,3 +51,9 @@ pub mod VisitedOpen
 pub mod BlockVisits
 pub mod DecidedClocked
 pub mod DecidedSettled
+pub mod VisitKinds
+pub mod MentionedPaths
+pub mod BodyLaws
+pub mod AssignVisits
+pub mod AssignLaws
+pub mod TargetCells

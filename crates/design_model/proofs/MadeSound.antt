@@ -13,11 +13,11 @@ use Rattle.design_model.specs.Tree.{Process, Stmt, Target, Term, assign, clocked
 use Rattle.design_model.specs.Design.{Design, IsComb, a_signal, a_word, body, body_at, cell, memory_at, process_at, signal_at, signal_bits, signal_cells, thing_bits}
 use Rattle.design_model.specs.Mentions.{body_assigns, body_mentions, has_cell, may_write}
 use Rattle.design_model.specs.Execution.{Execution, Visit, at_line, at_node, covers, execute_assignment, execution, execution_start, reads, writes_word}
-use Rattle.design_model.specs.Paths.{each_writes_whole, reads_before_writing}
+use Rattle.design_model.specs.Paths.{each_writes_whole, reads_signal_before_writing}
 use Rattle.design_model.specs.Reads.{Agrees, Known}
 use Rattle.design_model.specs.Machine.{is_level, machine}
 use Rattle.design_model.specs.Run.{IsRun, Run, settled}
-use Rattle.design_model.specs.Shows.{BoundDump, IsDumpOf, IsShown, IsWindow, Shows}
+use Rattle.design_model.specs.Shows.{BindsSignals, BoundDump, IsWindow, ShowsUpTo}
 use Rattle.design_model.specs.Clear.{HasChanged, IsCombValue, clear}
 use Rattle.design_model.specs.Lawful.{IsLawfulDesign, target_once}
 use Rattle.design_model.proofs.Agree.{AllOuter}
@@ -27,7 +27,7 @@ use Rattle.design_model.proofs.Execution.{EachSet, each_fails, each_gives, execu
 use Rattle.design_model.proofs.Lawful.{any_gives, assigns_any, may_any, place_from}
 use Rattle.design_model.proofs.Mentions.{AllReads, execute_reads}
 use Rattle.design_model.proofs.Named.{WritesCell-from}
-use Rattle.design_model.proofs.Sound.{cells_eq, clear_sound, no_window, step_or, window_shown}
+use Rattle.design_model.proofs.Sound.{IsSeen, cells_eq, clear_sound, no_window, step_or, window_shown}
 use Rattle.design_model.proofs.Times.{StepTo}
 use Rattle.design_model.proofs.Told.{SameExecution, execution_same}
 use Rattle.design_model.proofs.Untouched.{put_other}
@@ -95,7 +95,7 @@ module _ (d : Design) (lawful : IsLawfulDesign d) (p : ℕ) (is_comb : IsComb (p
         (⊎_elim (λ own. no_words m i (lawful.comb_writes p m is_comb own)) (λ nope. cells_eq d u v (a_word m i) (λ c is. same c (wakes m c is a.0 nope))) (cases_Bool (body_assigns m (body_at d p))), outer_of xs a.1 (λ q o. (inner q o).1))
 
   -- a Comb that writes s whole on each path and reads no own target before writing it is combinational for each bit of s that it may write
-  pub combinational : ((x : ℕ) → body_assigns x (body_at d p) ≡ true → reads_before_writing d (body_at d p) x ≡ false) → (s : ℕ) → each_writes_whole d (body_at d p) s ≡ true → (c : Cell) → c.thing ≡ s → (machine d).blocking p c ≡ true → IsCombinational (machine d) p c
+  pub combinational : ((x : ℕ) → body_assigns x (body_at d p) ≡ true → reads_signal_before_writing d (body_at d p) x ≡ false) → (s : ℕ) → each_writes_whole d (body_at d p) s ≡ true → (c : Cell) → c.thing ≡ s → (machine d).blocking p c ≡ true → IsCombinational (machine d) p c
   combinational is_early s whole c is at =
       record {
         reads = λ u v same. both u v (execution_same d u v (body_at d p) (outer_of u v same _ (execute_reads (λ y. body_mentions y (body_at d p) ≡ true) d (body_at d p) (λ y e. e) (execution_start u) tt) (λ q own. body_inner d (body_at d p) q u blocks (is_early q own))));
@@ -121,7 +121,7 @@ module _ (d : Design) (lawful : IsLawfulDesign d) (p : ℕ) (is_comb : IsComb (p
 cons_nil : {A : Type 0} (x : A) (xs : List A) → x ∷ xs ≡ [] → ⊥
 cons_nil x xs e = subst IsCons e tt
 
-module _ (d : Design) (lawful : IsLawfulDesign d) (h : Habit) (dump : BoundDump) (fits : IsDumpOf d dump) (r : Run) (is_run : IsRun d h r) (shows : Shows d dump r) (net_law : NetLaw (machine d)) (no_wake_law : NoWakeLaw (machine d)) (write_law : WriteLaw (machine d)) (edge_law : EdgeLaw (machine d) h) (idle_law : IdleLaw (machine d)) (computed_law : ComputedLaw (machine d)) where
+module _ (d : Design) (lawful : IsLawfulDesign d) (h : Habit) (dump : BoundDump) (binds : BindsSignals d dump) (r : Run) (is_run : IsRun d h r) (end : ℕ) (shows : ShowsUpTo d dump r end) (net_law : NetLaw (machine d)) (no_wake_law : NoWakeLaw (machine d)) (write_law : WriteLaw (machine d)) (edge_law : EdgeLaw (machine d) h) (idle_law : IdleLaw (machine d)) (computed_law : ComputedLaw (machine d)) where
   abbrev W : ℕ → Values Bit
   W t = settled d r t
 
@@ -130,7 +130,7 @@ module _ (d : Design) (lawful : IsLawfulDesign d) (h : Habit) (dump : BoundDump)
   IsFollowing p c v = v c ≡ put_all v (output (machine d) p v) c
 
   step_here : (t : ℕ) → (W (suc t) ≡ W t) ⊎ StepTo (machine d) h (W t) (W (suc t))
-  step_here t = step_or d lawful h dump fits r is_run shows net_law no_wake_law write_law edge_law t
+  step_here t = step_or d lawful h dump binds r is_run end shows net_law no_wake_law write_law edge_law t
 
   goes_on : (t p : ℕ) (c : Cell) → IsCombinational (machine d) p c → IsFollowing p c (W t) → IsFollowing p c (W (suc t))
   goes_on t p c cb now = go (step_here t)
@@ -148,11 +148,11 @@ module _ (d : Design) (lawful : IsLawfulDesign d) (h : Habit) (dump : BoundDump)
       subst (λ y. IsFollowing p c (W y)) same (goes_on_to k (suc t) p c cb (goes_on t p c cb now))
 
   -- a mentioned signal that changes over a step has its Comb act in it
-  begins_by : (w p by : ℕ) (c : Cell) → IsComb (process_at d p) → IsCombinational (machine d) p c → IsShown dump w → IsShown dump (suc w) → body_mentions by (body_at d p) ≡ true → dump.bound by ≡ true → signal_bits d (dump.values w) by ≢ signal_bits d (dump.values (suc w)) by → IsFollowing p c (W (suc w))
+  begins_by : (w p by : ℕ) (c : Cell) → IsComb (process_at d p) → IsCombinational (machine d) p c → IsSeen dump end w → IsSeen dump end (suc w) → body_mentions by (body_at d p) ≡ true → dump.bound by ≡ true → signal_bits d (dump.values w) by ≢ signal_bits d (dump.values (suc w)) by → IsFollowing p c (W (suc w))
   begins_by w p by c is_comb cb now next mentioned bound changed = go (step_here w)
     where
       still : signal_bits d (W w) by ≡ signal_bits d (W (suc w)) by → ⊥
-      still e = changed (sym (shows.shows w now by bound) ∙ e ∙ shows.shows (suc w) next by bound)
+      still e = changed (sym (shows.shows w now.0 now.1 by bound) ∙ e ∙ shows.shows (suc w) next.0 next.1 by bound)
 
       not_empty : (earlier : List (Values Bit)) (entry : Values Bit) → earlier ++ entry ∷ [] ≡ [] → ⊥
       not_empty [] entry e = cons_nil entry [] e
@@ -168,19 +168,19 @@ module _ (d : Design) (lawful : IsLawfulDesign d) (h : Habit) (dump : BoundDump)
       go (inr s) = acted s (idle_law h s.start s.events s.is_step p)
 
   -- a Comb whose mentioned signal has changed follows at the time
-  follows_at : (t p : ℕ) (c : Cell) → IsComb (process_at d p) → IsCombinational (machine d) p c → IsShown dump t → HasChanged dump d (body_at d p) t → IsFollowing p c (W t)
+  follows_at : (t p : ℕ) (c : Cell) → IsComb (process_at d p) → IsCombinational (machine d) p c → IsSeen dump end t → HasChanged dump d (body_at d p) t → IsFollowing p c (W t)
   follows_at t p c is_comb cb now h' = go h'.time h'.until h'.in_window h'.changed
     where
       go : (u : ℕ) → u ≤ t → IsWindow dump u → signal_bits d (dump.values (u - 1)) h'.by ≢ signal_bits d (dump.values u) h'.by → IsFollowing p c (W t)
-      go zero le window changed = absurd (no_window d lawful h dump fits r is_run shows net_law no_wake_law write_law edge_law window)
+      go zero le window changed = absurd (no_window d lawful h dump binds r is_run end shows net_law no_wake_law write_law edge_law window)
       go (suc w) le window changed =
-          let shown_at = window_shown d lawful h dump fits r is_run shows net_law no_wake_law write_law edge_law w window in
+          let shown_at = window_shown d lawful h dump binds r is_run end shows net_law no_wake_law write_law edge_law w window (omega (arith, le, now.1)) in
           let start : suc w - 1 ≡ w = omega arith in
           let there : suc w + (t - suc w) ≡ t = omega (arith, le) in
           subst (λ y. IsFollowing p c (W y)) there
           (goes_on_to (t - suc w) (suc w) p c cb (begins_by w p h'.by c is_comb cb shown_at.0 shown_at.1 h'.mentioned h'.is_bound (λ e. changed (subst (λ y. signal_bits d (dump.values y) h'.by ≡ signal_bits d (dump.values (suc w)) h'.by) (sym start) e))))
 
-  pub made_sound : (t p s : ℕ) (K : Known) (bits : List Bit) → IsShown dump t → Agrees d K (W t) → IsCombValue d dump t K p s bits → signal_bits d (W t) s ≡ bits
+  pub made_sound : (t p s : ℕ) (K : Known) (bits : List Bit) → IsSeen dump end t → Agrees d K (W t) → IsCombValue d dump t K p s bits → signal_bits d (W t) s ≡ bits
   made_sound t p s K bits now agrees is = cells_eq d (W t) (put_all (W t) (execution d (body_at d p) (W t)).blocking) (a_signal s) (λ c at. ⊎_elim (driven c at) (λ nope. sym (put_other (W t) (execution d (body_at d p) (W t)).blocking c (λ has. both_ways _ nope ((machine_lawful d lawful).blocking_kept p (W t) c has)))) (cases_Bool ((machine d).blocking p c))) ∙ is.gives (W t) agrees
     where
       driven : (c : Cell) → c.thing ≡ s → (machine d).blocking p c ≡ true → W t c ≡ put_all (W t) (execution d (body_at d p) (W t)).blocking c
@@ -189,5 +189,5 @@ module _ (d : Design) (lawful : IsLawfulDesign d) (h : Habit) (dump : BoundDump)
           follows_at t p c is.is_comb (combinational d lawful p is.is_comb is.writes_first s is.written_whole c at e) now is.has_changed ∙ ap (λ ws. put_all (W t) ws c) plain
 
   -- In every run that shows the dump, at each time that the dump shows, the settled values are those that are clear.
-  pub clear_is_sound : (t : ℕ) → IsShown dump t → Agrees d (clear d h dump t) (settled d r t)
-  clear_is_sound t now = clear_sound d lawful h dump fits r is_run shows net_law no_wake_law write_law edge_law made_sound t now
+  pub clear_is_sound : (t : ℕ) → IsSeen dump end t → Agrees d (clear d h dump t) (settled d r t)
+  clear_is_sound t now = clear_sound d lawful h dump binds r is_run end shows net_law no_wake_law write_law edge_law made_sound t now

@@ -87,7 +87,7 @@ pub option_bits_same : (s n : ℕ) (from : Option ℤ) (bs cs : List Bit) (c : C
 option_bits_same s n None bs cs c e h = h
 option_bits_same s n (Some from) bs cs c e h = bits_same s n from bs cs c e h
 
-option_word_range : (d : Design) (m : ℕ) (o : Option ℕ) (bs : List Bit) (c : Cell) → WritesCell (word_writes d m o bs) c → c.thing ≡ m
+pub option_word_range : (d : Design) (m : ℕ) (o : Option ℕ) (bs : List Bit) (c : Cell) → WritesCell (word_writes d m o bs) c → c.thing ≡ m
 option_word_range d m None bs c h = absurd h
 option_word_range d m (Some i) bs c h = WritesCell-word d m i (range_with_len 0 (memory_at d m).width) bs c h
 

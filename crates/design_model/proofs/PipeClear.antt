@@ -10,7 +10,7 @@ use Rattle.four_state.specs.declared.bit.Bit.{Bit}
 use Rattle.four_state.specs.declared.bit.Bit.TheVariants.{One, X, Zero}
 use Rattle.design_model.specs.Design.{Thing, a_signal, a_word, body_at, is_memory, process_at, signal_bits, thing_bits}
 use Rattle.design_model.specs.Execution.{BothTrue, at_line, at_node, execution, reads}
-use Rattle.design_model.specs.Paths.{reads_before_writing}
+use Rattle.design_model.specs.Paths.{reads_signal_before_writing}
 use Rattle.design_model.specs.Reads.{Agrees, AllInside, HasValue, Known, nothing_known}
 use Rattle.design_model.specs.Machine.{is_level}
 use Rattle.design_model.specs.Points.{toggle_point}
@@ -118,7 +118,7 @@ clear_y = (2, of_comb 0 4 (One ∷ []) refl is_made)
           is_comb = tt;
           target = refl;
           written_whole = refl;
-          writes_first = λ x h. subst (λ y. reads_before_writing pipe (body_at pipe 0) y ≡ false) (eqb-true 4 x h) refl;
+          writes_first = λ x h. subst (λ y. reads_signal_before_writing pipe (body_at pipe 0) y ≡ false) (eqb-true 4 x h) refl;
           all_clear = λ x h away is_signal. mentioned x h;
           told = told_by pipe _ (body_at pipe 0) (pipe_values Zero One One X X) (agrees_1 X) (all_inside X);
           has_changed = record { by = 1; time = 5; mentioned = refl; is_bound = refl; until = lit≤ tt; in_window = (lit< tt, lit< tt); changed = zero_one };

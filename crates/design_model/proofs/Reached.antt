@@ -1,5 +1,5 @@
 -- Each point that a block reaches is hit in every run that shows the dump.
-use Rattle.std.proofs.Common.{◌≡◌, inl, ⊎_elim, ℕ, zero, suc, true, false, Bool, List, [], ◌∷◌, refl, sym, ap, subst, ◌∙◌, if◌then◌else◌}
+use Rattle.std.proofs.Common.{◌≡◌, inl, ⊎_elim, ℕ, zero, suc, ◌≤◌, true, false, Bool, List, [], ◌∷◌, refl, sym, ap, subst, ◌∙◌, arith, if◌then◌else◌}
 use Rattle.std.proofs.lemmas.Bool.{both_ways, false_from_ne_true}
 use Rattle.event_machine.specs.Cell.{Cell, Values}
 use Rattle.event_machine.specs.Machine.{IsWakeCell}
@@ -12,7 +12,7 @@ use Rattle.design_model.specs.Execution.{Visit, at_line, at_node, execution, exe
 use Rattle.design_model.specs.Reads.{Agrees, Known}
 use Rattle.design_model.specs.Machine.{machine}
 use Rattle.design_model.specs.Run.{IsRun, Run, StepOf, settled}
-use Rattle.design_model.specs.Shows.{BoundDump, InWindow, IsDumpOf, IsShown, IsWindow, Shows}
+use Rattle.design_model.specs.Shows.{BindsSignals, BoundDump, InWindow, IsWindow, ShowsUpTo}
 use Rattle.design_model.specs.Scored.{IsScoredOf, VisitsIn}
 use Rattle.design_model.specs.Points.{IsBlock, IsHit, Point, arc_point, line_point, logic_point, state_point, toggle_point, word_point}
 use Rattle.design_model.specs.MayMove.{IsCleanAt}
@@ -20,7 +20,7 @@ use Rattle.design_model.specs.Open.{KnownAtEnd, HasChangedWakeBit, IsNotClocked,
 use Rattle.design_model.specs.Lawful.{IsLawfulDesign}
 use Rattle.design_model.specs.Laws.{ReachedLaw}
 use Rattle.design_model.proofs.Agree.{AllOuter}
-use Rattle.design_model.proofs.ForcedSound.{clear_law}
+use Rattle.design_model.proofs.ForcedSound.{clear_at}
 use Rattle.design_model.proofs.Hits.{clean_acts, clean_hits}
 use Rattle.design_model.proofs.Lawful.{assigns_any}
 use Rattle.design_model.proofs.Mentions.{AllReads, execute_reads}
@@ -28,7 +28,7 @@ use Rattle.design_model.proofs.OpenNodes.{logic_visited}
 use Rattle.design_model.proofs.OpenPath.{line_visited}
 use Rattle.design_model.proofs.OpenWords.{SeesWord, word_visited}
 use Rattle.design_model.proofs.SettledHits.{settled_acts, settled_hits, settling_level}
-use Rattle.design_model.proofs.Sound.{cells_eq, no_window, window_shown}
+use Rattle.design_model.proofs.Sound.{IsSeen, cells_eq, no_window, window_shown}
 use Rattle.design_model.proofs.StepLaws.{StepLaws}
 use Rattle.design_model.proofs.Told.{execution_same}
 
@@ -66,11 +66,11 @@ body_outer d b u w same (writes_word m i ∷ xs) a = (tt, body_outer d b u w sam
 body_outer d b u w same (reads x true ∷ xs) a = (tt, body_outer d b u w same xs a.1)
 body_outer d b u w same (reads x false ∷ xs) a = (cells_eq d u w x (λ c at. same c (subst (λ y. body_mentions y b ≡ true) (sym at) a.0)), body_outer d b u w same xs a.1)
 
-module _ (d : Design) (lawful : IsLawfulDesign d) (h : Habit) (laws : StepLaws (machine d) h) (dump : BoundDump) (r : Run) (fits : IsDumpOf d dump) (is_run : IsRun d h r) (shows : Shows d dump r) where
-  clean_surely : (t p : ℕ) (c : Cell) (x : Point) → IsWindow dump t → IsBlock d x p → IsCleanAt d dump t p c → IsSurelyOpen d (KnownOnEntry d h dump t p) (body_at d p) x → IsHit d dump r x
-  clean_surely zero p c x window is_block clean sure = absurd (no_window d lawful h dump fits r is_run shows laws.net laws.no_wake laws.write laws.edge window)
-  clean_surely (suc t) p c x window is_block clean sure =
-      let a = clean_acts d lawful h laws dump r fits is_run shows t p c window clean in
+module _ (d : Design) (lawful : IsLawfulDesign d) (h : Habit) (laws : StepLaws (machine d) h) (dump : BoundDump) (r : Run) (binds : BindsSignals d dump) (is_run : IsRun d h r) (end : ℕ) (shows : ShowsUpTo d dump r end) where
+  clean_surely : (t p : ℕ) (c : Cell) (x : Point) → IsWindow dump t → t ≤ end → IsBlock d x p → IsCleanAt d dump t p c → IsSurelyOpen d (KnownOnEntry d h dump t p) (body_at d p) x → IsHit d dump r x
+  clean_surely zero p c x window le is_block clean sure = absurd (no_window d lawful h dump binds r is_run end shows laws.net laws.no_wake laws.write laws.edge window)
+  clean_surely (suc t) p c x window le is_block clean sure =
+      let a = clean_acts d lawful h laws dump r binds is_run end shows t p c window le clean in
       sees_hit d dump r x p a.0 a.1 is_block a.2 a.3 (surely_visited d (KnownOnEntry d h dump (suc t) p) (body_at d p) a.2 a.4 x sure)
 
   -- the entry where the body mentions, the settled values elsewhere
@@ -89,31 +89,31 @@ module _ (d : Design) (lawful : IsLawfulDesign d) (h : Habit) (laws : StepLaws (
       go true e = same e
       go false e = refl
 
-  settled_surely : (t p : ℕ) (x : Point) → IsWindow dump t → IsBlock d x p → IsNotClocked d p → HasChangedWakeBit d dump t p → IsSurelyOpen d (KnownAtEnd d h dump t p) (body_at d p) x → IsHit d dump r x
-  settled_surely zero p x window is_block not_clocked changed_bit sure = absurd (no_window d lawful h dump fits r is_run shows laws.net laws.no_wake laws.write laws.edge window)
-  settled_surely (suc t) p x window is_block not_clocked changed_bit sure =
-      let a = settled_acts d lawful h laws laws.settled dump r fits is_run shows t p window not_clocked changed_bit in
+  settled_surely : (t p : ℕ) (x : Point) → IsWindow dump t → t ≤ end → IsBlock d x p → IsNotClocked d p → HasChangedWakeBit d dump t p → IsSurelyOpen d (KnownAtEnd d h dump t p) (body_at d p) x → IsHit d dump r x
+  settled_surely zero p x window le is_block not_clocked changed_bit sure = absurd (no_window d lawful h dump binds r is_run end shows laws.net laws.no_wake laws.write laws.edge window)
+  settled_surely (suc t) p x window le is_block not_clocked changed_bit sure =
+      let a = settled_acts d lawful h laws laws.settled dump r binds is_run end shows t p window le not_clocked changed_bit in
       let v : Values Bit = mixed p a.2 (settled d r (suc t)) in
       let e = execution_same d v a.2 (body_at d p) (body_outer d (body_at d p) v a.2 (λ c m. mixed_entry p a.2 (settled d r (suc t)) c m) _ (execute_reads (λ y. body_mentions y (body_at d p) ≡ true) d (body_at d p) (λ y m. m) (execution_start v) tt)) in
       sees_hit d dump r x p a.0 a.1 is_block a.2 a.3 (subst (Sees x) e.visits (surely_visited d (KnownAtEnd d h dump (suc t) p) (body_at d p) v (agrees a.2 a.4) x sure))
     where
-      now : IsShown dump (suc t)
-      now = (window_shown d lawful h dump fits r is_run shows laws.net laws.no_wake laws.write laws.edge t window).1
+      now : IsSeen dump end (suc t)
+      now = (window_shown d lawful h dump binds r is_run end shows laws.net laws.no_wake laws.write laws.edge t window le).1
 
       agrees : (entry : Values Bit) → ((b : Cell) → IsWakeCell (machine d) p b → entry b ≡ settled d r (suc t) b) → Agrees d (KnownAtEnd d h dump (suc t) p) (mixed p entry (settled d r (suc t)))
       agrees entry same y bits k =
           cells_eq d (mixed p entry (settled d r (suc t))) (settled d r (suc t)) y
           (λ c at. mixed_settled p entry (settled d r (suc t)) c
           (λ m. same c (settling_level (process_at d p) c.thing not_clocked m, false_from_ne_true _ (λ e. both_ways (body_assigns (owner y) (body_at d p)) k.0 (subst (λ q. body_assigns q (body_at d p) ≡ true) at (assigns_any d (body_at d p) c (inl e)))))))
-          ∙ clear_law d lawful h laws dump r fits is_run shows (suc t) now y bits k.1
+          ∙ clear_at d lawful h laws dump r binds is_run end shows (suc t) now y bits k.1
 
   -- each point that a block reaches is hit
-  pub reached_hit : (t p : ℕ) (x : Point) → IsReached d h dump t p x → IsHit d dump r x
-  reached_hit t p x reached =
+  pub reached_hit : (t p : ℕ) (x : Point) → t ≤ end → IsReached d h dump t p x → IsHit d dump r x
+  reached_hit t p x le reached =
       ⊎_elim
-      (λ clean. ⊎_elim (λ y. clean_hits d lawful h laws dump r fits is_run shows t p clean.0 x y.0 reached.0 reached.1 clean.1 y.1 y.2) (λ sure. clean_surely t p clean.0 x reached.0 reached.1 clean.1 sure) clean.2)
-      (λ calm. ⊎_elim (λ y. settled_hits d lawful h laws laws.settled dump r fits is_run shows t p x y.0 reached.0 reached.1 calm.0 calm.1 y.1 y.2) (λ sure. settled_surely t p x reached.0 reached.1 calm.0 calm.1 sure) calm.2)
+      (λ clean. ⊎_elim (λ y. clean_hits d lawful h laws dump r binds is_run end shows t p clean.0 x y.0 reached.0 le reached.1 clean.1 y.1 y.2) (λ sure. clean_surely t p clean.0 x reached.0 le reached.1 clean.1 sure) clean.2)
+      (λ calm. ⊎_elim (λ y. settled_hits d lawful h laws laws.settled dump r binds is_run end shows t p x y.0 reached.0 le reached.1 calm.0 calm.1 y.1 y.2) (λ sure. settled_surely t p x reached.0 le reached.1 calm.0 calm.1 sure) calm.2)
       reached.2
 
 pub reached_law : (d : Design) (h : Habit) → IsLawfulDesign d → StepLaws (machine d) h → ReachedLaw d h
-reached_law d h lawful laws dump r fits is_run shows t p x reached = reached_hit d lawful h laws dump r fits is_run shows t p x reached
+reached_law d h lawful laws dump r t binds showing p x reached = reached_hit d lawful h laws dump r binds showing.is_run t showing.shows t p x (omega arith) reached

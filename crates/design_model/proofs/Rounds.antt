@@ -12,7 +12,6 @@ use Rattle.design_model.specs.Clear.{IsClearBy, IsCombValue, IsNetValue, clear, 
 use Rattle.design_model.specs.Lawful.{is_signal}
 use Rattle.design_model.specs.Laws.{ClearLaw, ClearLeastLaw, ClearRoundsLaw, ClearValueLaw}
 use Rattle.design_model.proofs.FlipFlopDoubt.{agrees}
-use Rattle.design_model.proofs.FlipFlopRun.{is_run, shows}
 
 -- what the one map has, the other has
 abbrev MoreKnown : Known → Known → Type 0
@@ -81,5 +80,5 @@ least_law d h dump zero has closed x bits k = in_closed d h dump zero nothing_kn
 least_law d h dump (suc t) has closed x bits k = in_closed d h dump (suc t) (clear d h dump t) has closed k.0 x bits k.1
 
 pub value_law : (d : Design) (h : Habit) → ClearLaw d h → ClearValueLaw d h
-value_law d h clear_holds dump r fits is_run shows t is_shown x a b first second =
-    sym (clear_holds dump r fits is_run shows t is_shown x a first) ∙ clear_holds dump r fits is_run shows t is_shown x b second
+value_law d h clear_holds dump r t binds showing is_shown x a b first second =
+    sym (clear_holds dump r t binds showing is_shown x a first) ∙ clear_holds dump r t binds showing is_shown x b second

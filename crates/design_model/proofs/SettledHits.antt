@@ -1,5 +1,5 @@
 -- What an Assign or Comb visits, from what is clear, up to its first read outside, is hit where a wake bit surely changes.
-use Rattle.std.proofs.Common.{◌≡◌, ◌≢◌, ◌⊎◌, inl, inr, ℕ, zero, suc, ◌-◌, true, false, List, [], ◌∷◌, ◌++◌, refl, sym, ap, subst, ◌∙◌, arith}
+use Rattle.std.proofs.Common.{◌≡◌, ◌≢◌, ◌⊎◌, inl, inr, ℕ, zero, suc, ◌-◌, ◌≤◌, true, false, List, [], ◌∷◌, ◌++◌, refl, sym, ap, subst, ◌∙◌, arith}
 use Rattle.std.proofs.lemmas.Bool.{or_left, both_ways, false_from_ne_true}
 use Rattle.event_machine.specs.Cell.{Cell, Values}
 use Rattle.event_machine.specs.Machine.{IsWakeCell}
@@ -15,17 +15,17 @@ use Rattle.design_model.specs.Execution.{Visit, at_line, at_node, execution, exe
 use Rattle.design_model.specs.Reads.{Agrees, HasValue, Known, UpToOutside, VisitsFrom}
 use Rattle.design_model.specs.Machine.{is_level, machine}
 use Rattle.design_model.specs.Run.{IsRun, Run, StepOf, evaluations_of, settled, start_of}
-use Rattle.design_model.specs.Shows.{BoundDump, InWindow, IsDumpOf, IsShown, IsWindow, Shows}
+use Rattle.design_model.specs.Shows.{BindsSignals, BoundDump, InWindow, IsWindow, ShowsUpTo}
 use Rattle.design_model.specs.Scored.{ChangesOver, IsScoredOf, VisitsIn}
 use Rattle.design_model.specs.Points.{IsBlock, IsHit, Point}
 use Rattle.design_model.specs.Open.{KnownAtEnd, HasChangedWakeBit, IsNotClocked, IsVisitOf}
 use Rattle.design_model.specs.Lawful.{IsLawfulDesign}
-use Rattle.design_model.proofs.ForcedSound.{clear_law}
+use Rattle.design_model.proofs.ForcedSound.{clear_at}
 use Rattle.design_model.proofs.Hits.{StepHere, hit_of, step_here, upto_in}
 use Rattle.design_model.proofs.Lawful.{assigns_any}
 use Rattle.design_model.proofs.Mentions.{AllReads, execute_reads}
 use Rattle.design_model.proofs.Prefix.{execution_up, up_visits, visits_on_all}
-use Rattle.design_model.proofs.Sound.{at_time, cells_eq, no_window, window_shown}
+use Rattle.design_model.proofs.Sound.{IsSeen, at_time, cells_eq, no_window, window_shown}
 use Rattle.design_model.proofs.StepLaws.{StepLaws}
 
 pub settling_level : (x : Process) (y : ℕ) → (IsClocked x → ⊥) → body_mentions y (body x) ≡ true → is_level x y ≡ true
@@ -52,18 +52,18 @@ widen d p v K y not_own (writes_word m i ∷ xs) a (inr h) = inr (tt, widen d p 
 widen d p v K y not_own (reads x true ∷ xs) a (inr h) = inr (tt, widen d p v K y not_own xs a.1 h.1)
 widen d p v K y not_own (reads x false ∷ xs) a (inr h) = inr ((thing_bits d v x, (a.0, not_own x h.0, refl)), widen d p v K y not_own xs a.1 h.1)
 
-module _ (d : Design) (lawful : IsLawfulDesign d) (h : Habit) (laws : StepLaws (machine d) h) (settled_law : SettledLaw (machine d)) (dump : BoundDump) (r : Run) (fits : IsDumpOf d dump) (is_run : IsRun d h r) (shows : Shows d dump r) where
-  settled_visits : (t p : ℕ) (y : Visit) → IsWindow dump (suc t) → IsNotClocked d p → HasChangedWakeBit d dump (suc t) p → VisitsFrom d (KnownAtEnd d h dump (suc t) p) (body_at d p) y → (k : StepOf r) × InWindow dump r k × VisitsIn d r k p y
-  settled_visits t p y window not_clocked changed_bit from = go (step_here d h r is_run t)
+module _ (d : Design) (lawful : IsLawfulDesign d) (h : Habit) (laws : StepLaws (machine d) h) (settled_law : SettledLaw (machine d)) (dump : BoundDump) (r : Run) (binds : BindsSignals d dump) (is_run : IsRun d h r) (end : ℕ) (shows : ShowsUpTo d dump r end) where
+  settled_visits : (t p : ℕ) (y : Visit) → IsWindow dump (suc t) → suc t ≤ end → IsNotClocked d p → HasChangedWakeBit d dump (suc t) p → VisitsFrom d (KnownAtEnd d h dump (suc t) p) (body_at d p) y → (k : StepOf r) × InWindow dump r k × VisitsIn d r k p y
+  settled_visits t p y window le not_clocked changed_bit from = go (step_here d h r is_run t)
     where
       c : Cell
       c = changed_bit.0
 
-      both : IsShown dump t × IsShown dump (suc t)
-      both = window_shown d lawful h dump fits r is_run shows laws.net laws.no_wake laws.write laws.edge t window
+      both : IsSeen dump end t × IsSeen dump end (suc t)
+      both = window_shown d lawful h dump binds r is_run end shows laws.net laws.no_wake laws.write laws.edge t window le
 
-      value : (u : ℕ) → IsShown dump u → settled d r u c ≡ dump.values u c
-      value u now = at_time d lawful h dump fits r is_run shows laws.net laws.no_wake laws.write laws.edge u now c changed_bit.2 changed_bit.1.1
+      value : (u : ℕ) → IsSeen dump end u → settled d r u c ≡ dump.values u c
+      value u now = at_time d lawful h dump binds r is_run end shows laws.net laws.no_wake laws.write laws.edge u now c changed_bit.2 changed_bit.1.1
 
       last : suc t - 1 ≡ t
       last = omega arith
@@ -76,7 +76,7 @@ module _ (d : Design) (lawful : IsLawfulDesign d) (h : Habit) (laws : StepLaws (
 
       -- visits on the settled values
       seen : UpToOutside (KnownAtEnd d h dump (suc t) p) y (execution d (body_at d p) (settled d r (suc t))).visits
-      seen = visits_on_all d (KnownAtEnd d h dump (suc t) p) (body_at d p) y from (settled d r (suc t)) (λ x bits k. clear_law d lawful h laws dump r fits is_run shows (suc t) both.1 x bits k.1)
+      seen = visits_on_all d (KnownAtEnd d h dump (suc t) p) (body_at d p) y from (settled d r (suc t)) (λ x bits k. clear_at d lawful h laws dump r binds is_run end shows (suc t) both.1 x bits k.1)
 
       wide : UpToOutside (Wakes d p (settled d r (suc t))) y (execution d (body_at d p) (settled d r (suc t))).visits
       wide = widen d p (settled d r (suc t)) (KnownAtEnd d h dump (suc t) p) y (λ x k. k.1.0) _ (execute_reads (λ q. body_mentions q (body_at d p) ≡ true) d (body_at d p) (λ q e. e) (execution_start (settled d r (suc t))) tt) seen
@@ -98,17 +98,17 @@ module _ (d : Design) (lawful : IsLawfulDesign d) (h : Habit) (laws : StepLaws (
           (s.step, subst (IsWindow dump) (sym s.at) window, (evaluated.entry, settling_scored (process_at d p) d r s.step p evaluated.entry not_clocked (evaluated.earlier, listed) (c, wake, over), upto_in (Wakes d p (settled d r (suc t))) y _ (up_visits (Wakes d p (settled d r (suc t))) y _ _ (execution_up d (Wakes d p (settled d r (suc t))) (settled d r (suc t)) evaluated.entry (λ x bits k. sym k.2) agree (body_at d p)) wide)))
 
   -- it acts last in the step, on values with the settled values of its wake cells
-  pub settled_acts : (t p : ℕ) → IsWindow dump (suc t) → IsNotClocked d p → HasChangedWakeBit d dump (suc t) p → (k : StepOf r) × InWindow dump r k × (entry : Values Bit) × IsScoredOf (process_at d p) d r k p entry × ((b : Cell) → IsWakeCell (machine d) p b → entry b ≡ settled d r (suc t) b)
-  settled_acts t p window not_clocked changed_bit = go (step_here d h r is_run t)
+  pub settled_acts : (t p : ℕ) → IsWindow dump (suc t) → suc t ≤ end → IsNotClocked d p → HasChangedWakeBit d dump (suc t) p → (k : StepOf r) × InWindow dump r k × (entry : Values Bit) × IsScoredOf (process_at d p) d r k p entry × ((b : Cell) → IsWakeCell (machine d) p b → entry b ≡ settled d r (suc t) b)
+  settled_acts t p window le not_clocked changed_bit = go (step_here d h r is_run t)
     where
       c : Cell
       c = changed_bit.0
 
-      both : IsShown dump t × IsShown dump (suc t)
-      both = window_shown d lawful h dump fits r is_run shows laws.net laws.no_wake laws.write laws.edge t window
+      both : IsSeen dump end t × IsSeen dump end (suc t)
+      both = window_shown d lawful h dump binds r is_run end shows laws.net laws.no_wake laws.write laws.edge t window le
 
-      value : (u : ℕ) → IsShown dump u → settled d r u c ≡ dump.values u c
-      value u now = at_time d lawful h dump fits r is_run shows laws.net laws.no_wake laws.write laws.edge u now c changed_bit.2 changed_bit.1.1
+      value : (u : ℕ) → IsSeen dump end u → settled d r u c ≡ dump.values u c
+      value u now = at_time d lawful h dump binds r is_run end shows laws.net laws.no_wake laws.write laws.edge u now c changed_bit.2 changed_bit.1.1
 
       last : suc t - 1 ≡ t
       last = omega arith
@@ -128,6 +128,6 @@ module _ (d : Design) (lawful : IsLawfulDesign d) (h : Habit) (laws : StepLaws (
           (s.step, subst (IsWindow dump) (sym s.at) window, evaluated.entry, settling_scored (process_at d p) d r s.step p evaluated.entry not_clocked (evaluated.earlier, listed) (c, wake, over), (λ b w. evaluated.settled b w ∙ ap (λ f. f b) s.to.ends))
 
   -- so the points that it visits up to its first read outside are hit
-  pub settled_hits : (t p : ℕ) (x : Point) (y : Visit) → IsWindow dump t → IsBlock d x p → IsNotClocked d p → HasChangedWakeBit d dump t p → IsVisitOf x y → VisitsFrom d (KnownAtEnd d h dump t p) (body_at d p) y → IsHit d dump r x
-  settled_hits zero p x y window is_block not_clocked changed_bit is from = absurd (no_window d lawful h dump fits r is_run shows laws.net laws.no_wake laws.write laws.edge window)
-  settled_hits (suc t) p x y window is_block not_clocked changed_bit is from = let v = settled_visits t p y window not_clocked changed_bit from in hit_of d dump r x p y v.0 v.1 is_block is v.2
+  pub settled_hits : (t p : ℕ) (x : Point) (y : Visit) → IsWindow dump t → t ≤ end → IsBlock d x p → IsNotClocked d p → HasChangedWakeBit d dump t p → IsVisitOf x y → VisitsFrom d (KnownAtEnd d h dump t p) (body_at d p) y → IsHit d dump r x
+  settled_hits zero p x y window le is_block not_clocked changed_bit is from = absurd (no_window d lawful h dump binds r is_run end shows laws.net laws.no_wake laws.write laws.edge window)
+  settled_hits (suc t) p x y window le is_block not_clocked changed_bit is from = let v = settled_visits t p y window le not_clocked changed_bit from in hit_of d dump r x p y v.0 v.1 is_block is v.2

@@ -1,5 +1,5 @@
 -- In every run that shows the dump the settled values are those that are clear: from the laws of the machine.
-use Rattle.std.proofs.Common.{◌≡◌, ◌≢◌, ◌⊎◌, inl, inr, ⊎_elim, ℕ, zero, suc, ◌+◌, ◌-◌, ◌*◌, ◌<◌, Bool, true, false, List, [], ◌∷◌, ◌++◌, map, length, append-nil, refl, sym, ap, ap₂, subst, ◌∙◌, arith, if◌then◌else◌}
+use Rattle.std.proofs.Common.{◌≡◌, ◌≢◌, ◌⊎◌, inl, inr, ⊎_elim, ℕ, zero, suc, ◌+◌, ◌-◌, ◌*◌, ◌<◌, ◌≤◌, Bool, true, false, List, [], ◌∷◌, ◌++◌, map, length, append-nil, refl, sym, ap, ap₂, subst, ◌∙◌, arith, if◌then◌else◌}
 use Rattle.event_machine.specs.Machine.{Edge as MachineEdge}
 use Rattle.std.specs.Prelude.{nat_le}
 use Rattle.std.proofs.lemmas.Bool.{and_parts, ltb-true, leb-true, cases_Bool, false≢true, both_ways}
@@ -12,6 +12,7 @@ use Rattle.event_machine.specs.Event.{Event, end_state}
 use Rattle.event_machine.specs.Habit.{Habit}
 use Rattle.event_machine.specs.Step.{IsStep, evaluations, outputs}
 use Rattle.event_machine.specs.Told.{IsAsTold, IsToldCell}
+use Rattle.event_machine.specs.ToldStep.{ToldStep}
 use Rattle.event_machine.specs.Laws.{EdgeLaw, EvaluatesOnce, NetLaw, NoWakeLaw, WriteLaw}
 use Rattle.four_state.specs.declared.bit.Bit.{Bit}
 use Rattle.design_model.specs.Tree.{Process, assign, clocked, comb}
@@ -22,7 +23,7 @@ use Rattle.design_model.specs.Paths.{step}
 use Rattle.design_model.specs.Reads.{Agrees, Known, nothing_known}
 use Rattle.design_model.specs.Machine.{is_level, machine}
 use Rattle.design_model.specs.Run.{IsRun, Run, settled}
-use Rattle.design_model.specs.Shows.{BoundDump, IsDumpOf, IsShown, IsShownOf, IsWindow, IsWindowOf, Shows}
+use Rattle.design_model.specs.Shows.{BindsSignals, BoundDump, IsShown, IsShownOf, IsWindow, IsWindowOf, ShowsUpTo}
 use Rattle.design_model.specs.MayMove.{CanWakeSome, IsCleanAt, IsSingleAt, told_at}
 use Rattle.design_model.specs.Early.{IsEarlyAt}
 use Rattle.design_model.specs.Clear.{EntryFrom, IsClearBy, IsClockedTarget, IsCombValue, IsNetValue, IsWrittenValue, LeavesValue, all_writes, clear, clear_in, driven_writes, drives, of_assigns, of_clean, of_comb, of_dump, of_unwoken}
@@ -31,6 +32,7 @@ use Rattle.design_model.proofs.Assigns.{machine_lawful}
 use Rattle.design_model.proofs.Bound.{clear-thing}
 use Rattle.design_model.proofs.Lawful.{any_gives, assign_or, assigns_any, edge_one, may_any, place_from}
 use Rattle.design_model.proofs.Named.{WritesCell-halves}
+use Rattle.event_machine.proofs.Rounds.{single_told}  -- #keep
 use Rattle.design_model.proofs.Times.{StepTo, next_time}
 use Rattle.design_model.proofs.Told.{put_append, put_same}
 use Rattle.design_model.proofs.Untouched.{put_other, untouched}
@@ -72,12 +74,12 @@ cells_eq d u v (a_signal s) h = cells_at u v s (range_with_len 0 (signal_at d s)
 cells_eq d u v (a_word m i) h = words_at u v m i (memory_at d m).width (range_with_len 0 (memory_at d m).width) h
 
 -- a Clocked is not level-sensitive, an Assign queues nothing
-no_level : (x : Process) → IsClocked x → (y : ℕ) → is_level x y ≡ false
+pub no_level : (x : Process) → IsClocked x → (y : ℕ) → is_level x y ≡ false
 no_level (assign i t v c) h y = absurd h
 no_level (comb i wakes s) h y = absurd h
 no_level (clocked i events s) h y = refl
 
-no_queue : (d : Design) (x : Process) (v : Values Bit) → is_assign x ≡ true → (execution d (body x) v).nonblocking ≡ []
+pub no_queue : (d : Design) (x : Process) (v : Values Bit) → is_assign x ≡ true → (execution d (body x) v).nonblocking ≡ []
 no_queue d (assign i t y c) v e = refl
 no_queue d (comb i wakes s) v e = absurd (false≢true e)
 no_queue d (clocked i events s) v e = absurd (false≢true e)
@@ -94,7 +96,11 @@ UpdatesCell-join (u ∷ us) c h = ⊎_elim (λ a. inl a) (λ b. inr (UpdatesCell
     halves : (us ws : List (Write Bit)) (c : Cell) → WritesCell (us ++ ws) c → WritesCell us c ⊎ WritesCell ws c
     halves us ws c h = WritesCell-halves us ws c h
 
-module _ (d : Design) (lawful : IsLawfulDesign d) (h : Habit) (dump : BoundDump) (fits : IsDumpOf d dump) (r : Run) (is_run : IsRun d h r) (shows : Shows d dump r) (net_law : NetLaw (machine d)) (no_wake_law : NoWakeLaw (machine d)) (write_law : WriteLaw (machine d)) (edge_law : EdgeLaw (machine d) h) where
+-- the dump shows the time, up to which it is looked at
+abbrev pub IsSeen : BoundDump → ℕ → ℕ → Type 0
+IsSeen dump end t = IsShown dump t × (t ≤ end)
+
+module _ (d : Design) (lawful : IsLawfulDesign d) (h : Habit) (dump : BoundDump) (binds : BindsSignals d dump) (r : Run) (is_run : IsRun d h r) (end : ℕ) (shows : ShowsUpTo d dump r end) (net_law : NetLaw (machine d)) (no_wake_law : NoWakeLaw (machine d)) (write_law : WriteLaw (machine d)) (edge_law : EdgeLaw (machine d) h) where
   abbrev pub values_at : ℕ → Values Bit
   values_at t = settled d r t
 
@@ -107,17 +113,20 @@ module _ (d : Design) (lawful : IsLawfulDesign d) (h : Habit) (dump : BoundDump)
   told_range : (t : ℕ) (c : Cell) → IsToldCell (machine d) (told_at dump t) c → c.place < (signal_at d c.thing).width
   told_range t c told =
       ⊎_elim (λ input. ltb-true _ _ (and_parts (signal_at d c.thing).input _ input).1)
-      (λ target. any_gives (λ x y w. may_write d y c) _ (λ x y w e. place_from d y c (fits.signals c.thing told.0) e) (body_at d target.0) (may_any d (body_at d target.0) c target.1)) told.1
+      (λ target. any_gives (λ x y w. may_write d y c) _ (λ x y w e. place_from d y c (binds c.thing told.0) e) (body_at d target.0) (may_any d (body_at d target.0) c target.1)) told.1
 
-  pub at_time : (t : ℕ) → IsShown dump t → (c : Cell) → dump.bound c.thing ≡ true → c.place < (signal_at d c.thing).width → values_at t c ≡ dump.values t c
-  at_time t is_shown c bound range = pick_cell d (values_at t) (dump.values t) c (shows.shows t is_shown c.thing bound) range
+  pub at_time : (t : ℕ) → IsSeen dump end t → (c : Cell) → dump.bound c.thing ≡ true → c.place < (signal_at d c.thing).width → values_at t c ≡ dump.values t c
+  at_time t is_shown c bound range = pick_cell d (values_at t) (dump.values t) c (shows.shows t is_shown.0 is_shown.1 c.thing bound) range
 
   pub back : (t : ℕ) → suc t - 1 ≡ t
   back t = omega arith
 
-  pub as_told : (t : ℕ) → IsShown dump t → IsShown dump (suc t) → (s : StepAt t) → IsAsTold (machine d) (told_at dump (suc t)) s.start s.events
+  pub as_told : (t : ℕ) → IsSeen dump end t → IsSeen dump end (suc t) → (s : StepAt t) → IsAsTold (machine d) (told_at dump (suc t)) s.start s.events
   as_told t now next s c told =
       (ap (λ f. f c) s.starts ∙ at_time t now c told.0 (told_range (suc t) c told) ∙ ap (λ y. dump.values y c) (sym (back t)), ap (λ f. f c) s.ends ∙ at_time (suc t) next c told.0 (told_range (suc t) c told))
+
+  abbrev pub told_step : (t : ℕ) → IsSeen dump end t → IsSeen dump end (suc t) → StepAt t → ToldStep (machine d) h (told_at dump (suc t))
+  told_step t now next s = record { start = s.start; events = s.events; is_step = s.is_step; as_told = as_told t now next s }
 
   -- a cell of what Clocked p writes that p does not write itself stays
   other_stays : (p : ℕ) (x : Thing) (c : Cell) → IsClockedTarget d p x → c.thing ≡ owner x → (IsTarget (machine d) p c → ⊥) → (s : State Bit) (es : List (Event Bit)) → IsStep (machine d) h s es → (end_state (machine d) s es).values c ≡ s.values c
@@ -143,25 +152,26 @@ module _ (d : Design) (lawful : IsLawfulDesign d) (h : Habit) (dump : BoundDump)
       go (inr e) (inr f) = inr (λ x. ⊎_elim (λ y. both_ways _ e y) (λ y. both_ways _ f y) x)
 
   -- what Clocked p writes stays over a time at which p cannot wake
-  kept_sound : (t p : ℕ) (x : Thing) → IsShown dump t → IsShown dump (suc t) → IsClockedTarget d p x → (CanWakeSome d dump (suc t) p → ⊥) → thing_bits d (values_at (suc t)) x ≡ thing_bits d (values_at t) x
+  kept_sound : (t p : ℕ) (x : Thing) → IsSeen dump end t → IsSeen dump end (suc t) → IsClockedTarget d p x → (CanWakeSome d dump (suc t) p → ⊥) → thing_bits d (values_at (suc t)) x ≡ thing_bits d (values_at t) x
   kept_sound t p x now next target cannot_wake = cells_eq d (values_at (suc t)) (values_at t) x (λ c is. ⊎_elim (λ same. ap (λ f. f c) same) (λ s. sym (ap (λ f. f c) s.ends) ∙ over s c is ∙ ap (λ f. f c) s.starts) (step_or t))
     where
       over : (s : StepAt t) (c : Cell) → c.thing ≡ owner x → (end_state (machine d) s.start s.events).values c ≡ s.start.values c
       over s c is =
-          let none : evaluations (machine d) p s.start s.events ≡ [] = no_wake_law 0 h (told_at dump (suc t)) s.start s.events s.is_step (as_told t now next s) p (no_level (process_at d p) target.is_clocked) (λ b wakes. cannot_wake (b, wakes)) in
+          let none : evaluations (machine d) p s.start s.events ≡ [] = no_wake_law (dump.round (suc t)) h (told_at dump (suc t)) (told_step t now next s) p (no_level (process_at d p) target.is_clocked) (λ b wakes. cannot_wake (b, wakes)) in
           ⊎_elim (λ at. write_law h s.start s.events s.is_step p c at ∙ ap (λ vs. put_all s.start.values (outputs (machine d) p vs) c) none) (λ n. other_stays p x c target is n s.start s.events s.is_step) (target_or p c)
 
   -- over a time at which a block is clean the settled values change
-  pub clean_moves : (t p : ℕ) (c : Cell) → IsShown dump t → IsShown dump (suc t) → IsCleanAt d dump (suc t) p c → values_at (suc t) ≡ values_at t → ⊥
+  pub clean_moves : (t p : ℕ) (c : Cell) → IsSeen dump end t → IsSeen dump end (suc t) → IsCleanAt d dump (suc t) p c → values_at (suc t) ≡ values_at t → ⊥
   clean_moves t p c now next clean same =
-      let range : c.place < (signal_at d c.thing).width = ltb-true _ _ (and_parts (signal_at d c.thing).input _ clean.is_single.0).1 in
+      let is_told : IsToldCell (machine d) (told_at dump (suc t)) c = single_told (machine d) (told_at dump (suc t)) (dump.round (suc t)) c clean.is_single in
+      let range : c.place < (signal_at d c.thing).width = told_range (suc t) c is_told in
       let e : MachineEdge = clean.can_wake.0.0 in
-      let same_bits : (told_at dump (suc t)).old c ≡ (told_at dump (suc t)).new c = ap (λ y. dump.values y c) (back t) ∙ sym (at_time t now c clean.is_single.1 range) ∙ ap (λ f. f c) (sym same) ∙ at_time (suc t) next c clean.is_single.1 range in
+      let same_bits : (told_at dump (suc t)).old c ≡ (told_at dump (suc t)).new c = ap (λ y. dump.values y c) (back t) ∙ sym (at_time t now c is_told.0 range) ∙ ap (λ f. f c) (sym same) ∙ at_time (suc t) next c is_told.0 range in
       let goes : (machine d).is_edge e ((told_at dump (suc t)).old c) ((told_at dump (suc t)).new c) ≡ true = clean.can_wake.0.2 clean.is_single in
       both_ways _ ((machine_lawful d lawful).edge_changes e ((told_at dump (suc t)).new c)) (subst (λ b. (machine d).is_edge e b ((told_at dump (suc t)).new c) ≡ true) same_bits goes)
 
   -- so a clean block has a step
-  pub clean_step : (t p : ℕ) (c : Cell) → IsShown dump t → IsShown dump (suc t) → IsCleanAt d dump (suc t) p c → StepAt t
+  pub clean_step : (t p : ℕ) (c : Cell) → IsSeen dump end t → IsSeen dump end (suc t) → IsCleanAt d dump (suc t) p c → StepAt t
   clean_step t p c now next clean = ⊎_elim (λ same. absurd (clean_moves t p c now next clean same)) (λ s. s) (step_or t)
 
   -- on entry a clean block has the values that it is said to know
@@ -189,12 +199,12 @@ module _ (d : Design) (lawful : IsLawfulDesign d) (h : Habit) (dump : BoundDump)
       apart b is e = owner_apart x old.0 (clear-thing d h dump t x bits old.2) (sym is ∙ e)
 
   -- what a clean block writes has the value that its writes leave
-  pub written_sound : (t p : ℕ) (c : Cell) (x : Thing) (bits : List Bit) → IsShown dump t → IsShown dump (suc t) → Agrees d (clear d h dump t) (values_at t) → IsWrittenValue d h dump (suc t) (clear d h dump t) p c x bits → thing_bits d (values_at (suc t)) x ≡ bits
+  pub written_sound : (t p : ℕ) (c : Cell) (x : Thing) (bits : List Bit) → IsSeen dump end t → IsSeen dump end (suc t) → Agrees d (clear d h dump t) (values_at t) → IsWrittenValue d h dump (suc t) (clear d h dump t) p c x bits → thing_bits d (values_at (suc t)) x ≡ bits
   written_sound t p c x bits now next agrees is = go (clean_step t p c now next is.is_clean)
     where
       go : StepAt t → thing_bits d (values_at (suc t)) x ≡ bits
       go s =
-          let evaluated = edge_law 0 (told_at dump (suc t)) s.start s.events s.is_step (as_told t now next s) p c is.is_clean in
+          let evaluated = edge_law (dump.round (suc t)) (told_at dump (suc t)) (told_step t now next s) p c is.is_clean in
           let ws : List (Write Bit) = all_writes (execution d (body_at d p) evaluated.entry) in
           let left : LeavesValue d (clear d h dump t) evaluated.entry ws x bits = is.gives evaluated.entry (entry_agrees t p c s agrees is.is_clean evaluated) in
           let away : (b : Cell) → (IsTarget (machine d) p b → ⊥) → WritesCell ws b → ⊥ = λ b none has.
@@ -228,12 +238,15 @@ module _ (d : Design) (lawful : IsLawfulDesign d) (h : Habit) (dump : BoundDump)
   net_sound t s K bits agrees is = cells_eq d (values_at t) (put_all (values_at t) (driven_writes d (values_at t) s d.processes)) (a_signal s) (λ c at. sym (driven_hold t s d.processes (λ j a. assign_holds t j a) c)) ∙ is.gives (values_at t) agrees
 
   -- the window begins after a shown time
-  pub window_shown : (t : ℕ) → IsWindow dump (suc t) → IsShown dump t × IsShown dump (suc t)
-  window_shown t w = go dump.times w
+  pub window_shown : (t : ℕ) → IsWindow dump (suc t) → suc t ≤ end → IsSeen dump end t × IsSeen dump end (suc t)
+  window_shown t w le = ((shown.0, omega (arith, le)), (shown.1, le))
     where
       go : (ts : List ℕ) → IsWindowOf ts (suc t) → IsShownOf ts t × IsShownOf ts (suc t)
       go [] w = absurd w
       go (u ∷ us) w = ((omega (arith, w.0), omega (arith, w.1)), (omega (arith, w.0), w.1))
+
+      shown : IsShown dump t × IsShown dump (suc t)
+      shown = go dump.times w
 
   pub no_window : IsWindow dump 0 → ⊥
   no_window w = go dump.times w
@@ -243,22 +256,22 @@ module _ (d : Design) (lawful : IsLawfulDesign d) (h : Habit) (dump : BoundDump)
       go (u ∷ us) w = omega (arith, w.0)
 
   -- what the rule for Combs still owes
-  module _ (comb_sound : (t p s : ℕ) (K : Known) (bits : List Bit) → IsShown dump t → Agrees d K (values_at t) → IsCombValue d dump t K p s bits → signal_bits d (values_at t) s ≡ bits) where
-    by_rule : (t : ℕ) (start K : Known) → IsShown dump t → Agrees d K (values_at t) → ((p : ℕ) (x : Thing) (bits : List Bit) → IsWindow dump t → IsClockedTarget d p x → (CanWakeSome d dump t p → ⊥) → start x bits → thing_bits d (values_at t) x ≡ bits) → ((p : ℕ) (c : Cell) (x : Thing) (bits : List Bit) → IsWindow dump t → IsWrittenValue d h dump t start p c x bits → thing_bits d (values_at t) x ≡ bits) → (x : Thing) (bits : List Bit) → IsClearBy d h dump t start K x bits → thing_bits d (values_at t) x ≡ bits
-    by_rule t start K now agrees k w x bits (of_dump s w0 is_shown bound is_signal is) = shows.shows t is_shown s bound ∙ sym is
+  module _ (comb_sound : (t p s : ℕ) (K : Known) (bits : List Bit) → IsSeen dump end t → Agrees d K (values_at t) → IsCombValue d dump t K p s bits → signal_bits d (values_at t) s ≡ bits) where
+    by_rule : (t : ℕ) (start K : Known) → IsSeen dump end t → Agrees d K (values_at t) → ((p : ℕ) (x : Thing) (bits : List Bit) → IsWindow dump t → IsClockedTarget d p x → (CanWakeSome d dump t p → ⊥) → start x bits → thing_bits d (values_at t) x ≡ bits) → ((p : ℕ) (c : Cell) (x : Thing) (bits : List Bit) → IsWindow dump t → IsWrittenValue d h dump t start p c x bits → thing_bits d (values_at t) x ≡ bits) → (x : Thing) (bits : List Bit) → IsClearBy d h dump t start K x bits → thing_bits d (values_at t) x ≡ bits
+    by_rule t start K now agrees k w x bits (of_dump s w0 is_shown bound is_signal is) = shows.shows t is_shown now.1 s bound ∙ sym is
     by_rule t start K now agrees k w x bits (of_assigns s w0 unbound is) = net_sound t s K w0 agrees is
     by_rule t start K now agrees k w x bits (of_comb p s w0 unbound is) = comb_sound t p s K w0 now agrees is
     by_rule t start K now agrees k w x bits (of_unwoken p x0 w0 window unbound target cannot_wake old) = k p x0 w0 window target cannot_wake old
     by_rule t start K now agrees k w x bits (of_clean p c x0 w0 window unbound is) = w p c x0 w0 window is
 
-    rounds_sound : (t : ℕ) (start : Known) → IsShown dump t → ((p : ℕ) (x : Thing) (bits : List Bit) → IsWindow dump t → IsClockedTarget d p x → (CanWakeSome d dump t p → ⊥) → start x bits → thing_bits d (values_at t) x ≡ bits) → ((p : ℕ) (c : Cell) (x : Thing) (bits : List Bit) → IsWindow dump t → IsWrittenValue d h dump t start p c x bits → thing_bits d (values_at t) x ≡ bits) → (n : ℕ) → Agrees d (clear_in d h dump t start n) (values_at t)
+    rounds_sound : (t : ℕ) (start : Known) → IsSeen dump end t → ((p : ℕ) (x : Thing) (bits : List Bit) → IsWindow dump t → IsClockedTarget d p x → (CanWakeSome d dump t p → ⊥) → start x bits → thing_bits d (values_at t) x ≡ bits) → ((p : ℕ) (c : Cell) (x : Thing) (bits : List Bit) → IsWindow dump t → IsWrittenValue d h dump t start p c x bits → thing_bits d (values_at t) x ≡ bits) → (n : ℕ) → Agrees d (clear_in d h dump t start n) (values_at t)
     rounds_sound t start now k w zero x bits is = absurd is
     rounds_sound t start now k w (suc n) x bits is = by_rule t start (clear_in d h dump t start n) now (rounds_sound t start now k w n) k w x bits is
 
     -- at each time that the dump shows, the settled values are those that are clear
-    pub clear_sound : (t : ℕ) → IsShown dump t → Agrees d (clear d h dump t) (values_at t)
+    pub clear_sound : (t : ℕ) → IsSeen dump end t → Agrees d (clear d h dump t) (values_at t)
     clear_sound zero now x bits is = rounds_sound zero nothing_known now (λ p y w window. absurd (no_window window)) (λ p c y w window. absurd (no_window window)) is.0 x bits is.1
     clear_sound (suc t) now x bits is =
         rounds_sound (suc t) (clear d h dump t) now
-        (λ p y w window target cannot_wake old. kept_sound t p y (window_shown t window).0 now target cannot_wake ∙ clear_sound t (window_shown t window).0 y w old)
-        (λ p c y w window value. written_sound t p c y w (window_shown t window).0 now (clear_sound t (window_shown t window).0) value) is.0 x bits is.1
+        (λ p y w window target cannot_wake old. kept_sound t p y (window_shown t window now.1).0 now target cannot_wake ∙ clear_sound t (window_shown t window now.1).0 y w old)
+        (λ p c y w window value. written_sound t p c y w (window_shown t window now.1).0 now (clear_sound t (window_shown t window now.1).0) value) is.0 x bits is.1

@@ -22,7 +22,7 @@ use Rattle.design_model.proofs.Times.{passed, still_there, waiting}
 
 module _ (d : Design) (h : Habit) where
   -- a later step has a later time
-  later_time : (now : ℕ) (s : State Bit) (before : List (Timed Bit)) (x : Timed Bit) (later : List (Timed Bit)) → AreSteps (machine d) h now s (before ++ x ∷ later) → now < x.time
+  pub later_time : (now : ℕ) (s : State Bit) (before : List (Timed Bit)) (x : Timed Bit) (later : List (Timed Bit)) → AreSteps (machine d) h now s (before ++ x ∷ later) → now < x.time
   later_time now s [] x later steps = steps.0
   later_time now s (y ∷ before) x later steps = omega (arith, steps.0, later_time y.time (step_start (end_state (machine d) s y.events)) before x later steps.2)
 

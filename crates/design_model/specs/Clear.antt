@@ -8,7 +8,7 @@ use Rattle.design_model.specs.Tree.{Process, Stmt}
 use Rattle.design_model.specs.Design.{Design, IsClocked, IsComb, IsThing, Thing, a_signal, a_word, body, body_at, cells, is_assign, owner, process_at, signal_at, signal_bits, signal_cells, thing_bits}
 use Rattle.design_model.specs.Mentions.{any_set, body_assigns, body_mentions, may_write}
 use Rattle.design_model.specs.Execution.{Execution, covers, execution}
-use Rattle.design_model.specs.Paths.{each_writes_whole, reads_before_writing}
+use Rattle.design_model.specs.Paths.{each_writes_whole, reads_signal_before_writing}
 use Rattle.design_model.specs.Reads.{Agrees, HasValue, IsTold, Known, nothing_known}
 use Rattle.design_model.specs.Machine.{is_level}
 use Rattle.design_model.specs.Shows.{BoundDump, IsFirst, IsListed, IsShown, IsWindow}
@@ -73,7 +73,7 @@ pub record IsCombValue (d : Design) (dump : BoundDump) (t : ℕ) (K : Known) (p 
   pub is_comb : IsComb (process_at d p)
   pub target : body_assigns s (body_at d p) ≡ true
   pub written_whole : each_writes_whole d (body_at d p) s ≡ true
-  pub writes_first : (x : ℕ) → body_assigns x (body_at d p) ≡ true → reads_before_writing d (body_at d p) x ≡ false
+  pub writes_first : (x : ℕ) → body_assigns x (body_at d p) ≡ true → reads_signal_before_writing d (body_at d p) x ≡ false
   pub all_clear : (x : ℕ) → is_level (process_at d p) x ≡ true → body_assigns x (body_at d p) ≡ false → IsSignal d x → HasValue K (a_signal x)
   pub told : IsTold d K (body_at d p)
   pub has_changed : HasChanged dump d (body_at d p) t

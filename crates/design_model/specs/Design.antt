@@ -97,7 +97,7 @@ no_process = comb 0 [] (empty nowhere)
 abbrev pub process_at : Design → ℕ → Process
 process_at d p = slice_index_or d.processes p no_process
 
--- the body of a process; that of an Assign is its one assignment
+-- the body of a process; that of an Assign is its one assignment, at line 0, which is the number of no line point
 abbrev pub body : Process → Stmt
 body (assign i x t counted) = set nowhere 0 true x t
 body (comb i wakes s) = s

@@ -4,7 +4,7 @@ use Rattle.event_machine.specs.Cell.{Cell}
 use Rattle.event_machine.specs.Habit.{Habit}
 use Rattle.design_model.specs.Design.{Design, IsComb, IsThing, Thing, a_signal, a_word, body_at, cell, owner, process_at}
 use Rattle.design_model.specs.Mentions.{body_assigns, body_mentions}
-use Rattle.design_model.specs.Paths.{reads_before_writing}
+use Rattle.design_model.specs.Paths.{reads_signal_before_writing}
 use Rattle.design_model.specs.Reads.{HasValue, ReadsFrom}
 use Rattle.design_model.specs.Machine.{is_level}
 use Rattle.design_model.specs.Shows.{BoundDump, IsListed, IsWindow}
@@ -33,14 +33,65 @@ IsPointOn (state_point i name s state x) q = s ≡ q
 IsPointOn (arc_point i name s from to x y) q = s ≡ q
 IsPointOn _ q = ⊥
 
+-- the block can wake, and reads from what it knows on entry a thing of s that is not its trigger and was not clear at the start
+pub record UnclearAtStart (d : Design) (h : Habit) (dump : BoundDump) (t s p : ℕ) : Type 0 where
+  pub thing : Thing
+  pub is_thing : IsThing d thing
+  pub of_owner : owner thing ≡ s
+  pub can_wake : CanWakeSome d dump t p
+  pub is_read : ReadsFrom d (KnownOnEntry d h dump t p) (body_at d p) thing
+  pub no_trigger : (c : Cell) → IsCleanAt d dump t p c → thing ≢ a_signal c.thing
+  pub unclear : HasValue (clear_before d h dump t) thing → ⊥
+
+-- the block is clean, and reads from what it knows on entry a thing of s, which is early for its trigger
+pub record IsReadEarly (d : Design) (h : Habit) (dump : BoundDump) (t s p : ℕ) : Type 0 where
+  pub thing : Thing
+  pub trigger : Cell
+  pub of_owner : owner thing ≡ s
+  pub is_clean : IsCleanAt d dump t p trigger
+  pub is_read : ReadsFrom d (KnownOnEntry d h dump t p) (body_at d p) thing
+  pub is_early : IsEarlyAt d h dump t p trigger s
+
+-- s is an event signal that can wake the block, which is not clean
+pub record WakesUnclean (d : Design) (dump : BoundDump) (t s p : ℕ) : Type 0 where
+  pub event : Cell
+  pub of_signal : event.thing ≡ s
+  pub can_wake : CanWakeAt d dump t event p
+  pub not_clean : IsNotClean d dump t p
+
+-- the block is an Assign or Comb that may wake, and signal s has a wake bit of it and is not clear at the start or the end
+pub record IsUnclearSignal (d : Design) (h : Habit) (dump : BoundDump) (t s p : ℕ) : Type 0 where
+  pub place : ℕ
+  pub not_clocked : IsNotClocked d p
+  pub may_wake : MayWakeUnlisted d dump t p
+  pub wake_bit : IsWakeBit d p (cell s place)
+  pub unclear : IsUnclear d h dump t (a_signal s)
+
+-- the block is an Assign or Comb that may wake and mentions memory s, and a word of s that it reads, or that may have changed, is not clear at the start or the end
+pub record IsUnclearWord (d : Design) (h : Habit) (dump : BoundDump) (t s p : ℕ) : Type 0 where
+  pub word : ℕ
+  pub not_clocked : IsNotClocked d p
+  pub may_wake : MayWakeUnlisted d dump t p
+  pub mentioned : body_mentions s (body_at d p) ≡ true
+  pub is_thing : IsThing d (a_word s word)
+  pub unclear : IsUnclear d h dump t (a_word s word)
+  pub read_or_moves : ReadsFrom d (KnownAtEnd d h dump t p) (body_at d p) (a_word s word) ⊎ MayMoveAt d dump t s
+
+-- the block is a Comb that may wake and reads its target s before writing it
+pub record ReadsOwnTarget (d : Design) (dump : BoundDump) (t s p : ℕ) : Type 0 where
+  pub is_comb : IsComb (process_at d p)
+  pub may_wake : MayWakeUnlisted d dump t p
+  pub target : body_assigns s (body_at d p) ≡ true
+  pub reads_first : reads_signal_before_writing d (body_at d p) s ≡ true
+
 -- why signal or memory s is in doubt for block p at t
 pub data BlockDoubt (d : Design) (h : Habit) (dump : BoundDump) (t : ℕ) (s p : ℕ) : Type 0 where
-  unclear_at_start : (x : Thing) → IsThing d x → owner x ≡ s → CanWakeSome d dump t p → ReadsFrom d (KnownOnEntry d h dump t p) (body_at d p) x → ((c : Cell) → IsCleanAt d dump t p c → x ≢ a_signal c.thing) → (HasValue (clear_before d h dump t) x → ⊥) → BlockDoubt d h dump t s p
-  early : (x : Thing) (c : Cell) → owner x ≡ s → IsCleanAt d dump t p c → ReadsFrom d (KnownOnEntry d h dump t p) (body_at d p) x → IsEarlyAt d h dump t p c s → BlockDoubt d h dump t s p
-  not_clean : (c : Cell) → c.thing ≡ s → CanWakeAt d dump t c p → IsNotClean d dump t p → BlockDoubt d h dump t s p
-  unclear_signal : (k : ℕ) → IsNotClocked d p → MayWakeUnlisted d dump t p → IsWakeBit d p (cell s k) → IsUnclear d h dump t (a_signal s) → BlockDoubt d h dump t s p
-  unclear_word : (k : ℕ) → IsNotClocked d p → MayWakeUnlisted d dump t p → body_mentions s (body_at d p) ≡ true → IsThing d (a_word s k) → IsUnclear d h dump t (a_word s k) → ReadsFrom d (KnownAtEnd d h dump t p) (body_at d p) (a_word s k) ⊎ MayMoveAt d dump t s → BlockDoubt d h dump t s p
-  own_target : IsComb (process_at d p) → MayWakeUnlisted d dump t p → body_assigns s (body_at d p) ≡ true → reads_before_writing d (body_at d p) s ≡ true → BlockDoubt d h dump t s p
+  unclear_at_start : UnclearAtStart d h dump t s p → BlockDoubt d h dump t s p
+  early : IsReadEarly d h dump t s p → BlockDoubt d h dump t s p
+  not_clean : WakesUnclean d dump t s p → BlockDoubt d h dump t s p
+  unclear_signal : IsUnclearSignal d h dump t s p → BlockDoubt d h dump t s p
+  unclear_word : IsUnclearWord d h dump t s p → BlockDoubt d h dump t s p
+  own_target : ReadsOwnTarget d dump t s p → BlockDoubt d h dump t s p
 
 -- signal or memory s is in doubt for the point at window time t
 pub data IsInDoubt (d : Design) (h : Habit) (dump : BoundDump) (x : Point) (t : ℕ) (s : ℕ) : Type 0 where

@@ -47,6 +47,7 @@ flip_flop_dump a =
       times = 0 ∷ 5 ∷ 10 ∷ [];
       bound = λ s. nat_lt s 3;
       values = λ t. if nat_le 10 t then flip_flop_values Zero a One else (if nat_le 5 t then flip_flop_values One a One else flip_flop_values Zero One X);
+      round = λ t. 0;
     }
 
 -- a stays 1

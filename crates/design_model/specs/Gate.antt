@@ -39,6 +39,7 @@ gate_dump =
       times = 0 ∷ 5 ∷ 10 ∷ [];
       bound = λ s. nat_lt s 2;
       values = λ t. if nat_le 10 t then gate_values Zero One X else (if nat_le 5 t then gate_values One One X else gate_values Zero One X);
+      round = λ t. 0;
     }
 
 -- y is clear from the first time on, and at 5 the case of two true operands is reached.

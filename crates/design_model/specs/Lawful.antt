@@ -15,6 +15,7 @@ use Rattle.design_model.specs.Mentions.{any_set, blank, body_assigns, body_block
 use Rattle.design_model.specs.Numbered.{LineAt, NodeAt, lines_of, nodes_of}
 use Rattle.design_model.specs.Machine.{events_of}
 use Rattle.design_model.specs.Shape.{is_body}
+use Rattle.design_model.specs.WellFormed.{is_well_formed_body}
 
 -- the term is a signal
 abbrev pub is_plain : Term → Bool
@@ -136,7 +137,8 @@ pub record IsLawfulDesign (d : Design) : Type 0 where
   pub bodies : (p : ℕ) → is_body d (body_at d p) ≡ true
   pub constants : list_all (λ c. nat_lt c.instance (length d.instances)) d.constants ≡ true
   pub aliases : list_all (is_alias d) d.aliases ≡ true
-  pub lists : (p : ℕ) → list_all (is_number d) (wakes_of (process_at d p)) ≡ true
+  pub well_formed : (p : ℕ) → is_well_formed_body d (body_at d p) ≡ true  -- nodes are numbered only where they are counted, and selects by a constant index lie in their ranges
+  pub lists : (p : ℕ) → list_all (λ x. nat_lt x (length d.signals)) (wakes_of (process_at d p)) ≡ true  -- a list of names has signals alone
   pub instance_paths : AreDistinct (map (λ i. i.path) d.instances)
   pub names : AreDistinct (names_of d)  -- the names in one instance differ
   pub short_instances : list_all is_instance d.instances ≡ true

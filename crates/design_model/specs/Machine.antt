@@ -11,6 +11,7 @@ use Rattle.design_model.specs.Tree.{Process, assign, clocked, comb}
 use Rattle.design_model.specs.Design.{Design, body, body_at, is_assign, process_at, signal_at}
 use Rattle.design_model.specs.Mentions.{blocking_target, body_mentions, nonblocking_target}
 use Rattle.design_model.specs.Execution.{execution}
+use Rattle.design_model.specs.Once.{names_once}
 use Rattle.event_machine.specs.Machine.{Edge as MachineEdge, Posedge, Negedge, Machine}
 
 -- the edges of a bit (IEEE 1364-2001, 9.7.2)
@@ -63,5 +64,6 @@ machine d =
       edge = λ p e c. lists_edge (process_at d p) e c;
       blocking = λ p c. blocking_target d (body_at d p) c;
       nonblocking = λ p c. nonblocking_target d (body_at d p) c;
+      writes_once = λ p c. names_once (body_at d p) c.thing;
       evaluate = λ p v. record { blocking = (execution d (body_at d p) v).blocking; nonblocking = (execution d (body_at d p) v).nonblocking };
     }

@@ -1,9 +1,9 @@
 -- What may move at a time of the dump, which Clocked can wake, and which is clean.
-use Rattle.std.specs.Prelude.{◌-◌, ℕ}
+use Rattle.std.specs.Prelude.{◌≡◌, ◌-◌, ℕ}
 use Rattle.event_machine.specs.Cell.{Cell}
 use Rattle.event_machine.specs.Told.{Told}
 use Rattle.event_machine.specs.MayMove.{CanWake, IsClean, MayMove}
-use Rattle.event_machine.specs.Single.{IsSingle}
+use Rattle.event_machine.specs.Single.{IsLastRound, IsSingle}
 use Rattle.four_state.specs.declared.bit.Bit.{Bit}
 use Rattle.design_model.specs.Design.{Design}
 use Rattle.design_model.specs.Machine.{machine}
@@ -13,9 +13,17 @@ use Rattle.design_model.specs.Shows.{BoundDump}
 abbrev pub told_at : BoundDump → ℕ → Told Bit
 told_at dump t = record { is_told = dump.bound; old = dump.values (t - 1); new = dump.values t }
 
--- the cell is known to change at most once in the step, as the dump tells: a bound input, which is single in round 0
+-- the cell is known to change at most once in the step, as the dump tells: it is single in the round of the step
 abbrev pub IsSingleAt : Design → BoundDump → ℕ → Cell → Type 0
-IsSingleAt d dump t = IsSingle (machine d) (told_at dump t) 0
+IsSingleAt d dump t = IsSingle (machine d) (told_at dump t) (dump.round t)
+
+-- each step is judged by round 0, in which the bound inputs alone are single, so no derived clock is a trigger
+abbrev pub AreFirstRounds : BoundDump → Type 0
+AreFirstRounds dump = (t : ℕ) → dump.round t ≡ 0
+
+-- each step is judged by its last round, so that derived clocks are triggers where they can be
+abbrev pub AreLastRounds : Design → BoundDump → Type 0
+AreLastRounds d dump = (t : ℕ) → IsLastRound (machine d) (told_at dump t) (dump.round t)
 
 -- signal or memory x may move at t
 abbrev pub MayMoveAt : Design → BoundDump → ℕ → ℕ → Type 0

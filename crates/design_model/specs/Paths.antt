@@ -1,11 +1,11 @@
 -- The paths through a body, whatever the values are.
-use Rattle.std.specs.Prelude.{◌&&◌, ◌||◌, ◌∷◌, ◌++◌, if◌then◌else◌, ℕ, suc, Bool, true, false, not, List, [], map}
+use Rattle.std.specs.Prelude.{◌≡◌, ◌⊎◌, ◌&&◌, ◌||◌, ◌∷◌, ◌++◌, if◌then◌else◌, ℕ, suc, Bool, true, false, not, List, [], map}
 use Rattle.std.specs.List.{list_all, list_any}
 use Rattle.event_machine.specs.Cell.{Write}
 use Rattle.four_state.specs.declared.bit.Bit.{Bit}
 use Rattle.four_state.specs.declared.operator.CaseKind.{CaseKind}
 use Rattle.design_model.specs.Tree.{Arms, Stmt, Stmts, Target, Term, Terms, a_stmt, a_term, arm, block, branch, empty, no_arms, no_stmts, no_terms, select, set, turns}
-use Rattle.design_model.specs.Design.{Design, signal_cells}
+use Rattle.design_model.specs.Design.{Design, In, is_memory, signal_cells}
 use Rattle.design_model.specs.Mentions.{index_mentions, mentions, sure_writes}
 use Rattle.design_model.specs.Execution.{covers, is_default}
 
@@ -98,15 +98,23 @@ abbrev pub path_writes : Design → Path → List (Write Bit)
 path_writes d [] = []
 path_writes d (x ∷ xs) = action_writes d x.action ++ path_writes d xs
 
--- the path reads signal s before it has written it whole by blocking writes; it has made these so far
-abbrev pub reads_unwritten : Design → ℕ → List (Write Bit) → Path → Bool
-reads_unwritten d s written [] = false
-reads_unwritten d s written (x ∷ xs) =
-    (action_mentions s x.action && not (covers written (signal_cells d s))) || reads_unwritten d s (written ++ action_blocking_writes d x.action) xs
+-- the path reads signal s before it has written it whole by blocking writes; it has made these so far. Of signals alone: what is no signal has no bits to be written
+abbrev pub reads_signal_unwritten : Design → ℕ → List (Write Bit) → Path → Bool
+reads_signal_unwritten d s written [] = false
+reads_signal_unwritten d s written (x ∷ xs) =
+    (action_mentions s x.action && not (covers written (signal_cells d s))) || reads_signal_unwritten d s (written ++ action_blocking_writes d x.action) xs
 
 -- on some path the body reads signal s before writing it
-abbrev pub reads_before_writing : Design → Stmt → ℕ → Bool
-reads_before_writing d b s = list_any (reads_unwritten d s []) (paths [] b)
+abbrev pub reads_signal_before_writing : Design → Stmt → ℕ → Bool
+reads_signal_before_writing d b s = list_any (reads_signal_unwritten d s []) (paths [] b)
+
+-- the path reads signal or memory y before it has written it whole by blocking writes; a memory it writes by words, so never surely whole
+abbrev pub PathReadsUnwritten : Design → ℕ → Path → Type 0
+PathReadsUnwritten d y path = (reads_signal_unwritten d y [] path ≡ true) ⊎ ((is_memory d y ≡ true) × ((x : PathStep) × In x path × (action_mentions y x.action ≡ true)))
+
+-- some path of the body does so
+abbrev pub ReadsUnwritten : Design → Stmt → ℕ → Type 0
+ReadsUnwritten d b y = (path : Path) × In path (paths [] b) × PathReadsUnwritten d y path
 
 -- each path writes signal s whole
 abbrev pub each_writes_whole : Design → Stmt → ℕ → Bool

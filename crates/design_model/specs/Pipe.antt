@@ -42,6 +42,7 @@ pipe_dump =
       times = 0 ∷ 5 ∷ 10 ∷ 15 ∷ [];
       bound = λ s. nat_lt s 4;
       values = λ t. if nat_le 15 t then pipe_values Zero One One One X else (if nat_le 10 t then pipe_values One One One One X else (if nat_le 5 t then pipe_values Zero One One X X else pipe_values Zero Zero One X X));
+      round = λ t. 0;
     }
 
 -- y is not clear at 4, so it is in doubt at 5 for its rise; at 5 it is clear, with the value 1.

@@ -39,6 +39,7 @@ ram_dump =
       times = 0 ∷ 5 ∷ 10 ∷ 15 ∷ 20 ∷ [];
       bound = λ s. nat_lt s 6;
       values = λ t. if nat_le 20 t then ram_values Zero Zero One [] else (if nat_le 15 t then ram_values One Zero One [] else (if nat_le 10 t then ram_values Zero Zero Zero [] else (if nat_le 5 t then ram_values One One Zero [] else ram_values Zero One Zero [])));
+      round = λ t. 0;
     }
 
 -- Word 3 is clear from 5 on, with the value 1, and no other word is; at 15 its read and line 4 are reached.

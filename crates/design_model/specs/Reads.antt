@@ -49,7 +49,6 @@ IsTold d K b = (v : Values Bit) → Agrees d K v → AllInside K (execution d b 
 abbrev pub VisitsFrom : Design → Known → Stmt → Visit → Type 0
 VisitsFrom d K b x = (v : Values Bit) × Agrees d K v × UpToOutside K x (execution d b v).visits
 
--- the body reads x from the map: up to its first read outside, or, if there is such a read, as all that it mentions
+-- the body reads x from the map: up to its first read outside, or, if it is not told by the map, as all that it mentions
 abbrev pub ReadsFrom : Design → Known → Stmt → Thing → Type 0
-ReadsFrom d K b x =
-    VisitsFrom d K b (reads x false) ⊎ ((y : Thing) × VisitsFrom d K b (reads y false) × (HasValue K y → ⊥) × (body_mentions (owner x) b ≡ true) × IsThing d x)
+ReadsFrom d K b x = VisitsFrom d K b (reads x false) ⊎ ((IsTold d K b → ⊥) × (body_mentions (owner x) b ≡ true) × IsThing d x)

@@ -1,7 +1,5 @@
 -- The plain trees that the trees of the code stand for, and the design that a design of the code stands for.
 use Rattle.std.specs.Prelude.{List, [], ◌∷◌, map, Option, Some, None}
-use Rattle.std.specs.declared.alloc.Global.{Global}
-use Rattle.std.specs.declared.boxed.Box.{Box}
 use Rattle.cov_host.specs.declared.place.Place.{Place}
 use Rattle.design_model.specs.Tree as t
 use Rattle.design_model.specs.Design as d
@@ -35,20 +33,20 @@ stmts_of (x ∷ xs) = t.a_stmt x (stmts_of xs)
 abbrev pub form_step : Form-F (t.Head → t.Term) t.Term → t.Head → t.Term
 form_step (Form-F.Number n) h = t.number h n
 form_step (Form-F.Signal s) h = t.signal h s
-form_step (Form-F.Word m i) h = t.word h m i.value
-form_step (Form-F.Bit x i) h = t.bit h x.value i.value
-form_step (Form-F.Part x i j) h = t.part h x.value i.value j.value
-form_step (Form-F.Slide x b k up) h = t.slide h x.value b.value k.value up
-form_step (Form-F.Unary op x) h = t.unary h op x.value
-form_step (Form-F.Binary op x y) h = t.binary h op x.value y.value
-form_step (Form-F.Choice c x y) h = t.choice h c.value x.value y.value
+form_step (Form-F.Word m i) h = t.word h m i
+form_step (Form-F.Bit x i) h = t.bit h x i
+form_step (Form-F.Part x i j) h = t.part h x i j
+form_step (Form-F.Slide x b k up) h = t.slide h x b k up
+form_step (Form-F.Unary op x) h = t.unary h op x
+form_step (Form-F.Binary op x y) h = t.binary h op x y
+form_step (Form-F.Choice c x y) h = t.choice h c x y
 form_step (Form-F.Concat v) h = t.concat h (terms_of v.items)
-form_step (Form-F.Repeat n v) h = t.repeat h n.value (terms_of v.items)
-form_step (Form-F.Sign s x) h = t.sign h s x.value
+form_step (Form-F.Repeat n v) h = t.repeat h n (terms_of v.items)
+form_step (Form-F.Sign s x) h = t.sign h s x
 
 -- one level of a term
 abbrev pub term_step : Term-F (t.Head → t.Term) t.Term → t.Term
-term_step x = x.form (record { place = x.place; width = x.width; signed = x.signed; node = x.node })
+term_step x = x.form.value (record { place = x.place; width = x.width; signed = x.signed; node = x.node })
 
 -- the plain tree of a term
 abbrev pub term_view : Term → t.Term
@@ -75,14 +73,14 @@ arms_of [] = t.no_arms
 arms_of (x ∷ xs) = t.arm x.0 x.1 (arms_of xs)
 
 -- the else branch, if there is one
-abbrev pub else_of : Option (Box t.Stmt Global) → t.Stmts
+abbrev pub else_of : Option t.Stmt → t.Stmts
 else_of None = t.no_stmts
-else_of (Some s) = t.a_stmt s.value t.no_stmts
+else_of (Some s) = t.a_stmt s t.no_stmts
 
 -- one level of a statement, which waits for its place
 abbrev pub stmt_form_step : StmtForm-F (Place → t.Stmt) Arm t.Stmt → Place → t.Stmt
 stmt_form_step (StmtForm-F.Block v) p = t.block p (stmts_of v.items)
-stmt_form_step (StmtForm-F.If n x s other) p = t.branch p n (term_view x) s.value (else_of other)
+stmt_form_step (StmtForm-F.If n x s other) p = t.branch p n (term_view x) s (else_of other)
 stmt_form_step (StmtForm-F.Case n k x v) p = t.select p n k (term_view x) (arms_of v.items)
 stmt_form_step (StmtForm-F.Turns n v) p = t.turns p n (stmts_of v.items)
 stmt_form_step (StmtForm-F.Set n b x y) p = t.set p n b (target_view x) (term_view y)
@@ -90,7 +88,7 @@ stmt_form_step StmtForm-F.Empty p = t.empty p
 
 -- one level of a statement
 abbrev pub stmt_step : Stmt-F (Place → t.Stmt) Arm t.Stmt → t.Stmt
-stmt_step s = s.form s.place
+stmt_step s = s.form.value s.place
 
 -- one level of an arm
 abbrev pub arm_step : CaseArm-F (Place → t.Stmt) Arm t.Stmt → Arm

@@ -1,4 +1,4 @@
-ghost use Rattle.std.specs.Prelude.{◌≡◌, ◌∷◌, ◌++◌, true, IfOk};
+ghost use Rattle.std.specs.Prelude.{◌≡◌, [], ◌∷◌, ◌++◌, true, IfOk, OnErr, OnOk};
 
 use crate::tree::Process;
 use cov_host::{Name, NoMemory, Sequence};
@@ -6,7 +6,7 @@ use four_state::Four;
 use std::alloc::Global;
 
 /// A design after elaboration, without hierarchy.
-#[derive(Debug, Drop)]
+#[derive(Drop)]
 pub struct Design {
     /// The name of the top module.
     pub top: Name,
@@ -42,6 +42,14 @@ impl Design {
         }
     }
 
+    /// Adds a process behind the others. After a refusal nothing has changed.
+    pub fn add_process(&mut self, process: Process) -> Result<(), NoMemory>
+        ensures ok { OnOk result (self.new ≡ record self.old { processes = self.old.processes ++ process ∷ [] }) }
+        ensures err { OnErr result (self.new ≡ self.old) }
+    {
+        self.processes.push(process)
+    }
+
     /// The path of what stands in an instance, by its name.
     fn path_in(&self, alloc: Global, instance: u32, name: &Name) -> Result<Name, NoMemory>
         ensures { IfOk result (λ path. path ≡ path_in (design_view self.now) instance name.now) }
@@ -64,7 +72,7 @@ fn joined(alloc: Global, path: &[u8], name: &[u8]) -> Result<Name, NoMemory>
 }
 
 /// An instance of a module.
-#[derive(Debug, Drop)]
+#[derive(Drop)]
 pub struct Instance {
     /// The names from the top module's down to its own, joined by dots.
     pub path: Name,
@@ -79,7 +87,7 @@ pub struct Range {
 }
 
 /// A net or a variable (IEEE 1364-2001, 3.2).
-#[derive(Debug, Drop)]
+#[derive(Drop)]
 pub struct Signal {
     /// The place of its instance in the design's list.
     pub instance: u32,
@@ -98,7 +106,7 @@ pub struct Signal {
 }
 
 /// A memory: an array of one dimension (IEEE 1364-2001, 3.10).
-#[derive(Debug, Drop)]
+#[derive(Drop)]
 pub struct Memory {
     /// The place of its instance in the design's list.
     pub instance: u32,
@@ -119,7 +127,7 @@ pub struct Memory {
 }
 
 /// A parameter with its value (IEEE 1364-2001, 3.11).
-#[derive(Debug, Drop)]
+#[derive(Drop)]
 pub struct Constant {
     /// The place of its instance in the design's list.
     pub instance: u32,
@@ -128,81 +136,11 @@ pub struct Constant {
 }
 
 /// A port that is another name of a signal (IEEE 1364-2001, 12.3).
-#[derive(Debug, Drop)]
+#[derive(Drop)]
 pub struct Alias {
     /// The place of the port's instance in the design's list.
     pub instance: u32,
     pub name: Name,
     /// The signal that it names.
     pub signal: u32,
-}
-
-#[cfg(test)]
-mod tests {
-    use super::*;
-
-    fn name(alloc: Global, text: &str) -> Result<Name, NoMemory> {
-        Ok(Name::from_vec(Vec::from_slice(alloc, text.as_bytes())?))
-    }
-
-    // A counter with a memory, inside a top module.
-    fn counter(alloc: Global) -> Result<Design, NoMemory> {
-        let mut design = Design {
-            top: name(alloc, "top")?,
-            instances: Sequence::new(alloc),
-            signals: Sequence::new(alloc),
-            memories: Sequence::new(alloc),
-            processes: Sequence::new(alloc),
-            constants: Sequence::new(alloc),
-            aliases: Sequence::new(alloc),
-        };
-        design.instances.push(Instance {
-            path: name(alloc, "top")?,
-            module: name(alloc, "top")?,
-        })?;
-        design.instances.push(Instance {
-            path: name(alloc, "top.count")?,
-            module: name(alloc, "counter")?,
-        })?;
-        design.signals.push(Signal {
-            instance: 0,
-            name: name(alloc, "clk")?,
-            high: 0,
-            low: 0,
-            ranged: false,
-            width: 1,
-            signed: false,
-            input: true,
-        })?;
-        design.memories.push(Memory {
-            instance: 1,
-            name: name(alloc, "words")?,
-            first: 0,
-            last: 3,
-            high: 7,
-            low: 0,
-            ranged: true,
-            width: 8,
-            signed: false,
-        })?;
-        Ok(design)
-    }
-
-    fn has_path(alloc: Global, thing: u32, path: &[u8]) -> Result<bool, NoMemory> {
-        let design = counter(alloc)?;
-        if thing as usize >= design.signals.len() + design.memories.len() {
-            return Ok(false);
-        }
-        Ok(design.path(alloc, thing)?.as_slice() == path)
-    }
-
-    #[test]
-    fn paths_of_a_signal_and_a_memory(rt: HostRuntime) {
-        for (thing, path) in [(0, "top.clk"), (1, "top.count.words")] {
-            assert!(rt;
-                matches!(has_path(rt.alloc(), thing, path.as_bytes()), Ok(true)),
-                "path {path}"
-            );
-        }
-    }
 }

@@ -2,6 +2,7 @@ ghost use Rattle.design_model.specs.FlipFlop.{IsSteadyExample, IsFallingExample}
 ghost use Rattle.design_model.specs.Gate.{IsGateExample};
 ghost use Rattle.design_model.specs.Pipe.{IsPipeExample};
 ghost use Rattle.design_model.specs.Ram.{IsRamExample};
+ghost use Rattle.design_model.specs.WordBit.{IsWordBitExample};
 
 /// A register whose data input stays: a run shows the dump, and in every run that shows it the branch taken is hit.
 pub fn steady_register()
@@ -27,4 +28,9 @@ pub fn undumped_register()
 /// A word of a memory is clear once it is surely written, and stays so.
 pub fn memory_word()
     ensures { IsRamExample }
+{}
+
+/// A bit of a word of a memory reads the index of the bit, then that of the word, then the word.
+pub fn bit_of_word()
+    ensures { IsWordBitExample }
 {}

@@ -7,11 +7,14 @@ ghost use Rattle.design_model.specs.Design.{Design as DesignTree};
 ghost use Rattle.design_model.specs.Machine.{machine};
 ghost use Rattle.design_model.specs.Lawful.{IsLawfulDesign};
 ghost use Rattle.design_model.specs.ToggleLaw.{ToggleLaw};
+ghost use Rattle.design_model.specs.BodyLaws.{AssignLineLaw, AssignVisitsLaw, ListedMemoryLaw, MentionReadLaw, OwnNotClearLaw, OwnUnclearLaw, OwnWakeLaw, PathMentionsLaw, SettledSignalsLaw, TargetCellsLaw, TargetNamesLaw, WordVisitsLaw, WrittenCellsLaw};
+ghost use Rattle.design_model.specs.RoundLaws.{DecidedRoundsLaw, EndingRoundsLaw, GrowingRoundsLaw};
+ghost use Rattle.design_model.specs.StepLaws.{AssignQueuesLaw, StepFactsLaw, EventFactsLaw, CleanStepLaw, UnlistedLaw};
 ghost use Rattle.design_model.specs.MoreKnown.{MoreKnownLaw};
 ghost use Rattle.design_model.specs.StillLaw.{StillLaw};
+ghost use Rattle.design_model.specs.Laws.{BoundClearLaw, ClearLaw, ContradictionLaw, ForcedLaw, ClearValueLaw, ClearRoundsLaw, ClearClosedLaw, ClearLeastLaw, ReachedLaw, DefinitenessLaw, BoundPointLaw};
 ghost use Rattle.design_model.specs.VisitedOpen.{VisitedOpenLaw};
 ghost use Rattle.design_model.specs.DecidedLaw.{SignalDecidedLaw, ClockedDecidedLaw, SettledDecidedLaw};
-ghost use Rattle.design_model.specs.Laws.{ClearLaw, ForcedLaw, ClearValueLaw, ClearRoundsLaw, ClearClosedLaw, ClearLeastLaw, ReachedLaw, DefinitenessLaw, BoundPointLaw};
 
 mod design;
 mod examples;
@@ -20,7 +23,9 @@ mod point;
 mod tree;
 
 pub use design::{Alias, Constant, Design, Instance, Memory, Range, Signal};
-pub use examples::{memory_word, moving_input, steady_register, undumped_net, undumped_register};
+pub use examples::{
+    bit_of_word, memory_word, moving_input, steady_register, undumped_net, undumped_register,
+};
 pub use map::PartialMap;
 pub use point::{LineWord, NodeCase, Point};
 pub use tree::{CaseArm, Form, Process, Stmt, StmtForm, Target, Term};
@@ -30,17 +35,39 @@ pub fn lawful_machine()
     ensures { (d : DesignTree) → IsLawfulDesign d → IsLawful (machine d) }
 {}
 
-/// What the dump decides holds in each run that shows it: what is clear, and, where there is such a run, what is forced.
+/// In each round of single cells finite tests decide which process can wake, and so each round grows on the one before,
+/// and there is a last one.
+pub fn rounds_law()
+    ensures decided { (d : DesignTree) → IsLawfulDesign d → DecidedRoundsLaw d }
+    ensures grows { (d : DesignTree) → IsLawfulDesign d → GrowingRoundsLaw d }
+    ensures ends { (d : DesignTree) → IsLawfulDesign d → EndingRoundsLaw d }
+{}
+
+/// What the dump decides holds in each run that shows it up to the time: what is clear, and, where there is such a run,
+/// what is forced. So where a forced value is not the dump's, no run shows the dump up to that time.
 pub fn clear_law()
     ensures clear { (d : DesignTree) (h : Habit) → IsLawfulDesign d → ClearLaw d h }
     ensures forced { (d : DesignTree) (h : Habit) → IsLawfulDesign d → ForcedLaw d h }
+    ensures contradiction { (d : DesignTree) (h : Habit) → IsLawfulDesign d → ContradictionLaw d h }
     ensures one_value { (d : DesignTree) (h : Habit) → IsLawfulDesign d → ClearValueLaw d h }
 {}
 
-/// What is clear grows from round to round, is closed under its rules, and is the least map that is.
+/// What the laws of the machine say of each step of a run that shows the dump up to the step's time: of the settled
+/// values at its ends, and of its events. A clean block has its step, and at a time that the dump does not list, where
+/// all inputs are bound, nothing happens.
+pub fn step_law()
+    ensures facts { (d : DesignTree) (h : Habit) → IsLawfulDesign d → StepFactsLaw d h }
+    ensures events { (d : DesignTree) (h : Habit) → IsLawfulDesign d → EventFactsLaw d h }
+    ensures clean_step { (d : DesignTree) (h : Habit) → IsLawfulDesign d → CleanStepLaw d h }
+    ensures unlisted { (d : DesignTree) (h : Habit) → IsLawfulDesign d → UnlistedLaw d h }
+{}
+
+/// What is clear grows from round to round, is closed under its rules, and is the least map that is. A bound signal is
+/// clear, with the dump's value.
 pub fn clear_rounds_law()
     ensures rounds { (d : DesignTree) (h : Habit) → ClearRoundsLaw d h }
     ensures closed { (d : DesignTree) (h : Habit) → IsLawfulDesign d → ClearClosedLaw d h }
+    ensures bound { (d : DesignTree) (h : Habit) → BoundClearLaw d h }
     ensures least { (d : DesignTree) (h : Habit) → ClearLeastLaw d h }
 {}
 
@@ -49,7 +76,7 @@ pub fn toggle_law()
     ensures { (d : DesignTree) (h : Habit) → ToggleLaw d h }
 {}
 
-/// Each point that a block of it reaches at a window time is hit in each run that shows the dump.
+/// Each point that a block of it reaches at a window time is hit in each run that shows the dump up to that time.
 pub fn reached_law()
     ensures { (d : DesignTree) (h : Habit) → IsLawfulDesign d → ReachedLaw d h }
 {}
@@ -85,4 +112,29 @@ pub fn decided_law()
     ensures signals { (d : DesignTree) (h : Habit) → IsLawfulDesign d → SignalDecidedLaw d h }
     ensures clocked { (d : DesignTree) (h : Habit) → IsLawfulDesign d → ClockedDecidedLaw d h }
     ensures settled { (d : DesignTree) (h : Habit) → IsLawfulDesign d → SettledDecidedLaw d h }
+{}
+
+/// What a process writes is of the design and among its targets, which are the same by name and by cell; what it may
+/// read on some path it mentions; an Assign or Comb assigns and lists signals alone.
+pub fn body_law()
+    ensures written_cells { (d : DesignTree) → IsLawfulDesign d → WrittenCellsLaw d }
+    ensures target_names { (d : DesignTree) → IsLawfulDesign d → TargetNamesLaw d }
+    ensures target_cells { (d : DesignTree) → TargetCellsLaw d }
+    ensures word_visits { (d : DesignTree) → IsLawfulDesign d → WordVisitsLaw d }
+    ensures path_mentions { (d : DesignTree) → PathMentionsLaw d }
+    ensures settled_signals { (d : DesignTree) → IsLawfulDesign d → SettledSignalsLaw d }
+    ensures listed_memory { (d : DesignTree) → IsLawfulDesign d → ListedMemoryLaw d }
+{}
+
+/// An Assign queues no update. What it visits depends on its wake cells alone, it reads each signal that it mentions, and no line of it is a
+/// line point. A signal that it both drives and mentions has a wake bit of it, or no bit that it reads, and is clear only
+/// where the dump has it.
+pub fn assign_law()
+    ensures queues { (d : DesignTree) → AssignQueuesLaw d }
+    ensures visits { (d : DesignTree) → IsLawfulDesign d → AssignVisitsLaw d }
+    ensures lines { (d : DesignTree) → AssignLineLaw d }
+    ensures mention_read { (d : DesignTree) → IsLawfulDesign d → MentionReadLaw d }
+    ensures own_unclear { (d : DesignTree) → IsLawfulDesign d → OwnUnclearLaw d }
+    ensures own_not_clear { (d : DesignTree) → IsLawfulDesign d → OwnNotClearLaw d }
+    ensures own_wake { (d : DesignTree) → IsLawfulDesign d → OwnWakeLaw d }
 {}

@@ -2,7 +2,7 @@ use cov_host::{Place, Sequence};
 use four_state::{Binary, CaseKind, Edge, Four, Unary};
 
 /// An expression. It has the width and the sign that its context gives it (IEEE 1364-2001, 4.4, 4.5).
-#[derive(Debug, Drop)]
+#[derive(Drop)]
 #[cycle(term)]
 pub struct Term {
     /// Of its first token.
@@ -12,11 +12,11 @@ pub struct Term {
     pub signed: bool,
     /// Its number as a counted node, from 1.
     pub node: Option<u32>,
-    pub form: Form,
+    pub form: Box<Form>,
 }
 
 /// The forms of an expression.
-#[derive(Debug, Drop)]
+#[derive(Drop)]
 #[cycle(term)]
 pub enum Form {
     Number(Four),
@@ -24,43 +24,43 @@ pub enum Form {
     /// A word of a memory.
     Word {
         memory: u32,
-        index: Box<Term>,
+        index: Term,
     },
     /// `of[index]`.
     Bit {
-        of: Box<Term>,
-        index: Box<Term>,
+        of: Term,
+        index: Term,
     },
     /// `of[high:low]`.
     Part {
-        of: Box<Term>,
-        high: Box<Term>,
-        low: Box<Term>,
+        of: Term,
+        high: Term,
+        low: Term,
     },
     /// `of[base +: width]`, or where `up` is false `of[base -: width]`.
     Slide {
-        of: Box<Term>,
-        base: Box<Term>,
-        width: Box<Term>,
+        of: Term,
+        base: Term,
+        width: Term,
         up: bool,
     },
-    Unary(Unary, Box<Term>),
-    Binary(Binary, Box<Term>, Box<Term>),
+    Unary(Unary, Term),
+    Binary(Binary, Term, Term),
     /// `test ? yes : no`.
     Choice {
-        test: Box<Term>,
-        yes: Box<Term>,
-        no: Box<Term>,
+        test: Term,
+        yes: Term,
+        no: Term,
     },
     /// The first term is the highest.
     Concat(Vec<Term>),
-    Repeat(Box<Term>, Vec<Term>),
+    Repeat(Term, Vec<Term>),
     /// `$signed` where the flag is true, else `$unsigned`.
-    Sign(bool, Box<Term>),
+    Sign(bool, Term),
 }
 
 /// The left side of an assignment (IEEE 1364-2001, 6).
-#[derive(Debug, Drop)]
+#[derive(Drop)]
 pub enum Target {
     Whole(u32),
     /// So many bits of a signal, from the bit with the index `low` up.
@@ -71,24 +71,24 @@ pub enum Target {
 }
 
 /// A statement (IEEE 1364-2001, 9).
-#[derive(Debug, Drop)]
+#[derive(Drop)]
 #[cycle(statement)]
 pub struct Stmt {
     /// Of its first token.
     pub place: Place,
-    pub form: StmtForm,
+    pub form: Box<StmtForm>,
 }
 
 /// The forms of a statement. `line` is its number as a line point, from 1.
-#[derive(Debug, Drop)]
+#[derive(Drop)]
 #[cycle(statement)]
 pub enum StmtForm {
     Block(Vec<Stmt>),
     If {
         line: u32,
         test: Term,
-        yes: Box<Stmt>,
-        no: Option<Box<Stmt>>,
+        yes: Stmt,
+        no: Option<Stmt>,
     },
     Case {
         line: u32,
@@ -111,7 +111,7 @@ pub enum StmtForm {
 }
 
 /// An arm of a `case`. One without labels is the `default`.
-#[derive(Debug, Drop)]
+#[derive(Drop)]
 #[cycle(statement)]
 pub struct CaseArm {
     pub labels: Vec<Term>,
@@ -119,7 +119,7 @@ pub struct CaseArm {
 }
 
 /// A process (IEEE 1364-2001, 5.1).
-#[derive(Debug, Drop)]
+#[derive(Drop)]
 pub enum Process {
     /// A continuous assignment (IEEE 1364-2001, 6.1).
     Assign {
@@ -141,4 +141,9 @@ pub enum Process {
         events: Sequence<(Edge, u32)>,
         body: Stmt,
     },
+}
+
+impl Process {
+    /// Lets go of a process, here and in no crate above.
+    pub fn discard(self) {}
 }

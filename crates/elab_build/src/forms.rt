@@ -20,57 +20,45 @@ pub(crate) struct Around {
 
 impl Around {
     /// A term of this form with this number as a counted node.
-    fn counted(self, node: Option<u32>, form: Form) -> Term
-        ensures { result ≡ record { place = self.place; width = self.shape.width; signed = self.shape.signed; node = node; form = form } }
+    fn counted(self, alloc: Global, node: Option<u32>, form: Form) -> Result<Term, NoMemory>
+        ensures head { IfOk result (λ x. (x.place ≡ self.place) × (x.width ≡ self.shape.width) × (x.signed ≡ self.shape.signed) × (x.node ≡ node)) }
+        ensures form { IfOk result (λ x. x.form.value ≡ form) }
     {
-        Term {
+        Ok(Term {
             place: self.place,
             width: self.shape.width,
             signed: self.shape.signed,
             node,
-            form,
-        }
-    }
-
-    /// A term of this form, which is no counted node.
-    fn term(self, form: Form) -> Term
-        ensures { result ≡ record { place = self.place; width = self.shape.width; signed = self.shape.signed; node = None; form = form } }
-    {
-        self.counted(None, form)
+            form: Box::new(alloc, form)?,
+        })
     }
 
     /// A number.
-    pub(crate) fn number(self, value: Four) -> Term
-        ensures { term_view result ≡ t.number (head_as self.place self.shape None) value }
+    pub(crate) fn number(self, alloc: Global, value: Four) -> Result<Term, NoMemory>
+        ensures { IfOk result (λ x. term_view x ≡ t.number (head_as self.place self.shape None) value) }
     {
-        self.term(Form::Number(value))
+        self.counted(alloc, None, Form::Number(value))
     }
 
     /// A signal.
-    pub(crate) fn signal(self, signal: u32) -> Term
-        ensures { term_view result ≡ t.signal (head_as self.place self.shape None) signal }
+    pub(crate) fn signal(self, alloc: Global, signal: u32) -> Result<Term, NoMemory>
+        ensures { IfOk result (λ x. term_view x ≡ t.signal (head_as self.place self.shape None) signal) }
     {
-        self.term(Form::Signal(signal))
+        self.counted(alloc, None, Form::Signal(signal))
     }
 
     /// A word of a memory.
     pub(crate) fn word(self, alloc: Global, memory: u32, index: Term) -> Result<Term, NoMemory>
         ensures { IfOk result (λ x. term_view x ≡ t.word (head_as self.place self.shape None) memory (term_view index)) }
     {
-        Ok(self.term(Form::Word {
-            memory,
-            index: Box::new(alloc, index)?,
-        }))
+        self.counted(alloc, None, Form::Word { memory, index })
     }
 
     /// `of[index]`.
     pub(crate) fn bit(self, alloc: Global, of: Term, index: Term) -> Result<Term, NoMemory>
         ensures { IfOk result (λ x. term_view x ≡ t.bit (head_as self.place self.shape None) (term_view of) (term_view index)) }
     {
-        Ok(self.term(Form::Bit {
-            of: Box::new(alloc, of)?,
-            index: Box::new(alloc, index)?,
-        }))
+        self.counted(alloc, None, Form::Bit { of, index })
     }
 
     /// `of[high:low]`.
@@ -83,11 +71,7 @@ impl Around {
     ) -> Result<Term, NoMemory>
         ensures { IfOk result (λ x. term_view x ≡ t.part (head_as self.place self.shape None) (term_view of) (term_view high) (term_view low)) }
     {
-        Ok(self.term(Form::Part {
-            of: Box::new(alloc, of)?,
-            high: Box::new(alloc, high)?,
-            low: Box::new(alloc, low)?,
-        }))
+        self.counted(alloc, None, Form::Part { of, high, low })
     }
 
     /// `of[base +: width]`, or where `up` is false `of[base -: width]`.
@@ -101,12 +85,13 @@ impl Around {
     ) -> Result<Term, NoMemory>
         ensures { IfOk result (λ x. term_view x ≡ t.slide (head_as self.place self.shape None) (term_view of) (term_view base) (term_view width) up) }
     {
-        Ok(self.term(Form::Slide {
-            of: Box::new(alloc, of)?,
-            base: Box::new(alloc, base)?,
-            width: Box::new(alloc, width)?,
+        let form = Form::Slide {
+            of,
+            base,
+            width,
             up,
-        }))
+        };
+        self.counted(alloc, None, form)
     }
 
     /// An operator with one operand, and its number as a counted node.
@@ -119,8 +104,7 @@ impl Around {
     ) -> Result<Term, NoMemory>
         ensures { IfOk result (λ x. term_view x ≡ t.unary (head_as self.place self.shape node) op (term_view operand)) }
     {
-        let operand = Box::new(alloc, operand)?;
-        Ok(self.counted(node, Form::Unary(op, operand)))
+        self.counted(alloc, node, Form::Unary(op, operand))
     }
 
     /// An operator with two operands, and its number as a counted node.
@@ -134,9 +118,7 @@ impl Around {
     ) -> Result<Term, NoMemory>
         ensures { IfOk result (λ x. term_view x ≡ t.binary (head_as self.place self.shape node) op (term_view left) (term_view right)) }
     {
-        let left = Box::new(alloc, left)?;
-        let right = Box::new(alloc, right)?;
-        Ok(self.counted(node, Form::Binary(op, left, right)))
+        self.counted(alloc, node, Form::Binary(op, left, right))
     }
 
     /// `test ? yes : no`.
@@ -149,18 +131,14 @@ impl Around {
     ) -> Result<Term, NoMemory>
         ensures { IfOk result (λ x. term_view x ≡ t.choice (head_as self.place self.shape None) (term_view test) (term_view yes) (term_view no)) }
     {
-        Ok(self.term(Form::Choice {
-            test: Box::new(alloc, test)?,
-            yes: Box::new(alloc, yes)?,
-            no: Box::new(alloc, no)?,
-        }))
+        self.counted(alloc, None, Form::Choice { test, yes, no })
     }
 
     /// A concatenation.
-    pub(crate) fn concat(self, parts: Vec<Term>) -> Term
-        ensures { term_view result ≡ t.concat (head_as self.place self.shape None) (terms_of (map term_view parts.items)) }
+    pub(crate) fn concat(self, alloc: Global, parts: Vec<Term>) -> Result<Term, NoMemory>
+        ensures { IfOk result (λ x. term_view x ≡ t.concat (head_as self.place self.shape None) (terms_of (map term_view parts.items))) }
     {
-        self.term(Form::Concat(parts))
+        self.counted(alloc, None, Form::Concat(parts))
     }
 
     /// A concatenation that is repeated.
@@ -172,14 +150,13 @@ impl Around {
     ) -> Result<Term, NoMemory>
         ensures { IfOk result (λ x. term_view x ≡ t.repeat (head_as self.place self.shape None) (term_view count) (terms_of (map term_view parts.items))) }
     {
-        let count = Box::new(alloc, count)?;
-        Ok(self.term(Form::Repeat(count, parts)))
+        self.counted(alloc, None, Form::Repeat(count, parts))
     }
 
     /// `$signed`, or where the flag is false `$unsigned`.
     pub(crate) fn sign(self, alloc: Global, signed: bool, operand: Term) -> Result<Term, NoMemory>
         ensures { IfOk result (λ x. term_view x ≡ t.sign (head_as self.place self.shape None) signed (term_view operand)) }
     {
-        Ok(self.term(Form::Sign(signed, Box::new(alloc, operand)?)))
+        self.counted(alloc, None, Form::Sign(signed, operand))
     }
 }

@@ -23,13 +23,16 @@ use verilog_tree::Expr;
 
 /// A number as a term.
 #[tactic(auto, using(crate::proofs::NumberTerms::known_bits))]
-pub(crate) fn number_term(around: Around, number: u8) -> Term
+pub(crate) fn number_term(alloc: Global, around: Around, number: u8) -> Result<Term, NoMemory>
     requires shape { IsShape around.shape }
     requires fits { number < 2 ^ around.shape.width }
-    ensures { term_view result ≡ spec.number_term around.place around.shape number }
+    ensures { IfOk result (λ x. term_view x ≡ spec.number_term around.place around.shape number) }
 {
     let width = around.shape.width;
-    around.number(Four::make(width, around.shape.signed, u128::from(number), 0))
+    around.number(
+        alloc,
+        Four::make(width, around.shape.signed, u128::from(number), 0),
+    )
 }
 
 /// So many bits without a sign.
@@ -64,13 +67,13 @@ fn behind_zero(
         shape: unsigned(1),
     };
     let mut parts = Vec::new(alloc);
-    parts.push(number_term(zero, 0))?;
+    parts.push(number_term(alloc, zero, 0)?)?;
     parts.push(all)?;
     let around = Around {
         place,
         shape: unsigned(own.width + 1),
     };
-    Ok(around.concat(parts))
+    around.concat(alloc, parts)
 }
 
 /// An expression whose highest bit is its sign: one without sign has a 0 bit before it, unless that is the highest of
@@ -159,7 +162,8 @@ fn moved_term(
     };
     let op = if up { Binary::Add } else { Binary::Subtract };
     let index = signed_term(alloc, base, scope, width, expr, nodes)?;
-    around.binary(alloc, None, op, index, number_term(around, by))
+    let by = number_term(alloc, around, by)?;
+    around.binary(alloc, None, op, index, by)
 }
 
 /// The highest of 128 bits.
@@ -186,13 +190,8 @@ fn highest_bit(
         shape: unsigned(128),
     };
     let index = alone(alloc, base, scope, expr, nodes)?;
-    around.binary(
-        alloc,
-        None,
-        Binary::ShiftRight,
-        index,
-        number_term(count, 127),
-    )
+    let by = number_term(alloc, count, 127)?;
+    around.binary(alloc, None, Binary::ShiftRight, index, by)
 }
 
 /// All x where the highest of 128 unsigned bits is 1, since no range has such an index, and else the moved index.
@@ -222,7 +221,7 @@ fn guarded_term(
     let mut first = *nodes;
     let highest = highest_bit(alloc, base, scope, expr, &mut first)?;
     let moved = moved_term(alloc, base, scope, up, by, expr, nodes)?;
-    let unknown = around.number(Four::fill(128, true, Bit::X));
+    let unknown = around.number(alloc, Four::fill(128, true, Bit::X))?;
     around.choice(alloc, highest, unknown, moved)
 }
 

@@ -1,6 +1,6 @@
 //! Names as terms, and what numbers of nodes they ask for.
 
-ghost use Rattle.std.specs.Prelude.{◌≡◌, ◌≤◌, ◌+◌, ◌++◌, true, if◌then◌else◌, Some, None};
+ghost use Rattle.std.specs.Prelude.{◌≡◌, ◌≤◌, ◌+◌, ◌++◌, true, if◌then◌else◌, Some, None, IfOk};
 ghost use Rattle.std.specs.List.{list_any};
 ghost use Rattle.design_model.specs.View.{term_view};
 ghost use Rattle.elab_build.specs.Sound.{is_value};
@@ -12,21 +12,27 @@ ghost use Rattle.flat_design.specs.Terms.{name_term, head_as};
 ghost use Rattle.verilog_tree.specs.View.{expr_view};
 
 use crate::forms::Around;
-use cov_host::Name;
+use cov_host::{Name, NoMemory};
 use design_model::Term;
 use elab_scope::{Scope, names_thing};
 use flat_design::Entry;
+use std::alloc::Global;
 use verilog_tree::{Expr, ExprForm};
 
 /// The term of a name with a value.
-pub(crate) fn named(scope: &Scope, name: &Name, around: Around) -> Term
+pub(crate) fn named(
+    alloc: Global,
+    scope: &Scope,
+    name: &Name,
+    around: Around,
+) -> Result<Term, NoMemory>
     requires { is_value (look_up (binding_of scope.now) name.now) ≡ true }
-    ensures { term_view result ≡ name_term (look_up (binding_of scope.now) name.now) (head_as around.place around.shape None) }
+    ensures { IfOk result (λ x. term_view x ≡ name_term (look_up (binding_of scope.now) name.now) (head_as around.place around.shape None)) }
 {
     match scope.get(name.as_slice()) {
-        Some(Entry::Constant(value)) => around.number(*value),
-        Some(Entry::Turn(value)) => around.number(*value),
-        Some(Entry::Signal(signal)) => around.signal(signal.number),
+        Some(Entry::Constant(value)) => around.number(alloc, *value),
+        Some(Entry::Turn(value)) => around.number(alloc, *value),
+        Some(Entry::Signal(signal)) => around.signal(alloc, signal.number),
         _ => unreachable!(),
     }
 }

@@ -42,8 +42,8 @@ pub fn term(
         shape,
     };
     match &expr.form {
-        ExprForm::Number(value) => Ok(around.number(*value)),
-        ExprForm::Name(name) => Ok(named(scope, name, around)),
+        ExprForm::Number(value) => around.number(alloc, *value),
+        ExprForm::Name(name) => named(alloc, scope, name, around),
         ExprForm::Bit { of, index } => bit_term(alloc, base, scope, of, index, nodes, around),
         ExprForm::Part {
             of,
@@ -236,7 +236,7 @@ fn concat_term(
     ensures counted { OnOk result (nodes.new ≡ nodes.old + count.nodes (binding_of scope.now) (concatenation around.place (exprs_of (exprs_view parts.now)))) }
 {
     let parts = terms(alloc, base, scope, parts, nodes)?;
-    Ok(around.concat(parts))
+    around.concat(alloc, parts)
 }
 
 /// The same of a concatenation that is repeated.

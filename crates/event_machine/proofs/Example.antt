@@ -1,14 +1,15 @@
 -- The worked example: its machine is lawful, its events are a step, and its blocks are clean.
-use Rattle.std.proofs.Common.{⊎_elim, take, ◌≡◌, ◌≢◌, inl, inr, ℕ, zero, suc, ◌==◌, Bool, true, false, not, ◌||◌, true≢false, List, [], ◌∷◌, ◌++◌, ◌↔◌, refl, sym, ap, subst, ◌∙◌, arith}
+use Rattle.std.proofs.Common.{⊎_elim, take, ◌≡◌, ◌≢◌, inl, inr, ℕ, zero, suc, ◌+◌, ◌≤◌, ◌==◌, if◌then◌else◌, Bool, true, false, not, ◌||◌, true≢false, List, [], ◌∷◌, ◌++◌, ◌↔◌, refl, sym, ap, subst, ◌∙◌, arith}
 use Rattle.std.proofs.lemmas.Bool.{eqb-true, and_parts, and_right, or_cases}
 use Rattle.std.proofs.lemmas.Bool.Decides.{nat_tests}
-use Rattle.event_machine.specs.Cell.{Cell, UpdatesCell, Values, Write, WritesCell, put}
-use Rattle.event_machine.specs.Machine.{Edge, IsLawful, IsTarget, Negedge, Posedge, is_sensitive, wakes}
+use Rattle.event_machine.specs.Cell.{Cell, UpdatesCell, Values, Write, WritesCell, put, same_cell, times}
+use Rattle.event_machine.specs.Machine.{Edge, IsLawful, IsTarget, Negedge, Posedge, is_sensitive, output, wakes}
 use Rattle.event_machine.specs.State.{State}
 use Rattle.event_machine.specs.Event.{Event, Move, end_state, is_evaluation, mark, state_after, writes}
 use Rattle.event_machine.specs.Habit.{Free, Habit, IsByHabit, Late, is_free_input}
 use Rattle.event_machine.specs.Step.{IsStep}
 use Rattle.event_machine.specs.Told.{IsAsTold}
+use Rattle.event_machine.specs.ToldStep.{ToldStep}
 use Rattle.event_machine.specs.MayMove.{IsClean, MayMove}
 use Rattle.event_machine.specs.Single.{IsSingle}
 use Rattle.event_machine.proofs.Rounds.{edge_law}
@@ -55,6 +56,15 @@ kept (suc zero) v c (inl (inr h)) = absurd h
 kept (suc zero) v c (inr h) = absurd h
 kept (suc (suc p)) v c h = absurd h
 
+at_most : (b : Bool) → (if b then 1 else 0) + 0 ≤ 1
+at_most true = omega arith
+at_most false = omega arith
+
+one_write : (p : ℕ) (v : Values Bool) (c : Cell) → times c (output divider p v) ≤ 1
+one_write zero v c = at_most (same_cell (bit 2) c)
+one_write (suc zero) v c = at_most (same_cell (bit 3) c)
+one_write (suc (suc p)) v c = omega arith
+
 one_writer : (p q : ℕ) (c : Cell) → target p c ≡ true → target q c ≡ true → p ≡ q
 one_writer zero zero c a b = refl
 one_writer (suc zero) (suc zero) c a b = refl
@@ -85,6 +95,7 @@ lawful =
       event_signals = event_signals;
       blocking_kept = none;
       nonblocking_kept = kept;
+      once_kept = λ p v c e. one_write p v c;
       inputs_kept = λ p c input t. no_input p c input (the_target p c t);
       not_both = λ p c a b. true≢false (sym a);
       one_writer = λ p q c a b. one_writer p q c (the_target p c a) (the_target q c b);
@@ -145,10 +156,11 @@ single_h =
     inr
     (record {
       told = refl;
+      is_event = refl;
       writer = 0;
       writes = inr refl;
       clocked = λ x. refl;
-      once = λ v. omega arith;
+      once = refl;
       cannot_wake_or_clean = inr (bit 0, clean_writer);
     })
 
@@ -240,6 +252,9 @@ as_told : IsAsTold divider told start events
 unfolding is_sensitive put
 as_told c is = (refl, grind (arith, nat_tests))
 
+abbrev told_step : (h : Habit) → ToldStep divider h told
+told_step h = record { start = start; events = events; is_step = the_step h (by_habit h); as_told = as_told }
+
 pub worked_example : IsWorkedExample
 worked_example =
     record {
@@ -248,6 +263,6 @@ worked_example =
       as_told = as_told;
       clean = clean_writer;
       clean_next = clean_q;
-      once = edge_law divider lawful Free 1 told start events (the_step Free (by_habit Free)) as_told 1 (bit 2) clean_q;
-      once_late = edge_law divider lawful Late 1 told start events (the_step Late (by_habit Late)) as_told 1 (bit 2) clean_q;
+      once = edge_law divider lawful Free 1 told (told_step Free) 1 (bit 2) clean_q;
+      once_late = edge_law divider lawful Late 1 told (told_step Late) 1 (bit 2) clean_q;
     }

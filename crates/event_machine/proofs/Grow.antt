@@ -13,11 +13,11 @@ module _ {V : Type 0} (m : Machine V) (t : Told V) where
     may_wake_less x p (inl level) = inl level
     may_wake_less x p (inr by) = inr (by.0, by.1, (by.2.0, by.2.1, λ one. by.2.2 (more by.0 one)))
 
-    may_move_less : (x : ℕ) → MayMove m t B x → MayMove m t A x
+    pub may_move_less : (x : ℕ) → MayMove m t B x → MayMove m t A x
     may_move_less x (MayMove.of_input c moving) = MayMove.of_input c moving
     may_move_less x (MayMove.of_target y p c may may_wake target) = MayMove.of_target y p c (may_move_less y may) (may_wake_less y p may_wake) target
 
-    can_wake_less : (c : Cell) (p : ℕ) → CanWake m t B c p → CanWake m t A c p
+    pub can_wake_less : (c : Cell) (p : ℕ) → CanWake m t B c p → CanWake m t A c p
     can_wake_less c p can = ((can.0.0, can.0.1, λ one. can.0.2 (more c one)), may_move_less c.thing can.1)
 
     -- a clean block stays clean or can no longer wake, where it is decided what can wake
@@ -42,6 +42,7 @@ module _ {V : Type 0} (m : Machine V) (t : Told V) where
       written_once_more c made =
           record {
             told = made.told;
+            is_event = made.is_event;
             writer = made.writer;
             writes = made.writes;
             clocked = made.clocked;

@@ -10,6 +10,8 @@ pub mod Times
 pub mod Rounds
 pub mod Habits
 pub mod Grow
+pub mod LastRound
+pub mod SharedEarly
 pub mod Nets
 pub mod Least
 pub mod Example

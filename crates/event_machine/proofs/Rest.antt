@@ -110,15 +110,19 @@ unfolding IsToldSoFar EndsAsTold
 step_old_new m lawful h t s es step as_told =
     events_old_new m lawful t es s (settled_writes m s step.starts) step.legal (λ c told unmoved. (as_told c (told.1, inl told.0)).0) (λ c told. (as_told c (told.1, inl told.0)).1)
 
-pub no_event_law : {V : Type 0} (m : Machine V) → IsLawful m → NoEventLaw m
-no_event_law m lawful h t s [] step as_told still = refl
-no_event_law m lawful h t s (Move [] ∷ es) step as_told still = absurd (step.legal.0.0 refl)
-no_event_law m lawful h t s (Move (w ∷ ws) ∷ es) step as_told still =
+-- where all inputs are told and none changes, no event can be the first
+no_events : {V : Type 0} (m : Machine V) → IsLawful m → (h : Habit) (t : Told V) (s : State V) (es : List (Event V)) → IsStep m h s es → IsAsTold m t s es → ((c : Cell) → m.is_input c ≡ true → (t.is_told c.thing ≡ true) × (t.old c ≡ t.new c)) → es ≡ []
+no_events m lawful h t s [] step as_told still = refl
+no_events m lawful h t s (Move [] ∷ es) step as_told still = absurd (step.legal.0.0 refl)
+no_events m lawful h t s (Move (w ∷ ws) ∷ es) step as_told still =
     let can = step.legal.0.1 in
     let old_new = step_old_new m lawful h t s (Move (w ∷ ws) ∷ es) step as_told in
     let told = still w.cell can.0 in
     let moves = old_new.0.0 (can.0, told.0) can.2 in
     absurd (can.2 (moves.0 ∙ told.1 ∙ sym moves.1))
-no_event_law m lawful h t s (Evaluate p ∷ es) step as_told still = absurd (true≢false (sym step.legal.0 ∙ step.starts.none_woken p))
-no_event_law m lawful h t s (Activate ∷ es) step as_told still = absurd (step.legal.0.1 step.starts.none_queued)
-no_event_law m lawful h t s (Apply ∷ es) step as_told still = absurd (step.legal.0 step.starts.none_active)
+no_events m lawful h t s (Evaluate p ∷ es) step as_told still = absurd (true≢false (sym step.legal.0 ∙ step.starts.none_woken p))
+no_events m lawful h t s (Activate ∷ es) step as_told still = absurd (step.legal.0.1 step.starts.none_queued)
+no_events m lawful h t s (Apply ∷ es) step as_told still = absurd (step.legal.0 step.starts.none_active)
+
+pub no_event_law : {V : Type 0} (m : Machine V) → IsLawful m → NoEventLaw m
+no_event_law m lawful h t k still = no_events m lawful h t k.start k.events k.is_step k.as_told still

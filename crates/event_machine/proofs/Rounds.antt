@@ -8,6 +8,7 @@ use Rattle.event_machine.specs.Event.{Activate, Apply, CanOccur, Evaluate, Event
 use Rattle.event_machine.specs.Habit.{Habit}
 use Rattle.event_machine.specs.Step.{IsStep}
 use Rattle.event_machine.specs.Told.{IsAsTold, IsToldCell, IsToldInput, Told}
+use Rattle.event_machine.specs.ToldStep.{ToldStep}
 use Rattle.event_machine.specs.MayMove.{CanWake, IsClean, MayMove, MayWake}
 use Rattle.event_machine.specs.Single.{IsSingle, IsWrittenOnce}
 use Rattle.event_machine.specs.Laws.{EdgeLaw, NoWakeLaw, RestLaw, UnchangedLaw}
@@ -31,6 +32,17 @@ join_all_old_new m t A B (e ∷ es) s a b = (
   join_old_new t A B s.values (writes m s e) a.0 (λ c is. (b c is).0),
   join_all_old_new m t A B es (state_after m s e) a.1 (λ c is. (b c is).1),
 )
+
+-- told inputs are single in each round
+pub told_single : {V : Type 0} (m : Machine V) (t : Told V) (n : ℕ) (c : Cell) → IsToldInput m t c → IsSingle m t n c
+told_single m t zero c is = is
+told_single m t (suc n) c is = inl is
+
+-- what is single in some round is told
+pub single_told : {V : Type 0} (m : Machine V) (t : Told V) (n : ℕ) (c : Cell) → IsSingle m t n c → IsToldCell m t c
+single_told m t zero c is = (is.1, inl is.0)
+single_told m t (suc n) c (inl is) = (is.1, inl is.0)
+single_told m t (suc n) c (inr made) = (made.told, inr (made.writer, made.writes))
 
 module _ {V : Type 0} (m : Machine V) (lawful : IsLawful m) (t : Told V) where
   -- a process that cannot wake is not evaluated
@@ -111,17 +123,8 @@ module _ {V : Type 0} (m : Machine V) (lawful : IsLawful m) (t : Told V) where
             written_once c (made.told, inr (made.writer, made.writes)) (omega arith)
         go (inr clean) =
             let evaluated = one_evaluation m lawful t single told_single h made.writer clean.0 clean.1 s es step as_told (single_told clean.0 clean.1.is_single) old_new in
-            let schedules = one_scheduled made.writer c made.writes made.once evaluated.before evaluated.after s (subst (IsLegal m s) evaluated.splits step.legal) evaluated.is_first evaluated.is_last in
+            let schedules = one_scheduled made.writer c made.writes (λ v. lawful.once_kept made.writer v c made.once) evaluated.before evaluated.after s (subst (IsLegal m s) evaluated.splits step.legal) evaluated.is_first evaluated.is_last in
             written_once c (made.told, inr (made.writer, made.writes)) (subst (λ (l : List (Event V)). scheduled_all c m s l ≤ 1) (sym evaluated.splits) schedules)
-
-    told_single : (n : ℕ) (c : Cell) → IsToldInput m t c → IsSingle m t n c
-    told_single zero c is = is
-    told_single (suc n) c is = inl is
-
-    single_told : (n : ℕ) (c : Cell) → IsSingle m t n c → IsToldCell m t c
-    single_told zero c is = (is.1, inl is.0)
-    single_told (suc n) c (inl is) = (is.1, inl is.0)
-    single_told (suc n) c (inr made) = (made.told, inr (made.writer, made.writes))
 
     -- the single cells of each round change from old to new
     single_old_new : (n : ℕ) → AllOldToNew t (IsSingle m t n) m s es
@@ -129,38 +132,42 @@ module _ {V : Type 0} (m : Machine V) (lawful : IsLawful m) (t : Told V) where
     single_old_new (suc n) =
         join_all_old_new m t (IsToldInput m t) (IsWrittenOnce m t (IsSingle m t n)) es s
         (step_old_new m lawful h t s es step as_told)
-        (made_old_new (IsSingle m t n) (told_single n) (single_told n) (single_old_new n))
+        (made_old_new (IsSingle m t n) (told_single m t n) (single_told m t n) (single_old_new n))
+
+module _ {V : Type 0} (m : Machine V) (lawful : IsLawful m) (n : ℕ) (h : Habit) (t : Told V) (k : ToldStep m h t) where
+  from_may : ComesFromMayMove m t (IsSingle m t n) k.start
+  from_may = settled_from_may m t (IsSingle m t n) k.start k.is_step.starts
+
+  old_new : AllOldToNew t (IsSingle m t n) m k.start k.events
+  old_new = single_old_new m lawful t h k.start k.events k.is_step k.as_told n
 
 pub rest_law : {V : Type 0} (m : Machine V) → IsLawful m → RestLaw m
-rest_law m lawful n h t s es step as_told before after e splits c changes =
-    rest_at m lawful t (IsSingle m t n) (told_single m lawful t h s es step as_told n) before s e after c
-    (settled_from_may m t (IsSingle m t n) s step.starts)
-    (subst (IsLegal m s) splits step.legal)
-    (subst (AllOldToNew t (IsSingle m t n) m s) splits (single_old_new m lawful t h s es step as_told n))
+rest_law m lawful n h t k before after e splits c changes =
+    rest_at m lawful t (IsSingle m t n) (told_single m t n) before k.start e after c
+    (from_may m lawful n h t k)
+    (subst (IsLegal m k.start) splits k.is_step.legal)
+    (subst (AllOldToNew t (IsSingle m t n) m k.start) splits (old_new m lawful n h t k))
     changes
 
 pub unchanged_law : {V : Type 0} (m : Machine V) → IsLawful m → UnchangedLaw m
-unchanged_law m lawful n h t s es step as_told c never before after splits =
-    unchanged_at m lawful t (IsSingle m t n) (told_single m lawful t h s es step as_told n) before s after c
-    (settled_from_may m t (IsSingle m t n) s step.starts)
-    (subst (IsLegal m s) splits step.legal)
-    (subst (AllOldToNew t (IsSingle m t n) m s) splits (single_old_new m lawful t h s es step as_told n))
+unchanged_law m lawful n h t k c never before after splits =
+    unchanged_at m lawful t (IsSingle m t n) (told_single m t n) before k.start after c
+    (from_may m lawful n h t k)
+    (subst (IsLegal m k.start) splits k.is_step.legal)
+    (subst (AllOldToNew t (IsSingle m t n) m k.start) splits (old_new m lawful n h t k))
     never
 
 pub no_wake_law : {V : Type 0} (m : Machine V) → IsLawful m → NoWakeLaw m
-no_wake_law m lawful n h t s es step as_told p clocked not_woken_now =
-    no_evaluations m p es s
-    (never_evaluated m lawful t (IsSingle m t n) (told_single m lawful t h s es step as_told n) p clocked not_woken_now es s
-    (settled_from_may m t (IsSingle m t n) s step.starts)
-    step.legal
-    (single_old_new m lawful t h s es step as_told n))
+no_wake_law m lawful n h t k p clocked not_woken_now =
+    no_evaluations m p k.events k.start
+    (never_evaluated m lawful t (IsSingle m t n) (told_single m t n) p clocked not_woken_now k.events k.start
+    (from_may m lawful n h t k)
+    k.is_step.legal
+    (old_new m lawful n h t k))
 
 pub edge_law : {V : Type 0} (m : Machine V) → IsLawful m → (h : Habit) → EdgeLaw m h
-edge_law m lawful h n t s es step as_told b c clean =
-    evaluates_once m lawful t (IsSingle m t n) told_first h b c clean s es step as_told
-    (one_evaluation m lawful t (IsSingle m t n) told_first h b c clean s es step as_told
-    (single_told m lawful t h s es step as_told n c clean.is_single)
-    (single_old_new m lawful t h s es step as_told n))
-  where
-    told_first : (d : Cell) → IsToldInput m t d → IsSingle m t n d
-    told_first = told_single m lawful t h s es step as_told n
+edge_law m lawful h n t k b c clean =
+    evaluates_once m lawful t (IsSingle m t n) (told_single m t n) h b c clean k.start k.events k.is_step k.as_told
+    (one_evaluation m lawful t (IsSingle m t n) (told_single m t n) h b c clean k.start k.events k.is_step k.as_told
+    (single_told m t n c clean.is_single)
+    (old_new m lawful n h t k))

@@ -10,10 +10,10 @@ use Rattle.event_machine.proofs.Writes.{AreOldToNew, cases_cell, join-append, jo
 use Rattle.event_machine.proofs.Inputs.{AllOldToNew, untouched_old_new}
 
 module _ {V : Type 0} (c : Cell) where
-  times_here : (w : Write V) (ws : List (Write V)) → w.cell ≡ c → times c (w ∷ ws) ≡ suc (times c ws)
+  pub times_here : (w : Write V) (ws : List (Write V)) → w.cell ≡ c → times c (w ∷ ws) ≡ suc (times c ws)
   times_here w ws is = rw (same_cell_is w.cell c is) (omega arith)
 
-  times_there : (w : Write V) (ws : List (Write V)) → (w.cell ≡ c → ⊥) → times c (w ∷ ws) ≡ times c ws
+  pub times_there : (w : Write V) (ws : List (Write V)) → (w.cell ≡ c → ⊥) → times c (w ∷ ws) ≡ times c ws
   times_there w ws other = rw (same_cell_not w.cell c other) (omega arith)
 
   -- what is never written is not in the list, and the other way round

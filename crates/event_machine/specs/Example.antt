@@ -61,6 +61,7 @@ divider =
       edge = edge;
       blocking = λ p c. false;
       nonblocking = target;
+      writes_once = λ p c. true;
       evaluate = evaluate;
     }
 

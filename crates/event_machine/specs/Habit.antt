@@ -43,4 +43,5 @@ pub record FollowsQuiet {V : Type 0} (m : Machine V) (s : State V) (before later
 -- the habit: an input that is not free moves only after a quiet moment that follows the last waking Move
 abbrev pub IsByHabit : {V : Type 0} → Machine V → Habit → State V → List (Event V) → Type 0
 IsByHabit {V} m h s es =
-    (before : List (Event V)) (ws : List (Write V)) (after : List (Event V)) → es ≡ before ++ Move ws ∷ after → (c : Cell) → WritesCell ws c → is_free_input m h c.thing ≡ false → FollowsQuiet m s before (Move ws ∷ after)
+    (before : List (Event V)) (ws : List (Write V)) (after : List (Event V)) → es ≡ before ++ Move ws ∷ after
+    → (c : Cell) → WritesCell ws c → is_free_input m h c.thing ≡ false → FollowsQuiet m s before (Move ws ∷ after)

@@ -6,7 +6,8 @@ use Rattle.event_machine.specs.State.{State, IsQuiet}
 use Rattle.event_machine.specs.Event.{Event, Move, Evaluate, writes, is_evaluation, state_after, end_state}
 use Rattle.event_machine.specs.Habit.{Habit, Free, Late, is_free_input, NoWakingMoves, IsByHabit}
 use Rattle.event_machine.specs.Step.{IsStep, evaluations, outputs}
-use Rattle.event_machine.specs.Told.{Told, IsToldInput, IsAsTold, IsMovingInput}
+use Rattle.event_machine.specs.Told.{Told, IsToldInput, IsMovingInput}
+use Rattle.event_machine.specs.ToldStep.{ToldStep}
 use Rattle.event_machine.specs.MayMove.{MayWake, MayMove, CanWake, IsClean}
 use Rattle.event_machine.specs.Early.{IsEarly}
 use Rattle.event_machine.specs.Single.{IsSingle}
@@ -15,7 +16,8 @@ use Rattle.event_machine.specs.Run.{Timed, HasComputed, IsRun, state_at}
 -- Waking law: an event wakes each process that is level-sensitive to a cell that it changes, but for the one that it evaluates.
 abbrev pub WakingLaw : {V : Type 0} → Machine V → Type 0
 WakingLaw {V} m =
-    (s : State V) (e : Event V) (c : Cell) (p : ℕ) → Changes s.values (writes m s e) c → m.level p c.thing ≡ true → is_evaluation p e ≡ false → (state_after m s e).woken p ≡ true
+    (s : State V) (e : Event V) (c : Cell) (p : ℕ)
+    → Changes s.values (writes m s e) c → m.level p c.thing ≡ true → is_evaluation p e ≡ false → (state_after m s e).woken p ≡ true
 
 -- Own-write law: what a process writes when it is evaluated does not wake it.
 abbrev pub OwnWriteLaw : {V : Type 0} → Machine V → Type 0
@@ -24,27 +26,31 @@ OwnWriteLaw {V} m = (s : State V) (p : ℕ) → (state_after m s (Evaluate p)).w
 -- Rest law, by the sets of any round: no thing changes at any event of a step, be it for a moment, unless it may move.
 abbrev pub RestLaw : {V : Type 0} → Machine V → Type 0
 RestLaw {V} m =
-    (n : ℕ) (h : Habit) (t : Told V) (s : State V) (es : List (Event V)) → IsStep m h s es → IsAsTold m t s es → (before after : List (Event V)) (e : Event V) → es ≡ before ++ e ∷ after → (c : Cell) → Changes (end_state m s before).values (writes m (end_state m s before) e) c → MayMove m t (IsSingle m t n) c.thing
+    (n : ℕ) (h : Habit) (t : Told V) (k : ToldStep m h t) (before after : List (Event V)) (e : Event V) → k.events ≡ before ++ e ∷ after
+    → (c : Cell) → Changes (end_state m k.start before).values (writes m (end_state m k.start before) e) c → MayMove m t (IsSingle m t n) c.thing
 
 -- Unchanged law: what may not move has its value of the step's start before each of its events, and so at its end.
 abbrev pub UnchangedLaw : {V : Type 0} → Machine V → Type 0
 UnchangedLaw {V} m =
-    (n : ℕ) (h : Habit) (t : Told V) (s : State V) (es : List (Event V)) → IsStep m h s es → IsAsTold m t s es → (c : Cell) → (MayMove m t (IsSingle m t n) c.thing → ⊥) → (before after : List (Event V)) → es ≡ before ++ after → (end_state m s before).values c ≡ s.values c
+    (n : ℕ) (h : Habit) (t : Told V) (k : ToldStep m h t) (c : Cell) → (MayMove m t (IsSingle m t n) c.thing → ⊥)
+    → (before after : List (Event V)) → k.events ≡ before ++ after → (end_state m k.start before).values c ≡ k.start.values c
 
 -- No-event law: where all inputs are told and none changes, a step has no events.
 abbrev pub NoEventLaw : {V : Type 0} → Machine V → Type 0
 NoEventLaw {V} m =
-    (h : Habit) (t : Told V) (s : State V) (es : List (Event V)) → IsStep m h s es → IsAsTold m t s es → ((c : Cell) → m.is_input c ≡ true → (t.is_told c.thing ≡ true) × (t.old c ≡ t.new c)) → es ≡ []
+    (h : Habit) (t : Told V) (k : ToldStep m h t) → ((c : Cell) → m.is_input c ≡ true → (t.is_told c.thing ≡ true) × (t.old c ≡ t.new c)) → k.events ≡ []
 
 -- No-wake law, by the sets of any round: a Clocked that cannot wake is not evaluated.
 abbrev pub NoWakeLaw : {V : Type 0} → Machine V → Type 0
 NoWakeLaw {V} m =
-    (n : ℕ) (h : Habit) (t : Told V) (s : State V) (es : List (Event V)) → IsStep m h s es → IsAsTold m t s es → (p : ℕ) → ((x : ℕ) → m.level p x ≡ false) → ((c : Cell) → CanWake m t (IsSingle m t n) c p → ⊥) → evaluations m p s es ≡ []
+    (n : ℕ) (h : Habit) (t : Told V) (k : ToldStep m h t) (p : ℕ)
+    → ((x : ℕ) → m.level p x ≡ false) → ((c : Cell) → CanWake m t (IsSingle m t n) c p → ⊥) → evaluations m p k.start k.events ≡ []
 
 -- Write law: a cell that p may write ends a step as p's evaluations in it leave it.
 abbrev pub WriteLaw : {V : Type 0} → Machine V → Type 0
 WriteLaw {V} m =
-    (h : Habit) (s : State V) (es : List (Event V)) → IsStep m h s es → (p : ℕ) (c : Cell) → IsTarget m p c → (end_state m s es).values c ≡ put_all s.values (outputs m p (evaluations m p s es)) c
+    (h : Habit) (s : State V) (es : List (Event V)) → IsStep m h s es
+    → (p : ℕ) (c : Cell) → IsTarget m p c → (end_state m s es).values c ≡ put_all s.values (outputs m p (evaluations m p s es)) c
 
 -- p is evaluated in the step; on entry of its last evaluation each wake cell has its value at the step's end, and
 -- the blocking targets end the step as that evaluation leaves them
@@ -74,12 +80,14 @@ IdleLaw {V} m =
 -- or that it had from the start.
 abbrev pub ComputedLaw : {V : Type 0} → Machine V → Type 0
 ComputedLaw {V} m =
-    (h : Habit) (s : State V) (es : List (Event V)) → IsStep m h s es → (p : ℕ) (c : Cell) → IsCombinational m p c → (evaluations m p s es ≡ [] → HasComputed m p c s) → HasComputed m p c (end_state m s es)
+    (h : Habit) (s : State V) (es : List (Event V)) → IsStep m h s es → (p : ℕ) (c : Cell) → IsCombinational m p c
+    → (evaluations m p s es ≡ [] → HasComputed m p c s) → HasComputed m p c (end_state m s es)
 
 -- Net law: at each time of a run the target of each Assign has its value.
 abbrev pub NetLaw : {V : Type 0} → Machine V → Type 0
 NetLaw {V} m =
-    (h : Habit) (now : ℕ) (s : State V) (xs : List (Timed V)) → IsRun m h now s xs → (t p : ℕ) (c : Cell) → m.is_assign p ≡ true → m.blocking p c ≡ true → HasComputed m p c (state_at m t s xs)
+    (h : Habit) (now : ℕ) (s : State V) (xs : List (Timed V)) → IsRun m h now s xs
+    → (t p : ℕ) (c : Cell) → m.is_assign p ≡ true → m.blocking p c ≡ true → HasComputed m p c (state_at m t s xs)
 
 -- b is evaluated exactly once. On entry its trigger c has the new value, a told input the old or the new value, and each
 -- thing that is neither the trigger nor early the value of the step's start; its targets end the step as it leaves them
@@ -95,7 +103,7 @@ pub record EvaluatesOnce {V : Type 0} (m : Machine V) (t : Told V) (single : Cel
 -- and, early things aside, on the values of the step's start.
 abbrev pub EdgeLaw : {V : Type 0} → Machine V → Habit → Type 0
 EdgeLaw {V} m h =
-    (n : ℕ) (t : Told V) (s : State V) (es : List (Event V)) → IsStep m h s es → IsAsTold m t s es → (b : ℕ) (c : Cell) → IsClean m t (IsSingle m t n) b c → EvaluatesOnce m t (IsSingle m t n) h b c s es
+    (n : ℕ) (t : Told V) (k : ToldStep m h t) (b : ℕ) (c : Cell) → IsClean m t (IsSingle m t n) b c → EvaluatesOnce m t (IsSingle m t n) h b c k.start k.events
 
 -- Free-habit law: any events are by the free habit.
 abbrev pub FreeHabitLaw : {V : Type 0} → Machine V → Type 0
@@ -108,7 +116,8 @@ NoWakingMoveLaw {V} m = (h : Habit) (s : State V) (es : List (Event V)) → IsQu
 -- Late-habit law: from the Move of a data input on, no waking Move comes.
 abbrev pub LateHabitLaw : {V : Type 0} → Machine V → Type 0
 LateHabitLaw {V} m =
-    (s : State V) (before : List (Event V)) (ws : List (Write V)) (after : List (Event V)) → IsByHabit m Late s (before ++ Move ws ∷ after) → (c : Cell) → WritesCell ws c → m.is_event_signal c.thing ≡ false → NoWakingMoves m (end_state m s before) (Move ws ∷ after)
+    (s : State V) (before : List (Event V)) (ws : List (Write V)) (after : List (Event V)) → IsByHabit m Late s (before ++ Move ws ∷ after)
+    → (c : Cell) → WritesCell ws c → m.is_event_signal c.thing ≡ false → NoWakingMoves m (end_state m s before) (Move ws ∷ after)
 
 -- Early law: what is early for a clean block may move.
 abbrev pub EarlyLaw : {V : Type 0} → Machine V → Type 0
@@ -135,7 +144,8 @@ pub record IsEarlyClosed {V : Type 0} (m : Machine V) (t : Told V) (single : Cel
 -- What is early is in each set that is closed under its rules.
 abbrev pub LeastEarly : {V : Type 0} → Machine V → Type 0
 LeastEarly {V} m =
-    (n : ℕ) (t : Told V) (h : Habit) (b : ℕ) (c : Cell) (has : ℕ → Bool) → IsEarlyClosed m t (IsSingle m t n) h b c has → (x : ℕ) → IsEarly m t (IsSingle m t n) h b c x → has x ≡ true
+    (n : ℕ) (t : Told V) (h : Habit) (b : ℕ) (c : Cell) (has : ℕ → Bool) → IsEarlyClosed m t (IsSingle m t n) h b c has
+    → (x : ℕ) → IsEarly m t (IsSingle m t n) h b c x → has x ≡ true
 
 -- it is decided in each round which process can wake by which cell, as in a finite design
 abbrev pub IsDecided : {V : Type 0} → Machine V → Told V → Type 0

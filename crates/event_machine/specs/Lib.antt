@@ -5,9 +5,12 @@ pub mod Event
 pub mod Habit
 pub mod Step
 pub mod Told
+pub mod ToldStep
 pub mod MayMove
 pub mod Early
 pub mod Single
 pub mod Run
+pub mod LastRound
+pub mod SharedEarly
 pub mod Laws
 pub mod Example

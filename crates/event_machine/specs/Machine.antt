@@ -1,7 +1,7 @@
 -- A design as a machine: which process is sensitive to what, what it may write, and what its evaluation writes (IEEE 1364-2001, 5.1).
 -- It knows nothing of expressions and statements: what a body does is the field `evaluate`.
-use Rattle.std.specs.Prelude.{◌≡◌, ◌⊎◌, ◌↔◌, ℕ, Bool, true, false, not, ◌&&◌, ◌||◌, List, [], ◌∷◌, ◌++◌}
-use Rattle.event_machine.specs.Cell.{Cell, Values, Write, Update, put, WritesCell, UpdatesCell, join}
+use Rattle.std.specs.Prelude.{◌≡◌, ◌⊎◌, ◌↔◌, ◌≤◌, ℕ, Bool, true, false, not, ◌&&◌, ◌||◌, List, [], ◌∷◌, ◌++◌}
+use Rattle.event_machine.specs.Cell.{Cell, Values, Write, Update, put, WritesCell, UpdatesCell, join, times}
 
 -- the edges of event controls (IEEE 1364-2001, 9.7.2)
 pub data Edge : Type 0 where
@@ -24,6 +24,7 @@ pub record Machine (V : Type 0) : Type 0 where
   pub edge : ℕ → Edge → Cell → Bool  -- the process is sensitive to this edge of the cell: a Clocked that lists it
   pub blocking : ℕ → Cell → Bool  -- the process may write the cell by a blocking write
   pub nonblocking : ℕ → Cell → Bool  -- the process may write the cell by a nonblocking write
+  pub writes_once : ℕ → Cell → Bool  -- the process's text shows that one evaluation writes the cell at most once
   pub evaluate : ℕ → Values V → Outcome V  -- what the process writes, evaluated on these values
 
 -- all that one evaluation writes: the blocking writes, then the updates
@@ -61,6 +62,7 @@ pub record IsLawful {V : Type 0} (m : Machine V) : Type 0 where
   pub event_signals : (x : ℕ) → (m.is_event_signal x ≡ true) ↔ ((p : ℕ) × (e : Edge) × (c : Cell) × (c.thing ≡ x) × (m.edge p e c ≡ true))
   pub blocking_kept : (p : ℕ) (v : Values V) (c : Cell) → WritesCell (m.evaluate p v).blocking c → m.blocking p c ≡ true
   pub nonblocking_kept : (p : ℕ) (v : Values V) (c : Cell) → UpdatesCell (m.evaluate p v).nonblocking c → m.nonblocking p c ≡ true
+  pub once_kept : (p : ℕ) (v : Values V) (c : Cell) → m.writes_once p c ≡ true → times c (output m p v) ≤ 1
   pub inputs_kept : (p : ℕ) (c : Cell) → m.is_input c ≡ true → IsTarget m p c → ⊥  -- no process writes an input
   pub not_both : (p : ℕ) (c : Cell) → m.blocking p c ≡ true → m.nonblocking p c ≡ true → ⊥  -- no cell is written both ways
   pub one_writer : (p q : ℕ) (c : Cell) → IsTarget m p c → IsTarget m q c → p ≡ q  -- a cell is written by one process

@@ -7,6 +7,8 @@ ghost use Rattle.std.specs.Prelude.{◌≡◌};
 ghost use Rattle.event_machine.specs.Machine.{Machine, IsLawful};
 ghost use Rattle.event_machine.specs.Habit.{Free, Late};
 ghost use Rattle.event_machine.specs.Laws.{WakingLaw, OwnWriteLaw, RestLaw, UnchangedLaw, NoEventLaw, NoWakeLaw, WriteLaw, SettledLaw, IdleLaw, ComputedLaw, NetLaw, EdgeLaw, FreeHabitLaw, NoWakingMoveLaw, LateHabitLaw, EarlyLaw, LeastMayMove, LeastEarly, RoundsLaw};
+ghost use Rattle.event_machine.specs.LastRound.{LastRoundLaw};
+ghost use Rattle.event_machine.specs.SharedEarly.{SharedEarlyLaw};
 ghost use Rattle.event_machine.specs.Example.{IsWorkedExample};
 
 /// An event wakes each process that is level-sensitive to what it changes, except that a process's own writes do not
@@ -62,9 +64,16 @@ pub fn least_law<V>()
     ensures early_may_move { (m : Machine V) → IsLawful m → EarlyLaw m }
 {}
 
-/// From round to round the single cells grow, and what may move and what can wake shrinks.
+/// What is early for a trigger is the same for two blocks without blocking targets.
+pub fn sharing_law<V>()
+    ensures { (m : Machine V) → SharedEarlyLaw m }
+{}
+
+/// From round to round the single cells grow, and what may move and what can wake shrinks. From a round on whose single
+/// cells are those of the next, nothing changes.
 pub fn rounds_law<V>()
-    ensures { (m : Machine V) → RoundsLaw m }
+    ensures grows { (m : Machine V) → RoundsLaw m }
+    ensures ends { (m : Machine V) → LastRoundLaw m }
 {}
 
 /// A divided clock in one step, as a machine: it is lawful, its step is one by either habit, the block of the divided

@@ -34,7 +34,7 @@ pub record IsNumber (g : Scope) (e : Expr) (z : ℤ) : Type 0 where
   pub no_fault : fault_of (names g) e ≡ None
   pub number : whole_number g e ≡ Some z
 
-abbrev bits_of : Scope → Expr → List Bit
+abbrev pub bits_of : Scope → Expr → List Bit
 bits_of g e = (constant g e).bits
 
 -- its bits are known, and stand for the number
@@ -48,7 +48,7 @@ whole_natural signed bs k h = by_sign (signed && is_one (top bs)) h
     by_sign true e = absurd (omega (arith, ints))
     by_sign false e = omega (arith, ints)
 
-width_of : (g : Scope) (e : Expr) → length (bits_of g e) ≡ (shape g e).width
+pub width_of : (g : Scope) (e : Expr) → length (bits_of g e) ≡ (shape g e).width
 width_of g e = length-fit (shape g e).width _ _
 
 alone_value : (base : ℕ) (d : Design) (v : Values Bit) (g : Scope) (e : Expr) (z : ℤ) → IsNumber g e z → (n : ℕ) → value d v (alone base g e n) ≡ bits_of g e

@@ -46,7 +46,7 @@ no_memory_name : (g : Scope) (e : Expr) → names_constants g e ≡ true → is_
 no_memory_name g (identifier p x) h = constant_no_memory (look_up g x) (both_true _ true h).0
 no_memory_name g _ h = refl
 
-counted_constant : (n : ℕ) (x : Term) → is_constant (counted_as n x) ≡ is_constant x
+pub counted_constant : (n : ℕ) (x : Term) → is_constant (counted_as n x) ≡ is_constant x
 counted_constant n (t.number h k) = refl
 counted_constant n (t.signal h s) = refl
 counted_constant n (t.word h m i) = refl

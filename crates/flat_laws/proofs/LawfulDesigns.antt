@@ -27,6 +27,7 @@ answered_lawful ms top d tokens e = record {
   memories = (answered_in_range ms top d e).memories;
   instances = (answered_in_range ms top d e).instances;
   bodies = λ p. (answered_bodies ms top d tokens e).bodies p;
+  well_formed = λ p. (answered_bodies ms top d tokens e).well_formed p;
   constants = (answered_in_range ms top d e).constants;
   aliases = (answered_wakes ms top d e).aliases;
   lists = λ p. (answered_wakes ms top d e).lists p;

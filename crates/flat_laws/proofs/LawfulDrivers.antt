@@ -169,7 +169,7 @@ drives_part d base g h p of a l b s found sound n c write =
     constant_of g e x y = let c = number_clean g e (faults g e) x y in (constant_number g e c.0 c.1 c.2, c.0)
 
 -- x[b +: w] and x[b -: w]
-selected_bits : (g : Scope) (of : Expr) (s : SignalEntry) → look_up g (base_name of).name ≡ Some (a_signal s) → select_faults (selected g of) ≡ [] → (r : Range) × (x : Named) × (s.range ≡ Some r) × (selected g of ≡ bits_in r x)
+pub selected_bits : (g : Scope) (of : Expr) (s : SignalEntry) → look_up g (base_name of).name ≡ Some (a_signal s) → select_faults (selected g of) ≡ [] → (r : Range) × (x : Named) × (s.range ≡ Some r) × (selected g of ≡ bits_in r x)
 selected_bits g (identifier p x) s found free = by_entry (look_up g x) found free
   where
     by_range : (o : Option Range) → s.range ≡ o → select_faults (selected_of o (named x p)) ≡ [] → (r : Range) × (y : Named) × (s.range ≡ Some r) × (selected_of o (named x p) ≡ bits_in r y)
@@ -185,7 +185,7 @@ selected_bits g (bit_select p (identifier q x) i) s found free = absurd (no_word
 selected_bits g _ s found free = absurd cc
 
 -- the width of a part without a fault
-small_size : (n : Index) (p : Place) → or_else (const_scope.fault_if (is_below_one n) BadRange p) (size_fault (count_of n) p) ≡ None → count_of n ≤ 128
+pub small_size : (n : Index) (p : Place) → or_else (const_scope.fault_if (is_below_one n) BadRange p) (size_fault (count_of n) p) ≡ None → count_of n ≤ 128
 small_size n p h = by_test (is_below_one n) (nat_lt (count_of n) 1) (nat_lt 128 (count_of n)) refl h
   where
     by_test : (a b c : Bool) → nat_lt 128 (count_of n) ≡ c → or_else (const_scope.fault_if a BadRange p) (or_else (const_scope.fault_if b BadRange p) (const_scope.fault_if c TooWide p)) ≡ None → count_of n ≤ 128
@@ -194,12 +194,12 @@ small_size n p h = by_test (is_below_one n) (nat_lt (count_of n) 1) (nat_lt 128 
     by_test false false true is e = absurd cc
     by_test false false false is e = ltb-false 128 (count_of n) is
 
-empty_then : {A : Type 0} (b : Bool) (xs : List A) → b ≡ true → (if b then xs else []) ≡ [] → xs ≡ []
+pub empty_then : {A : Type 0} (b : Bool) (xs : List A) → b ≡ true → (if b then xs else []) ≡ [] → xs ≡ []
 empty_then true xs h e = e
 empty_then false xs h e = absurd (false≢true h)
 
 -- the bits of the part are inside the range
-inside_of : (g : Scope) (b : Expr) (r : Range) (x : Named) (w : ℕ) (up : Bool) (of : Selected) → of ≡ bits_in r x → slide_faults g of b w up ≡ [] → is_inside r (slide_offset r up w (whole_number g b)) w ≡ true
+pub inside_of : (g : Scope) (b : Expr) (r : Range) (x : Named) (w : ℕ) (up : Bool) (of : Selected) → of ≡ bits_in r x → slide_faults g of b w up ≡ [] → is_inside r (slide_offset r up w (whole_number g b)) w ≡ true
 inside_of g b r x w up of e h = not_false (is_inside r (slide_offset r up w (whole_number g b)) w) (not_told _ _ (subst (λ z. slide_faults g z b w up ≡ []) e h))
   where
     not_false : (t : Bool) → not t ≡ false → t ≡ true

@@ -5,7 +5,7 @@ use Rattle.std.specs.Prelude.{bytes_eq}
 use Rattle.std.proofs.lemmas.Bool.{false≢true, lt-ltb, eq-eqb, eqb-true}
 use Rattle.std.proofs.lemmas.List.{get_or_append_left}
 use Rattle.four_state.specs.declared.edge.Edge.{Edge}
-use Rattle.design_model.specs.Design.{Design, In, is_number, no_signal, no_process, process_at, signal_at}
+use Rattle.design_model.specs.Design.{Design, In, no_signal, no_process, process_at, signal_at}
 use Rattle.design_model.specs.Lawful as law
 use Rattle.design_model.specs.Lawful.{wakes_of}
 use Rattle.design_model.specs.Machine.{events_of}
@@ -203,13 +203,13 @@ at_process P (x ∷ xs) (suc p) h none_of = at_process P xs p (λ y k. h y (inr 
 
 pub record AreWoken (d : Design) : Type 0 where
   pub aliases : list_all (law.is_alias d) d.aliases ≡ true
-  pub lists : (p : ℕ) → list_all (is_number d) (wakes_of (process_at d p)) ≡ true
+  pub lists : (p : ℕ) → list_all (λ x. nat_lt x (length d.signals)) (wakes_of (process_at d p)) ≡ true
   pub events : (p : ℕ) → list_all (λ e. nat_lt e.1 (length d.signals) && ((signal_at d e.1).width == 1)) (events_of (process_at d p)) ≡ true
 
 elaborated_woken : (st : Sofar) → IsWoken st → AreWoken st.design
 elaborated_woken st h = record {
   aliases = all_of_members (law.is_alias st.design) st.design.aliases (λ a k. let p = h.aliases a k in rw (lt-ltb a.instance (length st.design.instances) p.0, lt-ltb a.signal (length st.design.signals) p.1));
-  lists = λ p. all_of_members (is_number st.design) (wakes_of (process_at st.design p)) (λ y k. let less : y < length st.design.signals = (at p).wakes y k in lt-ltb y (length st.design.signals + length st.design.memories) (omega arith));
+  lists = λ p. all_of_members (λ x. nat_lt x (length st.design.signals)) (wakes_of (process_at st.design p)) (λ y k. lt-ltb y (length st.design.signals) ((at p).wakes y k));
   events = λ p. all_of_members _ (events_of (process_at st.design p)) (λ v k. let one = (at p).events v k in rw (lt-ltb v.1 (length st.design.signals) one.number, eq-eqb (signal_at st.design v.1).width 1 one.width));
 }
   where

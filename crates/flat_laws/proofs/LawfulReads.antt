@@ -1,12 +1,11 @@
 -- No continuous assignment reads a bit that it drives.
-use Rattle.std.proofs.Common.{◌≡◌, ◌⊎◌, inl, inr, ⊎_elim, ℕ, ◌+◌, ◌-◌, ◌<◌, ◌≤◌, ◌==◌, min, max, Bool, true, false, not, ◌&&◌, ◌||◌, if◌then◌else◌, List, [], ◌∷◌, ◌++◌, length, ℤ, pos, negsuc, Option, Some, None, Ok, refl, sym, ap, ◌∙◌, subst, arith, slice_index_or}
-use Rattle.std.specs.Prelude.{nat_lt}
+use Rattle.std.proofs.Common.{◌≡◌, ◌⊎◌, inl, inr, ⊎_elim, ℕ, ◌+◌, ◌<◌, ◌==◌, Bool, true, false, not, ◌&&◌, ◌||◌, if◌then◌else◌, List, [], ◌∷◌, ◌++◌, length, ℤ, Option, Some, None, Ok, refl, sym, ap, ◌∙◌, subst, arith, slice_index_or}
 use Rattle.std.specs.List.{list_any, range_with_len}
-use Rattle.std.proofs.lemmas.Bool.{and_parts, eq-eqb, eqb-true, false≢true, ltb-false, or_cases, or_left, or_right}
+use Rattle.std.proofs.lemmas.Bool.{and_parts, eq-eqb, eqb-true, false≢true, or_cases, or_left, or_right}
 use Rattle.cov_host.specs.declared.place.Place.{Place}
 use Rattle.event_machine.specs.Cell.{Cell}
 use Rattle.four_state.specs.Arithmetic.{natural}
-use Rattle.four_state.specs.Parts.{index, index_of}
+use Rattle.four_state.specs.Parts.{index}
 use Rattle.four_state.specs.Vector.{fill}
 use Rattle.four_state.specs.declared.bit.Bit.TheVariants.{X}
 use Rattle.design_model.specs.Assignment.{bit_writes_option, signal_range}
@@ -21,12 +20,7 @@ use Rattle.design_model.specs.declared.design.Range.{Range}
 use Rattle.design_model.proofs.Lawful.{place_from}
 use Rattle.design_model.proofs.Named.{WritesCell-from}
 use Rattle.verilog_tree.specs.Tree.{Expr, Exprs, Module, an_expr, binary_operator, bit_select, concatenation, conditional, identifier, indexed_part, literal, no_exprs, parentheses, part_select, replication, sign_cast, unary_operator}
-use Rattle.elab_const.specs.Faults.{is_bad_bound, is_below_one, size_fault}
-use Rattle.elab_const.specs.Meaning as of_const
-use Rattle.elab_const.specs.Meaning.{count_of, falls, number_of, operand_shape, operand_shapes, operands_of}
-use Rattle.elab_const.specs.Scope as const_scope
-use Rattle.elab_const.specs.Scope.{or_else}
-use Rattle.elab_const.specs.declared.fault.ConstKind.TheVariants.{BadRange, TooWide}
+use Rattle.elab_const.specs.Meaning.{operand_shape, operand_shapes, operands_of}
 use Rattle.elab_const.specs.declared.width.Shape.{Shape}
 use Rattle.flat_design.specs.Bodies.{Met}
 use Rattle.flat_design.specs.Expressions.{all_faults, bound_faults, faults, index_faults, select_faults, selected, some_offset, width_faults, word_faults}
@@ -38,7 +32,7 @@ use Rattle.flat_design.specs.Instances.{Sofar}
 use Rattle.flat_design.specs.Loops.{is_identifier}
 use Rattle.flat_design.specs.Numbering.{condition_nodes, is_counted_condition, nodes, one_if}
 use Rattle.flat_design.specs.Processes.{all_self_reads, have_common, reads_driven, self_faults, self_read, self_reads, uncounted, written}
-use Rattle.flat_design.specs.Scope.{Scope, is_memory_name, is_same_thing, look_up, names, names_constants, names_faulty, names_thing, natural_number, range_or, range_width, shape, thing_number, thing_of, whole_number}
+use Rattle.flat_design.specs.Scope.{Scope, is_memory_name, is_same_thing, look_up, names_constants, names_faulty, names_thing, natural_number, range_or, range_width, shape, thing_number, thing_of, whole_number}
 use Rattle.flat_design.specs.declared.entry.Entry.{Entry}
 use Rattle.flat_design.specs.declared.entry.Entry.TheVariants.{Constant as a_constant, Turn as a_turn, Signal as a_signal, Memory as a_memory, LoopVariable as a_loop_variable, Instance as an_instance, NoConstant as no_constant, Faulty as a_faulty_one}
 use Rattle.flat_design.specs.declared.entry.Mode.TheVariants.{Continuous}
@@ -47,18 +41,19 @@ use Rattle.flat_design.specs.declared.fault.ElabKind.TheVariants.{SelfAssign}
 use Rattle.flat_design.specs.Targets.{Writing, leaves, offsets_from, offsets_if, target, target_faults, writing_of}
 use Rattle.flat_design.specs.Terms.{alone, condition_as, counted_as, head_as, name_term, right_side, term, terms, word_or_bit}
 use Rattle.flat_laws.specs.Tokens.{AreOfTokens}
-use Rattle.flat_design.proofs.NoConstFaults.{bound_clean, constant_not_faulty, constant_there, four_none, no_const_fault, number_clean, true_both, width_clean}
+use Rattle.flat_design.proofs.NoConstFaults.{constant_not_faulty, constant_there, four_none, no_const_fault, true_both}
 use Rattle.flat_laws.proofs.Freedom.{IsSound, answered_sound, both_empty, not_told}
-use Rattle.flat_laws.proofs.IndexValues.{IsNumber, alone_natural, alone_whole}
+use Rattle.flat_laws.proofs.IndexValues.{alone_natural, alone_whole}
 use Rattle.flat_laws.proofs.LawfulBase.{base_is}
 use Rattle.flat_laws.proofs.LawfulConstants.{constant_term}
-use Rattle.flat_laws.proofs.LawfulDrivers.{Drives, IsDriver, IsPlaced, common, constant_number, leaf_driver, matches_of, may_drive, range_is, drives_all}
+use Rattle.flat_laws.proofs.LawfulDrivers.{Drives, IsDriver, IsPlaced, common, leaf_driver, matches_of, may_drive, range_is, drives_all}
 use Rattle.flat_laws.proofs.LawfulLimits.{answered_design, base_of}
 use Rattle.flat_laws.proofs.LawfulMentions.{IsNamed, memory_name, mentions_uncounted, read_mentions, term_mentions}
 use Rattle.flat_laws.proofs.LawfulNames.{in_map_back}
 use Rattle.flat_laws.proofs.LawfulOffsets.{in_range, written_offset}
 use Rattle.flat_laws.proofs.LawfulScope.{MatchesSignal}
 use Rattle.flat_laws.proofs.LawfulSound.{names_sound}
+use Rattle.flat_laws.proofs.SelectNumbers.{bound_number, counted_number, part_width_is, width_number}
 use Rattle.flat_laws.proofs.LawfulSources.{block_no_assign, IsContinuous, IsInput, IsOutput, Source, elaborated_made, of_assign, of_block, of_input, of_output, source_at}
 
 -- a bit of a signal that one of these writings drives
@@ -121,7 +116,7 @@ named_bit d c s m e w from h =
     (subst (λ r. In c.place (offsets_from (signal_at d c.thing).width w (from r))) (ap (signal_range d) (sym e) ∙ range_is d s m) there)
 
 -- the index of a constant without a fault
-index_is : (base : ℕ) (d : Design) (g : Scope) (e : Expr) → names_constants g e ≡ true → faults g e ≡ [] → (n : ℕ) → index (head (alone base g e n)).signed (value d blank (alone base g e n)) ≡ whole_number g e
+pub index_is : (base : ℕ) (d : Design) (g : Scope) (e : Expr) → names_constants g e ≡ true → faults g e ≡ [] → (n : ℕ) → index (head (alone base g e n)).signed (value d blank (alone base g e n)) ≡ whole_number g e
 index_is base d g e a b n = alone_whole base d blank g e (constant_there g e a (ap none b)) (no_const_fault g e (ap none b) (constant_not_faulty g e a)) n
 
 -- the bit that a select by an index may read, constant or not
@@ -152,7 +147,7 @@ condition_read d c false n x f h = f n h
 
 -- ---- selects
 
-offset_same : (r : Range) (o : Option ℤ) → offset_option r o ≡ some_offset r o
+pub offset_same : (r : Range) (o : Option ℤ) → offset_option r o ≡ some_offset r o
 offset_same r None = refl
 offset_same r (Some i) = refl
 
@@ -211,47 +206,6 @@ module _ (d : Design) (base : ℕ) (g : Scope) (ws : List Writing) (c : Cell) (h
           by_name f2.1 x.0 (subst (λ z. (not (z && is_constant index_term) || has_cell (static_writes d (bits_of c.thing index_term 1)) c) ≡ true) x.1 q.1))
           (or_cases _ _ k)
 
-  -- a bound of a part is a number from 0 on
-  good_number : (o : Option ℤ) (p : Place) → const_scope.fault_if (is_bad_bound (index_of o)) BadRange p ≡ None → (z : ℤ) → o ≡ Some z → (n : ℕ) × (z ≡ pos n)
-  good_number o p k (pos n) e = (n, refl)
-  good_number o p k (negsuc n) e = absurd (let bad : const_scope.fault_if (is_bad_bound (index_of (Some (negsuc n)))) BadRange p ≡ None = subst (λ y. const_scope.fault_if (is_bad_bound (index_of y)) BadRange p ≡ None) e k in cc)
-
-  counted_number : (e : Expr) (n : ℕ) → IsNumber g e (pos n) → natural_number g e ≡ n
-  counted_number e n x = ap (λ o. count_of (index_of o)) x.number
-
-  bound_number : (k : Place) (e : Expr) → none (bound_faults g k e (faults g e)) ≡ true → ((n : ℕ) × IsNumber g e (pos n)) × (names_constants g e ≡ true)
-  bound_number k e free =
-      let q = bound_clean g k e (faults g e) free (names_sound g h.good.sound e) in
-      let r = number_clean g e (faults g e) q.0 (names_sound g h.good.sound e) in
-      let x = constant_number g e r.0 r.1 r.2 in
-      let y = good_number (whole_number g e) k q.1 x.0 x.1.number in
-      ((y.0, subst (IsNumber g e) y.1 x.1), r.0)
-
-  second_none : (x y : Option _) → or_else x y ≡ None → y ≡ None
-  second_none None y e = e
-  second_none (Some f) y e = absurd cc
-
-  one_bit : (w : ℕ) (p : Place) → size_fault w p ≡ None → 1 ≤ w
-  one_bit w p e = by_test (nat_lt w 1) refl e
-    where
-      by_test : (t : Bool) → nat_lt w 1 ≡ t → or_else (const_scope.fault_if t BadRange p) (const_scope.fault_if (nat_lt 128 w) TooWide p) ≡ None → 1 ≤ w
-      by_test true is e = absurd cc
-      by_test false is e = ltb-false w 1 is
-
-  width_same : (falling : Bool) (m n : ℕ) → 1 ≤ of_const.part_width falling m n → max m n - min m n + 1 ≡ of_const.part_width falling m n
-  width_same true m n e = omega arith
-  width_same false m n e = omega arith
-
-  part_width_is : (p : Place) (of a l : Expr) (k : Place) (n m : ℕ) → faults g (part_select p of a l k) ≡ [] → none (bound_faults g k a (faults g a)) ≡ true → none (bound_faults g k l (faults g l)) ≡ true →
-      model.part_width (value d blank (alone base g a n)) (value d blank (alone base g l m)) ≡ (shape g (part_select p of a l k)).width
-  part_width_is p of a l k n m sound fa fl =
-      let x = bound_number k a fa in
-      let y = bound_number k l fl in
-      let na : natural (value d blank (alone base g a n)) ≡ natural_number g a = alone_natural base d blank g a x.0.0 x.0.1 n ∙ sym (counted_number a x.0.0 x.0.1) in
-      let nl : natural (value d blank (alone base g l m)) ≡ natural_number g l = alone_natural base d blank g l y.0.0 y.0.1 m ∙ sym (counted_number l y.0.0 y.0.1) in
-      let size = second_none _ _ (no_const_fault g (part_select p of a l k) (ap none sound) (names_sound g h.good.sound (part_select p of a l k))) in
-      rw (na, nl) (width_same (falls (names g) of) (natural_number g a) (natural_number g l) (one_bit (of_const.part_width (falls (names g) of) (natural_number g a) (natural_number g l)) k size))
-
   read_part : (p : Place) (of a l : Expr) (k : Place) (n : ℕ) (s : Shape) → Unread of n → faults g (part_select p of a l k) ≡ [] → self_reads g ws (part_select p of a l k) ≡ [] → may_read d (term base g (part_select p of a l k) n s) c ≡ true → ⊥
   read_part p of a l k n s deeper sound told read =
       let low : Term = term base g l (n + nodes g of + nodes g a) (shape g l) in
@@ -261,26 +215,13 @@ module _ (d : Design) (base : ℕ) (g : Scope) (ws : List Writing) (c : Cell) (h
       let e = four_none (select_faults (selected g of)) (bound_faults g k a (faults g a)) (bound_faults g k l (faults g l)) _ (ap none f.1) in
       let q = and_parts (may_read d (term base g of n (shape g of)) c) _ read in
       let x = selected_read d base g ws c of n (deeper f.0) first.1 q.0 in
-      let y = bound_number k l e.2 in
+      let y = bound_number d base g h.good k l e.2 in
       let there : has_cell (static_writes d (bits_of c.thing low w)) c ≡ true = subst (λ z. (not z || has_cell (static_writes d (bits_of c.thing low w)) c) ≡ true) x.1 q.1 in
       let bit = named_bit d c x.0.entry (matches_name of x.0) x.0.number w (λ r. offset_option r (index (head low).signed (value d blank low))) there in
       let same = offset_same (range_or x.0.entry.range) (index (head low).signed (value d blank low)) ∙ ap (some_offset (range_or x.0.entry.range)) (alone_whole base d blank g l y.0.1.is_constant y.0.1.no_fault (n + nodes g of + nodes g a)) in
       read_told d g ws c b (part_select p of a l k)
-      (record { entry = x.0.entry; found = x.0.found; number = x.0.number; bit = subst (λ z. In c.place (offsets_from (range_width x.0.entry.range) z (some_offset (range_or x.0.entry.range) (whole_number g l)))) (part_width_is p of a l k (n + nodes g of) (n + nodes g of + nodes g a) sound e.1 e.2) (subst (λ z. In c.place (offsets_from (range_width x.0.entry.range) w z)) same bit) })
+      (record { entry = x.0.entry; found = x.0.found; number = x.0.number; bit = subst (λ z. In c.place (offsets_from (range_width x.0.entry.range) z (some_offset (range_or x.0.entry.range) (whole_number g l)))) (part_width_is d base g h.good p of a l k (n + nodes g of) (n + nodes g of + nodes g a) sound e.1 e.2) (subst (λ z. In c.place (offsets_from (range_width x.0.entry.range) w z)) same bit) })
       first.0
-
-  -- the width of an indexed part
-  width_number : (k : Place) (e : Expr) → none (width_faults g k e (faults g e)) ≡ true → (n : ℕ) × IsNumber g e (pos n)
-  width_number k e free =
-      let q = width_clean g k e (faults g e) free (names_sound g h.good.sound e) in
-      let r = number_clean g e (faults g e) q.0 (names_sound g h.good.sound e) in
-      let x = constant_number g e r.0 r.1 r.2 in
-      let y = from_one (whole_number g e) k q.1 x.0 x.1.number in
-      (y.0, subst (IsNumber g e) y.1 x.1)
-    where
-      from_one : (o : Option ℤ) (p : Place) → or_else (const_scope.fault_if (is_below_one (index_of o)) BadRange p) (size_fault (count_of (index_of o)) p) ≡ None → (z : ℤ) → o ≡ Some z → (n : ℕ) × (z ≡ pos n)
-      from_one o p k (pos n) e = (n, refl)
-      from_one o p k (negsuc n) e = absurd (let bad : or_else (const_scope.fault_if (is_below_one (index_of (Some (negsuc n)))) BadRange p) (size_fault (count_of (index_of (Some (negsuc n)))) p) ≡ None = subst (λ y. or_else (const_scope.fault_if (is_below_one (index_of y)) BadRange p) (size_fault (count_of (index_of y)) p) ≡ None) e k in cc)
 
   read_slide : (p : Place) (of i w : Expr) (up : Bool) (k : Place) (n : ℕ) (s : Shape) → Unread of n → ((m : ℕ) → Unread i m) → faults g (indexed_part p of i w up k) ≡ [] → self_reads g ws (indexed_part p of i w up k) ≡ [] → may_read d (term base g (indexed_part p of i w up k) n s) c ≡ true → ⊥
   read_slide p of i w up k n s deeper_of deeper_i sound told read =
@@ -292,8 +233,8 @@ module _ (d : Design) (base : ℕ) (g : Scope) (ws : List Writing) (c : Cell) (h
       let f1 = both_empty (select_faults (selected g of) ++ faults g i ++ width_faults g k w (faults g w)) _ f.1 in
       let f2 = both_empty (select_faults (selected g of) ++ faults g i) (width_faults g k w (faults g w)) f1.0 in
       let f3 = both_empty (select_faults (selected g of)) (faults g i) f2.0 in
-      let x = width_number k w (ap none f2.1) in
-      let width : natural (value d blank size) ≡ natural_number g w = alone_natural base d blank g w x.0 x.1 (n + nodes g of + nodes g i) ∙ sym (counted_number w x.0 x.1) in
+      let x = width_number d base g h.good k w (ap none f2.1) in
+      let width : natural (value d blank size) ≡ natural_number g w = alone_natural base d blank g w x.0 x.1 (n + nodes g of + nodes g i) ∙ sym (counted_number d base g h.good w x.0 x.1) in
       ⊎_elim (deeper_i (n + nodes g of) f3.1 parts.1)
       (λ a.
       let q = and_parts (may_read d (term base g of n (shape g of)) c) _ a in

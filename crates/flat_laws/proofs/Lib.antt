@@ -60,6 +60,12 @@ pub mod OwnShapes
 pub mod ShapedTerms
 pub mod ShapedIndexes
 pub mod ShapedTargets
+pub mod SelectNumbers
+pub mod ConstantNames
+pub mod SelectRanges
+pub mod WellFormedTerms
+pub mod WellFormedTargets
+pub mod WellFormedBodies
 pub mod UncountedTerms
 pub mod LiteralFits
 pub mod ShapedBodies

@@ -40,23 +40,23 @@ abbrev arms_shape : Scope → Shape → CaseItems → Shape
 arms_shape g s no_items = s
 arms_shape g s (case_item es x is) = arms_shape g (labels_shape g s es) is
 
-behind : (m : Met) (ms : List Met) → IsFree (m ∷ ms) → IsFree ms
+pub behind : (m : Met) (ms : List Met) → IsFree (m ∷ ms) → IsFree ms
 behind m ms h = (free_parts (m ∷ []) ms h).1
 
 -- what was met is free in parts
-record ItemFree (g : Scope) (mode : Mode) (k : ℕ) (es : Exprs) (s : Statement) (is : CaseItems) : Type 0 where
-  labels : none (all_faults g es) ≡ true
-  body : IsFree (met g mode k s)
-  rest : IsFree (items_met g mode k is)
+pub record ItemFree (g : Scope) (mode : Mode) (k : ℕ) (es : Exprs) (s : Statement) (is : CaseItems) : Type 0 where
+  pub labels : none (all_faults g es) ≡ true
+  pub body : IsFree (met g mode k s)
+  pub rest : IsFree (items_met g mode k is)
 
-item_free : (g : Scope) (mode : Mode) (k : ℕ) (labels : Exprs) (s : Statement) (is : CaseItems) → IsFree (items_met g mode k (case_item labels s is)) → ItemFree g mode k labels s is
+pub item_free : (g : Scope) (mode : Mode) (k : ℕ) (labels : Exprs) (s : Statement) (is : CaseItems) → IsFree (items_met g mode k (case_item labels s is)) → ItemFree g mode k labels s is
 item_free g mode k labels s is free =
     let a = free_parts (met_faults (all_faults g labels) ++ met g mode k s) (items_met g mode k is) free in
     let b = free_parts (met_faults (all_faults g labels)) (met g mode k s) a.0 in
     record { labels = ap none (free_faults (all_faults g labels) b.0); body = b.1; rest = a.1 }
 
 -- the turn of a value is free where all are
-turn_free : (vs : List Vector) (f : Vector → List Met) (v : Vector) → In v vs → IsFree (met_turns vs f) → IsFree (f v)
+pub turn_free : (vs : List Vector) (f : Vector → List Met) (v : Vector) → In v vs → IsFree (met_turns vs f) → IsFree (f v)
 turn_free [] f v h free = absurd h
 turn_free (w ∷ vs) f v (inl e) free = subst (λ z. IsFree (f z)) e (free_parts (f w) (met_turns vs f) free).0
 turn_free (w ∷ vs) f v (inr h) free = turn_free vs f v h (free_parts (f w) (met_turns vs f) free).1

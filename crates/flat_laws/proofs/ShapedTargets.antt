@@ -34,16 +34,16 @@ use Rattle.flat_laws.proofs.ShapedIndexes.{index_alone}
 use Rattle.flat_laws.proofs.ShapedTerms.{bit_free, named_memory, sound_alone, sound_width}
 
 -- a target without concatenation is a signal, or a word of a memory, without fault as an expression
-record IsSignalLeaf (g : Scope) (e : Expr) : Type 0 where
-  entry : SignalEntry
-  found : look_up g (base_name e).name ≡ Some (a_signal entry)
-  free : none (faults g e) ≡ true
+pub record IsSignalLeaf (g : Scope) (e : Expr) : Type 0 where
+  pub entry : SignalEntry
+  pub found : look_up g (base_name e).name ≡ Some (a_signal entry)
+  pub free : none (faults g e) ≡ true
 
-record IsMemoryLeaf (g : Scope) (e : Expr) : Type 0 where
-  entry : MemoryEntry
-  found : look_up g (base_name e).name ≡ Some (a_memory entry)
-  whole : is_part_of_word e ≡ false
-  free : none (faults g e) ≡ true
+pub record IsMemoryLeaf (g : Scope) (e : Expr) : Type 0 where
+  pub entry : MemoryEntry
+  pub found : look_up g (base_name e).name ≡ Some (a_memory entry)
+  pub whole : is_part_of_word e ≡ false
+  pub free : none (faults g e) ≡ true
 
 signal_free : (g : Scope) (mode : Mode) (s : SignalEntry) (e : Expr) → none (signal_target_faults g mode s e) ≡ true → none (faults g e) ≡ true
 signal_free g Continuous s e h = by_test (s.input || not s.net) _ _ h
@@ -87,26 +87,26 @@ no_memory_value : (g : Scope) (p : Place) (x : List ℕ) (m : MemoryEntry) → l
 no_memory_value g p x m is h = false≢true (subst (λ o. none (use_faults o (named x p)) ≡ true) is h)
 
 -- a part is not of a memory, nor of a word of one
-no_part : (g : Scope) (p : Place) (of i j : Expr) (b : Place) (m : MemoryEntry) → look_up g (base_name of).name ≡ Some (a_memory m) → is_part_of_word (part_select p of i j b) ≡ false → none (faults g of) ≡ true → ⊥
+pub no_part : (g : Scope) (p : Place) (of i j : Expr) (b : Place) (m : MemoryEntry) → look_up g (base_name of).name ≡ Some (a_memory m) → is_part_of_word (part_select p of i j b) ≡ false → none (faults g of) ≡ true → ⊥
 no_part g p (identifier q x) i j b m is whole free = no_memory_value g q x m is free
 no_part g p of i j b m is whole free = false≢true (sym whole)
 
-no_indexed_part : (g : Scope) (p : Place) (of b w : Expr) (up : Bool) (k : Place) (m : MemoryEntry) → look_up g (base_name of).name ≡ Some (a_memory m) → is_part_of_word (indexed_part p of b w up k) ≡ false → none (faults g of) ≡ true → ⊥
+pub no_indexed_part : (g : Scope) (p : Place) (of b w : Expr) (up : Bool) (k : Place) (m : MemoryEntry) → look_up g (base_name of).name ≡ Some (a_memory m) → is_part_of_word (indexed_part p of b w up k) ≡ false → none (faults g of) ≡ true → ⊥
 no_indexed_part g p (identifier q x) b w up k m is whole free = no_memory_value g q x m is free
 no_indexed_part g p of b w up k m is whole free = false≢true (sym whole)
 
 -- a bit is not of a word
-no_word_bit : (g : Scope) (p : Place) (of i : Expr) (m : MemoryEntry) → look_up g (base_name of).name ≡ Some (a_memory m) → is_part_of_word (bit_select p of i) ≡ false → is_memory_name g of ≡ true
+pub no_word_bit : (g : Scope) (p : Place) (of i : Expr) (m : MemoryEntry) → look_up g (base_name of).name ≡ Some (a_memory m) → is_part_of_word (bit_select p of i) ≡ false → is_memory_name g of ≡ true
 no_word_bit g p (identifier q x) i m is whole = ap is_memory_entry is
 no_word_bit g p of i m is whole = absurd (false≢true (sym whole))
 
 -- what is named by an expression that is no target
-no_target : (g : Scope) (mode : Mode) (e : Expr) (o : Option Entry) → o ≡ None → none (leaf_faults g mode o e) ≡ true → ⊥
+pub no_target : (g : Scope) (mode : Mode) (e : Expr) (o : Option Entry) → o ≡ None → none (leaf_faults g mode o e) ≡ true → ⊥
 no_target g mode e o is h = false≢true (subst (λ z. none (leaf_faults g mode z e) ≡ true) is h)
 
 module _ (d : Design) (base : ℕ) (base_is : base ≡ length d.signals) (g : Scope) (good : IsGoodScope d.signals d.memories g) (wide : HasWidths g) (mode : Mode) where
   -- the leaf of a target
-  leaf_here : (e : Expr) → none (leaf_faults g mode (look_up g (base_name e).name) e) ≡ true → IsSignalLeaf g e ⊎ IsMemoryLeaf g e
+  pub leaf_here : (e : Expr) → none (leaf_faults g mode (look_up g (base_name e).name) e) ≡ true → IsSignalLeaf g e ⊎ IsMemoryLeaf g e
   leaf_here e h = leaf_of g mode e (look_up g (base_name e).name) refl (good.sound.sound (base_name e).name) h
 
   signal_number : (x : List ℕ) (s : SignalEntry) → look_up g x ≡ Some (a_signal s) → nat_lt (thing_number base (thing_of (look_up g x))) (length d.signals) ≡ true
@@ -115,7 +115,7 @@ module _ (d : Design) (base : ℕ) (base_is : base ≡ length d.signals) (g : Sc
   signal_width : (x : List ℕ) (s : SignalEntry) → look_up g x ≡ Some (a_signal s) → target_width d (all_of (thing_number base (thing_of (look_up g x)))) ≡ (entry_shape (value_entry (look_up g x))).width
   signal_width x s is = subst (λ o. target_width d (all_of (thing_number base (thing_of o))) ≡ (entry_shape (value_entry o)).width) (sym is) (subst (EntryMatches d.signals d.memories) is (good.matches x)).width
 
-  free_of : (e : Expr) → IsSignalLeaf g e ⊎ IsMemoryLeaf g e → none (faults g e) ≡ true
+  pub free_of : (e : Expr) → IsSignalLeaf g e ⊎ IsMemoryLeaf g e → none (faults g e) ≡ true
   free_of e (inl h) = h.free
   free_of e (inr h) = h.free
 

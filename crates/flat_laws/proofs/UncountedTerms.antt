@@ -1,5 +1,6 @@
--- A term without counted nodes has the values and shapes of the term.
-use Rattle.std.proofs.Common.{◌≡◌, ◌&&◌, max, Bool, ℕ, refl}
+-- A term without counted nodes has the values and shapes of the term, and is well formed where it is.
+use Rattle.std.proofs.Common.{◌≡◌, ◌&&◌, max, Bool, ℕ, true, false, refl}
+use Rattle.std.proofs.lemmas.Bool.{and_parts}
 use Rattle.event_machine.specs.Cell.{Values}
 use Rattle.four_state.specs.declared.bit.Bit.{Bit}
 use Rattle.design_model.specs.Design.{Design}
@@ -8,7 +9,10 @@ use Rattle.design_model.specs.Shape.{are_alone, is_shaped, own_sign, own_width, 
 use Rattle.design_model.specs.Tree as t
 use Rattle.design_model.specs.Tree.{Term, Terms}
 use Rattle.design_model.specs.Value.{head, joined, range_of, value}
+use Rattle.design_model.specs.WellFormed.{are_well_formed, is_counted_rightly, is_right, is_well_formed}
 use Rattle.flat_design.specs.Processes.{all_uncounted, uncounted}
+use Rattle.flat_laws.proofs.Members.{both_true}
+use Rattle.flat_laws.proofs.WellFormedTerms.{condition_well}
 
 same_sign : (x : Term) → (head (uncounted x)).signed ≡ (head x).signed
 same_sign (t.number h v) = refl
@@ -131,3 +135,42 @@ mutual
   same_alone : (d : Design) (xs : Terms) → are_alone d (all_uncounted xs) ≡ are_alone d xs
   same_alone d t.no_terms = refl
   same_alone d (t.a_term x xs) = rw (same_width d x, same_own_sign d x, same_shaped d (own_width d x) (own_sign d x) x, same_alone d xs) refl
+
+mutual
+  pub uncounted_well : (d : Design) (c : Bool) (x : Term) → is_well_formed d c x ≡ true → is_well_formed d false (uncounted x) ≡ true
+  uncounted_well d c (t.number h k) w = refl
+  uncounted_well d c (t.signal h s) w = refl
+  uncounted_well d c (t.word h m i) w =
+      let p = and_parts (is_right d c (t.word h m i)) _ w in
+      both_true _ _ (rw (same_constant i, same_sign i, same_value d blank i) (and_parts (is_counted_rightly c (t.word h m i)) _ p.0).1) (uncounted_well d false i p.1)
+  uncounted_well d c (t.bit h of i) w =
+      let p = and_parts (is_right d c (t.bit h of i)) _ w in
+      let q = and_parts (is_well_formed d false of) _ p.1 in
+      both_true _ _ (rw (same_constant i, same_width d of, same_range d of, same_sign i, same_value d blank i) (and_parts (is_counted_rightly c (t.bit h of i)) _ p.0).1) (both_true _ _ (uncounted_well d false of q.0) (uncounted_well d false i q.1))
+  uncounted_well d c (t.part h of i j) w =
+      let p = and_parts (is_right d c (t.part h of i j)) _ w in
+      let q = and_parts (is_well_formed d false of) _ p.1 in
+      let r = and_parts (is_well_formed d false i) _ q.1 in
+      both_true _ _ (rw (same_width d of, same_range d of, same_sign j, same_value d blank i, same_value d blank j) (and_parts (is_counted_rightly c (t.part h of i j)) _ p.0).1) (both_true _ _ (uncounted_well d false of q.0) (both_true _ _ (uncounted_well d false i r.0) (uncounted_well d false j r.1)))
+  uncounted_well d c (t.slide h of b k up) w =
+      let p = and_parts (is_right d c (t.slide h of b k up)) _ w in
+      let q = and_parts (is_well_formed d false of) _ p.1 in
+      let r = and_parts (is_well_formed d false b) _ q.1 in
+      both_true _ _ (rw (same_constant b, same_width d of, same_range d of, same_sign b, same_value d blank b, same_value d blank k) (and_parts (is_counted_rightly c (t.slide h of b k up)) _ p.0).1) (both_true _ _ (uncounted_well d false of q.0) (both_true _ _ (uncounted_well d false b r.0) (uncounted_well d false k r.1)))
+  uncounted_well d c (t.unary h op a) w = uncounted_well d false a (and_parts (is_right d c (t.unary h op a)) _ w).1
+  uncounted_well d c (t.binary h op a b) w =
+      let q = and_parts (is_well_formed d false a) _ (and_parts (is_right d c (t.binary h op a b)) _ w).1 in
+      both_true _ _ (uncounted_well d false a q.0) (uncounted_well d false b q.1)
+  uncounted_well d c (t.choice h x a b) w =
+      let q = and_parts (is_well_formed d true x) _ (and_parts (is_right d c (t.choice h x a b)) _ w).1 in
+      let r = and_parts (is_well_formed d false a) _ q.1 in
+      both_true _ _ (condition_well d (uncounted x) (uncounted_well d true x q.0)) (both_true _ _ (uncounted_well d false a r.0) (uncounted_well d false b r.1))
+  uncounted_well d c (t.concat h ts) w = uncounted_all_well d ts (and_parts (is_right d c (t.concat h ts)) _ w).1
+  uncounted_well d c (t.repeat h k ts) w =
+      let q = and_parts (is_well_formed d false k) _ (and_parts (is_right d c (t.repeat h k ts)) _ w).1 in
+      both_true _ _ (uncounted_well d false k q.0) (uncounted_all_well d ts q.1)
+  uncounted_well d c (t.sign h s a) w = uncounted_well d false a (and_parts (is_right d c (t.sign h s a)) _ w).1
+
+  uncounted_all_well : (d : Design) (xs : Terms) → are_well_formed d xs ≡ true → are_well_formed d (all_uncounted xs) ≡ true
+  uncounted_all_well d t.no_terms w = refl
+  uncounted_all_well d (t.a_term x xs) w = let q = and_parts (is_well_formed d false x) _ w in both_true _ _ (uncounted_well d false x q.0) (uncounted_all_well d xs q.1)

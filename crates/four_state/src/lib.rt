@@ -22,6 +22,3 @@ pub use four::Four;
 pub use index::Index;
 pub use operator::{Binary, CaseKind, Unary};
 pub use truth::Truth;
-
-#[cfg(test)]
-mod tests;

@@ -26,12 +26,13 @@ abbrev pub value_of_code : Dump → ℕ → Option ℕ → Option Vector
 value_of_code dump time None = None
 value_of_code dump time (Some code) = value_at dump.steps code time
 
--- what the dump says of the design: its times, which signals have a variable, and their bits at each time
+-- what the dump says of the design: its times, which signals have a variable, and their bits at each time; derived clocks are no triggers
 abbrev pub bound_dump : Design → Dump → List ℕ → BoundDump
 bound_dump design dump instance = record {
   times = times_of dump.steps;
   bound = λ s. is_some (code_at design dump instance s);
   values = λ time c. bit_at (value_of_code dump time (code_at design dump instance c.thing)) c.place;
+  round = λ time. 0;
 }
 
 -- the run is one of the design, with inputs that move freely, and shows the dump

@@ -2,7 +2,7 @@ use crate::toggles::Toggles;
 use design_model::Signal;
 
 /// A signal with what the whole dump shows of it.
-#[derive(Debug, Drop)]
+#[derive(Drop)]
 pub(crate) struct Watched<'a> {
     pub(crate) signal: &'a Signal,
     /// The code of its variable.

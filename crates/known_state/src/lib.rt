@@ -13,6 +13,3 @@ mod truth;
 
 pub use known::Known;
 pub use maybe::{KnownTruth, Maybe};
-
-#[cfg(test)]
-mod tests;

@@ -19,7 +19,7 @@ use verilog_lexer::{LexKind, Sources};
 
 /// A design, and the names of the sources that it was read from: the files of the words, then the included files in the
 /// order of their first use.
-#[derive(Debug, Drop)]
+#[derive(Drop)]
 pub struct ReadDesign {
     pub design: Design,
     pub sources: Sequence<Name>,

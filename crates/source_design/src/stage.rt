@@ -16,7 +16,7 @@ use verilog_lexer::{LexFault, LexKind, Sources, lex};
 use verilog_parser::{ParseFault, parse};
 
 /// What sources give.
-#[derive(Debug, Drop)]
+#[derive(Drop)]
 pub(crate) enum Found {
     /// The design that they stand for.
     Design(Design),

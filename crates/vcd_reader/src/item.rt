@@ -1,7 +1,7 @@
 use four_state::Four;
 
 /// What a piece of the header came to.
-#[derive(Clone, Copy, Debug, PartialEq, Eq)]
+#[derive(Clone, Copy, PartialEq, Eq)]
 pub enum Fed {
     /// The piece is used up.
     More,
@@ -10,7 +10,7 @@ pub enum Fed {
 }
 
 /// What the body says next.
-#[derive(Clone, Copy, Debug, PartialEq, Eq)]
+#[derive(Clone, Copy, PartialEq, Eq)]
 pub enum Item {
     /// A time that is greater than the one before, in the dump's units.
     Time(u64),
@@ -24,7 +24,7 @@ pub enum Item {
 }
 
 /// What the body says next, and how many bytes of the piece were used for it.
-#[derive(Clone, Copy, Debug, PartialEq, Eq)]
+#[derive(Clone, Copy, PartialEq, Eq)]
 pub struct Step {
     pub item: Item,
     pub used: usize,

@@ -37,6 +37,3 @@ pub use header::Header;
 pub use item::{Fed, Item, Step};
 pub use laws::{dump_goes_on, example_dump, one_header, one_reading, rising_times};
 pub use vars::{Var, Vars};
-
-#[cfg(test)]
-mod tests;

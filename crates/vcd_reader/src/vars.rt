@@ -4,7 +4,7 @@ use cov_host::{Name, Sequence};
 pub type Vars = Sequence<Var>;
 
 /// A variable of the dump's header (IEEE 1364-2001 clause 18.2.3.8).
-#[derive(Debug, Drop)]
+#[derive(Drop)]
 pub struct Var {
     /// The names of the open scopes, the outermost first, joined by dots.
     pub scope: Name,

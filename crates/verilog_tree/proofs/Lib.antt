@@ -1,0 +1,2 @@
+pub mod ExprViews
+pub mod StatementViews

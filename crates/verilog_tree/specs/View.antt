@@ -1,8 +1,6 @@
 -- The plain trees that the trees of the code stand for.
 use Rattle.std.specs.Prelude.{List, map, Option, Some, None}
 use Rattle.std.specs.Option.{option_map}
-use Rattle.std.specs.declared.alloc.Global.{Global}
-use Rattle.std.specs.declared.boxed.Box.{Box}
 use Rattle.cov_host.specs.declared.place.Place.{Place}
 use Rattle.verilog_tree.specs.Tree as t
 use Rattle.verilog_tree.specs.declared.expr.Expr.{Expr, Expr-F, fold-Expr}
@@ -25,20 +23,20 @@ use Rattle.verilog_tree.specs.declared.module.Module.{Module}
 abbrev pub expr_form_step : ExprForm-F (Place → t.Expr) t.Expr → Place → t.Expr
 expr_form_step (ExprForm-F.Number n) p = t.literal p n
 expr_form_step (ExprForm-F.Name x) p = t.identifier p x
-expr_form_step (ExprForm-F.Bit x i) p = t.bit_select p x.value i.value
-expr_form_step (ExprForm-F.Part x h l b) p = t.part_select p x.value h.value l.value b
-expr_form_step (ExprForm-F.Slide x k w up b) p = t.indexed_part p x.value k.value w.value up b
-expr_form_step (ExprForm-F.Unary op x) p = t.unary_operator p op x.value
-expr_form_step (ExprForm-F.Binary op x y) p = t.binary_operator p op x.value y.value
-expr_form_step (ExprForm-F.Choice c x y) p = t.conditional p c.value x.value y.value
+expr_form_step (ExprForm-F.Bit x i) p = t.bit_select p x i
+expr_form_step (ExprForm-F.Part x h l b) p = t.part_select p x h l b
+expr_form_step (ExprForm-F.Slide x k w up b) p = t.indexed_part p x k w up b
+expr_form_step (ExprForm-F.Unary op x) p = t.unary_operator p op x
+expr_form_step (ExprForm-F.Binary op x y) p = t.binary_operator p op x y
+expr_form_step (ExprForm-F.Choice c x y) p = t.conditional p c x y
 expr_form_step (ExprForm-F.Concat v) p = t.concatenation p (t.exprs_of v.items)
-expr_form_step (ExprForm-F.Repeat n v) p = t.replication p n.value (t.exprs_of v.items)
-expr_form_step (ExprForm-F.Sign s x) p = t.sign_cast p s x.value
-expr_form_step (ExprForm-F.Paren x) p = t.parentheses p x.value
+expr_form_step (ExprForm-F.Repeat n v) p = t.replication p n (t.exprs_of v.items)
+expr_form_step (ExprForm-F.Sign s x) p = t.sign_cast p s x
+expr_form_step (ExprForm-F.Paren x) p = t.parentheses p x
 
 -- one level of an expression
 abbrev pub expr_step : Expr-F (Place → t.Expr) t.Expr → t.Expr
-expr_step e = e.form e.place
+expr_step e = e.form.value e.place
 
 -- the plain tree of an expression
 abbrev pub expr_view : Expr → t.Expr
@@ -48,9 +46,9 @@ abbrev pub exprs_view : List Expr → List t.Expr
 exprs_view es = map expr_view es
 
 -- the else statement, if there is one
-abbrev pub else_of : Option (Box t.Statement Global) → t.Statements
+abbrev pub else_of : Option t.Statement → t.Statements
 else_of None = t.no_statements
-else_of (Some s) = t.a_statement s.value t.no_statements
+else_of (Some s) = t.a_statement s t.no_statements
 
 -- the header of a loop, and its body
 abbrev pub Loop : Type 0
@@ -59,7 +57,7 @@ Loop = t.Header × t.Statement
 -- one level of a statement, which waits for its place
 abbrev pub statement_form_step : StatementForm-F (Place → t.Statement) t.CaseArm Loop t.Statement → Place → t.Statement
 statement_form_step (StatementForm-F.Block v) p = t.sequential_block p (t.statements_of v.items)
-statement_form_step (StatementForm-F.If c s other) p = t.if_statement p (expr_view c) s.value (else_of other)
+statement_form_step (StatementForm-F.If c s other) p = t.if_statement p (expr_view c) s (else_of other)
 statement_form_step (StatementForm-F.Case k x v) p = t.case_statement p k (expr_view x) (t.arms_of v.items)
 statement_form_step (StatementForm-F.For loop) p = t.for_loop p loop.0 loop.1
 statement_form_step (StatementForm-F.Set x b y) p = t.assignment p (expr_view x) b (expr_view y)
@@ -68,7 +66,7 @@ statement_form_step StatementForm-F.Empty p = t.null_statement p
 
 -- one level of a statement
 abbrev pub statement_step : Statement-F (Place → t.Statement) t.CaseArm Loop t.Statement → t.Statement
-statement_step s = s.form s.place
+statement_step s = s.form.value s.place
 
 -- one level of an arm
 abbrev pub arm_step : Arm-F (Place → t.Statement) t.CaseArm Loop t.Statement → t.CaseArm
@@ -78,7 +76,7 @@ arm_step a = record { labels = exprs_view a.labels.items; body = a.body }
 abbrev pub loop_step : For-F (Place → t.Statement) t.CaseArm Loop t.Statement → Loop
 loop_step l = (
   record { place = l.place; name = expr_view l.name; first = expr_view l.first; test = expr_view l.test; target = expr_view l.target; step = expr_view l.step },
-  l.body.value,
+  l.body,
 )
 
 -- the plain tree of a statement

@@ -14,15 +14,6 @@ fn copied_name(alloc: Global, name: &Name) -> Result<Name, NoMemory>
     Ok(Name::from_vec(Vec::from_slice(alloc, name.as_slice())?))
 }
 
-/// The same expression in a box.
-#[cycle(copy)]
-fn boxed(alloc: Global, expr: &Expr) -> Result<Box<Expr>, NoMemory>
-    ensures { IfOk result (λ copy. expr_view copy.value ≡ expr_view expr.now) }
-{
-    let copy = copied(alloc, expr)?;
-    Ok(Box::new(alloc, copy)?)
-}
-
 /// The same expressions.
 #[cycle(copy)]
 fn all_copied(alloc: Global, exprs: &[Expr]) -> Result<Vec<Expr>, NoMemory>
@@ -41,12 +32,12 @@ pub(crate) fn copied(alloc: Global, expr: &Expr) -> Result<Expr, NoMemory>
     ensures { IfOk result (λ copy. expr_view copy ≡ expr_view expr.now) }
 {
     let place = expr.place;
-    let form = match &expr.form {
+    let form = match &*expr.form {
         ExprForm::Number(value) => ExprForm::Number(*value),
         ExprForm::Name(name) => ExprForm::Name(copied_name(alloc, name)?),
         ExprForm::Bit { of, index } => ExprForm::Bit {
-            of: boxed(alloc, of)?,
-            index: boxed(alloc, index)?,
+            of: copied(alloc, of)?,
+            index: copied(alloc, index)?,
         },
         ExprForm::Part {
             of,
@@ -54,9 +45,9 @@ pub(crate) fn copied(alloc: Global, expr: &Expr) -> Result<Expr, NoMemory>
             low,
             bracket,
         } => ExprForm::Part {
-            of: boxed(alloc, of)?,
-            high: boxed(alloc, high)?,
-            low: boxed(alloc, low)?,
+            of: copied(alloc, of)?,
+            high: copied(alloc, high)?,
+            low: copied(alloc, low)?,
             bracket: *bracket,
         },
         ExprForm::Slide {
@@ -66,27 +57,32 @@ pub(crate) fn copied(alloc: Global, expr: &Expr) -> Result<Expr, NoMemory>
             up,
             bracket,
         } => ExprForm::Slide {
-            of: boxed(alloc, of)?,
-            base: boxed(alloc, base)?,
-            width: boxed(alloc, width)?,
+            of: copied(alloc, of)?,
+            base: copied(alloc, base)?,
+            width: copied(alloc, width)?,
             up: *up,
             bracket: *bracket,
         },
-        ExprForm::Unary(op, a) => ExprForm::Unary(*op, boxed(alloc, a)?),
-        ExprForm::Binary(op, a, b) => { ExprForm::Binary(*op, boxed(alloc, a)?, boxed(alloc, b)?) }
+        ExprForm::Unary(op, a) => ExprForm::Unary(*op, copied(alloc, a)?),
+        ExprForm::Binary(op, a, b) => {
+            ExprForm::Binary(*op, copied(alloc, a)?, copied(alloc, b)?)
+        }
         ExprForm::Choice { test, yes, no } => ExprForm::Choice {
-            test: boxed(alloc, test)?,
-            yes: boxed(alloc, yes)?,
-            no: boxed(alloc, no)?,
+            test: copied(alloc, test)?,
+            yes: copied(alloc, yes)?,
+            no: copied(alloc, no)?,
         },
         ExprForm::Concat(parts) => ExprForm::Concat(all_copied(alloc, parts)?),
         ExprForm::Repeat(count, parts) => {
-            ExprForm::Repeat(boxed(alloc, count)?, all_copied(alloc, parts)?)
+            ExprForm::Repeat(copied(alloc, count)?, all_copied(alloc, parts)?)
         }
-        ExprForm::Sign(signed, a) => ExprForm::Sign(*signed, boxed(alloc, a)?),
-        ExprForm::Paren(a) => ExprForm::Paren(boxed(alloc, a)?),
+        ExprForm::Sign(signed, a) => ExprForm::Sign(*signed, copied(alloc, a)?),
+        ExprForm::Paren(a) => ExprForm::Paren(copied(alloc, a)?),
     };
-    Ok(Expr { place, form })
+    Ok(Expr {
+        place,
+        form: Box::new(alloc, form)?,
+    })
 }
 
 impl Range {

@@ -8,75 +8,75 @@ use four_state::{Binary, Four, Unary};
 use std::alloc::Global;
 
 /// An expression as it is written (IEEE 1364-2001 clause 4). Parentheses are a node.
-#[derive(Debug, Drop)]
+#[derive(Drop)]
 #[cycle(expr)]
 pub struct Expr {
     /// Of its first token.
     pub place: Place,
-    pub form: ExprForm,
+    pub form: Box<ExprForm>,
 }
 
 /// The forms of an expression. A `bracket` is the place of the `[`.
-#[derive(Debug, Drop)]
+#[derive(Drop)]
 #[cycle(expr)]
 pub enum ExprForm {
     Number(Four),
     Name(Name),
     /// `of[index]`.
     Bit {
-        of: Box<Expr>,
-        index: Box<Expr>,
+        of: Expr,
+        index: Expr,
     },
     /// `of[high:low]`.
     Part {
-        of: Box<Expr>,
-        high: Box<Expr>,
-        low: Box<Expr>,
+        of: Expr,
+        high: Expr,
+        low: Expr,
         bracket: Place,
     },
     /// `of[base +: width]`, or where `up` is false `of[base -: width]`.
     Slide {
-        of: Box<Expr>,
-        base: Box<Expr>,
-        width: Box<Expr>,
+        of: Expr,
+        base: Expr,
+        width: Expr,
         up: bool,
         bracket: Place,
     },
-    Unary(Unary, Box<Expr>),
-    Binary(Binary, Box<Expr>, Box<Expr>),
+    Unary(Unary, Expr),
+    Binary(Binary, Expr, Expr),
     /// `test ? yes : no`.
     Choice {
-        test: Box<Expr>,
-        yes: Box<Expr>,
-        no: Box<Expr>,
+        test: Expr,
+        yes: Expr,
+        no: Expr,
     },
     /// The first expression is the highest.
     Concat(Vec<Expr>),
-    Repeat(Box<Expr>, Vec<Expr>),
+    Repeat(Expr, Vec<Expr>),
     /// `$signed` where the flag is true, else `$unsigned`.
-    Sign(bool, Box<Expr>),
-    Paren(Box<Expr>),
+    Sign(bool, Expr),
+    Paren(Expr),
 }
 
 impl Expr {
     /// A number.
-    pub fn number(place: Place, value: Four) -> Expr
-        ensures { expr_view result ≡ t.literal place value }
+    pub fn number(alloc: Global, place: Place, value: Four) -> Result<Expr, NoMemory>
+        ensures { IfOk result (λ e. expr_view e ≡ t.literal place value) }
     {
-        Expr {
+        Ok(Expr {
             place,
-            form: ExprForm::Number(value),
-        }
+            form: Box::new(alloc, ExprForm::Number(value))?,
+        })
     }
 
     /// A name.
-    pub fn name(place: Place, name: Name) -> Expr
-        ensures { expr_view result ≡ t.identifier place name }
+    pub fn name(alloc: Global, place: Place, name: Name) -> Result<Expr, NoMemory>
+        ensures { IfOk result (λ e. expr_view e ≡ t.identifier place name) }
     {
-        Expr {
+        Ok(Expr {
             place,
-            form: ExprForm::Name(name),
-        }
+            form: Box::new(alloc, ExprForm::Name(name))?,
+        })
     }
 
     /// `of[index]`.
@@ -85,10 +85,7 @@ impl Expr {
     {
         Ok(Expr {
             place: of.place,
-            form: ExprForm::Bit {
-                of: Box::new(alloc, of)?,
-                index: Box::new(alloc, index)?,
-            },
+            form: Box::new(alloc, ExprForm::Bit { of, index })?,
         })
     }
 
@@ -104,12 +101,15 @@ impl Expr {
     {
         Ok(Expr {
             place: of.place,
-            form: ExprForm::Part {
-                of: Box::new(alloc, of)?,
-                high: Box::new(alloc, high)?,
-                low: Box::new(alloc, low)?,
-                bracket,
-            },
+            form: Box::new(
+                alloc,
+                ExprForm::Part {
+                    of,
+                    high,
+                    low,
+                    bracket,
+                },
+            )?,
         })
     }
 
@@ -126,13 +126,16 @@ impl Expr {
     {
         Ok(Expr {
             place: of.place,
-            form: ExprForm::Slide {
-                of: Box::new(alloc, of)?,
-                base: Box::new(alloc, base)?,
-                width: Box::new(alloc, width)?,
-                up,
-                bracket,
-            },
+            form: Box::new(
+                alloc,
+                ExprForm::Slide {
+                    of,
+                    base,
+                    width,
+                    up,
+                    bracket,
+                },
+            )?,
         })
     }
 
@@ -142,7 +145,7 @@ impl Expr {
     {
         Ok(Expr {
             place,
-            form: ExprForm::Unary(op, Box::new(alloc, a)?),
+            form: Box::new(alloc, ExprForm::Unary(op, a))?,
         })
     }
 
@@ -152,7 +155,7 @@ impl Expr {
     {
         Ok(Expr {
             place: a.place,
-            form: ExprForm::Binary(op, Box::new(alloc, a)?, Box::new(alloc, b)?),
+            form: Box::new(alloc, ExprForm::Binary(op, a, b))?,
         })
     }
 
@@ -162,22 +165,18 @@ impl Expr {
     {
         Ok(Expr {
             place: test.place,
-            form: ExprForm::Choice {
-                test: Box::new(alloc, test)?,
-                yes: Box::new(alloc, yes)?,
-                no: Box::new(alloc, no)?,
-            },
+            form: Box::new(alloc, ExprForm::Choice { test, yes, no })?,
         })
     }
 
     /// A concatenation; the first part is the highest.
-    pub fn concat(place: Place, parts: Vec<Expr>) -> Expr
-        ensures { expr_view result ≡ t.concatenation place (exprs_of (exprs_view parts.items)) }
+    pub fn concat(alloc: Global, place: Place, parts: Vec<Expr>) -> Result<Expr, NoMemory>
+        ensures { IfOk result (λ e. expr_view e ≡ t.concatenation place (exprs_of (exprs_view parts.items))) }
     {
-        Expr {
+        Ok(Expr {
             place,
-            form: ExprForm::Concat(parts),
-        }
+            form: Box::new(alloc, ExprForm::Concat(parts))?,
+        })
     }
 
     /// A concatenation that is repeated.
@@ -191,7 +190,7 @@ impl Expr {
     {
         Ok(Expr {
             place,
-            form: ExprForm::Repeat(Box::new(alloc, count)?, parts),
+            form: Box::new(alloc, ExprForm::Repeat(count, parts))?,
         })
     }
 
@@ -201,7 +200,7 @@ impl Expr {
     {
         Ok(Expr {
             place,
-            form: ExprForm::Sign(signed, Box::new(alloc, a)?),
+            form: Box::new(alloc, ExprForm::Sign(signed, a))?,
         })
     }
 
@@ -211,7 +210,7 @@ impl Expr {
     {
         Ok(Expr {
             place,
-            form: ExprForm::Paren(Box::new(alloc, a)?),
+            form: Box::new(alloc, ExprForm::Paren(a))?,
         })
     }
 }

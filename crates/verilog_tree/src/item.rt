@@ -3,14 +3,14 @@ use cov_host::{Name, Place, Sequence};
 use four_state::Edge;
 
 /// An identifier where it stands.
-#[derive(Debug, Drop)]
+#[derive(Drop)]
 pub struct Named {
     pub name: Name,
     pub place: Place,
 }
 
 /// `[high:low]`, with the place of the `[`.
-#[derive(Debug, Drop)]
+#[derive(Drop)]
 pub struct Range {
     pub high: Expr,
     pub low: Expr,
@@ -18,7 +18,7 @@ pub struct Range {
 }
 
 /// A parameter (IEEE 1364-2001 clause 3.11).
-#[derive(Debug, Drop)]
+#[derive(Drop)]
 pub struct Param {
     pub name: Named,
     /// Whether it is declared by `localparam`.
@@ -30,7 +30,7 @@ pub struct Param {
 }
 
 /// A declared net or variable, with its initial value or with the range of its words if it is a memory.
-#[derive(Debug, Drop)]
+#[derive(Drop)]
 pub struct Declared {
     pub name: Named,
     pub value: Option<Expr>,
@@ -38,21 +38,21 @@ pub struct Declared {
 }
 
 /// A connection or an override. Without a name it is by position, and without a value it is an empty connection.
-#[derive(Debug, Drop)]
+#[derive(Drop)]
 pub struct Given {
     pub name: Option<Named>,
     pub value: Option<Expr>,
 }
 
 /// An instance with its connections.
-#[derive(Debug, Drop)]
+#[derive(Drop)]
 pub struct One {
     pub name: Named,
     pub given: Sequence<Given>,
 }
 
 /// What an `always` block waits for (IEEE 1364-2001 clause 9.7).
-#[derive(Debug, Drop)]
+#[derive(Drop)]
 pub enum When {
     Star,
     Names(Sequence<Named>),
@@ -61,7 +61,7 @@ pub enum When {
 
 /// An item of a module (IEEE 1364-2001 clause 12.1). Of an `assign` with several assignments each is an item, with
 /// the place of the `assign`.
-#[derive(Debug, Drop)]
+#[derive(Drop)]
 pub struct Item {
     /// Of its first token.
     pub place: Place,
@@ -69,7 +69,7 @@ pub struct Item {
 }
 
 /// The forms of an item.
-#[derive(Debug, Drop)]
+#[derive(Drop)]
 pub enum ItemForm {
     /// Of the header too: a port and the plain names behind it.
     Port {

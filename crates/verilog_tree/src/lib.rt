@@ -14,6 +14,3 @@ pub use expr::{Expr, ExprForm};
 pub use item::{Declared, Given, Item, ItemForm, Named, One, Param, Range, When};
 pub use module::{Module, Modules};
 pub use statement::{Arm, For, Statement, StatementForm};
-
-#[cfg(test)]
-mod tests;

@@ -2,7 +2,7 @@ use crate::{Item, Named, Param};
 use cov_host::Sequence;
 
 /// A module (IEEE 1364-2001 clause 12.1).
-#[derive(Debug, Drop)]
+#[derive(Drop)]
 pub struct Module {
     pub name: Named,
     /// Those of the header.

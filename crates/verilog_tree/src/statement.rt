@@ -9,23 +9,23 @@ use four_state::CaseKind;
 use std::alloc::Global;
 
 /// A statement as it is written (IEEE 1364-2001 clause 9).
-#[derive(Debug, Drop)]
+#[derive(Drop)]
 #[cycle(statement)]
 pub struct Statement {
     /// Of its first token.
     pub place: Place,
-    pub form: StatementForm,
+    pub form: Box<StatementForm>,
 }
 
 /// The forms of a statement.
-#[derive(Debug, Drop)]
+#[derive(Drop)]
 #[cycle(statement)]
 pub enum StatementForm {
     Block(Vec<Statement>),
     If {
         test: Expr,
-        yes: Box<Statement>,
-        no: Option<Box<Statement>>,
+        yes: Statement,
+        no: Option<Statement>,
     },
     Case {
         kind: CaseKind,
@@ -44,7 +44,7 @@ pub enum StatementForm {
 }
 
 /// An arm of a `case`. One without labels is the `default`.
-#[derive(Debug, Drop)]
+#[derive(Drop)]
 #[cycle(statement)]
 pub struct Arm {
     pub labels: Vec<Expr>,
@@ -52,7 +52,7 @@ pub struct Arm {
 }
 
 /// `for (name = first; test; target = step) body`.
-#[derive(Debug, Drop)]
+#[derive(Drop)]
 #[cycle(statement)]
 pub struct For {
     /// Of the `for`.
@@ -62,18 +62,18 @@ pub struct For {
     pub test: Expr,
     pub target: Expr,
     pub step: Expr,
-    pub body: Box<Statement>,
+    pub body: Statement,
 }
 
 impl Statement {
     /// `begin parts end`.
-    pub fn block(place: Place, parts: Vec<Statement>) -> Statement
-        ensures { statement_view result ≡ t.sequential_block place (statements_of (statements_view parts.items)) }
+    pub fn block(alloc: Global, place: Place, parts: Vec<Statement>) -> Result<Statement, NoMemory>
+        ensures { IfOk result (λ s. statement_view s ≡ t.sequential_block place (statements_of (statements_view parts.items))) }
     {
-        Statement {
+        Ok(Statement {
             place,
-            form: StatementForm::Block(parts),
-        }
+            form: Box::new(alloc, StatementForm::Block(parts))?,
+        })
     }
 
     /// `if (test) yes`.
@@ -87,11 +87,14 @@ impl Statement {
     {
         Ok(Statement {
             place,
-            form: StatementForm::If {
-                test,
-                yes: Box::new(alloc, yes)?,
-                no: None,
-            },
+            form: Box::new(
+                alloc,
+                StatementForm::If {
+                    test,
+                    yes,
+                    no: None,
+                },
+            )?,
         })
     }
 
@@ -107,22 +110,31 @@ impl Statement {
     {
         Ok(Statement {
             place,
-            form: StatementForm::If {
-                test,
-                yes: Box::new(alloc, yes)?,
-                no: Some(Box::new(alloc, no)?),
-            },
+            form: Box::new(
+                alloc,
+                StatementForm::If {
+                    test,
+                    yes,
+                    no: Some(no),
+                },
+            )?,
         })
     }
 
     /// A `case`, `casez` or `casex`.
-    pub fn case(place: Place, kind: CaseKind, on: Expr, arms: Vec<Arm>) -> Statement
-        ensures { statement_view result ≡ t.case_statement place kind (expr_view on) (arms_of (arms_view arms.items)) }
+    pub fn case(
+        alloc: Global,
+        place: Place,
+        kind: CaseKind,
+        on: Expr,
+        arms: Vec<Arm>,
+    ) -> Result<Statement, NoMemory>
+        ensures { IfOk result (λ s. statement_view s ≡ t.case_statement place kind (expr_view on) (arms_of (arms_view arms.items))) }
     {
-        Statement {
+        Ok(Statement {
             place,
-            form: StatementForm::Case { kind, on, arms },
-        }
+            form: Box::new(alloc, StatementForm::Case { kind, on, arms })?,
+        })
     }
 
     /// `for (name = first; test; target = step) body`.
@@ -140,50 +152,62 @@ impl Statement {
         let (target, step) = turn;
         Ok(Statement {
             place,
-            form: StatementForm::For(For {
-                place,
-                name,
-                first,
-                test,
-                target,
-                step,
-                body: Box::new(alloc, body)?,
-            }),
+            form: Box::new(
+                alloc,
+                StatementForm::For(For {
+                    place,
+                    name,
+                    first,
+                    test,
+                    target,
+                    step,
+                    body,
+                }),
+            )?,
         })
     }
 
     /// `target = value`, or where the flag is false `target <= value`.
-    pub fn set(place: Place, target: Expr, blocking: bool, value: Expr) -> Statement
-        ensures { statement_view result ≡ t.assignment place (expr_view target) blocking (expr_view value) }
+    pub fn set(
+        alloc: Global,
+        place: Place,
+        target: Expr,
+        blocking: bool,
+        value: Expr,
+    ) -> Result<Statement, NoMemory>
+        ensures { IfOk result (λ s. statement_view s ≡ t.assignment place (expr_view target) blocking (expr_view value)) }
     {
-        Statement {
+        Ok(Statement {
             place,
-            form: StatementForm::Set {
-                target,
-                blocking,
-                value,
-            },
-        }
+            form: Box::new(
+                alloc,
+                StatementForm::Set {
+                    target,
+                    blocking,
+                    value,
+                },
+            )?,
+        })
     }
 
     /// A system task.
-    pub fn task(place: Place) -> Statement
-        ensures { statement_view result ≡ t.system_task place }
+    pub fn task(alloc: Global, place: Place) -> Result<Statement, NoMemory>
+        ensures { IfOk result (λ s. statement_view s ≡ t.system_task place) }
     {
-        Statement {
+        Ok(Statement {
             place,
-            form: StatementForm::Task,
-        }
+            form: Box::new(alloc, StatementForm::Task)?,
+        })
     }
 
     /// A semicolon alone.
-    pub fn empty(place: Place) -> Statement
-        ensures { statement_view result ≡ t.null_statement place }
+    pub fn empty(alloc: Global, place: Place) -> Result<Statement, NoMemory>
+        ensures { IfOk result (λ s. statement_view s ≡ t.null_statement place) }
     {
-        Statement {
+        Ok(Statement {
             place,
-            form: StatementForm::Empty,
-        }
+            form: Box::new(alloc, StatementForm::Empty)?,
+        })
     }
 }
 

@@ -1,0 +1,5 @@
+pub mod Members
+pub mod Orders
+pub mod Pieces
+pub mod LineMembers
+pub mod NodeMembers

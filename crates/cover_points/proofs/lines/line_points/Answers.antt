@@ -1,0 +1,29 @@
+use Rattle.std.proofs.Common.{◌≡◌, ◌∙◌, List, map, ap}
+use Rattle.std.specs.List.{dedup}
+use Rattle.std.specs.List.Sorted.{IsSorted}
+use Rattle.std.specs.Ordering.{eq_by_cmp}
+use Rattle.design_model.specs.View.{design_view, process_view}
+use Rattle.text_points.specs.declared.points.LinePoint.{LinePoint}
+use Rattle.cover_points.specs.Order.{line_cmp}
+use Rattle.cover_points.specs.Texts.{each_from, process_lines}
+use Rattle.cover_points.proofs.Orders.{line_total}
+use Rattle.cover_points.proofs.Members.{once_rise}
+use Rattle.cover_points.proofs.LineMembers.{lines_are}
+use Rattle.cover_points.proofs.lines.line_points.Goals as goal
+
+pub returns-clause-rise : goal.returns-clause-rise
+returns-clause-rise c =
+    let is = c.args.design.now.instances in
+    let sorted : List LinePoint = c.sort_lines.new.found.items in
+    let up : IsSorted (line_cmp is) sorted = rw c.as_slice-instances.ensures at c.in_ok-sort_lines.ensures.sorted in
+    let kept : c.keep_first_lines.new.found.items ≡ dedup (eq_by_cmp (line_cmp is)) sorted = rw c.as_slice-instances.ensures at c.keep_first_lines.ensures in
+    rw kept (once_rise (line_total is) c.in_ok-found.found.items sorted c.sort_lines.ensures.permutation up)
+
+pub returns-clause-members : goal.returns-clause-members
+returns-clause-members c =
+    let d = design_view c.args.design.now in
+    let is = c.args.design.now.instances in
+    let found : c.in_ok-found.found.items ≡ each_from process_lines 0 d.processes =
+    c.in_ok-found.ensures ∙ ap (λ ps. each_from process_lines 0 (map process_view ps)) c.as_slice.ensures in
+    let kept : c.keep_first_lines.new.found.items ≡ dedup (eq_by_cmp (line_cmp is)) c.sort_lines.new.found.items = rw c.as_slice-instances.ensures at c.keep_first_lines.ensures in
+    lines_are d c.requires c.in_ok-found.found.items c.sort_lines.new.found.items c.keep_first_lines.new.found.items found c.sort_lines.ensures.permutation kept

@@ -1,0 +1,7 @@
+//! Tests of the hosts and of the files that are read through them: `cov_host` and `source_files`.
+#![tactic(auto)]
+
+#[cfg(test)]
+mod hosts;
+#[cfg(test)]
+mod interrupts;

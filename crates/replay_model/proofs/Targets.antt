@@ -1,0 +1,137 @@
+-- What a lawful design says of targets, and of what is early for a clean block.
+use Rattle.std.proofs.Common.{◌≡◌, ◌≢◌, ◌⊎◌, inl, inr, ⊎_elim, ℕ, true, false, not, ◌&&◌, refl, sym, ap, subst, ◌∙◌}
+use Rattle.std.proofs.lemmas.Bool.{and_parts, and_from, both_ways, cases_Bool, cases_eq, false_from_ne_true, or_cases, or_left, or_right}
+use Rattle.event_machine.specs.Cell.{Cell}
+use Rattle.event_machine.specs.Machine.{IsTarget}
+use Rattle.event_machine.specs.Habit.{Habit, Free, Late, is_free_input}
+use Rattle.event_machine.specs.MayMove.{MayWake}
+use Rattle.event_machine.specs.Early.{of_blocking, of_input, of_nonblocking, of_trigger}
+use Rattle.event_machine.specs.Told.{IsMovingInput, IsToldInput}
+use Rattle.event_machine.specs.Single.{IsSingle}
+use Rattle.event_machine.specs.Laws.{EarlyLaw}
+use Rattle.design_model.specs.Tree.{Process, Stmt, assign, clocked, comb}
+use Rattle.design_model.specs.Design.{Design, IsAssign, IsClocked, IsComb, body_at, process_at, signal_at}
+use Rattle.design_model.specs.Mentions.{blocking_target, body_assigns, body_blocks, body_queues, may_write, nonblocking_target, target_names}
+use Rattle.design_model.specs.Machine.{machine}
+use Rattle.design_model.specs.Shows.{BoundDump}
+use Rattle.design_model.specs.MayMove.{IsCleanAt, IsSingleAt, MayMoveAt, told_at}
+use Rattle.design_model.specs.Early.{IsEarlyAt}
+use Rattle.design_model.specs.Lawful.{IsLawfulDesign}
+use Rattle.design_model.proofs.Assigns.{machine_lawful}
+use Rattle.design_model.proofs.Lawful.{any_weaker, assign_or, assigns_any, names_from}
+use Rattle.replay_model.specs.Step.{is_target}
+use Rattle.replay_model.proofs.Facts.{no_level}
+
+-- a process is a Clocked or not
+pub clocked_or : (x : Process) → IsClocked x ⊎ (IsClocked x → ⊥)
+clocked_or (assign i t v c) = inr (λ h. h)
+clocked_or (comb i wakes s) = inr (λ h. h)
+clocked_or (clocked i events s) = inl tt
+
+pub comb_or : (x : Process) → IsComb x ⊎ (IsComb x → ⊥)
+comb_or (assign i t v c) = inr (λ h. h)
+comb_or (comb i wakes s) = inl tt
+comb_or (clocked i events s) = inr (λ h. h)
+
+pub clocked_not_assign : (x : Process) → IsClocked x → IsAssign x → ⊥
+clocked_not_assign (assign i t v c) h a = h
+clocked_not_assign (comb i wakes s) h a = h
+clocked_not_assign (clocked i events s) h a = a
+
+pub is_target-from : (d : Design) (p : ℕ) (c : Cell) → is_target d p c ≡ true → IsTarget (machine d) p c
+is_target-from d p c e = or_cases _ _ e
+
+pub is_target-of : (d : Design) (p : ℕ) (c : Cell) → IsTarget (machine d) p c → is_target d p c ≡ true
+is_target-of d p c (inl e) = or_left _ _ e
+is_target-of d p c (inr e) = or_right (blocking_target d (body_at d p) c) _ e
+
+pub target_or : (d : Design) (p : ℕ) (c : Cell) → IsTarget (machine d) p c ⊎ (IsTarget (machine d) p c → ⊥)
+target_or d p c = go (cases_Bool (is_target d p c))
+  where
+    go : (is_target d p c ≡ true) ⊎ (is_target d p c ≡ false) → IsTarget (machine d) p c ⊎ (IsTarget (machine d) p c → ⊥)
+    go (inl e) = inl (is_target-from d p c e)
+    go (inr e) = inr (λ h. both_ways _ e (is_target-of d p c h))
+
+-- a cell that may be written by a blocking assignment is of a thing that one names
+pub blocks_from : (d : Design) (p : ℕ) (c : Cell) → (machine d).blocking p c ≡ true → body_blocks c.thing (body_at d p) ≡ true
+blocks_from d p c e = any_weaker (λ b x t. b && may_write d x c) (λ b x t. b && target_names c.thing x) (λ b x t h. let z = and_parts b _ h in and_from b _ z.0 (names_from d x c z.1)) (body_at d p) e
+
+pub queues_from : (d : Design) (p : ℕ) (c : Cell) → (machine d).nonblocking p c ≡ true → body_queues c.thing (body_at d p) ≡ true
+queues_from d p c e = any_weaker (λ b x t. not b && may_write d x c) (λ b x t. not b && target_names c.thing x) (λ b x t h. let z = and_parts (not b) _ h in and_from (not b) _ z.0 (names_from d x c z.1)) (body_at d p) e
+
+pub not_blocking : (d : Design) (p : ℕ) (c : Cell) → body_blocks c.thing (body_at d p) ≡ false → blocking_target d (body_at d p) c ≡ false
+not_blocking d p c e = false_from_ne_true _ (λ h. both_ways _ e (blocks_from d p c h))
+
+pub not_queueing : (d : Design) (p : ℕ) (c : Cell) → body_queues c.thing (body_at d p) ≡ false → nonblocking_target d (body_at d p) c ≡ false
+not_queueing d p c e = false_from_ne_true _ (λ h. both_ways _ e (queues_from d p c h))
+
+-- a thing that the body blocks or queues it assigns
+pub blocks_assigns : (x : ℕ) (b : Stmt) → body_blocks x b ≡ true → body_assigns x b ≡ true
+blocks_assigns x b e = any_weaker (λ k y t. k && target_names x y) (λ k y t. target_names x y) (λ k y t h. (and_parts k _ h).1) b e
+
+pub queues_assigns : (x : ℕ) (b : Stmt) → body_queues x b ≡ true → body_assigns x b ≡ true
+queues_assigns x b e = any_weaker (λ k y t. not k && target_names x y) (λ k y t. target_names x y) (λ k y t h. (and_parts (not k) _ h).1) b e
+
+-- what is single in the first round is a bound input
+pub single_input : (d : Design) (dump : BoundDump) (t : ℕ) → dump.round t ≡ 0 → (c : Cell) → IsSingleAt d dump t c → IsToldInput (machine d) (told_at dump t) c
+single_input d dump t first c single = subst (λ n. IsSingle (machine d) (told_at dump t) n c) first single
+
+module _ (d : Design) (lawful : IsLawfulDesign d) where
+  -- what a Clocked assigns no other process does
+  pub one_assigner : (p q x : ℕ) → IsClocked (process_at d p) → body_assigns x (body_at d p) ≡ true → body_assigns x (body_at d q) ≡ true → q ≡ p
+  one_assigner p q x is mine theirs =
+      ⊎_elim (λ a. absurd (clocked_not_assign (process_at d p) is (lawful.apart q p x a theirs mine))) (λ n. lawful.one_writer q p x n (clocked_not_assign (process_at d p) is) theirs mine) (assign_or (process_at d q))
+
+  pub target_assigns : (p : ℕ) (c : Cell) → IsTarget (machine d) p c → body_assigns c.thing (body_at d p) ≡ true
+  target_assigns p c target = assigns_any d (body_at d p) c target
+
+  -- an input is assigned by none
+  pub input_unassigned : (p x : ℕ) → (signal_at d x).input ≡ true → body_assigns x (body_at d p) ≡ true → ⊥
+  input_unassigned p x input mine = both_ways _ (lawful.no_input p x mine) input
+
+  pub blocks_not_queues : (p q x : ℕ) → body_blocks x (body_at d p) ≡ true → body_queues x (body_at d q) ≡ false
+  blocks_not_queues p q x mine = false_from_ne_true _ (λ e. lawful.not_both p q x mine e)
+
+  module _ (h : Habit) (dump : BoundDump) (t : ℕ) (early_law : EarlyLaw (machine d)) (first : dump.round t ≡ 0) where
+    -- a trigger is an input that changes
+    pub trigger_input : (p : ℕ) (c : Cell) → IsCleanAt d dump t p c → (machine d).is_input c ≡ true
+    trigger_input p c clean = (single_input d dump t first c clean.is_single).0
+
+    pub trigger_moving : (p : ℕ) (c : Cell) → IsCleanAt d dump t p c → IsMovingInput (machine d) (told_at dump t) c
+    trigger_moving p c clean = (trigger_input p c clean, λ told same. both_ways _ ((machine_lawful d lawful).edge_changes clean.can_wake.0.0 ((told_at dump t).new c)) (subst (λ b. (machine d).is_edge clean.can_wake.0.0 b ((told_at dump t).new c) ≡ true) same (clean.can_wake.0.2 clean.is_single)))
+
+    pub trigger_free : (p : ℕ) (c : Cell) → IsCleanAt d dump t p c → (k : Habit) → is_free_input (machine d) k c.thing ≡ true
+    trigger_free p c clean Free = refl
+    trigger_free p c clean Late = ((machine_lawful d lawful).event_signals c.thing).1 (p, clean.can_wake.0.0, c, refl, clean.can_wake.0.1)
+
+    -- what is early is not of the trigger
+    pub early_apart : (p : ℕ) (c : Cell) (x : ℕ) → IsEarlyAt d h dump t p c x → x ≢ c.thing
+    early_apart p c x (of_input b moving free apart) = apart
+    early_apart p c x (of_trigger q b wakes other blocking apart) = apart
+    early_apart p c x (of_blocking y q b early wakes other blocking apart) = apart
+    early_apart p c x (of_nonblocking y q b early wakes queued apart) = apart
+
+    -- what a clean block assigns is not early for it
+    pub own_not_early : (p : ℕ) (c : Cell) → IsClocked (process_at d p) → IsCleanAt d dump t p c → (x : ℕ) → body_assigns x (body_at d p) ≡ true → IsEarlyAt d h dump t p c x → ⊥
+    own_not_early p c is clean x mine (of_input b moving free apart) = input_unassigned p x (and_parts (signal_at d x).input _ moving.0).0 mine
+    own_not_early p c is clean x mine (of_trigger q b wakes other blocking apart) = other (one_assigner p q x is mine (target_assigns q b (inl blocking)))
+    own_not_early p c is clean x mine (of_blocking y q b early wakes other blocking apart) = other (one_assigner p q x is mine (target_assigns q b (inl blocking)))
+    own_not_early p c is clean x mine (of_nonblocking y q b early wakes queued apart) = woken (subst (λ z. MayWake (machine d) (told_at dump t) (IsSingleAt d dump t) y z) (one_assigner p q x is mine (target_assigns q b (inr queued))) wakes)
+      where
+        woken : MayWake (machine d) (told_at dump t) (IsSingleAt d dump t) y p → ⊥
+        woken (inl level) = both_ways _ (no_level (process_at d p) is y) level
+        woken (inr k) = early_apart p c y early (sym k.1 ∙ ap (λ z. z.thing) (clean.alone k.0 (k.2, subst (MayMoveAt d dump t) (sym k.1) (early_law (dump.round t) (told_at dump t) h p c clean y early))))
+
+    -- what another clean block writes by blocking assignments is early
+    pub others_early : (p q : ℕ) (c e : Cell) → IsCleanAt d dump t p c → IsCleanAt d dump t q e → q ≢ p → (b : Cell) → (machine d).blocking q b ≡ true → IsEarlyAt d h dump t p c b.thing
+    others_early p q c e clean other apart b writes = go (cases_eq e.thing c.thing)
+      where
+        away : b.thing ≢ c.thing
+        away same = input_unassigned q c.thing (and_parts (signal_at d c.thing).input _ (trigger_input p c clean)).0 (subst (λ z. body_assigns z (body_at d q) ≡ true) same (target_assigns q b (inl writes)))
+
+        wakes : MayWake (machine d) (told_at dump t) (IsSingleAt d dump t) e.thing q
+        wakes = inr (e, refl, other.can_wake.0)
+
+        go : (e.thing ≡ c.thing) ⊎ (e.thing ≡ c.thing → ⊥) → IsEarlyAt d h dump t p c b.thing
+        go (inl same) = of_trigger q b (subst (λ z. MayWake (machine d) (told_at dump t) (IsSingleAt d dump t) z q) same wakes) apart writes away
+        go (inr differ) = of_blocking e.thing q b (of_input e (trigger_moving q e other) (λ input. trigger_free q e other h) differ) wakes apart writes away

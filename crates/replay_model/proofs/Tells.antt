@@ -1,0 +1,258 @@
+-- All that a closing step tells is reasoned, where what is clear is sure at its ends.
+use Rattle.std.proofs.Common.{◌≡◌, ◌⊎◌, inl, inr, ⊎_elim, ℕ, zero, suc, ◌-◌, ◌<◌, Bool, true, false, not, ◌&&◌, List, [], ◌∷◌, ◌++◌, map, length, pos, negsuc, ℤ, refl, sym, ap, subst, ◌∙◌, arith, Option, Some, None, if◌then◌else◌}
+use Rattle.std.specs.Prelude.{nat_lt, slice_index_or}
+use Rattle.std.specs.List.{list_all}
+use Rattle.std.proofs.lemmas.Bool.{and_parts, and_from, and_cases, both_ways, cases_Bool, cases_eq, false_from_ne_true, lt-ltb, ltb-true, leb-true, not-true, not_from_true, true_from_ne_false}
+use Rattle.event_machine.specs.Cell.{Cell}
+use Rattle.event_machine.specs.Habit.{Habit}
+use Rattle.event_machine.specs.Laws.{EarlyLaw}
+use Rattle.four_state.specs.Parts.{within}
+use Rattle.four_state.specs.declared.bit.Bit.{Bit}
+use Rattle.four_state.specs.declared.bit.Bit.TheVariants.{One, Zero}
+use Rattle.design_model.specs.declared.point.Point.{Point}
+use Rattle.design_model.specs.declared.point.Point.TheVariants.{Line as line_point, Logic as logic_point, Toggle as toggle_point, State as state_point, Arc as arc_point, Word as word_point}
+use Rattle.design_model.specs.Design.{Design, In, IsClocked, Thing, a_signal, body_at, cell, no_signal, process_at, signal_at, signal_cells}
+use Rattle.design_model.specs.declared.design.Signal.{Signal}
+use Rattle.design_model.specs.Value.{offset}
+use Rattle.design_model.specs.Assignment.{signal_range}
+use Rattle.design_model.specs.Machine.{machine}
+use Rattle.design_model.specs.Shows.{BoundDump, IsListed, IsWindow}
+use Rattle.design_model.specs.MayMove.{IsCleanAt}
+use Rattle.design_model.specs.Points.{IsBlock, indexed_cell, toggle_cell}
+use Rattle.design_model.specs.Clear.{clear}
+use Rattle.design_model.specs.Open.{IsReached}
+use Rattle.design_model.specs.Doubt.{IsInDoubt, IsUnclear, of_signal}
+use Rattle.design_model.specs.Lawful.{is_signal}
+use Rattle.replay_model.proofs.AskedLaws.{AskedLaws}
+use Rattle.body_replay.specs.Contract.{Doubted, HasHitNote, Note, spot_at, sure_in}
+use Rattle.body_replay.specs.Replay.{Spot}
+use Rattle.body_replay.specs.Runs.{Runs}
+use Rattle.body_replay.specs.Store.{Kept}
+use Rattle.replay_model.specs.Sets.{AreSets, Sets}
+use Rattle.replay_model.specs.Tables.{Tables}
+use Rattle.replay_model.specs.Marks.{IsKeyOf, IsToldDoubt, IsToldHit, Told, all_told_by, of_process}
+use Rattle.replay_model.specs.Step.{Closing, Replay, all_point_notes, all_run, are_surely, clocked_run, is_dumped, is_touched, known_bits, may_be, opened, point_notes, run_all_clean, run_all_settling, settle_start, surely_differ, surely_same, tell, tell_toggle}
+use Rattle.replay_model.specs.Laws.{IsReplayOf, closing_at}
+use Rattle.replay_model.proofs.Bits.{in_any, in_halves, in_left}
+use Rattle.replay_model.proofs.Allows.{past}
+use Rattle.replay_model.proofs.Clocked.{distinct_left}
+use Rattle.replay_model.proofs.Existing.{signal_has}
+use Rattle.replay_model.proofs.Hits.{edge_clocked, hit_told, told_doubt}
+use Rattle.replay_model.proofs.Order.{MeetingRun, last_runs, of_last, of_order, order_runs}
+use Rattle.replay_model.proofs.Reasons.{clean_doubt, clean_reached, sure_bit, weak_doubt}
+use Rattle.replay_model.proofs.SettleReasons.{one_unknown, settle_doubt, settle_reached}
+use Rattle.replay_model.proofs.SignalPoints.{in_point_notes, note_key, told_of, toggle_thing}
+use Rattle.replay_model.proofs.Trace.{CleanRun, Traced, WeakRun, all_traced, doubt_in, in_doubt, in_hit, weak_all}
+
+-- the cell of a toggle point lies within its signal
+indexed_in : (s width : ℕ) (index : ℤ) → 0 < width → (indexed_cell s (within width index)).place < width
+indexed_in s width (negsuc k) some = some
+indexed_in s width (pos k) some = go (nat_lt k width) refl
+  where
+    go : (b : Bool) → nat_lt k width ≡ b → (indexed_cell s (if b then Some k else None)).place < width
+    go true is = ltb-true k width is
+    go false is = some
+
+toggle_in : (d : Design) (s i : ℕ) → 0 < (signal_at d s).width → (toggle_cell d s i).place < (signal_at d s).width
+toggle_in d s i some = go (signal_at d s).ranged
+  where
+    go : (b : Bool) → (if b then indexed_cell s (within (signal_at d s).width (offset (signal_range d s) (pos i))) else cell s 0).place < (signal_at d s).width
+    go true = indexed_in s (signal_at d s).width (offset (signal_range d s) (pos i)) some
+    go false = some
+
+-- bits that may be these, and are not surely, are not all known
+unknown_in : (k : Kept) (cs : List Cell) (bs : List Bit) → are_surely (map k cs) bs ≡ false → may_be (map k cs) bs ≡ true → (c : Cell) × In c cs × (k c ≡ None)
+unknown_in k [] [] e f = absurd (both_ways _ e refl)
+unknown_in k [] (b ∷ bs) e f = absurd (both_ways false refl f)
+unknown_in k (c ∷ cs) [] e f = absurd (both_ways false refl f)
+unknown_in k (c ∷ cs) (b ∷ bs) e f =
+    let g = and_parts (not (surely_differ (k c) (Some b))) _ f in
+    ⊎_elim (λ x. (c, inl refl, ⊎_elim (λ none. none) (λ q. absurd (some_none b q)) (one_unknown (k c) (Some b) (not-true _ g.0) x))) (λ x. let r = unknown_in k cs bs x g.1 in (r.0, inr r.1, r.2)) (and_cases (surely_same (k c) (Some b)) _ e)
+  where
+    some_none : (b : Bit) → Some b ≡ None → ⊥
+    some_none b e = cc
+
+-- of a bit too
+unknown_bit : (p : Option Bit) (b : Bit) → surely_same p (Some b) ≡ false → not (surely_differ p (Some b)) ≡ true → p ≡ None
+unknown_bit p b e f = ⊎_elim (λ none. none) (λ q. absurd (some_none q)) (one_unknown p (Some b) (not-true _ f) e)
+  where
+    some_none : Some b ≡ None → ⊥
+    some_none e = cc
+
+pub at_all : (f : Signal → Bool) (xs : List Signal) (s : ℕ) → list_all f xs ≡ true → s < length xs → f (slice_index_or xs s no_signal) ≡ true
+at_all f [] s e below = absurd (omega (arith, below))
+at_all f (x ∷ xs) zero e below = (and_parts (f x) _ e).0
+at_all f (x ∷ xs) (suc s) e below = at_all f xs s (and_parts (f x) _ e).1 (omega (arith, below))
+
+module _ (d : Design) (h : Habit) (early_law : EarlyLaw (machine d)) (dump : BoundDump) (run : Runs) (tables : Tables) (points : List Point) (is : IsReplayOf d h dump run tables points) (asked : AskedLaws d) (t : ℕ) (window : IsWindow dump (suc t)) (listed : IsListed dump (suc t)) (sets : Sets) (are : AreSets d h dump (suc t) sets) (a : Replay) (at_start : (x : Thing) (bits : List Bit) → clear d h dump t x bits → sure_in d a.kept x bits) (at_end : (x : Thing) (bits : List Bit) → clear d h dump (suc t) x bits → sure_in d (all_run (closing_at d dump run tables sets t a)).kept x bits) where
+  abbrev st : Closing
+  st = closing_at d dump run tables sets t a
+
+  clean_told : Traced (CleanRun d is.lawful h early_law dump run is.runs tables t sets are a) (λ q. In q tables.clocked × ((s : ℕ) × (sets.trigger q ≡ Some s))) a.notes (run_all_clean st tables.clocked (opened st)).notes
+  clean_told =
+      all_traced d is.lawful h early_law dump run is.runs tables t sets are a (λ q. ⊥) tables.clocked (opened st) (λ c. inl refl) (λ q x. absurd x) (λ q x y. y) (distinct_left tables.clocked (tables.order ++ tables.last) is.tabled.once)
+
+  weak_told : Traced (WeakRun d is.lawful h early_law dump run is.runs tables t sets are a) (λ q. In q tables.clocked × ((sets.trigger q ≡ None) × ((s : ℕ) × (sets.wakes q ≡ Some s)))) (run_all_clean st tables.clocked (opened st)).notes (clocked_run st).notes
+  weak_told = weak_all d is.lawful h early_law dump run is.runs tables t sets are a tables.clocked (run_all_clean st tables.clocked (opened st))
+
+  pub kept_told : (n : Told) → In n a.notes → In n (all_run st).notes
+  kept_told n y = (last_runs d h early_law dump run tables points is t sets are a).keeps n ((order_runs d h early_law dump run tables points is t sets are a).keeps n (weak_told.keeps n (clean_told.keeps n y)))
+
+  -- a doubt of the point at this time
+  abbrev DoubtNow : Point → Doubted → Type 0
+  DoubtNow x y = (y.time ≡ suc t) × IsInDoubt d h dump x (suc t) y.thing
+
+  key_spot : (x : Point) (n : Told) (p : ℕ) (s : Spot) → IsKeyOf d x n.key → n.key ≡ of_process p s → (spot_at x ≡ Some s) × IsBlock d x p
+  key_spot x n p s key e = subst (IsKeyOf d x) e key
+
+  -- each doubt that is told of a point of a body is one
+  pub body_doubt : (x : Point) (y : Doubted) (n : Told) → In n (all_run st).notes → IsKeyOf d x n.key → n.doubt ≡ Some y → In n a.notes ⊎ DoubtNow x y
+  body_doubt x y n there key e = ⊎_elim in_order (λ k. inr (of_settling k.0 k.1 (of_last d h early_law dump run tables points is t sets are a k.0 k.1 k.2) k.3)) ((last_runs d h early_law dump run tables points is t sets are a).from n there)
+    where
+      of_settling : (p : ℕ) (ns : List Note) → MeetingRun d h early_law dump run tables points is t sets are a p ns → In n (all_told_by p ns) → DoubtNow x y
+      of_settling p ns k z =
+          let s = told_doubt p ns n y z e in
+          let b = key_spot x n p s.0 key s.1 in
+          settle_doubt d h early_law dump run tables points is asked t window listed sets are a at_start at_end p ns k x s.0 y b.0 b.1 s.2
+
+      of_clean : (p : ℕ) (ns : List Note) → CleanRun d is.lawful h early_law dump run is.runs tables t sets are a p ns → In n (all_told_by p ns) → DoubtNow x y
+      of_clean p ns k z =
+          let s = told_doubt p ns n y z e in
+          let b = key_spot x n p s.0 key s.1 in
+          clean_doubt d h dump run tables points is early_law asked t window listed sets are a at_start p ns k x s.0 y b.0 b.1 s.2
+
+      of_weak : (p : ℕ) (ns : List Note) → WeakRun d is.lawful h early_law dump run is.runs tables t sets are a p ns → In n (all_told_by p ns) → DoubtNow x y
+      of_weak p ns k z =
+          let s = told_doubt p ns n y z e in
+          let b = key_spot x n p s.0 key s.1 in
+          weak_doubt d h dump run tables points is early_law asked t window listed sets are a at_start p ns k x s.0 y b.1 s.2
+
+      in_clean : In n (run_all_clean st tables.clocked (opened st)).notes → In n a.notes ⊎ DoubtNow x y
+      in_clean z = ⊎_elim (λ v. inl v) (λ k. inr (of_clean k.0 k.1 k.2 k.3)) (clean_told.from n z)
+
+      in_clocked : In n (clocked_run st).notes → In n a.notes ⊎ DoubtNow x y
+      in_clocked z = ⊎_elim in_clean (λ k. inr (of_weak k.0 k.1 k.2 k.3)) (weak_told.from n z)
+
+      in_order : In n (run_all_settling st true tables.order (settle_start st (clocked_run st))).notes → In n a.notes ⊎ DoubtNow x y
+      in_order z = ⊎_elim in_clocked (λ k. inr (of_settling k.0 k.1 (of_order d h early_law dump run tables points is t sets are a k.0 k.1 k.2) k.3)) ((order_runs d h early_law dump run tables points is t sets are a).from n z)
+
+  last : suc t - 1 ≡ t
+  last = omega arith
+
+  -- a signal of which a bit is not known at an end is not clear there
+  start_unclear : (s : ℕ) (c : Cell) → In c (signal_cells d s) → a.kept c ≡ None → IsUnclear d h dump (suc t) (a_signal s)
+  start_unclear s c inside none = inl (λ v. sure_bit a.kept (signal_cells d s) v.0 (at_start (a_signal s) v.0 (subst (λ u. clear d h dump u (a_signal s) v.0) last v.1)) c inside none)
+
+  end_unclear : (s : ℕ) (c : Cell) → In c (signal_cells d s) → (all_run st).kept c ≡ None → IsUnclear d h dump (suc t) (a_signal s)
+  end_unclear s c inside none = inr (λ v. sure_bit (all_run st).kept (signal_cells d s) v.0 (at_end (a_signal s) v.0 v.1) c inside none)
+
+  some_some : (y z : Doubted) (o : Option Doubted) → o ≡ Some y → o ≡ Some z → z ≡ y
+  some_some y z o e f = cc
+
+  none_some : (y : Doubted) (o : Option Doubted) → o ≡ Some y → o ≡ None → ⊥
+  none_some y o e f = cc
+
+  -- a doubt that is told of a point on signal s
+  told_doubt_of : (x : Point) (s : ℕ) (p q : Bool) (n : Told) (y : Doubted) → In n (tell st x s p q) → n.doubt ≡ Some y → (p ≡ false) × (q ≡ true) × (record { time = suc t; thing = s } ≡ y)
+  told_doubt_of x s p q n y there e = ⊎_elim (λ z. absurd (none_some y n.doubt e z.1)) (λ z. (z.0, z.1, some_some y (record { time = suc t; thing = s }) n.doubt e z.2)) (told_of st x s p q n there).1
+
+  wide : (s : ℕ) → s < length d.signals → 0 < (signal_at d s).width
+  wide s below =
+      let all = at_all (is_signal d) d.signals s is.lawful.signals below in
+      omega (arith, leb-true 1 (signal_at d s).width (and_parts _ _ (and_parts _ _ (and_parts _ _ (and_parts _ _ all).0).0).0).1)
+
+  toggle_has : (s i : ℕ) (rise : Bool) → In (toggle_point s i rise) points → In (toggle_cell d s i) (signal_cells d s)
+  toggle_has s i rise member = subst (λ z. In (toggle_cell d s i) (signal_cells d z)) (toggle_thing d s i) (signal_has d (toggle_cell d s i) (subst (λ z. (toggle_cell d s i).place < (signal_at d z).width) (sym (toggle_thing d s i)) (toggle_in d s i (wide s (is.listed (toggle_point s i rise) member).1.0))))
+
+  if_in : (b : Bool) (n : Told) (ns : List Told) → In n (if b then ns else []) → In n ns
+  if_in true n ns h' = h'
+  if_in false n ns h' = absurd h'
+
+  as_doubt : (x : Point) (s : ℕ) (y : Doubted) → Rattle.design_model.specs.Doubt.IsPointOn x s → IsUnclear d h dump (suc t) (a_signal s) → record { time = suc t; thing = s } ≡ y → DoubtNow x y
+  as_doubt x s y on unclear e = (ap (λ z. z.time) (sym e), subst (λ z. IsInDoubt d h dump x (suc t) z.thing) e (of_signal window on (inl listed) unclear))
+
+  toggle_doubt : (x : Point) (s i : ℕ) (rise : Bool) → In (toggle_point s i rise) points → Rattle.design_model.specs.Doubt.IsPointOn x s → (p q : Bit) (n : Told) (y : Doubted) → In n (tell_toggle st x s (toggle_cell d s i) p q) → n.doubt ≡ Some y → DoubtNow x y
+  toggle_doubt x s i rise member on p q n y there e =
+      let c = toggle_cell d s i in
+      let told = told_doubt_of x s (surely_same (a.kept (toggle_cell d s i)) (Some p) && surely_same ((all_run st).kept (toggle_cell d s i)) (Some q)) (not (surely_differ (a.kept (toggle_cell d s i)) (Some p)) && not (surely_differ ((all_run st).kept (toggle_cell d s i)) (Some q))) n y there e in
+      let may = and_parts (not (surely_differ (a.kept (toggle_cell d s i)) (Some p))) _ told.1 in
+      as_doubt x s y on
+      (⊎_elim (λ f. start_unclear s (toggle_cell d s i) (toggle_has s i rise member) (unknown_bit (a.kept (toggle_cell d s i)) p f may.0)) (λ f. end_unclear s (toggle_cell d s i) (toggle_has s i rise member) (unknown_bit ((all_run st).kept (toggle_cell d s i)) q f may.1)) (and_cases (surely_same (a.kept (toggle_cell d s i)) (Some p)) _ told.0)) told.2
+
+  point_doubt : (x : Point) → In x points → (n : Told) (y : Doubted) → In n (point_notes st x) → n.doubt ≡ Some y → DoubtNow x y
+  point_doubt (line_point q k at word) member n y there e = absurd there
+  point_doubt (logic_point q k at op c) member n y there e = absurd there
+  point_doubt (word_point m i write) member n y there e = absurd there
+  point_doubt (toggle_point s i true) member n y there e =
+      toggle_doubt (toggle_point s i true) s i true member refl Zero One n y (if_in (sets.moves s) n (tell_toggle st (toggle_point s i true) s (toggle_cell d s i) Zero One) there) e
+  point_doubt (toggle_point s i false) member n y there e =
+      toggle_doubt (toggle_point s i false) s i false member refl One Zero n y (if_in (sets.moves s) n (tell_toggle st (toggle_point s i false) s (toggle_cell d s i) One Zero) there) e
+  point_doubt (state_point i name s state x) member n y there e =
+      let told = told_doubt_of (state_point i name s state x) s (are_surely (known_bits d (all_run st).kept s) x.bits) (may_be (known_bits d (all_run st).kept s) x.bits) n y there e in
+      let c = unknown_in (all_run st).kept (signal_cells d s) x.bits told.0 told.1 in
+      as_doubt (state_point i name s state x) s y refl (end_unclear s c.0 c.1 c.2) told.2
+  point_doubt (arc_point i name s from to' x z) member n y there e =
+      let told = told_doubt_of (arc_point i name s from to' x z) s (are_surely (known_bits d a.kept s) x.bits && are_surely (known_bits d (all_run st).kept s) z.bits) (may_be (known_bits d a.kept s) x.bits && may_be (known_bits d (all_run st).kept s) z.bits) n y (if_in (sets.moves s) n (tell st (arc_point i name s from to' x z) s (are_surely (known_bits d a.kept s) x.bits && are_surely (known_bits d (all_run st).kept s) z.bits) (may_be (known_bits d a.kept s) x.bits && may_be (known_bits d (all_run st).kept s) z.bits)) there) e in
+      let may = and_parts (may_be (known_bits d a.kept s) x.bits) _ told.1 in
+      as_doubt (arc_point i name s from to' x z) s y refl
+      (⊎_elim (λ f. let c = unknown_in a.kept (signal_cells d s) x.bits f may.0 in start_unclear s c.0 c.1 c.2) (λ f. let c = unknown_in (all_run st).kept (signal_cells d s) z.bits f may.1 in end_unclear s c.0 c.1 c.2) (and_cases (are_surely (known_bits d a.kept s) x.bits) _ told.0)) told.2
+
+  -- each doubt that is told in the step is one
+  abbrev After : List Told
+  After = (all_run st).notes ++ all_point_notes st points
+
+  pub doubt_step : (x : Point) (y : Doubted) → IsToldDoubt d x y After → IsToldDoubt d x y a.notes ⊎ DoubtNow x y
+  doubt_step x y told =
+      let n = doubt_in d x y After told in
+      ⊎_elim (λ there. ⊎_elim (λ old. inl (in_doubt d x y a.notes n.0 old n.2 n.3)) (λ now. inr now) (body_doubt x y n.0 there n.2 n.3))
+      (λ there. let k = in_point_notes st points n.0 there in inr (subst (λ z. DoubtNow z y) (subst (IsKeyOf d x) (note_key st k.0 n.0 k.2) n.2) (point_doubt k.0 k.1 n.0 y k.2 n.3)))
+      (in_halves n.0 (all_run st).notes (all_point_notes st points) n.1)
+
+  -- where a bit that the dump has changes, it may move
+  module _ (calm : (c : Cell) → is_dumped d dump.bound c ≡ true → sets.moves c.thing ≡ false → dump.values t c ≡ dump.values (suc t) c) where
+    hit_told_as : (x : Point) (p : ℕ) (ns : List Note) (s : Spot) → spot_at x ≡ Some s → IsBlock d x p → HasHitNote s ns → ((n : Told) → In n (all_told_by p ns) → In n (all_run st).notes) → IsToldHit d x After
+    hit_told_as x p ns s spot block note there =
+        let n = hit_told p ns s note in
+        in_hit d x After n.0 (in_left n.0 (all_run st).notes (all_point_notes st points) (there n.0 n.1)) (subst (IsKeyOf d x) (sym n.2) (spot, block)) n.3
+
+    later : (n : Told) → In n (clocked_run st).notes → In n (all_run st).notes
+    later n z = (last_runs d h early_law dump run tables points is t sets are a).keeps n ((order_runs d h early_law dump run tables points is t sets are a).keeps n z)
+
+    clocked_known : (p : ℕ) → IsClocked (process_at d p) → In p tables.clocked
+    clocked_known p is_clocked = (is.tabled.clocked p).1 (⊎_elim (λ lt. lt) (λ le. absurd (subst IsClocked (past d.processes p le) is_clocked)) (Rattle.std.proofs.lemmas.Bool.cases_lt p (length d.processes)), is_clocked)
+
+    pub reached_step : (p : ℕ) (x : Point) → IsReached d h dump (suc t) p x → IsToldHit d x After
+    reached_step p x reached = ⊎_elim by_clean by_settling reached.2
+      where
+        by_clean : (c : Cell) × IsCleanAt d dump (suc t) p c × Rattle.design_model.specs.Open.ReachesFrom d (Rattle.design_model.specs.Open.KnownOnEntry d h dump (suc t) p) (body_at d p) x → IsToldHit d x After
+        by_clean c = go (sets.trigger p) refl
+          where
+            go : (o : Option ℕ) → sets.trigger p ≡ o → IsToldHit d x After
+            go None e = absurd (are.no_trigger p e c.0 c.1)
+            go (Some s) e =
+                let k = clean_told.has p (clocked_known p (edge_clocked (process_at d p) c.1.can_wake.0.0 c.0 c.1.can_wake.0.1), (s, e)) in
+                let n = clean_reached d h dump run tables points is early_law asked t window listed sets are a at_start p k.0 k.1 x c.2 in
+                hit_told_as x p k.0 n.0 n.1 reached.1 n.2 (λ n z. later n (weak_told.keeps n (k.2 n z)))
+
+        by_settling : (IsClocked (process_at d p) → ⊥) × Rattle.design_model.specs.Open.HasChangedWakeBit d dump (suc t) p × Rattle.design_model.specs.Open.ReachesFrom d (Rattle.design_model.specs.Open.KnownAtEnd d h dump (suc t) p) (body_at d p) x → IsToldHit d x After
+        by_settling b = ⊎_elim in_order in_last ((is.tabled.others p).1 (below, b.0))
+          where
+            below : p < length d.processes
+            below = ⊎_elim (λ lt. lt) (λ le. absurd (both_ways false refl (subst (λ z. Rattle.design_model.specs.Machine.is_level z b.1.0.thing ≡ true) (past d.processes p le) b.1.1.2.0))) (Rattle.std.proofs.lemmas.Bool.cases_lt p (length d.processes))
+
+            touched : is_touched st p ≡ true
+            touched =
+                in_any sets.moves (tables.watched p) b.1.0.thing ((is.tabled.watched p b.1.0.thing).1 b.1.1.2.0)
+                (true_from_ne_false _ (λ f. b.1.3 (ap (λ u. dump.values u b.1.0) last ∙ calm b.1.0 (and_from (dump.bound b.1.0.thing) _ b.1.2 (lt-ltb _ _ b.1.1.1)) f)))
+
+            in_order : In p tables.order → IsToldHit d x After
+            in_order z =
+                let k = (order_runs d h early_law dump run tables points is t sets are a).has p (z, touched) in
+                let n = settle_reached d h early_law dump run tables points is asked t window listed sets are a at_start at_end p k.0 (of_order d h early_law dump run tables points is t sets are a p k.0 k.1) b.1 x b.2 in
+                hit_told_as x p k.0 n.0 n.1 reached.1 n.2 (λ n y. (last_runs d h early_law dump run tables points is t sets are a).keeps n (k.2 n y))
+
+            in_last : In p tables.last → IsToldHit d x After
+            in_last z =
+                let k = (last_runs d h early_law dump run tables points is t sets are a).has p (z, touched) in
+                let n = settle_reached d h early_law dump run tables points is asked t window listed sets are a at_start at_end p k.0 (of_last d h early_law dump run tables points is t sets are a p k.0 k.1) b.1 x b.2 in
+                hit_told_as x p k.0 n.0 n.1 reached.1 n.2 k.2

@@ -1,0 +1,48 @@
+//! The replay of a dump, as a pure function, and why its verdicts hold. Each function does no work: it carries laws.
+#![tactic(auto)]
+
+ghost use Rattle.event_machine.specs.Habit.{Habit};
+ghost use Rattle.replay_model.specs.Laws.{ContradictionLaw, FirstContradictionLaw, FirstForcedLaw, FirstKnownLaw, FirstSoundLaw, ReasonedVerdictLaw, RestKnownLaw, RestSoundLaw, RestToldLaw, SoundVerdictLaw, StepKnownLaw, StepSoundLaw, StepToldLaw};
+
+/// After the first step, after each closing step and over each time that the dump does not list, the settled values of
+/// each run that shows the dump are allowed, what was told to be hit is hit, and what is hit was told.
+pub fn sound_replay()
+    ensures first { FirstSoundLaw }
+    ensures step { (h : Habit) → StepSoundLaw h }
+    ensures rest { RestSoundLaw }
+{}
+
+/// Where the replay contradicts, no run shows the dump up to that time.
+pub fn true_contradictions()
+    ensures first { FirstContradictionLaw }
+    ensures step { (h : Habit) → ContradictionLaw h }
+{}
+
+/// Hit is hit, and missed is never hit, in every run that shows the dump.
+pub fn sound_verdicts()
+    ensures { SoundVerdictLaw }
+{}
+
+/// After the first step, without a contradiction, what is clear is sure, and no forced value differs from the dump's.
+pub fn reasoned_first()
+    ensures known { FirstKnownLaw }
+    ensures forced { FirstForcedLaw }
+{}
+
+/// Without a contradiction a closing step keeps it that what is clear is sure, that each doubt that was told is one, and
+/// that each point that a block reaches was told to be hit.
+pub fn reasoned_step()
+    ensures known { (h : Habit) → StepKnownLaw h }
+    ensures told { (h : Habit) → StepToldLaw h }
+{}
+
+/// So does a time that the dump does not list.
+pub fn reasoned_rest()
+    ensures known { RestKnownLaw }
+    ensures told { RestToldLaw }
+{}
+
+/// An undetermined point has its doubt, and is hit at no time at which nothing is in doubt for it; what is reached is hit.
+pub fn reasoned_verdicts()
+    ensures { ReasonedVerdictLaw }
+{}

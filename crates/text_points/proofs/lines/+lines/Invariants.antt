@@ -1,0 +1,27 @@
+use Rattle.std.proofs.Common.{◌≡◌, ◌+◌, ◌*◌, ◌++◌, drop, map}
+use Rattle.design_model.specs.Numbered.{all_lines, arm_lines}
+use Rattle.design_model.specs.View.{arms_of, stmt_view, stmts_of}
+use Rattle.design_model.specs.declared.tree.Stmt.{size-Stmt}
+use Rattle.text_points.specs.Lines.{lines_with}
+use Rattle.text_points.specs.View.{arm_view}
+use Rattle.text_points.proofs.lines.+lines.Given as goal
+
+-- the points so far, with those of the rest, are those of all statements
+abbrev pub invariant-push_all-loop-stmt : goal.invariant-push_all-loop-stmt
+invariant-push_all-loop-stmt l =
+    l.found.items ++ lines_with l.owner (all_lines (stmts_of (map stmt_view (drop l.stmt-index l.stmts)))) ≡ l.fn.found.items ++ lines_with l.fn.owner (all_lines (stmts_of (map stmt_view l.fn.stmts)))
+
+-- or of all arms
+abbrev pub invariant-push_arms-loop-arm : goal.invariant-push_arms-loop-arm
+invariant-push_arms-loop-arm l =
+    l.found.items ++ lines_with l.owner (arm_lines (arms_of (map arm_view (drop l.arm-index l.arms)))) ≡ l.fn.found.items ++ lines_with l.fn.owner (arm_lines (arms_of (map arm_view l.fn.arms)))
+
+-- each call is of a part
+abbrev pub decreases-push_stmt : goal.decreases-push_stmt
+decreases-push_stmt l = 2 * size-Stmt l.stmt.now
+
+abbrev pub decreases-push_all : goal.decreases-push_all
+decreases-push_all l = 2 * goal.size-push_all l + 1
+
+abbrev pub decreases-push_arms : goal.decreases-push_arms
+decreases-push_arms l = 2 * goal.size-push_arms l + 1
