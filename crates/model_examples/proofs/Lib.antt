@@ -10,3 +10,4 @@ pub mod RaceDoubt
 pub mod ArmsOpen
 pub mod SwapForced
 pub mod ReverseOpen
+pub mod ClosingOpen

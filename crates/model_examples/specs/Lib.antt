@@ -7,3 +7,4 @@ pub mod Race
 pub mod Arms
 pub mod Swap
 pub mod Reverse
+pub mod Closing

@@ -11,6 +11,7 @@ ghost use Rattle.model_examples.specs.Race.{IsRaceExample};
 ghost use Rattle.model_examples.specs.Arms.{IsArmsExample};
 ghost use Rattle.model_examples.specs.Swap.{IsSwapExample};
 ghost use Rattle.model_examples.specs.Reverse.{IsReverseExample};
+ghost use Rattle.model_examples.specs.Closing.{IsClosingExample};
 
 /// A register whose clock rises and whose reset falls at one time: its block is not clean, so each point is open and in
 /// doubt, and none is reached.
@@ -63,4 +64,9 @@ pub fn swapped_registers()
 /// A loop that reverses bits: each turn has its own copy of the assignment, and each copy is surely open.
 pub fn reversed_bits()
     ensures { IsReverseExample }
+{}
+
+/// A latch that closes while its data moves: the execution that counts is the last, on settled values.
+pub fn closing_latch()
+    ensures { IsClosingExample }
 {}
