@@ -1,5 +1,5 @@
 //! Example cases of reports: a database, the options, and the text of its report.
-use crate::{Letters, Level, Options};
+use cov_report::{Letters, Level, Options};
 
 /// A report.
 #[derive(Clone, Copy)]

@@ -1,5 +1,5 @@
 //! Example cases of databases: texts that are none, and databases that do not merge.
-use crate::DbKind;
+use coverage_db::DbKind;
 
 /// A text that is no database, what is wrong with it, and in which line.
 #[derive(Clone, Copy)]
