@@ -1,34 +1,29 @@
-use crate::show::Shown;
-use cov_host::{Bytes, Name};
-use std::alloc::Global;
-use std::process::Abort;
-use std::test::Fail;
-use verilog_lexer::{Defines, Sources, lex};
-use verilog_parser::{ParseFault, ParseKind, parse};
+//! Expressions and modules with their trees, and sources with their faults.
+use verilog_parser::ParseKind;
 
 /// An expression, and its tree as a text.
-struct Expression {
-    source: &'static str,
-    tree: &'static str,
+pub(crate) struct Expression {
+    pub(crate) source: &'static str,
+    pub(crate) tree: &'static str,
 }
 
 /// A source, and its modules as a text.
-struct Case {
-    source: &'static str,
-    tree: &'static str,
+pub(crate) struct Case {
+    pub(crate) source: &'static str,
+    pub(crate) tree: &'static str,
 }
 
-/// A source, and the fault that stands in it.
-struct Refusal {
-    source: &'static str,
-    kind: ParseKind,
-    line: u32,
-    column: u32,
-    detail: &'static str,
+/// A source, and the fault in it.
+pub(crate) struct Refusal {
+    pub(crate) source: &'static str,
+    pub(crate) kind: ParseKind,
+    pub(crate) line: u32,
+    pub(crate) column: u32,
+    pub(crate) detail: &'static str,
 }
 
 #[rattlefmt::skip]
-const EXPRESSIONS: [Expression; 36] = [
+pub(crate) const EXPRESSIONS: &[Expression] = &[
     // clause 4.1.2: the precedence of the operators
     Expression { source: "a || b && c | d ^ e & f == g < h << i + j * ~k", tree: "(|| a (&& b (| c (^ d (& e (== f (< g (<< h (+ i (* j (~ k)))))))))))" },
     Expression { source: "a * b + c << d < e == f & g ^ h | i && j || k", tree: "(|| (&& (| (^ (& (== (< (<< (+ (* a b) c) d) e) f) g) h) i) j) k)" },
@@ -76,7 +71,7 @@ const EXPRESSIONS: [Expression; 36] = [
 ];
 
 #[rattlefmt::skip]
-const CASES: [Case; 27] = [
+pub(crate) const CASES: &[Case] = &[
     Case { source: "", tree: "" },
     Case { source: "module m; endmodule module n; endmodule", tree: "m ( )\nn ( )\n" },
     // headers
@@ -113,7 +108,7 @@ const CASES: [Case; 27] = [
 ];
 
 #[rattlefmt::skip]
-const REFUSALS: [Refusal; 38] = [
+pub(crate) const REFUSALS: &[Refusal] = &[
     Refusal { source: "module m(input a) endmodule", kind: ParseKind::Unexpected, line: 1, column: 19, detail: "" },
     Refusal { source: "module m(input a);", kind: ParseKind::EarlyEnd, line: 0, column: 0, detail: "" },
     Refusal { source: "module", kind: ParseKind::EarlyEnd, line: 0, column: 0, detail: "" },
@@ -153,235 +148,3 @@ const REFUSALS: [Refusal; 38] = [
     Refusal { source: "module m; generate endmodule", kind: ParseKind::LeftOut, line: 1, column: 11, detail: "generate" },
     Refusal { source: "primitive p; endmodule", kind: ParseKind::LeftOut, line: 1, column: 1, detail: "primitive" },
 ];
-
-/// Bytes as a text.
-fn text(bytes: &[u8]) -> &str {
-    match std::str::from_utf8(bytes) {
-        Ok(text) => text,
-        Err(_) => "no text",
-    }
-}
-
-/// One source that is read by itself.
-fn one_root(alloc: Global, text: &[u8]) -> Result<Sources, Fail> {
-    let mut sources = Sources::new(alloc);
-    sources.add_root("m.v", Bytes::from_vec(text.to_vec(alloc)?))?;
-    Ok(sources)
-}
-
-/// The modules of a source as a text.
-fn shown(alloc: Global, text: &[u8]) -> Result<Vec<u8>, Fail> {
-    let sources = one_root(alloc, text)?;
-    let defines = Defines::new(alloc);
-    let tokens = lex(alloc, &sources, &defines)?;
-    let modules = parse(alloc, &tokens)?;
-    let mut shown = Shown::new(alloc);
-    for module in modules.as_slice() {
-        shown.module(module)?;
-    }
-    Ok(shown.bytes)
-}
-
-#[test]
-fn modules_of_sources(rt: HostRuntime) -> Result<(), Fail> {
-    for case in &CASES {
-        let tree = shown(rt.alloc(), case.source.as_bytes())?;
-        assert_eq!(rt; text(tree.as_slice()), case.tree, "{}", case.source);
-    }
-    Ok(())
-}
-
-/// The text with others before it and behind it.
-fn wrapped(alloc: Global, front: &str, text: &str, back: &str) -> Result<Vec<u8>, Fail> {
-    let mut all = Vec::from_slice(alloc, front.as_bytes())?;
-    all.extend_from_slice(text.as_bytes())?;
-    all.extend_from_slice(back.as_bytes())?;
-    Ok(all)
-}
-
-#[test]
-fn expressions_of_sources(rt: HostRuntime) -> Result<(), Fail> {
-    for case in &EXPRESSIONS {
-        let source = wrapped(
-            rt.alloc(),
-            "module m; assign y = ",
-            case.source,
-            "; endmodule",
-        )?;
-        let tree = wrapped(rt.alloc(), "m ( )\n@11 (assign y ", case.tree, ")\n")?;
-        let found = shown(rt.alloc(), source.as_slice())?;
-        assert_eq!(rt;
-            text(found.as_slice()),
-            text(tree.as_slice()),
-            "{}",
-            case.source
-        );
-    }
-    Ok(())
-}
-
-/// The number of a fault, its line and its column, 0 where there is none.
-fn fault(alloc: Global, text: &[u8]) -> Result<(Option<ParseKind>, u32, u32), Fail> {
-    let sources = one_root(alloc, text)?;
-    let defines = Defines::new(alloc);
-    let tokens = lex(alloc, &sources, &defines)?;
-    Ok(match parse(alloc, &tokens) {
-        Ok(_) => (None, 0, 0),
-        Err(ParseFault::NoMemory) => return Err(Fail::new("no memory")),
-        Err(ParseFault::At { kind, place, .. }) => match place {
-            None => (Some(kind), 0, 0),
-            Some(place) => (Some(kind), place.line, place.column),
-        },
-    })
-}
-
-/// The detail of a fault.
-fn detail(alloc: Global, text: &[u8]) -> Result<Option<Name>, Fail> {
-    let sources = one_root(alloc, text)?;
-    let defines = Defines::new(alloc);
-    let tokens = lex(alloc, &sources, &defines)?;
-    match parse(alloc, &tokens) {
-        Err(ParseFault::At { detail, .. }) => Ok(detail),
-        _ => Ok(None),
-    }
-}
-
-/// Whether the detail is this form, or is missing where the form is empty.
-fn is_form(detail: &Option<Name>, form: &str) -> bool {
-    match detail {
-        Some(name) => name.as_slice() == form.as_bytes(),
-        None => form.is_empty(),
-    }
-}
-
-fn assert_refusal(rt: &impl Abort, alloc: Global, refusal: &Refusal) -> Result<(), Fail> {
-    let (kind, line, column) = fault(alloc, refusal.source.as_bytes())?;
-    assert_eq!(rt; kind, Some(refusal.kind), "{}", refusal.source);
-    assert_eq!(rt;
-        (line, column),
-        (refusal.line, refusal.column),
-        "{}",
-        refusal.source
-    );
-    let detail = detail(alloc, refusal.source.as_bytes())?;
-    assert!(rt; is_form(&detail, refusal.detail), "{}", refusal.source);
-    Ok(())
-}
-
-#[test]
-fn faults_of_sources(rt: HostRuntime) -> Result<(), Fail> {
-    for refusal in &REFUSALS {
-        assert_refusal(&rt, rt.alloc(), refusal)?;
-    }
-    Ok(())
-}
-
-/// A text, so often another one, and a third and so often a fourth behind.
-fn nested(alloc: Global, parts: [&str; 4], count: usize) -> Result<Vec<u8>, Fail> {
-    let [front, open, middle, close] = parts;
-    let mut all = Vec::from_slice(alloc, front.as_bytes())?;
-    for _ in 0..count {
-        all.extend_from_slice(open.as_bytes())?;
-    }
-    all.extend_from_slice(middle.as_bytes())?;
-    for _ in 0..count {
-        all.extend_from_slice(close.as_bytes())?;
-    }
-    all.extend_from_slice(b"; endmodule")?;
-    Ok(all)
-}
-
-/// A text whose middle is nested so many times, and the fault that stands in it at a line and a column, 0 where there is
-/// none.
-struct Deep {
-    text: [&'static str; 4],
-    count: usize,
-    kind: Option<ParseKind>,
-    line: u32,
-    column: u32,
-}
-
-const FRONT: &str = "module m; assign y = ";
-
-#[rattlefmt::skip]
-const DEEP_EXPRESSIONS: [Deep; 11] = [
-    Deep { text: [FRONT, "(", "a", ")"], count: 255, kind: None, line: 0, column: 0 },
-    Deep { text: [FRONT, "(", "a", ")"], count: 256, kind: Some(ParseKind::TooDeep), line: 1, column: 278 },
-    Deep { text: [FRONT, "(", ")", ")"], count: 256, kind: Some(ParseKind::Unexpected), line: 1, column: 278 },
-    // the 256th operator makes the first a too deep
-    Deep { text: [FRONT, "", "a", "+a"], count: 255, kind: None, line: 0, column: 0 },
-    Deep { text: [FRONT, "", "a", "+a"], count: 256, kind: Some(ParseKind::TooDeep), line: 1, column: 22 },
-    // a chain that is cut off behind its 256th operator is too deep all the same
-    Deep { text: [FRONT, "a+", "", ""], count: 255, kind: Some(ParseKind::Unexpected), line: 1, column: 532 },
-    Deep { text: [FRONT, "a+", "", ""], count: 256, kind: Some(ParseKind::TooDeep), line: 1, column: 22 },
-    // a select makes its name one deeper
-    Deep { text: [FRONT, "(", "a[0]", ")"], count: 254, kind: None, line: 0, column: 0 },
-    Deep { text: [FRONT, "(", "a[0]", ")"], count: 255, kind: Some(ParseKind::TooDeep), line: 1, column: 277 },
-    // the operators before an operand nest
-    Deep { text: [FRONT, "!", "a", ""], count: 255, kind: None, line: 0, column: 0 },
-    Deep { text: [FRONT, "!", "a", ""], count: 256, kind: Some(ParseKind::TooDeep), line: 1, column: 278 },
-];
-
-#[test]
-fn depth_of_expressions(rt: HostRuntime) -> Result<(), Fail> {
-    for deep in &DEEP_EXPRESSIONS {
-        let text = nested(rt.alloc(), deep.text, deep.count)?;
-        assert_eq!(rt;
-            fault(rt.alloc(), text.as_slice())?,
-            (deep.kind, deep.line, deep.column)
-        );
-    }
-    Ok(())
-}
-
-#[test]
-fn depth_of_statements(rt: HostRuntime) -> Result<(), Fail> {
-    let blocks = ["module m; initial ", "begin ", ";", " end"];
-    assert_eq!(rt;
-        fault(rt.alloc(), nested(rt.alloc(), blocks, 256)?.as_slice())?,
-        (Some(ParseKind::TooDeep), 1, 1555)
-    );
-    // statements and the expressions in them share one count
-    let expression = ["module m; initial y = ", "(", "a", ")"];
-    assert_eq!(rt;
-        fault(rt.alloc(), nested(rt.alloc(), expression, 254)?.as_slice())?,
-        (None, 0, 0)
-    );
-    assert_eq!(rt;
-        fault(rt.alloc(), nested(rt.alloc(), expression, 255)?.as_slice())?,
-        (Some(ParseKind::TooDeep), 1, 278)
-    );
-    Ok(())
-}
-
-/// An item of 24 tokens and 1,042 bytes.
-fn long_item(alloc: Global) -> Result<Vec<u8>, Fail> {
-    let name = [b'n'; 200];
-    let mut item = Vec::new(alloc);
-    for part in &["assign ", "[7:4] = {", ", ", "[3]} + 8'hf0 * (", " - "] {
-        item.extend_from_slice(part.as_bytes())?;
-        item.extend_from_slice(&name)?;
-    }
-    item.extend_from_slice(b");\n")?;
-    Ok(item)
-}
-
-#[test]
-fn a_megabyte_of_items(rt: HostRuntime) -> Result<(), Fail> {
-    let item = long_item(rt.alloc())?;
-    let mut source = Vec::from_slice(rt.alloc(), b"module m;\n")?;
-    for _ in 0..1_000 {
-        source.extend_from_slice(item.as_slice())?;
-    }
-    source.extend_from_slice(b"endmodule\n")?;
-    assert!(rt; source.len() >= 1_000_000);
-    let sources = one_root(rt.alloc(), source.as_slice())?;
-    let defines = Defines::new(rt.alloc());
-    let tokens = lex(rt.alloc(), &sources, &defines)?;
-    let modules = parse(rt.alloc(), &tokens)?;
-    match modules.as_slice() {
-        [module] => assert_eq!(rt; module.items.as_slice().len(), 1_000),
-        _ => return Err(Fail::new("not one module")),
-    }
-    Ok(())
-}
