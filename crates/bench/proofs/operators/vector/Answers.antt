@@ -2,7 +2,7 @@ use Rattle.std.proofs.Common.{arith, ◌/◌, ◌≡◌, ◌-◌, ◌^◌, ◌�
 use Rattle.std.proofs.lemmas.Nat.{and_le_r}
 use Rattle.std.proofs.lemmas.Nat.Bits.{ones_shr}
 use Rattle.std.proofs.Math.Pow.{pow_pos}
-use Rattle.bench_operators.proofs.vector.Goals as goal
+use Rattle.bench.proofs.operators.vector.Goals as goal
 
 -- a number within the mask of the lowest places is below the width's power
 pub make-requires-clause-ones_inside : goal.make-requires-clause-ones_inside

@@ -1,12 +1,10 @@
-//! Times the operators: `bench_operators ROUNDS` prints a line for each operator and width, with the nanoseconds
-//! that so many operations took. With no argument it does nothing.
-#![tactic(auto)]
-
+//! Times the operators: a line for each operator and width, with the nanoseconds that so many operations took.
 ghost use Rattle.std.specs.Prelude.{◌≡◌, ◌≤◌, false, length};
 
+use anyhow::Result;
 use four_state::{Binary, Four};
+use std::rt::Clock;
 use std::time::Instant;
-use std::{env, io};
 
 const OPERATORS: [(Binary, &str); 12] = [
     (Binary::Add, "+"),
@@ -51,19 +49,16 @@ fn sum_of(op: Binary, width: u8, rounds: u64) -> u128
     sum
 }
 
-fn main(rt: HostRuntime) -> io::Result<()> {
-    let rounds = env::args(&rt)?
-        .nth(1)
-        .and_then(|word| word.parse().ok())
-        .unwrap_or(0);
+/// Times so many rounds of each operator, and prints nothing for none.
+pub(crate) fn measure(rt: &(impl Clock + Print), rounds: u64) -> Result<()> {
     if rounds == 0 {
         return Ok(());
     }
     for width in [8, 64, 128] {
         for (op, name) in OPERATORS {
-            let start = Instant::now(&rt)?;
+            let start = Instant::now(rt)?;
             let sum = sum_of(op, width, rounds);
-            let taken = start.elapsed(&rt)?;
+            let taken = start.elapsed(rt)?;
             println!(rt; "{name} {width} {} {sum}", taken.as_nanos())?;
         }
     }
