@@ -12,5 +12,5 @@ awk 'BEGIN {
   }
   print "end"
 }' > "$database"
-cd crates/database_bench
-rt run -- "$database" | tail -n 2
+cd crates/bench
+rt run -- database "$database" | tail -n 4

@@ -4,7 +4,7 @@
 set -e
 source=$(mktemp)
 trap 'rm -f "$source"' EXIT
-cd crates/elab_bench
+cd crates/source_bench
 log=$(rt run 2>&1) || { echo "$log"; exit 1; }
 for instances in 6000 60000; do
   awk -v instances="$instances" 'BEGIN {
@@ -14,5 +14,5 @@ for instances in 6000 60000; do
     for (i = 0; i < 16; i++) printf "    q[%d] <= d[%d] ^ q[%d];\n", i, i, (i + 1) % 16
     print "  end\nendmodule"
   }' > "$source"
-  out/elab_bench "$source" top
+  out/source_bench elaborate "$source" top
 done

@@ -1,4 +1,4 @@
-// The operators of bench_operators on plain u128, with the same pairs of numbers: `four_state ROUNDS`.
+// The operators of bench on plain u128, with the same pairs of numbers: `four_state ROUNDS`.
 use std::hint::black_box;
 use std::time::Instant;
 

@@ -8,9 +8,9 @@ cd "$(dirname "$0")/.."
 rounds=${1:-10000000}
 scratch=$(mktemp -d)
 trap 'rm -rf "$scratch"' EXIT
-(cd crates/bench_operators && rt run > "$scratch/build.log" 2>&1) || { cat "$scratch/build.log"; exit 1; }
+(cd crates/bench && rt run > "$scratch/build.log" 2>&1) || { cat "$scratch/build.log"; exit 1; }
 rustc -O -o "$scratch/plain" bench/four_state.rs
-crates/bench_operators/out/bench_operators "$rounds" > "$scratch/ours"
+crates/bench/out/bench operators "$rounds" > "$scratch/ours"
 "$scratch/plain" "$rounds" > "$scratch/theirs"
 paste -d ' ' "$scratch/ours" "$scratch/theirs" | awk -v rounds="$rounds" '
     BEGIN { printf "%-4s %5s %12s %12s %7s\n", "", "width", "four_state", "u128", "ratio" }

@@ -4,7 +4,7 @@
 set -e
 source=$(mktemp)
 trap 'rm -f "$source"' EXIT
-cd crates/lexer_bench
+cd crates/bench
 log=$(rt run 2>&1) || { echo "$log"; exit 1; }
 for megabytes in 8 16 32; do
   awk -v limit=$((megabytes * 1048576)) 'BEGIN {
@@ -16,5 +16,5 @@ for megabytes in 8 16 32; do
     }
     print "endmodule"
   }' > "$source"
-  out/lexer_bench "$source"
+  out/bench lexer "$source"
 done

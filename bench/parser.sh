@@ -4,7 +4,7 @@
 set -e
 source=$(mktemp)
 trap 'rm -f "$source"' EXIT
-cd crates/parser_bench
+cd crates/source_bench
 log=$(rt run 2>&1) || { echo "$log"; exit 1; }
 for megabytes in 1 2 4 8 16 32; do
   awk -v limit=$((megabytes * 1048576)) 'BEGIN {
@@ -21,5 +21,5 @@ for megabytes in 1 2 4 8 16 32; do
       printf "%s", text
     }
   }' > "$source"
-  out/parser_bench "$source"
+  out/source_bench parse "$source"
 done

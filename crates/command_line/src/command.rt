@@ -11,7 +11,7 @@ use crate::{MergeWords, ReportWords, ScoreOption, ScoreWords, UsageFault};
 use cov_host::Words;
 
 /// A command with its values.
-#[derive(Clone, Copy, Debug)]
+#[derive(Clone, Copy)]
 pub enum Command<'a> {
     /// Scores the coverage of a design from a value change dump.
     Score(ScoreWords<'a>),

@@ -6,7 +6,7 @@ use crate::DatabaseOption;
 use crate::words_left::WordsLeft;
 
 /// The databases that are left among the words of a command. It borrows the words.
-#[derive(Clone, Copy, Debug)]
+#[derive(Clone, Copy)]
 pub struct DatabaseFiles<'a> {
     words: WordsLeft<'a>,
 }

@@ -2,7 +2,7 @@ ghost use Rattle.std.specs.Prelude.{◌≡◌};
 ghost use Rattle.command_line.specs.Define.{define_of, define_values};
 
 /// A name that the words of a command define, and its text.
-#[derive(Clone, Copy, Debug, PartialEq, Eq)]
+#[derive(Clone, Copy, PartialEq, Eq)]
 pub struct GivenDefine<'a> {
     /// The name of a macro.
     pub name: &'a str,

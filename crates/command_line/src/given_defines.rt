@@ -9,7 +9,7 @@ use crate::words_left::WordsLeft;
 use crate::{GivenDefine, ScoreOption};
 
 /// The names with their texts that are left among the words of a command. It borrows the words.
-#[derive(Clone, Copy, Debug)]
+#[derive(Clone, Copy)]
 pub struct GivenDefines<'a> {
     values: OptionValues<'a>,
 }

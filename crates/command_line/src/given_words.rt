@@ -11,7 +11,7 @@ use crate::words_left::WordsLeft;
 use crate::{DatabaseFiles, DatabaseOption, MergeWords, ReportLevel, ReportMetrics, ReportWords};
 
 /// What was read so far of the words of a command that reads databases.
-#[derive(Clone, Copy, Debug)]
+#[derive(Clone, Copy)]
 pub(crate) struct GivenWords<'a> {
     level: Option<&'a str>,
     metrics: Option<&'a str>,

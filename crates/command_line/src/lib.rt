@@ -23,8 +23,6 @@ mod report_words;
 mod score_option;
 mod score_words;
 mod source_files;
-#[cfg(test)]
-mod tests;
 mod usage_fault;
 mod value_form;
 mod words_left;

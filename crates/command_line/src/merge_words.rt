@@ -1,7 +1,7 @@
 use crate::DatabaseFiles;
 
 /// The values of a `merge` command.
-#[derive(Clone, Copy, Debug)]
+#[derive(Clone, Copy)]
 pub struct MergeWords<'a> {
     /// The file that the merge is written to.
     pub output: &'a str,

@@ -6,7 +6,7 @@ use crate::ScoreOption;
 use crate::words_left::WordsLeft;
 
 /// The values of an option that are left among options with their values. It borrows the words.
-#[derive(Clone, Copy, Debug)]
+#[derive(Clone, Copy)]
 pub(crate) struct OptionValues<'a> {
     option: ScoreOption,
     words: WordsLeft<'a>,

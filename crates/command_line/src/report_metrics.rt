@@ -3,7 +3,7 @@ ghost use Rattle.std.specs.List.{list_all};
 ghost use Rattle.command_line.specs.ReportMetrics.{has_letter, is_letter, is_letters, metrics_named, metrics_of, stand_once, stands_once};
 
 /// The metrics that a report shows.
-#[derive(Clone, Copy, Debug, PartialEq, Eq)]
+#[derive(Clone, Copy, PartialEq, Eq)]
 pub struct ReportMetrics {
     /// Statements.
     pub line: bool,

@@ -1,7 +1,7 @@
 use crate::{ReportLevel, ReportMetrics};
 
 /// The values of a `report` command.
-#[derive(Clone, Copy, Debug, PartialEq, Eq)]
+#[derive(Clone, Copy, PartialEq, Eq)]
 pub struct ReportWords<'a> {
     /// The database.
     pub file: &'a str,

@@ -1,7 +1,7 @@
 use crate::{GivenDefines, SourceFiles};
 
 /// The values of a `score` command.
-#[derive(Clone, Copy, Debug)]
+#[derive(Clone, Copy)]
 pub struct ScoreWords<'a> {
     /// The name of the top module.
     pub top: &'a str,

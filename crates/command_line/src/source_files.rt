@@ -8,7 +8,7 @@ use crate::option_values::OptionValues;
 use crate::words_left::WordsLeft;
 
 /// The files of the design that are left among the words of a command. It borrows the words.
-#[derive(Clone, Copy, Debug)]
+#[derive(Clone, Copy)]
 pub struct SourceFiles<'a> {
     values: OptionValues<'a>,
 }

@@ -4,7 +4,7 @@ ghost use Rattle.command_line.specs.WordsLeft.{left_words};
 use cov_host::Words;
 
 /// The words of a command line that are left to be read.
-#[derive(Clone, Copy, Debug)]
+#[derive(Clone, Copy)]
 pub(crate) struct WordsLeft<'a> {
     words: &'a Words,
     place: usize,

@@ -5,14 +5,10 @@ mod block;
 mod columns;
 mod counted;
 mod counts;
-#[cfg(test)]
-mod example_cases;
 mod gather;
 mod metric;
 mod options;
 mod point_line;
-#[cfg(test)]
-mod tests;
 mod whole_report;
 
 pub use metric::Metric;

@@ -1,7 +1,7 @@
 ghost use Rattle.std.specs.Prelude.{◌≡◌, true, false};
 
 /// What a report shows.
-#[derive(Clone, Copy, Debug, PartialEq, Eq)]
+#[derive(Clone, Copy, PartialEq, Eq)]
 pub struct Options {
     pub level: Level,
     pub letters: Letters,
@@ -12,7 +12,7 @@ pub struct Options {
 }
 
 /// How much a report shows of each block.
-#[derive(Clone, Copy, Debug, PartialEq, Eq)]
+#[derive(Clone, Copy, PartialEq, Eq)]
 pub enum Level {
     /// The metrics.
     Summary,
@@ -23,7 +23,7 @@ pub enum Level {
 }
 
 /// The metrics that a report counts.
-#[derive(Clone, Copy, Debug, PartialEq, Eq)]
+#[derive(Clone, Copy, PartialEq, Eq)]
 pub struct Letters {
     pub line: bool,
     pub logic: bool,

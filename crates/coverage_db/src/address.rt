@@ -7,7 +7,7 @@ use cov_host::Name;
 use std::cmp::Ordering;
 
 /// Where a point stands: its instance, and what of the instance it counts.
-#[derive(Debug, Drop)]
+#[derive(Drop)]
 pub struct Address {
     /// The place of the instance in the database, from 0.
     pub instance: u32,
@@ -15,7 +15,7 @@ pub struct Address {
 }
 
 /// What a point counts of its instance.
-#[derive(Debug, Drop)]
+#[derive(Drop)]
 pub enum Subject {
     /// A statement is executed.
     Line {
@@ -60,7 +60,7 @@ pub enum Subject {
 }
 
 /// A line of a source.
-#[derive(Clone, Copy, Debug, PartialEq, Eq)]
+#[derive(Clone, Copy, PartialEq, Eq)]
 pub struct SourceLine {
     /// The number of the source, from 1.
     pub source: u32,

@@ -2,7 +2,7 @@ use crate::{Address, DbVerdict};
 use cov_host::{Name, Sequence};
 
 /// A database: the points of a design, and how each came out.
-#[derive(Debug, Drop)]
+#[derive(Drop)]
 pub struct Db {
     /// The top module.
     pub top: Name,
@@ -15,7 +15,7 @@ pub struct Db {
 }
 
 /// An instance of a module.
-#[derive(Debug, Drop)]
+#[derive(Drop)]
 pub struct DbInstance {
     /// The names from the top module's down to its own, joined by dots.
     pub path: Name,
@@ -23,7 +23,7 @@ pub struct DbInstance {
 }
 
 /// A point with its verdict.
-#[derive(Debug, Drop)]
+#[derive(Drop)]
 pub struct DbPoint {
     pub address: Address,
     pub verdict: DbVerdict,

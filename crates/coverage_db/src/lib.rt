@@ -6,8 +6,6 @@ mod bare_line;
 mod db;
 mod difference;
 mod draft;
-#[cfg(test)]
-mod example_cases;
 mod fault;
 mod fields;
 mod head;
@@ -24,8 +22,6 @@ mod read_point;
 mod read_subject;
 mod same;
 mod split;
-#[cfg(test)]
-mod tests;
 mod verdict;
 mod verdict_join;
 mod write;

@@ -1,7 +1,7 @@
 use cov_host::Name;
 
 /// How a point came out.
-#[derive(Debug, Drop)]
+#[derive(Drop)]
 pub enum DbVerdict {
     /// It was hit.
     Hit,

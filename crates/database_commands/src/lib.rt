@@ -6,8 +6,6 @@ mod files;
 mod laws;
 mod merge;
 mod report;
-#[cfg(test)]
-mod tests;
 
 pub use fault::CommandFault;
 pub use laws::any_order;

@@ -15,8 +15,6 @@ mod joined;
 mod names;
 mod scope;
 mod selected;
-#[cfg(test)]
-mod tests;
 mod turn;
 mod weight;
 mod width;

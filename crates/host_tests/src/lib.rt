@@ -5,3 +5,5 @@
 mod hosts;
 #[cfg(test)]
 mod interrupts;
+#[cfg(test)]
+mod sources;

@@ -6,8 +6,6 @@ mod include;
 mod join;
 mod laws;
 mod roots;
-#[cfg(test)]
-mod tests;
 
 pub use fault::{JoinFault, RootFault};
 pub use include::{include_path, join_include};

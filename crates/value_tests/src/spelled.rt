@@ -34,7 +34,7 @@ fn vector_of(width: u8, signed: bool, digits: &str, size: u8) -> Four
     value
 }
 
-/// The vector that a based number stands for, as `4'b1x0z` or `65'sh1f`.
+/// The vector that a based number means, as `4'b1x0z` or `65'sh1f`.
 pub(crate) fn vector(text: &str) -> Option<Four> {
     let (width, digits) = text.split_once('\'')?;
     let width: u8 = width.parse().ok()?;

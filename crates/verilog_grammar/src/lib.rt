@@ -26,6 +26,3 @@ pub fn grammar_is_exact()
     ensures texts { ReadsTexts }
     ensures low { (d : ℕ) (p : Phrase) (v : Value p) (i o : List Lexeme) → Nests verilog grammar d p v i o → height p v ≤ d }
 {}
-
-#[cfg(test)]
-mod tests;

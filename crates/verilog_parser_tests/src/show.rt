@@ -2,7 +2,7 @@
 
 use cov_host::Place;
 use four_state::{Binary, Bit, CaseKind, Edge, Four, Unary};
-use std::alloc::{AllocError, Global};
+use std::alloc::Global;
 use verilog_tree::{
     Arm, Declared, Expr, ExprForm, Given, Item, ItemForm, Module, Named, One, Param, Range,
     Statement, StatementForm, When,
@@ -12,7 +12,8 @@ use verilog_tree::{
 #[derive(Drop)]
 pub(crate) struct Shown {
     alloc: Global,
-    pub(crate) bytes: Vec<u8>,
+    bytes: Vec<u8>,
+    is_whole: bool,
 }
 
 impl Shown {
@@ -20,81 +21,93 @@ impl Shown {
         Shown {
             alloc,
             bytes: Vec::new(alloc),
+            is_whole: true,
         }
     }
 
-    fn put(&mut self, text: &str) -> Result<(), AllocError> {
-        self.bytes.extend_from_slice(text.as_bytes())?;
-        Ok(())
+    /// Whether it is this text.
+    pub(crate) fn is(&self, text: &str) -> bool {
+        self.is_whole && self.bytes.as_slice() == text.as_bytes()
     }
 
-    fn number(&mut self, value: u128) -> Result<(), AllocError> {
-        let digits = format!(in self.alloc; "{value}")?;
-        self.put(digits.as_str())
+    /// Appends bytes. Where there is no memory for them they are missing, which a test finds.
+    fn push(&mut self, bytes: &[u8]) {
+        self.is_whole = self.is_whole && self.bytes.extend_from_slice(bytes).is_ok();
     }
 
-    fn named(&mut self, named: &Named) -> Result<(), AllocError> {
-        self.bytes.extend_from_slice(named.name.as_slice())?;
-        Ok(())
+    fn put(&mut self, text: &str) {
+        self.push(text.as_bytes());
     }
 
-    fn flag(&mut self, there: bool, text: &str) -> Result<(), AllocError> {
-        if there { self.put(text) } else { Ok(()) }
+    fn number(&mut self, value: u128) {
+        match format!(in self.alloc; "{value}") {
+            Ok(digits) => self.put(digits.as_str()),
+            Err(_) => self.is_whole = false,
+        }
+    }
+
+    fn named(&mut self, named: &Named) {
+        self.push(named.name.as_slice());
+    }
+
+    fn flag(&mut self, there: bool, text: &str) {
+        if there {
+            self.put(text);
+        }
     }
 
     /// The column of a place.
-    fn place(&mut self, place: Place) -> Result<(), AllocError> {
-        self.put("@")?;
+    fn place(&mut self, place: Place) {
+        self.put("@");
         self.number(place.column as u128)
     }
 
-    fn four(&mut self, value: &Four) -> Result<(), AllocError> {
-        self.number(value.width() as u128)?;
-        self.put(if value.is_signed() { "s" } else { "u" })?;
+    fn four(&mut self, value: &Four) {
+        self.number(value.width() as u128);
+        self.put(if value.is_signed() { "s" } else { "u" });
         if value.is_known() {
-            return self.number(value.ones());
+            self.number(value.ones());
+            return;
         }
         let width = value.width();
         for above in 0..width {
-            self.put(bit_text(value.bit(width - 1 - above)))?;
+            self.put(bit_text(value.bit(width - 1 - above)));
         }
-        Ok(())
     }
 
-    fn list(&mut self, exprs: &[Expr]) -> Result<(), AllocError> {
+    fn list(&mut self, exprs: &[Expr]) {
         for expr in exprs {
-            self.behind(" ", expr)?;
+            self.behind(" ", expr);
         }
-        Ok(())
     }
 
-    fn tagged(&mut self, tag: &str, exprs: &[&Expr]) -> Result<(), AllocError> {
-        self.put("(")?;
-        self.put(tag)?;
+    fn tagged(&mut self, tag: &str, exprs: &[&Expr]) {
+        self.put("(");
+        self.put(tag);
         for expr in exprs {
-            self.behind(" ", expr)?;
+            self.behind(" ", expr);
         }
         self.put(")")
     }
 
-    pub(crate) fn expr(&mut self, expr: &Expr) -> Result<(), AllocError> {
+    pub(crate) fn expr(&mut self, expr: &Expr) {
         self.behind("", expr)
     }
 
-    /// An expression behind a text.
-    fn behind(&mut self, front: &str, expr: &Expr) -> Result<(), AllocError> {
-        self.put(front)?;
-        self.put(opening(&expr.form))?;
-        self.put(tag(&expr.form))?;
+    /// An expression after a text.
+    fn behind(&mut self, front: &str, expr: &Expr) {
+        self.put(front);
+        self.put(opening(&expr.form));
+        self.put(tag(&expr.form));
         match &expr.form {
-            ExprForm::Number(value) => self.four(value)?,
-            ExprForm::Name(name) => self.bytes.extend_from_slice(name.as_slice())?,
+            ExprForm::Number(value) => self.four(value),
+            ExprForm::Name(name) => self.push(name.as_slice()),
             ExprForm::Unary(_, a) | ExprForm::Sign(_, a) | ExprForm::Paren(a) => {
-                self.behind(" ", a)?;
+                self.behind(" ", a);
             }
             ExprForm::Bit { of: a, index: b } | ExprForm::Binary(_, a, b) => {
-                self.behind(" ", a)?;
-                self.behind(" ", b)?;
+                self.behind(" ", a);
+                self.behind(" ", b);
             }
             ExprForm::Part {
                 of: a,
@@ -113,19 +126,19 @@ impl Shown {
                 yes: b,
                 no: c,
             } => {
-                self.behind(" ", a)?;
-                self.behind(" ", b)?;
-                self.behind(" ", c)?;
+                self.behind(" ", a);
+                self.behind(" ", b);
+                self.behind(" ", c);
             }
             ExprForm::Concat(parts) => {
                 for part in parts {
-                    self.behind(" ", part)?;
+                    self.behind(" ", part);
                 }
             }
             ExprForm::Repeat(count, parts) => {
-                self.behind("", count)?;
+                self.behind("", count);
                 for part in parts {
-                    self.behind(" ", part)?;
+                    self.behind(" ", part);
                 }
             }
         }
@@ -133,41 +146,39 @@ impl Shown {
     }
 
     #[cycle(statement_text)]
-    fn arm(&mut self, arm: &Arm) -> Result<(), AllocError> {
-        self.put(" [")?;
-        self.list(arm.labels.as_slice())?;
-        self.put(" : ")?;
-        self.statement(&arm.body)?;
+    fn arm(&mut self, arm: &Arm) {
+        self.put(" [");
+        self.list(arm.labels.as_slice());
+        self.put(" : ");
+        self.statement(&arm.body);
         self.put("]")
     }
 
     #[cycle(statement_text)]
-    pub(crate) fn statement(&mut self, statement: &Statement) -> Result<(), AllocError> {
+    pub(crate) fn statement(&mut self, statement: &Statement) {
         match &statement.form {
             StatementForm::Block(parts) => {
-                self.put("begin")?;
+                self.put("begin");
                 for part in parts {
-                    self.put(" ")?;
-                    self.statement(part)?;
+                    self.put(" ");
+                    self.statement(part);
                 }
                 self.put(" end")
             }
             StatementForm::If { test, yes, no } => {
-                self.tagged("if", &[test])?;
-                self.put(" ")?;
-                self.statement(yes)?;
+                self.tagged("if", &[test]);
+                self.put(" ");
+                self.statement(yes);
                 if let Some(no) = no {
-                    self.put(" else ")?;
-                    self.statement(no)?;
+                    self.put(" else ");
+                    self.statement(no);
                 }
-                Ok(())
             }
             StatementForm::Case { kind, on, arms } => {
-                self.tagged(case_text(*kind), &[on])?;
+                self.tagged(case_text(*kind), &[on]);
                 for arm in arms {
-                    self.arm(arm)?;
+                    self.arm(arm);
                 }
-                Ok(())
             }
             StatementForm::For(turns) => {
                 self.tagged(
@@ -179,8 +190,8 @@ impl Shown {
                         &turns.target,
                         &turns.step,
                     ],
-                )?;
-                self.put(" ")?;
+                );
+                self.put(" ");
                 self.statement(&turns.body)
             }
             StatementForm::Set {
@@ -188,7 +199,7 @@ impl Shown {
                 blocking,
                 value,
             } => {
-                self.tagged(if *blocking { "=" } else { "<=" }, &[target, value])?;
+                self.tagged(if *blocking { "=" } else { "<=" }, &[target, value]);
                 self.place(statement.place)
             }
             StatementForm::Task => self.put("task"),
@@ -196,72 +207,68 @@ impl Shown {
         }
     }
 
-    fn range(&mut self, range: &Option<Range>) -> Result<(), AllocError> {
+    fn range(&mut self, range: &Option<Range>) {
         match range {
-            None => Ok(()),
+            None => {}
             Some(range) => {
-                self.put(" ")?;
+                self.put(" ");
                 self.tagged("range", &[&range.high, &range.low])
             }
         }
     }
 
-    fn names(&mut self, names: &[Named]) -> Result<(), AllocError> {
+    fn names(&mut self, names: &[Named]) {
         for name in names {
-            self.put(" ")?;
-            self.named(name)?;
+            self.put(" ");
+            self.named(name);
         }
-        Ok(())
     }
 
-    fn value(&mut self, value: &Option<Expr>) -> Result<(), AllocError> {
+    fn value(&mut self, value: &Option<Expr>) {
         match value {
-            None => Ok(()),
+            None => {}
             Some(value) => {
-                self.put("=")?;
+                self.put("=");
                 self.expr(value)
             }
         }
     }
 
-    fn declared(&mut self, all: &[Declared]) -> Result<(), AllocError> {
+    fn declared(&mut self, all: &[Declared]) {
         for each in all {
-            self.put(" ")?;
-            self.named(&each.name)?;
-            self.value(&each.value)?;
-            self.range(&each.words)?;
+            self.put(" ");
+            self.named(&each.name);
+            self.value(&each.value);
+            self.range(&each.words);
         }
-        Ok(())
     }
 
-    fn params(&mut self, params: &[Param]) -> Result<(), AllocError> {
+    fn params(&mut self, params: &[Param]) {
         for param in params {
-            self.flag(param.local, " local")?;
-            self.flag(param.signed, " signed")?;
-            self.flag(param.integer, " integer")?;
-            self.range(&param.range)?;
-            self.put(" ")?;
-            self.named(&param.name)?;
-            self.put("=")?;
-            self.expr(&param.value)?;
+            self.flag(param.local, " local");
+            self.flag(param.signed, " signed");
+            self.flag(param.integer, " integer");
+            self.range(&param.range);
+            self.put(" ");
+            self.named(&param.name);
+            self.put("=");
+            self.expr(&param.value);
         }
-        Ok(())
     }
 
-    fn given(&mut self, all: &[Given]) -> Result<(), AllocError> {
+    fn given(&mut self, all: &[Given]) {
         for each in all {
-            self.put(" ")?;
+            self.put(" ");
             if let Some(name) = &each.name {
-                self.put(".")?;
-                self.named(name)?;
+                self.put(".");
+                self.named(name);
             }
-            self.value(&each.value)?;
-            self.flag(each.name.is_none() && each.value.is_none(), "-")?;
+            self.value(&each.value);
+            self.flag(each.name.is_none() && each.value.is_none(), "-");
         }
-        Ok(())
     }
 
-    fn when(&mut self, when: &When) -> Result<(), AllocError> {
+    fn when(&mut self, when: &When) {
         match when {
             When::Star => self.put("*"),
             When::Names(names) => self.names(names.as_slice()),
@@ -270,18 +277,17 @@ impl Shown {
                     self.put(match edge {
                         Edge::Pos => " pos ",
                         Edge::Neg => " neg ",
-                    })?;
-                    self.named(name)?;
+                    });
+                    self.named(name);
                 }
-                Ok(())
             }
         }
     }
 
-    fn item(&mut self, item: &Item) -> Result<(), AllocError> {
-        self.put("\n")?;
-        self.place(item.place)?;
-        self.put(" ")?;
+    fn item(&mut self, item: &Item) {
+        self.put("\n");
+        self.place(item.place);
+        self.put(" ");
         match &item.form {
             ItemForm::Port {
                 input,
@@ -290,10 +296,10 @@ impl Shown {
                 range,
                 names,
             } => {
-                self.put(if *input { "input" } else { "output" })?;
-                self.flag(*reg, " reg")?;
-                self.flag(*signed, " signed")?;
-                self.range(range)?;
+                self.put(if *input { "input" } else { "output" });
+                self.flag(*reg, " reg");
+                self.flag(*signed, " signed");
+                self.range(range);
                 self.names(names.as_slice())
             }
             ItemForm::Net {
@@ -301,9 +307,9 @@ impl Shown {
                 range,
                 names,
             } => {
-                self.put("net")?;
-                self.flag(*signed, " signed")?;
-                self.range(range)?;
+                self.put("net");
+                self.flag(*signed, " signed");
+                self.range(range);
                 self.declared(names.as_slice())
             }
             ItemForm::Var {
@@ -311,28 +317,28 @@ impl Shown {
                 range,
                 names,
             } => {
-                self.put("var")?;
-                self.flag(*signed, " signed")?;
-                self.range(range)?;
+                self.put("var");
+                self.flag(*signed, " signed");
+                self.range(range);
                 self.declared(names.as_slice())
             }
             ItemForm::Integer(names) => {
-                self.put("integer")?;
+                self.put("integer");
                 self.declared(names.as_slice())
             }
             ItemForm::Params(params) => {
-                self.put("params")?;
+                self.put("params");
                 self.params(params.as_slice())
             }
             ItemForm::Assign { target, value } => self.tagged("assign", &[target, value]),
             ItemForm::Always { when, body } => {
-                self.put("always ")?;
-                self.when(when)?;
-                self.put(" : ")?;
+                self.put("always ");
+                self.when(when);
+                self.put(" : ");
                 self.statement(body)
             }
             ItemForm::Initial(body) => {
-                self.put("initial ")?;
+                self.put("initial ");
                 self.statement(body)
             }
             ItemForm::Instance {
@@ -340,32 +346,31 @@ impl Shown {
                 overrides,
                 ones,
             } => {
-                self.put("instance ")?;
-                self.named(module)?;
-                self.put(" #")?;
-                self.given(overrides.as_slice())?;
+                self.put("instance ");
+                self.named(module);
+                self.put(" #");
+                self.given(overrides.as_slice());
                 self.ones(ones.as_slice())
             }
         }
     }
 
-    fn ones(&mut self, ones: &[One]) -> Result<(), AllocError> {
+    fn ones(&mut self, ones: &[One]) {
         for one in ones {
-            self.put(" ; ")?;
-            self.named(&one.name)?;
-            self.given(one.given.as_slice())?;
+            self.put(" ; ");
+            self.named(&one.name);
+            self.given(one.given.as_slice());
         }
-        Ok(())
     }
 
-    pub(crate) fn module(&mut self, module: &Module) -> Result<(), AllocError> {
-        self.named(&module.name)?;
-        self.params(module.params.as_slice())?;
-        self.put(" (")?;
-        self.names(module.ports.as_slice())?;
-        self.put(" )")?;
+    pub(crate) fn module(&mut self, module: &Module) {
+        self.named(&module.name);
+        self.params(module.params.as_slice());
+        self.put(" (");
+        self.names(module.ports.as_slice());
+        self.put(" )");
         for item in module.items.as_slice() {
-            self.item(item)?;
+            self.item(item);
         }
         self.put("\n")
     }

@@ -1,0 +1,233 @@
+//! Each fault as it is reported, and a whole command of each kind.
+use crate::usage_cases::FAULTS;
+use command_line::{
+    Command, GivenDefine, GivenDefines, MergeWords, ReportLevel, ReportMetrics, ReportWords,
+    ScoreWords, SourceFiles, UsageFault, read_command,
+};
+use cov_host::{NoMemory, Words};
+use std::alloc::Global;
+
+/// The words of a list.
+pub(crate) fn words_of(alloc: Global, texts: &[&str]) -> Result<Words, NoMemory> {
+    let mut words = Words::new(alloc);
+    for text in texts {
+        words.push(text)?;
+    }
+    Ok(words)
+}
+
+/// Whether the pieces of a fault are this text, and the fault is displayed so.
+fn says(alloc: Global, fault: &UsageFault<'_>, text: &str) -> bool {
+    let [before, word, after] = fault.pieces();
+    let rest = text
+        .strip_prefix(before)
+        .and_then(|rest| rest.strip_prefix(word));
+    rest == Some(after) && is_displayed(alloc, fault, text)
+}
+
+fn is_displayed(alloc: Global, fault: &UsageFault<'_>, text: &str) -> bool {
+    match format!(in alloc; "{fault}") {
+        Ok(displayed) => displayed.as_str() == text,
+        Err(_) => false,
+    }
+}
+
+/// Whether the words are no command, for this reason.
+fn is_refused(alloc: Global, texts: &[&str], text: &str) -> bool {
+    let Ok(words) = words_of(alloc, texts) else {
+        return false;
+    };
+    match read_command(&words) {
+        Ok(_) => false,
+        Err(fault) => says(alloc, &fault, text),
+    }
+}
+
+#[test]
+fn the_first_fault_is_reported(rt: HostRuntime) {
+    for (texts, text) in FAULTS {
+        assert!(rt; is_refused(rt.alloc(), texts, text), "{text}");
+    }
+}
+
+/// The values of a `score` command.
+fn score_of(words: &Words) -> Option<ScoreWords<'_>> {
+    match read_command(words) {
+        Ok(Command::Score(score)) => Some(score),
+        _ => None,
+    }
+}
+
+/// The values of a `merge` command.
+pub(crate) fn merge_of(words: &Words) -> Option<MergeWords<'_>> {
+    match read_command(words) {
+        Ok(Command::Merge(merge)) => Some(merge),
+        _ => None,
+    }
+}
+
+/// The values of a `report` command.
+pub(crate) fn report_of(words: &Words) -> Option<ReportWords<'_>> {
+    match read_command(words) {
+        Ok(Command::Report(report)) => Some(report),
+        _ => None,
+    }
+}
+
+/// Whether these are the files, in order.
+fn are_files(files: SourceFiles<'_>, names: &[&str]) -> bool {
+    let mut files = files;
+    for name in names {
+        if files.next_file() != Some(*name) {
+            return false;
+        }
+    }
+    files.next_file().is_none()
+}
+
+/// Whether these are the macros, in order.
+fn are_defines(defines: GivenDefines<'_>, all: &[(&str, &str)]) -> bool {
+    let mut defines = defines;
+    for (name, text) in all {
+        if defines.next_define() != Some(GivenDefine { name, text }) {
+            return false;
+        }
+    }
+    defines.next_define().is_none()
+}
+
+/// Words of one command: options with values in several orders.
+#[rattlefmt::skip]
+const ORDERS: &[&[&str]] = &[
+    &["score", "-t", "ff", "-i", "tb.dut", "-v", "ff.v", "-vcd", "t.vcd", "-o", "-o"],
+    &["score", "-o", "-o", "-vcd", "t.vcd", "-v", "ff.v", "-i", "tb.dut", "-t", "ff"],
+    &["score", "-v", "ff.v", "-o", "-o", "-t", "ff", "-vcd", "t.vcd", "-i", "tb.dut"],
+];
+
+/// Whether these are the values of those words.
+fn is_plain(score: ScoreWords<'_>) -> bool {
+    score.top == "ff"
+        && score.instance == "tb.dut"
+        && score.folder.is_none()
+        && score.dump == "t.vcd"
+        && score.output == "-o"
+        && are_files(score.sources, &["ff.v"])
+        && are_defines(score.defines, &[])
+}
+
+fn reads_plain(alloc: Global, texts: &[&str]) -> bool {
+    match words_of(alloc, texts) {
+        Ok(words) => score_of(&words).is_some_and(is_plain),
+        Err(_) => false,
+    }
+}
+
+#[test]
+fn options_come_in_any_order(rt: HostRuntime) {
+    for texts in ORDERS {
+        assert!(rt; reads_plain(rt.alloc(), texts));
+    }
+}
+
+/// Words whose values look like options, with sources and macros between.
+#[rattlefmt::skip]
+const MANY: &[&str] = &[
+    "score", "-v", "-D", "-D", "W=a=b", "-o", "-v", "-v", "b.v", "-D", "FAST", "-t", "ff", "-I", "-D", "-i", "tb.dut",
+    "-v", "-D", "-vcd", "-v", "-D", "W=",
+];
+
+/// Whether these are the values of those words.
+fn has_many(score: ScoreWords<'_>) -> bool {
+    score.folder == Some("-D")
+        && are_files(score.sources, &["-D", "b.v", "-D"])
+        && are_defines(score.defines, &[("W", "a=b"), ("FAST", "1"), ("W", "")])
+}
+
+#[test]
+fn sources_and_macros_keep_their_order(rt: HostRuntime) {
+    assert!(rt;
+        match words_of(rt.alloc(), MANY) {
+            Ok(words) => score_of(&words).is_some_and(has_many),
+            Err(_) => false,
+        }
+    );
+}
+
+const MERGES: &[&[&str]] = &[
+    &["merge", "-o", "-m", "a.db", "b.db", "c.db"],
+    &["merge", "a.db", "-o", "-m", "b.db", "c.db"],
+    &["merge", "a.db", "b.db", "c.db", "-o", "-m"],
+];
+
+/// Whether these are the values of those words.
+fn merges_three(merge: MergeWords<'_>) -> bool {
+    let mut others = merge.others;
+    merge.output == "-m"
+        && merge.first == "a.db"
+        && others.next_file() == Some("b.db")
+        && others.next_file() == Some("c.db")
+        && others.next_file().is_none()
+}
+
+fn reads_merge(alloc: Global, texts: &[&str]) -> bool {
+    match words_of(alloc, texts) {
+        Ok(words) => merge_of(&words).is_some_and(merges_three),
+        Err(_) => false,
+    }
+}
+
+#[test]
+fn databases_keep_their_order(rt: HostRuntime) {
+    for texts in MERGES {
+        assert!(rt; reads_merge(rt.alloc(), texts));
+    }
+}
+
+/// What `report t1.db` asks for.
+const SUMMARY: ReportWords<'static> = ReportWords {
+    file: "t1.db",
+    level: ReportLevel::Summary,
+    metrics: ReportMetrics {
+        line: true,
+        logic: true,
+        toggle: true,
+        fsm: true,
+        memory: false,
+    },
+    by_instance: false,
+    covered: false,
+    output: None,
+};
+
+/// What these words ask for.
+const OPTIONS: &[&str] = &[
+    "report", "-c", "-m", "mt", "t1.db", "-i", "-d", "v", "-o", "R",
+];
+
+const VERBOSE: ReportWords<'static> = ReportWords {
+    file: "t1.db",
+    level: ReportLevel::Verbose,
+    metrics: ReportMetrics {
+        line: false,
+        logic: false,
+        toggle: true,
+        fsm: false,
+        memory: true,
+    },
+    by_instance: true,
+    covered: true,
+    output: Some("R"),
+};
+
+fn reads_report(alloc: Global, texts: &[&str], wanted: ReportWords<'static>) -> bool {
+    match words_of(alloc, texts) {
+        Ok(words) => report_of(&words) == Some(wanted),
+        Err(_) => false,
+    }
+}
+
+#[test]
+fn options_of_a_report(rt: HostRuntime) {
+    assert!(rt; reads_report(rt.alloc(), &["report", "t1.db"], SUMMARY));
+    assert!(rt; reads_report(rt.alloc(), OPTIONS, VERBOSE));
+}
