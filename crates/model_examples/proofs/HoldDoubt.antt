@@ -171,4 +171,4 @@ open_one = (_, record { is_path = inl refl; follows = (tt, ((λ fixed. absurd (u
 
 pub doubt_a : IsInDoubt hold Free hold_dump line_one 5 2
 doubt_a =
-    of_block 0 (lit< tt, lit< tt) refl (inl ((cell 0 0, is_clean.can_wake), inr open_one)) (early (a_signal 2) (cell 0 0) refl is_clean (inl (hold_values One Zero Zero Zero Zero, agrees Zero, inr (tt, inl refl))) a_early)
+    of_block 0 (lit< tt, lit< tt) refl (inl ((cell 0 0, is_clean.can_wake), inr open_one)) (early (record { thing = a_signal 2; trigger = cell 0 0; of_owner = refl; is_clean = is_clean; is_read = inl (hold_values One Zero Zero Zero Zero, agrees Zero, inr (tt, inl refl)); is_early = a_early }))

@@ -155,7 +155,7 @@ apart c clean e = suc-ne-zero 3 (ap thing_of e ∙ ap (λ y. y.thing) (only c cl
 doubt_line : IsInDoubt latch Free latch_dump (line_point 1 4 (at 32) Assign) 10 4
 doubt_line =
     of_block 1 (lit< tt, lit< tt) refl (inl ((cell 0 0, is_clean.can_wake), inr open_line))
-    (unclear_at_start (a_signal 4) (lit< tt) refl (cell 0 0, is_clean.can_wake) (inl (latch_values One Zero One X X X, entry, inr (tt, inl refl))) apart (never 9))
+    (unclear_at_start (record { thing = a_signal 4; is_thing = lit< tt; of_owner = refl; can_wake = (cell 0 0, is_clean.can_wake); is_read = inl (latch_values One Zero One X X X, entry, inr (tt, inl refl)); no_trigger = apart; unclear = never 9 }))
 
 -- the net at 5
 settled : Agrees latch (KnownAtEnd latch Free latch_dump 5 2) (latch_dump.values 5)
@@ -171,5 +171,5 @@ latch_example =
       clean = is_clean;
       doubt_line = doubt_line;
       doubt_toggle = of_signal (lit< tt, lit< tt) refl (inl (inr (inl refl))) (inl (never 4));
-      doubt_net = of_block 2 (lit< tt, lit< tt) refl (inr ((λ c. c), open_net)) (unclear_signal 0 (λ c. c) (inl (inr (inl refl))) (lit< tt, lit< tt, (refl, refl)) (inl (never 4)));
+      doubt_net = of_block 2 (lit< tt, lit< tt) refl (inr ((λ c. c), open_net)) (unclear_signal (record { place = 0; not_clocked = λ c. c; may_wake = inl (inr (inl refl)); wake_bit = (lit< tt, lit< tt, (refl, refl)); unclear = inl (never 4) }));
     }

@@ -38,7 +38,7 @@ not_line : IsOpen loop (KnownAtEnd loop Free loop_dump 5 0) (body_at loop 0) (li
 not_line h = ⊎_elim (λ e. no_second h.2.1.0 (subst (In h.2.1.0) (sym e) h.2.1.1) h.2.1.3) (λ n. absurd n) h.1.is_path
 
 doubt_line : IsInDoubt loop Free loop_dump line_set 5 1
-doubt_line = of_block 0 (lit< tt, lit< tt) refl (inr ((λ c. c), open_line)) (own_target tt (inl (inr (inl refl))) refl refl)
+doubt_line = of_block 0 (lit< tt, lit< tt) refl (inr ((λ c. c), open_line)) (own_target (record { is_comb = tt; may_wake = inl (inr (inl refl)); target = refl; reads_first = refl }))
 
 pub loop_example : IsLoopExample
 loop_example = record { is_open = open_line; surely_open = sure_line; not_open = not_line; doubt = doubt_line }

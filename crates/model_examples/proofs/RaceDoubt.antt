@@ -137,5 +137,5 @@ race_example =
       none_early = none_is_early;
       write_reached = ((lit< tt, lit< tt), refl, inl (cell 0 0, writer_is_clean, inl (at_line 1, refl, (race_values One One Zero Zero, writer_agrees, inl refl))));
       if_reached = ((lit< tt, lit< tt), refl, inl (cell 0 0, reader_is_clean, inl (at_line 2, refl, (race_values One One Zero Zero, reader_agrees Zero, inl refl))));
-      doubt = of_block 1 (lit< tt, lit< tt) refl (inl ((cell 0 0, reader_is_clean.can_wake), inr open_one)) (early (a_signal 2) (cell 0 0) refl reader_is_clean (inl (race_values One One Zero Zero, reader_agrees Zero, inr (tt, inl refl))) (a_early Free));
+      doubt = of_block 1 (lit< tt, lit< tt) refl (inl ((cell 0 0, reader_is_clean.can_wake), inr open_one)) (early (record { thing = a_signal 2; trigger = cell 0 0; of_owner = refl; is_clean = reader_is_clean; is_read = inl (race_values One One Zero Zero, reader_agrees Zero, inr (tt, inl refl)); is_early = a_early Free }));
     }

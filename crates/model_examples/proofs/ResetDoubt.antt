@@ -66,7 +66,7 @@ both_example =
       by_rst_n = rst_wakes;
       not_clean = is_not_clean;
       each_open = each_is_open;
-      doubt = of_block 0 (lit< tt, lit< tt) refl (each_is_open line_if) (not_clean (cell 0 0) refl clk_wakes is_not_clean);
+      doubt = of_block 0 (lit< tt, lit< tt) refl (each_is_open line_if) (not_clean (record { event = cell 0 0; of_signal = refl; can_wake = clk_wakes; not_clean = is_not_clean }));
       none_reached = none_is_reached;
     }
 
@@ -131,5 +131,5 @@ release_example =
       clean = is_clean;
       early = rst_early;
       reached = ((lit< tt, lit< tt), refl, inl (cell 0 0, is_clean, inl (at_line 1, refl, (reset_values One Zero One Zero, agrees Zero, inl refl))));
-      doubt = of_block 0 (lit< tt, lit< tt) refl (inl ((cell 0 0, is_clean.can_wake), inr open_reset)) (early (a_signal 1) (cell 0 0) refl is_clean (inl (reset_values One Zero One Zero, agrees Zero, inr (tt, inl refl))) rst_early);
+      doubt = of_block 0 (lit< tt, lit< tt) refl (inl ((cell 0 0, is_clean.can_wake), inr open_reset)) (early (record { thing = a_signal 1; trigger = cell 0 0; of_owner = refl; is_clean = is_clean; is_read = inl (reset_values One Zero One Zero, agrees Zero, inr (tt, inl refl)); is_early = rst_early }));
     }

@@ -53,7 +53,7 @@ pub rom_example : IsRomExample
 rom_example =
     record {
       never_clear = λ t i. never t 2 i;
-      doubt = of_block 0 (lit< tt, lit< tt) refl (inr ((λ c. c), open_net)) (unclear_word 1 (λ c. c) (inl (inr (inl refl))) refl (refl, lit≤ tt, lit≤ tt) (inr (never 5 2 1)) (inl (inl (rom_values One, agrees, inr (tt, inr (has_i, inl refl))))));
+      doubt = of_block 0 (lit< tt, lit< tt) refl (inr ((λ c. c), open_net)) (unclear_word (record { word = 1; not_clocked = λ c. c; may_wake = inl (inr (inl refl)); mentioned = refl; is_thing = (refl, lit≤ tt, lit≤ tt); unclear = inr (never 5 2 1); read_or_moves = inl (inl (rom_values One, agrees, inr (tt, inr (has_i, inl refl)))) }));
     }
   where
     has_i : HasValue (KnownAtEnd rom Free rom_dump 5 0) (a_signal 0)

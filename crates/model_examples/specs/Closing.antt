@@ -41,6 +41,7 @@ closing_dump =
     record {
       times = 0 ∷ 5 ∷ 10 ∷ [];
       bound = λ s. nat_lt s 3;
+      round = λ t. 0;
       values = λ t. if nat_le 10 t then closing_values One One One else (if nat_le 5 t then closing_values Zero One One else closing_values One Zero Zero);
     }
 

@@ -43,6 +43,7 @@ latch_dump =
     record {
       times = 0 ∷ 5 ∷ 10 ∷ 15 ∷ [];
       bound = λ s. nat_lt s 4;
+      round = λ t. 0;
       values = λ t. if nat_le 15 t then latch_values Zero Zero One Zero X X else (if nat_le 10 t then latch_values One Zero One Zero X X else (if nat_le 5 t then latch_values Zero Zero One X X X else latch_values Zero Zero Zero X X X));
     }
 

@@ -39,6 +39,7 @@ loop_dump =
     record {
       times = 0 ∷ 5 ∷ 10 ∷ [];
       bound = λ s. nat_lt s 2;
+      round = λ t. 0;
       values = λ t. if nat_le 10 t then loop_values Zero One else (if nat_le 5 t then loop_values One One else loop_values Zero Zero);
     }
 
