@@ -129,8 +129,8 @@ pub fn body_law()
     ensures listed_memory { (d : DesignTree) → IsLawfulDesign d → ListedMemoryLaw d }
 {}
 
-/// An Assign queues no update. What it visits depends on its wake cells alone, it reads each signal that it mentions, and no line of it is a
-/// line point. A signal that it both drives and mentions has a wake bit of it, or no bit that it reads, and is clear only
+/// An Assign queues no update. What it visits depends on its wake cells alone, it reads each signal that it mentions, and
+/// no line of it is a line point. A signal that it both drives and mentions has a wake bit of it, or no bit that it reads, and is clear only
 /// where the dump has it.
 pub fn assign_law()
     ensures queues { (d : DesignTree) → AssignQueuesLaw d }
