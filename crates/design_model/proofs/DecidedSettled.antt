@@ -1,18 +1,19 @@
 -- A point of Assigns and Combs for which nothing is in doubt is hit in each run that shows the dump, or in none.
-use Rattle.std.proofs.Common.{◌≡◌, ◌≢◌, ◌⊎◌, inl, inr, ⊎_elim, ℕ, zero, suc, ◌<◌, ◌≤◌, ◌==◌, Bool, true, false, List, [], ◌∷◌, ◌++◌, length, nat_le, nat_lt, refl, sym, ap, subst, ◌∙◌, arith, if◌then◌else◌}
+use Rattle.std.proofs.Common.{◌≡◌, ◌≢◌, ◌⊎◌, inl, inr, ⊎_elim, ℕ, zero, suc, ◌<◌, ◌≤◌, ◌==◌, Bool, true, false, List, [], ◌∷◌, ◌++◌, length, nat_le, nat_lt, refl, sym, ap, subst, ◌∙◌, arith, if◌then◌else◌, ap₂, map, ◌+◌}
 use Rattle.std.specs.Prelude.{slice_index_or}
-use Rattle.std.specs.List.{list_all}
-use Rattle.std.proofs.lemmas.Bool.{and_parts, both_ways, cases_Bool, cases_lt, false_from_ne_true, leb-true, ltb-true}
+use Rattle.std.specs.List.{list_all, range_with_len}
+use Rattle.std.proofs.lemmas.Bool.{and_parts, both_ways, cases_Bool, cases_lt, false_from_ne_true, leb-true, lt-ltb, ltb-true}
 use Rattle.event_machine.specs.Cell.{Cell, Values}
 use Rattle.event_machine.specs.Machine.{IsWakeCell}
 use Rattle.event_machine.specs.Habit.{Habit}
 use Rattle.event_machine.specs.Laws.{EvaluatesSettled}
+use Rattle.four_state.specs.Vector.{same_bit}
 use Rattle.four_state.specs.declared.bit.Bit.{Bit}
 use Rattle.design_model.specs.declared.design.Signal.{Signal}
 use Rattle.design_model.specs.Tree.{Process, assign, clocked, comb}
 use Rattle.design_model.specs.Design.{Design, In, IsClocked, IsComb, IsThing, Thing, a_signal, a_word, body_at, cell, is_assign, no_signal, owner, process_at, signal_at}
 use Rattle.design_model.specs.Mentions.{body_assigns, body_mentions, may_write}
-use Rattle.design_model.specs.Execution.{Visit, execution, execution_start, reads}
+use Rattle.design_model.specs.Execution.{Visit, at_line, at_node, execution, execution_start, reads, writes_word}
 use Rattle.design_model.specs.Paths.{reads_signal_before_writing}
 use Rattle.design_model.specs.Reads.{Agrees, HasValue, Known, UpToOutside}
 use Rattle.design_model.specs.Machine.{machine}
@@ -26,6 +27,8 @@ use Rattle.design_model.specs.Open.{IsOpenFor, IsVisitOf, IsWakeBit, KnownAtEnd}
 use Rattle.design_model.specs.Doubt.{BlockDoubt, IsInDoubt, IsUnclear, MayWakeUnlisted, of_block, own_target, unclear_signal}
 use Rattle.design_model.specs.Lawful.{IsLawfulDesign, is_signal, span}
 use Rattle.design_model.specs.DecidedLaw.{IsSignalBlock, SettledDecidedLaw}
+use Rattle.design_model.proofs.Agree.{AllOuter}
+use Rattle.design_model.proofs.AssignLaws.{assign_visits_law}
 use Rattle.design_model.proofs.Assigns.{machine_lawful}
 use Rattle.design_model.proofs.BlockVisits.{all_inside, hit_visit, same_visit, upto_thing, visit_hit}
 use Rattle.design_model.proofs.Combs.{AllInnerOf, IsInnerOf, body_inner}
@@ -33,10 +36,10 @@ use Rattle.design_model.proofs.DecidedClocked.{no_time_hit, step_of}
 use Rattle.design_model.proofs.DecidedSignals.{clear_end_bits, clear_start_bits, stays}
 use Rattle.design_model.proofs.ForcedSound.{clear_at}
 use Rattle.design_model.proofs.Hits.{step_here, upto_in}
-use Rattle.design_model.proofs.Lawful.{any_gives, assigns_any, may_any, place_from}
+use Rattle.design_model.proofs.Lawful.{any_gives, assigns_any, may_any, place_from, same_bit_is, same_bit_self}
 use Rattle.design_model.proofs.MadeSound.{comb_blocks}
 use Rattle.design_model.proofs.Mentions.{AllReads, IsReadOf, execute_reads}
-use Rattle.design_model.proofs.ReadThings.{execute_things}
+use Rattle.design_model.proofs.ReadThings.{AllThings, execute_things}
 use Rattle.design_model.proofs.Reached.{body_outer}
 use Rattle.design_model.proofs.SettledHits.{settling_level}
 use Rattle.design_model.proofs.Sound.{IsSeen, cells_eq, pick_cell, step_or}
@@ -118,6 +121,28 @@ mixed_settled d p a w c same = go (body_mentions c.thing (body_at d p)) refl
     go true e = same e
     go false e = refl
 
+-- u on the bits that signals have, w elsewhere
+within : Design → Values Bit → Values Bit → Values Bit
+within d u w c = if nat_lt c.place (signal_at d c.thing).width then u c else w c
+
+within_here : (d : Design) (u w : Values Bit) (c : Cell) → c.place < (signal_at d c.thing).width → within d u w c ≡ u c
+unfolding within
+within_here d u w c below = ap (λ b. if b then u c else w c) (lt-ltb c.place (signal_at d c.thing).width below)
+
+range_same : (f g : Values Bit) (s n k : ℕ) → ((j : ℕ) → j < n + k → f (cell s j) ≡ g (cell s j)) → map f (map (cell s) (range_with_len n k)) ≡ map g (map (cell s) (range_with_len n k))
+range_same f g s n zero h = refl
+range_same f g s n (suc k) h = ap₂ (λ b bs. b ∷ bs) (h n (omega arith)) (range_same f g s (n + 1) k (λ j below. h j (omega (arith, below))))
+
+outer_within : (d : Design) (u w : Values Bit) (Q : ℕ → Type 0) → ((m i : ℕ) → Q m → IsThing d (a_word m i) → ⊥) → (xs : List Visit) → AllThings d xs → AllReads Q xs → AllOuter d u (within d u w) xs
+outer_within d u w Q none [] a b = tt
+outer_within d u w Q none (at_line n ∷ xs) a b = (tt, outer_within d u w Q none xs a.1 b.1)
+outer_within d u w Q none (at_node n c ∷ xs) a b = (tt, outer_within d u w Q none xs a.1 b.1)
+outer_within d u w Q none (writes_word m i ∷ xs) a b = (tt, outer_within d u w Q none xs a.1 b.1)
+outer_within d u w Q none (reads x true ∷ xs) a b = (tt, outer_within d u w Q none xs a.1 b.1)
+outer_within d u w Q none (reads (a_signal s) false ∷ xs) a b =
+    (range_same u (within d u w) s 0 (signal_at d s).width (λ j below. sym (within_here d u w (cell s j) (omega (arith, below)))), outer_within d u w Q none xs a.1 b.1)
+outer_within d u w Q none (reads (a_word m i) false ∷ xs) a b = absurd (none m i b.0 a.0)
+
 -- a run that shows the dump, over a window time
 module _ (d : Design) (lawful : IsLawfulDesign d) (h : Habit) (laws : StepLaws (machine d) h) (dump : BoundDump) (fits : IsDumpOf d dump) (t : ℕ) (window : IsWindow dump (suc t)) (r : Run) (is_run : IsRun d h r) (shows : Shows d dump r) where
   shown : IsShown dump t × IsShown dump (suc t)
@@ -156,7 +181,7 @@ module _ (d : Design) (lawful : IsLawfulDesign d) (h : Habit) (laws : StepLaws (
     pub acts_scored : IsScored d r k p acts.entry
     acts_scored = to_scored (process_at d p) d r k p acts.entry not_clocked ((acts.earlier, acts.evaluated), (c, wake, over_step))
 
-    on_wakes : (b : Cell) → IsWakeCell (machine d) p b → acts.entry b ≡ settled d r (suc t) b
+    pub on_wakes : (b : Cell) → IsWakeCell (machine d) p b → acts.entry b ≡ settled d r (suc t) b
     on_wakes b w = acts.settled b w ∙ ap (λ f. f b) (end_values d h r is_run k (suc t) at)
 
     abbrev pub state : Values Bit
@@ -211,51 +236,96 @@ module _ (d : Design) (lawful : IsLawfulDesign d) (h : Habit) (laws : StepLaws (
       clear_signal : (s n : ℕ) → IsWakeBit d p (cell s n) → IsUnclear d h dump (suc t) (a_signal s) → ⊥
       clear_signal s n bit unclear = doubt s (unclear_signal (record { place = n; not_clocked = plain.not_clocked; may_wake = may_wake; wake_bit = bit; unclear = unclear }))
 
-      -- what it reads from outside would be in doubt
-      outside_signal : (s : ℕ) → IsSignal d s → UpToOutside K (reads (a_signal s) false) (execution d (body_at d p) v).visits → (HasValue K (a_signal s) → ⊥) → ⊥
-      outside_signal s thing upto unknown = ⊎_elim owned free (cases_Bool (body_assigns s (body_at d p)))
+      -- no word is read
+      no_word : (m i : ℕ) → body_mentions m (body_at d p) ≡ true → IsThing d (a_word m i) → ⊥
+      no_word m i mentioned thing =
+          let below : m < length d.signals = plain.signals m (settling_level (process_at d p) m plain.not_clocked mentioned) in
+          let above : length d.signals ≤ m = leb-true (length d.signals) m (and_parts (nat_le (length d.signals) m) _ thing.0).0 in
+          omega (arith, below, above)
+
+      -- what a Comb reads from outside would be in doubt
+      outside_signal : IsComb (process_at d p) → (s : ℕ) → IsSignal d s → UpToOutside K (reads (a_signal s) false) (execution d (body_at d p) v).visits → (HasValue K (a_signal s) → ⊥) → ⊥
+      outside_signal is_comb s thing upto unknown = ⊎_elim owned free (cases_Bool (body_assigns s (body_at d p)))
         where
           mentioned : body_mentions s (body_at d p) ≡ true
           mentioned = read_of (λ z. body_mentions z (body_at d p) ≡ true) (a_signal s) false (execution d (body_at d p) v).visits (execute_reads (λ z. body_mentions z (body_at d p) ≡ true) d (body_at d p) (λ z m. m) (execution_start v) tt) (upto_in K (reads (a_signal s) false) (execution d (body_at d p) v).visits upto)
 
-          of_comb : body_assigns s (body_at d p) ≡ true → IsComb (process_at d p) → ⊥
-          of_comb mine is_comb =
+          owned : body_assigns s (body_at d p) ≡ true → ⊥
+          owned mine =
               ⊎_elim
               (λ early. doubt s (own_target (record { is_comb = is_comb; may_wake = may_wake; target = mine; reads_first = early })))
               (λ late. no_outer s (execution d (body_at d p) v).visits (body_inner d (body_at d p) s v (comb_blocks d (process_at d p) is_comb (lawful.targets p)) late) (upto_in K (reads (a_signal s) false) (execution d (body_at d p) v).visits upto))
               (cases_Bool (reads_signal_before_writing d (body_at d p) s))
-
-          owned : body_assigns s (body_at d p) ≡ true → ⊥
-          owned mine = ⊎_elim (of_comb mine) (λ is_an_assign. both_ways _ (plain.others is_an_assign s mentioned) mine) (kind_of (process_at d p) plain.not_clocked)
 
           free : body_assigns s (body_at d p) ≡ false → ⊥
           free not_mine =
               clear_signal s 0 (thing, some_bits d lawful s thing, (settling_level (process_at d p) s plain.not_clocked mentioned, false_from_ne_true _ (λ e. both_ways _ not_mine (assigns_any d (body_at d p) (cell s 0) (inl e)))))
               (inr (λ has. unknown (has.0, (not_mine, has.1))))
 
-      outside : (z : Thing) → UpToOutside K (reads z false) (execution d (body_at d p) v).visits → (HasValue K z → ⊥) → ⊥
-      outside (a_signal s) upto unknown = outside_signal s (upto_thing d K (a_signal s) (execution d (body_at d p) v).visits (execute_things d (body_at d p) (lawful.bodies p) (execution_start v) tt) upto) upto unknown
-      outside (a_word m i) upto unknown =
-          let thing : IsThing d (a_word m i) = upto_thing d K (a_word m i) (execution d (body_at d p) v).visits (execute_things d (body_at d p) (lawful.bodies p) (execution_start v) tt) upto in
-          let mentioned : body_mentions m (body_at d p) ≡ true = read_of (λ z. body_mentions z (body_at d p) ≡ true) (a_word m i) false (execution d (body_at d p) v).visits (execute_reads (λ z. body_mentions z (body_at d p) ≡ true) d (body_at d p) (λ z m. m) (execution_start v) tt) (upto_in K (reads (a_word m i) false) (execution d (body_at d p) v).visits upto) in
-          let below : m < length d.signals = plain.signals m (settling_level (process_at d p) m plain.not_clocked mentioned) in
-          let above : length d.signals ≤ m = leb-true (length d.signals) m (and_parts (nat_le (length d.signals) m) _ thing.0).0 in
-          omega (arith, below, above)
+      outside : IsComb (process_at d p) → (z : Thing) → UpToOutside K (reads z false) (execution d (body_at d p) v).visits → (HasValue K z → ⊥) → ⊥
+      outside is_comb (a_signal s) upto unknown = outside_signal is_comb s (upto_thing d K (a_signal s) (execution d (body_at d p) v).visits (execute_things d (body_at d p) (lawful.bodies p) (execution_start v) tt) upto) upto unknown
+      outside is_comb (a_word m i) upto unknown =
+          no_word m i
+          (read_of (λ z. body_mentions z (body_at d p) ≡ true) (a_word m i) false (execution d (body_at d p) v).visits (execute_reads (λ z. body_mentions z (body_at d p) ≡ true) d (body_at d p) (λ z m. m) (execution_start v) tt) (upto_in K (reads (a_word m i) false) (execution d (body_at d p) v).visits upto))
+          (upto_thing d K (a_word m i) (execution d (body_at d p) v).visits (execute_things d (body_at d p) (lawful.bodies p) (execution_start v) tt) upto)
+
+      -- a wake cell that a signal has ends the step alike in both runs
+      wake_same : (b : Cell) → IsWakeCell (machine d) p b → b.place < (signal_at d b.thing).width → settled d r (suc t) b ≡ settled d q (suc t) b
+      wake_same b is_wake below = ⊎_elim (λ e. same_bit_is _ _ e) (λ e. absurd (apart e)) (cases_Bool (same_bit (settled d r (suc t) b) (settled d q (suc t) b)))
+        where
+          apart : same_bit (settled d r (suc t) b) (settled d q (suc t) b) ≡ false → ⊥
+          apart e =
+              clear_signal b.thing b.place (plain.signals b.thing is_wake.0, below, is_wake)
+              (inr (λ last. both_ways _ e (subst (λ z. same_bit (settled d r (suc t) b) z ≡ true) (pick_cell d (settled d r (suc t)) (settled d q (suc t)) b (clear_end_bits d lawful h laws dump fits t window r r_run r_shows b.thing last ∙ sym (clear_end_bits d lawful h laws dump fits t window q q_run q_shows b.thing last)) below) (same_bit_self (settled d r (suc t) b)))))
+
+      abbrev u : Values Bit
+      u = (acts d lawful h laws dump fits t window r r_run r_shows p plain.not_clocked k at c wake changes).entry
+
+      abbrev Mentioned : ℕ → Type 0
+      Mentioned z = body_mentions z (body_at d p) ≡ true
+
+      -- over a step of the other run in which the cell changes
+      module _ (differs : settled d q t c ≢ settled d q (suc t) c) (kq : StepOf q) (atq : kq.step.time ≡ suc t) where
+        of_comb : IsComb (process_at d p) → ⊥
+        of_comb is_comb =
+            let e = acts d lawful h laws dump fits t window q q_run q_shows p plain.not_clocked kq atq c wake differs in
+            let w : Values Bit = state d lawful h laws dump fits t window q q_run q_shows p plain.not_clocked kq atq c wake differs in
+            all_inside K (execution d (body_at d p) v).visits (outside is_comb)
+            (λ inside. other kq atq (
+              e.entry,
+              acts_scored d lawful h laws dump fits t window q q_run q_shows p plain.not_clocked kq atq c wake differs,
+              subst (In y) (same_visits d lawful h laws dump fits t window q q_run q_shows p plain.not_clocked kq atq c wake differs) (same_visit d K (body_at d p) v w av (agrees d lawful h laws dump fits t window q q_run q_shows p plain.not_clocked kq atq c wake differs) inside y seen),
+            ))
+
+        abbrev w : Values Bit
+        w = (acts d lawful h laws dump fits t window q q_run q_shows p plain.not_clocked kq atq c wake differs).entry
+
+        on_wakes_same : (b : Cell) → IsWakeCell (machine d) p b → u b ≡ within d w u b
+        unfolding within
+        on_wakes_same b is_wake = go (nat_lt b.place (signal_at d b.thing).width) refl
+          where
+            go : (below : Bool) → nat_lt b.place (signal_at d b.thing).width ≡ below → u b ≡ (if below then w b else u b)
+            go true e =
+                on_wakes d lawful h laws dump fits t window r r_run r_shows p plain.not_clocked k at c wake changes b is_wake
+                ∙ wake_same b is_wake (ltb-true b.place (signal_at d b.thing).width e)
+                ∙ sym (on_wakes d lawful h laws dump fits t window q q_run q_shows p plain.not_clocked kq atq c wake differs b is_wake)
+            go false e = refl
+
+        -- what an Assign visits depends on its wake cells
+        of_assign : is_assign (process_at d p) ≡ true → ⊥
+        of_assign is_an_assign =
+            let e = acts d lawful h laws dump fits t window r r_run r_shows p plain.not_clocked k at c wake changes in
+            let first : visits.0 ≡ e.entry = last_same counts.0.0 e.earlier visits.0 e.entry (sym counts.0.1 ∙ e.evaluated) in
+            let here : In y (execution d (body_at d p) u).visits = subst (λ z. In y (execution d (body_at d p) z).visits) first visits.2 in
+            let there : In y (execution d (body_at d p) (within d w u)).visits = subst (In y) (assign_visits_law d lawful p is_an_assign u (within d w u) on_wakes_same) here in
+            let same : (execution d (body_at d p) w).visits ≡ (execution d (body_at d p) (within d w u)).visits = (execution_same d w (within d w u) (body_at d p) (outer_within d w u Mentioned no_word (execution d (body_at d p) w).visits (execute_things d (body_at d p) (lawful.bodies p) (execution_start w) tt) (execute_reads Mentioned d (body_at d p) (λ z m. m) (execution_start w) tt))).visits in
+            other kq atq (w, acts_scored d lawful h laws dump fits t window q q_run q_shows p plain.not_clocked kq atq c wake differs, subst (In y) (sym same) there)
 
       -- the other run has the same change
       in_other : settled d q t c ≢ settled d q (suc t) c → ⊥
-      in_other differs = ⊎_elim (λ same. differs (ap (λ f. f c) (sym same))) (λ s. at_step s.step s.at) (step_here d h q q_run t)
-        where
-          at_step : (kq : StepOf q) → kq.step.time ≡ suc t → ⊥
-          at_step kq atq =
-              let e = acts d lawful h laws dump fits t window q q_run q_shows p plain.not_clocked kq atq c wake differs in
-              let w : Values Bit = state d lawful h laws dump fits t window q q_run q_shows p plain.not_clocked kq atq c wake differs in
-              all_inside K (execution d (body_at d p) v).visits outside
-              (λ inside. other kq atq (
-                e.entry,
-                acts_scored d lawful h laws dump fits t window q q_run q_shows p plain.not_clocked kq atq c wake differs,
-                subst (In y) (same_visits d lawful h laws dump fits t window q q_run q_shows p plain.not_clocked kq atq c wake differs) (same_visit d K (body_at d p) v w av (agrees d lawful h laws dump fits t window q q_run q_shows p plain.not_clocked kq atq c wake differs) inside y seen),
-              ))
+      in_other differs =
+          ⊎_elim (λ same. differs (ap (λ f. f c) (sym same)))
+          (λ s. ⊎_elim (of_comb differs s.step s.at) (of_assign differs s.step s.at) (kind_of (process_at d p) plain.not_clocked)) (step_here d h q q_run t)
 
       in_range : c.place < (signal_at d c.thing).width → ⊥
       in_range below =

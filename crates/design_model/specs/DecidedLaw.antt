@@ -1,8 +1,7 @@
 -- A point for which nothing is in doubt at a time is hit then in each run that shows the dump, or in none.
-use Rattle.std.specs.Prelude.{◌≡◌, ◌≢◌, ◌<◌, ℕ, true, false, ⊤}
+use Rattle.std.specs.Prelude.{◌≡◌, ◌≢◌, ◌<◌, ℕ, true, ⊤}
 use Rattle.event_machine.specs.Habit.{Habit}
-use Rattle.design_model.specs.Design.{Design, IsClocked, IsThing, a_word, body_at, is_assign, process_at, signal_at}
-use Rattle.design_model.specs.Mentions.{body_assigns, body_mentions}
+use Rattle.design_model.specs.Design.{Design, IsClocked, IsThing, a_word, process_at, signal_at}
 use Rattle.design_model.specs.Machine.{is_level}
 use Rattle.design_model.specs.Run.{IsRun, Run}
 use Rattle.design_model.specs.Shows.{BoundDump, IsDumpOf, IsWindow, Shows}
@@ -45,11 +44,10 @@ HasClockedBlocks d x = (p : ℕ) → IsBlock d x p → IsClocked (process_at d p
 abbrev pub ClockedDecidedLaw : Design → Habit → Type 0
 ClockedDecidedLaw d h = (x : Point) → IsBlockPoint d x → HasClockedBlocks d x → IsDecided d h x
 
--- an Assign or Comb that is sensitive to signals alone, and, an Assign, mentions no signal of which it drives a bit
+-- an Assign or Comb that is sensitive to signals alone
 pub record IsSignalBlock (d : Design) (p : ℕ) : Type 0 where
   pub not_clocked : IsNotClocked d p
   pub signals : (y : ℕ) → is_level (process_at d p) y ≡ true → IsSignal d y
-  pub others : is_assign (process_at d p) ≡ true → (y : ℕ) → body_mentions y (body_at d p) ≡ true → body_assigns y (body_at d p) ≡ false
 
 -- each block of the point is such a one
 abbrev pub HasSignalBlocks : Design → Point → Type 0

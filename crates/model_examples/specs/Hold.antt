@@ -29,7 +29,11 @@ hold =
       instances = one_instance (codes "hold");
       signals = one_bit (codes "clk") true ∷ one_bit (codes "en") true ∷ one_bit (codes "a") true ∷ one_bit (codes "q") false ∷ one_bit (codes "p") false ∷ [];
       memories = [];
-      processes = clocked 0 ((Pos, 0) ∷ []) (block (at 3) (a_stmt (branch (at 5) 1 (signal (counted 1) 2) (set (at 12) 2 false (all_of 3) (bit_number One)) (a_stmt (branch (at 20) 3 (signal (counted 2) 1) (set (at 28) 4 false (all_of 3) (bit_number Zero)) no_stmts) no_stmts)) (a_stmt (set (at 36) 5 false (all_of 4) (signal plain 1)) no_stmts))) ∷ [];
+      processes =
+          clocked 0 ((Pos, 0) ∷ []) (block (at 3)
+          (a_stmt (branch (at 5) 1 (signal (counted 1) 2) (set (at 12) 2 false (all_of 3) (bit_number One))
+          (a_stmt (branch (at 20) 3 (signal (counted 2) 1) (set (at 28) 4 false (all_of 3) (bit_number Zero)) no_stmts) no_stmts))
+          (a_stmt (set (at 36) 5 false (all_of 4) (signal plain 1)) no_stmts))) ∷ [];
       constants = [];
       aliases = [];
     }

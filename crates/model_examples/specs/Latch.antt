@@ -28,7 +28,11 @@ latch =
       instances = one_instance (codes "lat");
       signals = one_bit (codes "clk") true ∷ one_bit (codes "en") true ∷ one_bit (codes "d") true ∷ one_bit (codes "q") false ∷ one_bit (codes "y") false ∷ one_bit (codes "z") false ∷ [];
       memories = [];
-      processes = comb 0 [] (branch (at 13) 1 (signal (counted 1) 1) (set (at 21) 2 true (all_of 4) (signal plain 2)) no_stmts) ∷ clocked 0 ((Pos, 0) ∷ []) (branch (at 25) 3 (signal (counted 2) 4) (set (at 32) 4 false (all_of 3) (bit_number One)) (a_stmt (set (at 45) 5 false (all_of 3) (bit_number Zero)) no_stmts)) ∷ assign 0 (all_of 5) (signal (counted 3) 4) true ∷ [];
+      processes =
+          comb 0 [] (branch (at 13) 1 (signal (counted 1) 1) (set (at 21) 2 true (all_of 4) (signal plain 2)) no_stmts)
+          ∷ clocked 0 ((Pos, 0) ∷ []) (branch (at 25) 3 (signal (counted 2) 4) (set (at 32) 4 false (all_of 3) (bit_number One))
+          (a_stmt (set (at 45) 5 false (all_of 3) (bit_number Zero)) no_stmts))
+          ∷ assign 0 (all_of 5) (signal (counted 3) 4) true ∷ [];
       constants = [];
       aliases = [];
     }

@@ -27,7 +27,10 @@ race =
       instances = one_instance (codes "race");
       signals = one_bit (codes "clk") true ∷ one_bit (codes "d") true ∷ one_bit (codes "a") false ∷ one_bit (codes "b") false ∷ [];
       memories = [];
-      processes = clocked 0 ((Pos, 0) ∷ []) (set (at 25) 1 true (all_of 2) (signal plain 1)) ∷ clocked 0 ((Pos, 0) ∷ []) (branch (at 35) 2 (signal (counted 1) 2) (set (at 42) 3 false (all_of 3) (bit_number One)) (a_stmt (set (at 55) 4 false (all_of 3) (bit_number Zero)) no_stmts)) ∷ [];
+      processes =
+          clocked 0 ((Pos, 0) ∷ []) (set (at 25) 1 true (all_of 2) (signal plain 1))
+          ∷ clocked 0 ((Pos, 0) ∷ []) (branch (at 35) 2 (signal (counted 1) 2) (set (at 42) 3 false (all_of 3) (bit_number One))
+          (a_stmt (set (at 55) 4 false (all_of 3) (bit_number Zero)) no_stmts)) ∷ [];
       constants = [];
       aliases = [];
     }

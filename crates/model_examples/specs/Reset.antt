@@ -27,7 +27,9 @@ reset =
       instances = one_instance (codes "ffr");
       signals = one_bit (codes "clk") true ∷ one_bit (codes "rst_n") true ∷ one_bit (codes "d") true ∷ one_bit (codes "q") false ∷ [];
       memories = [];
-      processes = clocked 0 ((Pos, 0) ∷ (Neg, 1) ∷ []) (branch (at 5) 1 (unary (counted 1) LogicalNot (signal plain 1)) (set (at 17) 2 false (all_of 3) (bit_number Zero)) (a_stmt (set (at 30) 3 false (all_of 3) (signal plain 2)) no_stmts)) ∷ [];
+      processes =
+          clocked 0 ((Pos, 0) ∷ (Neg, 1) ∷ []) (branch (at 5) 1 (unary (counted 1) LogicalNot (signal plain 1)) (set (at 17) 2 false (all_of 3) (bit_number Zero))
+          (a_stmt (set (at 30) 3 false (all_of 3) (signal plain 2)) no_stmts)) ∷ [];
       constants = [];
       aliases = [];
     }

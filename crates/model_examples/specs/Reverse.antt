@@ -27,7 +27,10 @@ reverse =
       instances = one_instance (codes "rev");
       signals = two_bits (codes "a") ∷ two_bits (codes "y") ∷ [];
       memories = [];
-      processes = comb 0 [] (turns (at 3) 1 (a_stmt (set (at 20) 2 true (bits_of 1 (index Zero) 1) (bit plain (signal wide 0) (index One))) (a_stmt (set (at 20) 2 true (bits_of 1 (index One) 1) (bit plain (signal wide 0) (index Zero))) no_stmts))) ∷ [];
+      processes =
+          comb 0 [] (turns (at 3) 1
+          (a_stmt (set (at 20) 2 true (bits_of 1 (index Zero) 1) (bit plain (signal wide 0) (index One)))
+          (a_stmt (set (at 20) 2 true (bits_of 1 (index One) 1) (bit plain (signal wide 0) (index Zero))) no_stmts))) ∷ [];
       constants = [];
       aliases = [];
     }
@@ -39,7 +42,8 @@ reverse_values low high c = slice_index_or (slice_index_or ((low ∷ high ∷ []
 -- The line of the assignment is reached once in each turn, its copies are surely open, and the bits come out reversed.
 pub record IsReverseExample : Type 0 where
   pub visits : (low high : Bit) → (execution reverse (body_at reverse 0) (reverse_values low high)).visits ≡ at_line 1 ∷ at_line 2 ∷ reads (a_signal 0) false ∷ at_line 2 ∷ reads (a_signal 0) false ∷ []
-  pub reversed : (low high : Bit) → bits_after reverse (reverse_values low high) (execution reverse (body_at reverse 0) (reverse_values low high)).blocking (a_signal 1) ≡ high ∷ low ∷ []
+  pub reversed : (low high : Bit)
+      → bits_after reverse (reverse_values low high) (execution reverse (body_at reverse 0) (reverse_values low high)).blocking (a_signal 1) ≡ high ∷ low ∷ []
   pub whole : each_writes_whole reverse (body_at reverse 0) 1 ≡ true
   pub loop_sure : IsSurelyOpen reverse nothing_known (body_at reverse 0) (line_point 0 1 (at 3) For)
   pub turn_sure : IsSurelyOpen reverse nothing_known (body_at reverse 0) (line_point 0 2 (at 20) Assign)
