@@ -41,7 +41,7 @@ pub fn term(
         place: expr.place,
         shape,
     };
-    match &expr.form {
+    match &*expr.form {
         ExprForm::Number(value) => around.number(alloc, *value),
         ExprForm::Name(name) => named(alloc, scope, name, around),
         ExprForm::Bit { of, index } => bit_term(alloc, base, scope, of, index, nodes, around),

@@ -1,5 +1,5 @@
 //! Tests of `verilog_parser`: texts, and the trees or the faults that they give. The kinds of tokens are those of
-//! `verilog_grammar`.
+//! `verilog_grammar`; and the copies and depths of `verilog_tree`.
 #![tactic(auto)]
 
 #[cfg(test)]
@@ -16,3 +16,5 @@ mod modules;
 mod show;
 #[cfg(test)]
 mod source;
+#[cfg(test)]
+mod trees;
