@@ -194,7 +194,7 @@ fn prim(alloc: Global, cursor: &mut Cursor<'_, '_>, depth: u32) -> Result<Measur
     ensures { Gives measured_view (reads verilog grammar depth prim_rule cursor.old) result cursor.new }
 {
     if cursor.sees(Kind::Decimal) || cursor.sees(Kind::Based) {
-        number(cursor)
+        number(alloc, cursor)
     } else if cursor.sees(Kind::Identifier) {
         selects(alloc, cursor, depth)
     } else if cursor.sees(Kind::OpenParen) {
@@ -262,7 +262,7 @@ fn braced(alloc: Global, cursor: &mut Cursor<'_, '_>, depth: u32) -> Result<Meas
     if !cursor.sees(Kind::OpenBrace) {
         let parts = with_others(alloc, cursor, depth, Depth::none(open.place), head)?;
         cursor.take(Kind::CloseBrace)?;
-        return Ok(Measured::concat(open.place, parts)?);
+        return Ok(Measured::concat(alloc, open.place, parts)?);
     }
     cursor.take(Kind::OpenBrace)?;
     let first = expression(alloc, cursor, depth)?;

@@ -18,24 +18,25 @@ use crate::digits::{digits_value, first_digit, low_mask, strange_bit};
 use crate::fault::ReadFault;
 use crate::measured::Measured;
 use four_state::{Bit, Four};
+use std::alloc::Global;
 use verilog_grammar::Kind;
 
 /// A number, with its size before it or without.
 #[tactic(auto, unfolding(verilog_grammar::specs::Expressions::number_rule))]
-pub(crate) fn number(cursor: &mut Cursor<'_, '_>) -> Result<Measured, ReadFault>
+pub(crate) fn number(alloc: Global, cursor: &mut Cursor<'_, '_>) -> Result<Measured, ReadFault>
     ensures { Gives measured_view (reads verilog grammar 0 number_rule cursor.old) result cursor.new }
 {
     if !cursor.sees(Kind::Decimal) {
         let based = cursor.take(Kind::Based)?;
-        return Ok(Measured::number(based.place, based_value(32, based.text)));
+        return Ok(Measured::number(alloc, based.place, based_value(32, based.text))?);
     }
     let decimal = cursor.take(Kind::Decimal)?;
     if !cursor.sees(Kind::Based) {
-        return Ok(Measured::number(decimal.place, decimal_value(decimal.text)));
+        return Ok(Measured::number(alloc, decimal.place, decimal_value(decimal.text))?);
     }
     let based = cursor.take(Kind::Based)?;
     let value = based_value(width_of(decimal.text), based.text);
-    Ok(Measured::number(decimal.place, value))
+    Ok(Measured::number(alloc, decimal.place, value)?)
 }
 
 /// The number that decimal digits write, underscores passed over, cut to 128 bits.

@@ -41,27 +41,27 @@ impl Measured {
     pub(crate) fn is_bit(&self) -> bool
         ensures { result ≡ is_bit_select (measured_view self.now) }
     {
-        matches!(&self.expr.form, ExprForm::Bit { .. })
+        matches!(&*self.expr.form, ExprForm::Bit { .. })
     }
 
     /// A number.
-    pub(crate) fn number(place: Place, value: Four) -> Measured
-        ensures { measured_view result ≡ t.literal place value }
+    pub(crate) fn number(alloc: Global, place: Place, value: Four) -> Result<Measured, NoMemory>
+        ensures { IfOk result (λ e. measured_view e ≡ t.literal place value) }
     {
-        Measured {
-            expr: Expr::number(place, value),
+        Ok(Measured {
+            expr: Expr::number(alloc, place, value)?,
             depth: Depth::alone(place),
-        }
+        })
     }
 
     /// A name.
-    pub(crate) fn name(place: Place, name: Name) -> Measured
-        ensures { measured_view result ≡ t.identifier place name }
+    pub(crate) fn name(alloc: Global, place: Place, name: Name) -> Result<Measured, NoMemory>
+        ensures { IfOk result (λ e. measured_view e ≡ t.identifier place name) }
     {
-        Measured {
-            expr: Expr::name(place, name),
+        Ok(Measured {
+            expr: Expr::name(alloc, place, name)?,
             depth: Depth::alone(place),
-        }
+        })
     }
 
     /// `of[index]`.
@@ -193,13 +193,17 @@ impl Measured {
     }
 
     /// A concatenation of all these, of which this is the depth.
-    pub(crate) fn concat(place: Place, parts: MeasuredList) -> Result<Measured, NoMemory>
+    pub(crate) fn concat(
+        alloc: Global,
+        place: Place,
+        parts: MeasuredList,
+    ) -> Result<Measured, NoMemory>
         requires { parts.start ≡ none place }
         ensures { IfOk result (λ e. measured_view e ≡ t.concatenation place (exprs_of (list_view parts).exprs)) }
     {
         let (exprs, deepest) = parts.into_parts();
         Ok(Measured {
-            expr: Expr::concat(place, exprs),
+            expr: Expr::concat(alloc, place, exprs)?,
             depth: deepest.under()?,
         })
     }

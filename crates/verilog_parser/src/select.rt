@@ -29,7 +29,7 @@ pub(crate) fn identifier(alloc: Global, cursor: &mut Cursor<'_, '_>) -> Result<M
 {
     let token = cursor.take(Kind::Identifier)?;
     let name = Name::from_vec(Vec::from_slice(alloc, token.text)?);
-    Ok(Measured::name(token.place, name))
+    Ok(Measured::name(alloc, token.place, name)?)
 }
 
 /// A name with at most two selects.
@@ -167,7 +167,7 @@ fn targets(alloc: Global, cursor: &mut Cursor<'_, '_>, depth: u32) -> Result<Mea
     let first = target(alloc, cursor, depth)?;
     let all = with_targets(alloc, cursor, depth, Depth::none(open.place), first)?;
     cursor.take(Kind::CloseBrace)?;
-    Ok(Measured::concat(open.place, all)?)
+    Ok(Measured::concat(alloc, open.place, all)?)
 }
 
 /// A left side with those that follow it behind commas. It stands behind what has the depth `start`.

@@ -132,7 +132,7 @@ fn block(
     }
     let parts = statements(alloc, cursor, depth, body)?;
     cursor.take(Kind::End)?;
-    Ok(Statement::block(begin.place, parts))
+    Ok(Statement::block(alloc, begin.place, parts)?)
 }
 
 /// Any number of statements.
@@ -222,7 +222,7 @@ fn case(
     let on = condition(alloc, cursor, depth)?;
     let found = arms(alloc, cursor, depth, body)?;
     cursor.take(Kind::Endcase)?;
-    Ok(Statement::case(word.place, kind, on, found))
+    Ok(Statement::case(alloc, word.place, kind, on, found)?)
 }
 
 /// An arm and the arms behind it.
@@ -414,7 +414,7 @@ fn assignment(
     let blocking = sign(cursor, body)?;
     let right = expression(alloc, cursor, depth)?.into_expr();
     cursor.take(Kind::Semicolon)?;
-    Ok(Statement::set(left.place, left, blocking, right))
+    Ok(Statement::set(alloc, left.place, left, blocking, right)?)
 }
 
 /// A system task that a body may have, or a semicolon alone.
@@ -427,18 +427,18 @@ fn task_or_empty(
     ensures { Gives statement_view (reads verilog grammar depth (task_or_null_rule body) cursor.old) result cursor.new }
 {
     if !sees_task(cursor, body) {
-        return empty(cursor);
+        return empty(alloc, cursor);
     }
     let word = cursor.take_next()?;
     task(alloc, cursor, depth, word.place)
 }
 
 /// A semicolon alone.
-fn empty(cursor: &mut Cursor<'_, '_>) -> Result<Statement, ReadFault>
+fn empty(alloc: Global, cursor: &mut Cursor<'_, '_>) -> Result<Statement, ReadFault>
     ensures { Gives statement_view (reads verilog grammar 0 null_rule cursor.old) result cursor.new }
 {
     let semicolon = cursor.take(Kind::Semicolon)?;
-    Ok(Statement::empty(semicolon.place))
+    Ok(Statement::empty(alloc, semicolon.place)?)
 }
 
 /// What stands behind the word of a system task, which has this place. Its arguments are read and dropped.
@@ -459,7 +459,7 @@ fn task(
         cursor.take(Kind::CloseParen)?;
     }
     cursor.take(Kind::Semicolon)?;
-    Ok(Statement::task(place))
+    Ok(Statement::task(alloc, place)?)
 }
 
 /// Whether the next token begins an expression or is a string.

@@ -1,7 +1,10 @@
-//! Tests of `verilog_parser`: texts, and the trees or the faults that they give.
+//! Tests of `verilog_parser`: texts, and the trees or the faults that they give; and of the copies and depths of
+//! `verilog_tree`.
 #![tactic(auto)]
 
 #[cfg(test)]
 mod show;
 #[cfg(test)]
 mod tests;
+#[cfg(test)]
+mod trees;

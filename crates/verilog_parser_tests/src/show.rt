@@ -86,7 +86,7 @@ impl Shown {
         self.put(front)?;
         self.put(opening(&expr.form))?;
         self.put(tag(&expr.form))?;
-        match &expr.form {
+        match &*expr.form {
             ExprForm::Number(value) => self.four(value)?,
             ExprForm::Name(name) => self.bytes.extend_from_slice(name.as_slice())?,
             ExprForm::Unary(_, a) | ExprForm::Sign(_, a) | ExprForm::Paren(a) => {
@@ -143,7 +143,7 @@ impl Shown {
 
     #[cycle(statement_text)]
     pub(crate) fn statement(&mut self, statement: &Statement) -> Result<(), AllocError> {
-        match &statement.form {
+        match &*statement.form {
             StatementForm::Block(parts) => {
                 self.put("begin")?;
                 for part in parts {
