@@ -1,5 +1,4 @@
 pub mod UncountedTerms
-pub mod StatementViews
 pub mod FlatLists
 pub mod ClearTurns
 pub mod SoundLoops

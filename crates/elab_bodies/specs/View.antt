@@ -1,7 +1,5 @@
 -- The plain trees of the parts of statements.
 use Rattle.std.specs.Prelude.{List, [], ◌∷◌, Option, Some, None}
-use Rattle.std.specs.declared.alloc.Global.{Global}
-use Rattle.std.specs.declared.boxed.Box.{Box}
 use Rattle.cov_host.specs.declared.place.Place.{Place}
 use Rattle.design_model.specs.Tree as t
 use Rattle.design_model.specs.View.{Arm, stmt_form_step, arm_step, stmt_step, stmt_view}
@@ -21,9 +19,9 @@ other_view None = t.no_stmts
 other_view (Some s) = t.a_stmt (stmt_view s) t.no_stmts
 
 -- the else statement, if there is one
-abbrev pub else_view : Option (Box Statement Global) → v.Statements
+abbrev pub else_view : Option Statement → v.Statements
 else_view None = v.no_statements
-else_view (Some s) = v.a_statement (statement_view s.value) v.no_statements
+else_view (Some s) = v.a_statement (statement_view s) v.no_statements
 
 -- none, or the one
 abbrev pub listed : {A : Type 0} → Option A → List A

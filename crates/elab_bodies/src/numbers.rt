@@ -16,7 +16,7 @@ use verilog_tree::{Arm, Expr, Statement, StatementForm};
 pub fn pass_lines(statement: &Statement, line: &mut u32) -> Result<(), NoMemory>
     ensures { OnOk result (line.new ≡ line.old + count.lines (statement_view statement.now)) }
 {
-    match &statement.form {
+    match &*statement.form {
         StatementForm::Block(parts) => pass_all_lines(parts, line),
         StatementForm::If { yes, no, .. } => {
             let _ = take(line)?;
@@ -73,7 +73,7 @@ pub fn pass_statement_nodes(
 ) -> Result<(), NoMemory>
     ensures { OnOk result (nodes.new ≡ nodes.old + count.statement_nodes (binding_of scope.now) (statement_view statement.now)) }
 {
-    match &statement.form {
+    match &*statement.form {
         StatementForm::Block(parts) => pass_all_statement_nodes(scope, parts, nodes),
         StatementForm::If { test, yes, no } => {
             pass_condition_nodes(scope, test, nodes)?;

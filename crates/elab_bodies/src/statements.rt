@@ -48,7 +48,7 @@ pub fn statement(
     ensures kept { OnOk result (binding_of scope.new ≡ binding_of scope.old) }
 {
     let place = statement.place;
-    match &statement.form {
+    match &*statement.form {
         StatementForm::Block(parts) => {
             let parts = statements(alloc, base, scope, parts, line, nodes)?;
             Ok(forms::block(place, parts))
@@ -103,7 +103,7 @@ fn branch(
     base: u32,
     scope: &mut Scope,
     place: Place,
-    no: &Option<Box<Statement>>,
+    no: &Option<Statement>,
     test: &Expr,
     yes: &Statement,
     line: &mut u32,
@@ -130,7 +130,7 @@ fn otherwise(
     alloc: Global,
     base: u32,
     scope: &mut Scope,
-    no: &Option<Box<Statement>>,
+    no: &Option<Statement>,
     line: &mut u32,
     nodes: &mut u32,
 ) -> Result<Option<Stmt>, NoMemory>

@@ -17,7 +17,7 @@ use verilog_tree::{Expr, ExprForm};
 pub fn pass_nodes(scope: &Scope, expr: &Expr, nodes: &mut u32) -> Result<(), NoMemory>
     ensures { OnOk result (nodes.new ≡ nodes.old + count.nodes (binding_of scope.now) (expr_view expr.now)) }
 {
-    match &expr.form {
+    match &*expr.form {
         ExprForm::Number(_) | ExprForm::Name(_) => Ok(()),
         ExprForm::Bit { of, index } => {
             pass_nodes(scope, of, nodes)?;

@@ -43,7 +43,7 @@ fn unsigned(width: u8) -> Shape
 }
 
 /// An expression with a 0 bit before it.
-#[tactic(auto, using(elab_const::proofs::ViewLemmas::place_is))]
+#[tactic(auto, using(verilog_tree::proofs::ExprViews::place_is))]
 fn behind_zero(
     alloc: Global,
     base: u32,
@@ -97,7 +97,7 @@ fn with_sign_bit(
 
 /// The number of an expression as a signed term of so many bits. What gives it has its own width, whatever stands
 /// around it.
-#[tactic(auto, using(elab_const::proofs::ViewLemmas::place_is))]
+#[tactic(auto, using(verilog_tree::proofs::ExprViews::place_is))]
 pub(crate) fn signed_term(
     alloc: Global,
     base: u32,
@@ -133,7 +133,7 @@ fn moved_width(index: Shape) -> u8
 }
 
 /// An expression as a signed term that is moved up or down.
-#[tactic(auto, using(elab_const::proofs::ViewLemmas::place_is))]
+#[tactic(auto, using(verilog_tree::proofs::ExprViews::place_is))]
 fn moved_term(
     alloc: Global,
     base: u32,
@@ -163,7 +163,7 @@ fn moved_term(
 }
 
 /// The highest of 128 bits.
-#[tactic(auto, using(elab_const::proofs::ViewLemmas::place_is))]
+#[tactic(auto, using(verilog_tree::proofs::ExprViews::place_is))]
 fn highest_bit(
     alloc: Global,
     base: u32,
@@ -196,7 +196,7 @@ fn highest_bit(
 }
 
 /// All x where the highest of 128 unsigned bits is 1, since no range has such an index, and else the moved index.
-#[tactic(auto, using(elab_const::proofs::ViewLemmas::place_is))]
+#[tactic(auto, using(verilog_tree::proofs::ExprViews::place_is))]
 fn guarded_term(
     alloc: Global,
     base: u32,

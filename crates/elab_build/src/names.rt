@@ -36,7 +36,7 @@ pub(crate) fn memory_of(base: u32, scope: &Scope, expr: &Expr) -> Option<u32>
     requires { base ≤ 65536 }
     ensures { result ≡ (if of.is_memory_name (binding_of scope.now) (expr_view expr.now) then Some (thing_number base (thing_of (look_up (binding_of scope.now) (base_name (expr_view expr.now)).name))) else None) }
 {
-    match &expr.form {
+    match &*expr.form {
         ExprForm::Name(name) => match scope.get(name.as_slice()) {
             Some(Entry::Memory(memory)) => Some(base + memory.number),
             _ => None,
@@ -49,7 +49,7 @@ pub(crate) fn memory_of(base: u32, scope: &Scope, expr: &Expr) -> Option<u32>
 fn bare(expr: &Expr) -> &Expr
     ensures { expr_view result.now ≡ count.bare (expr_view expr.now) }
 {
-    match &expr.form {
+    match &*expr.form {
         ExprForm::Paren(inner) => bare(inner),
         _ => expr,
     }
@@ -60,7 +60,7 @@ fn is_operator(expr: &Expr) -> bool
     ensures { result ≡ count.is_operator (expr_view expr.now) }
 {
     matches!(
-        &expr.form,
+        &*expr.form,
         ExprForm::Unary(_, _) | ExprForm::Binary(_, _, _)
     )
 }

@@ -130,7 +130,7 @@ pub fn target(
     ensures built { IfOk result (λ x. target_view x ≡ spec.target base (binding_of scope.now) (expr_view expr.now) nodes.old) }
     ensures counted { OnOk result (nodes.new ≡ nodes.old + count.nodes (binding_of scope.now) (expr_view expr.now)) }
 {
-    match &expr.form {
+    match &*expr.form {
         ExprForm::Name(_) => Ok(Target::Whole(thing_number(base, scope, expr))),
         ExprForm::Bit { of, index } => {
             let thing = thing_number(base, scope, of);

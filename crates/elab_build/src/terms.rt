@@ -41,7 +41,7 @@ pub fn term(
         place: expr.place,
         shape,
     };
-    match &expr.form {
+    match &*expr.form {
         ExprForm::Number(value) => Ok(around.number(*value)),
         ExprForm::Name(name) => Ok(named(scope, name, around)),
         ExprForm::Bit { of, index } => bit_term(alloc, base, scope, of, index, nodes, around),

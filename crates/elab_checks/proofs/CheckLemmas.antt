@@ -1,15 +1,8 @@
 -- The faults of selects, numbers and lists of parts, as they are told in turn.
 use Rattle.std.proofs.Common.{◌≡◌, ◌∙◌, refl, sym, ap, ℕ, nat_lt, Bool, true, false, ◌&&◌, if◌then◌else◌, List, [], ◌++◌, Some, None, arith}
 use Rattle.std.proofs.lemmas.Bool.Decides.{nat_tests}
-use Rattle.std.specs.Global.{Vec}
 use Rattle.cov_host.specs.declared.place.Place.{Place}
-use Rattle.verilog_tree.specs.Tree as t
 use Rattle.verilog_tree.specs.Tree.{Expr}
-use Rattle.verilog_tree.specs.View.{expr_view, exprs_view}
-use Rattle.verilog_tree.specs.declared.expr.Expr as code
-use Rattle.verilog_tree.specs.declared.expr.ExprForm as form
-use Rattle.verilog_tree.specs.declared.expr.ExprForm.TheFolds.{fold_out-Expr, fold-roll-ExprForm}
-use Rattle.verilog_tree.specs.declared.expr.ExprForm.TheVariants.{rolls-Concat}
 use Rattle.elab_const.specs.Faults.{is_below_one, size_fault}
 use Rattle.elab_const.specs.Meaning.{number_of}
 use Rattle.elab_const.specs.Scope as const
@@ -38,10 +31,6 @@ right_false false b e = refl
 with_true : (a : Bool) → (a && true) ≡ a
 with_true true = refl
 with_true false = refl
-
--- the plain tree of parts side by side
-pub concat_view : (e : code.Expr) (v : Vec code.Expr) → e.form ≡ form.Concat v → expr_view e ≡ t.concatenation e.place (t.exprs_of (exprs_view v.items))
-concat_view e v is = rw (fold_out-Expr, is, ← rolls-Concat v, fold-roll-ExprForm) refl
 
 -- what is told after other faults, where the test holds
 pub goes_both : (t u v : Tally) (s r : Bool) (xs ys : List Fault) (test : Bool) → u ≡ after_faults t xs → s ≡ none xs → v ≡ after_faults u ys → r ≡ none ys → test ≡ true →

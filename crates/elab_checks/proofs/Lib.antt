@@ -6,8 +6,6 @@ pub mod MetLemmas
 pub mod OffsetLemmas
 pub mod TargetLemmas
 pub mod RestoredLemmas
-pub mod TreeLemmas
 pub mod TurnLemmas
 pub mod WritingLemmas
 pub mod StatementLemmas
-pub mod StatementViews

@@ -31,7 +31,7 @@ pub fn check<'a>(scope: &Scope, expr: &'a Expr, tally: &mut Tally<'a>) -> bool
     ensures met { tally.new ≡ after_faults tally.old (faults (binding_of scope.now) (expr_view expr.now)) }
     ensures sound { result ≡ none (faults (binding_of scope.now) (expr_view expr.now)) }
 {
-    match &expr.form {
+    match &*expr.form {
         ExprForm::Number(_) => true,
         ExprForm::Name(name) => {
             let name = NameAt {

@@ -53,7 +53,7 @@ pub(crate) fn bits_of(scope: &Scope, signal: SignalEntry, expr: &Expr) -> Bits
     ensures value { bits_view result ≡ spec.offsets (binding_of scope.now) (Some (Signal signal)) (expr_view expr.now) }
     ensures within { IsWithinWord result }
 {
-    match &expr.form {
+    match &*expr.form {
         ExprForm::Bit { index, .. } => bit(scope, signal, index),
         ExprForm::Part { low, .. } => part(scope, signal, low, shape(scope, expr).width),
         ExprForm::Slide {

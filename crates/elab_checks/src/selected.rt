@@ -131,7 +131,7 @@ fn part_width(range: Range, high: u32, low: u32) -> u128
 pub(crate) fn memory_named(scope: &Scope, of: &Expr) -> Option<MemoryEntry>
     ensures { MatchOption result (is_memory_name (binding_of scope.now) (expr_view of.now) ≡ false) (λ m. (is_memory_name (binding_of scope.now) (expr_view of.now) ≡ true) × (look_up (binding_of scope.now) (spec_base_name (expr_view of.now)).name ≡ Some (Memory m))) }
 {
-    match &of.form {
+    match &*of.form {
         ExprForm::Name(name) => match scope.get(name.as_slice()) {
             Some(Entry::Memory(memory)) => Some(*memory),
             _ => None,
@@ -190,9 +190,9 @@ pub(crate) fn has_part(range: Range, high: u32, low: u32) -> bool
 pub(crate) fn selection<'a>(scope: &Scope, of: &'a Expr) -> Selected<'a>
     ensures { selected_view result ≡ spec.selected (binding_of scope.now) (expr_view of.now) }
 {
-    match &of.form {
+    match &*of.form {
         ExprForm::Name(name) => selection_of_name(scope.get(name.as_slice()), base_name(of)),
-        ExprForm::Bit { of: word, .. } => match &word.form {
+        ExprForm::Bit { of: word, .. } => match &*word.form {
             ExprForm::Name(name) => selection_of_word(scope.get(name.as_slice()), base_name(word)),
             _ => Selected::NoBits(base_name(of)),
         },

@@ -38,7 +38,7 @@ pub fn check_statement<'a>(
         return Ok(());
     }
     tally.statement(statement.place);
-    match &statement.form {
+    match &*statement.form {
         StatementForm::Block(parts) => {
             check_statements(alloc, scope, mode, process, parts, tally)
         }

@@ -25,7 +25,7 @@ pub fn check_target<'a>(scope: &Scope, mode: Mode, expr: &'a Expr, tally: &mut T
     ensures met { tally.new ≡ after_faults tally.old (spec.target_faults (binding_of scope.now) mode (expr_view expr.now)) }
     ensures sound { result ≡ none (spec.target_faults (binding_of scope.now) mode (expr_view expr.now)) }
 {
-    match &expr.form {
+    match &*expr.form {
         ExprForm::Concat(parts) => {
             if !check_all_targets(scope, mode, parts, tally) {
                 return false;
@@ -128,7 +128,7 @@ fn check_fixed<'a>(scope: &Scope, expr: &'a Expr, tally: &mut Tally<'a>) -> bool
     ensures met { tally.new ≡ after_faults tally.old (spec.fixed_faults (binding_of scope.now) (expr_view expr.now)) }
     ensures sound { result ≡ none (spec.fixed_faults (binding_of scope.now) (expr_view expr.now)) }
 {
-    match &expr.form {
+    match &*expr.form {
         ExprForm::Bit { index, .. } => check_number(scope, index, tally),
         ExprForm::Slide { base, .. } => check_number(scope, base, tally),
         _ => true,
@@ -151,7 +151,7 @@ fn check_memory<'a>(scope: &Scope, mode: Mode, expr: &'a Expr, tally: &mut Tally
 fn is_part_of_word(expr: &Expr) -> bool
     ensures { result ≡ spec.is_part_of_word (expr_view expr.now) }
 {
-    match &expr.form {
+    match &*expr.form {
         ExprForm::Name(_) => false,
         ExprForm::Bit { of, .. } | ExprForm::Part { of, .. } | ExprForm::Slide { of, .. } =>
             !is_name(of),
@@ -163,5 +163,5 @@ fn is_part_of_word(expr: &Expr) -> bool
 pub(crate) fn is_name(expr: &Expr) -> bool
     ensures { result ≡ is_identifier (expr_view expr.now) }
 {
-    matches!(&expr.form, ExprForm::Name(_))
+    matches!(&*expr.form, ExprForm::Name(_))
 }

@@ -21,7 +21,7 @@ pub(crate) fn check_declared<'a>(scope: &Scope, expr: &'a Expr, tally: &mut Tall
     ensures met { tally.new ≡ after_faults tally.old (spec.undeclared (binding_of scope.now) (expr_view expr.now)) }
     ensures sound { result ≡ none (spec.undeclared (binding_of scope.now) (expr_view expr.now)) }
 {
-    match &expr.form {
+    match &*expr.form {
         ExprForm::Number(_) => true,
         ExprForm::Name(name) => {
             let name = NameAt {

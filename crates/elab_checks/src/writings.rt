@@ -82,7 +82,7 @@ fn add_writings<'a>(
     ensures value { OnOk result (map writing_view all.new.items ≡ map writing_view all.old.items ++ map (writing_of (binding_of scope.now) writer.blocking writer.continuous writer.process) (leaves (expr_view expr.now))) }
     ensures within { OnOk result (All IsWithin all.new.items) }
 {
-    let ExprForm::Concat(parts) = &expr.form else {
+    let ExprForm::Concat(parts) = &*expr.form else {
         return add_writing(scope, writer, expr, all);
     };
     for part in parts {

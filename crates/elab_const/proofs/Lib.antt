@@ -1,5 +1,4 @@
 pub mod AnswerLemmas
-pub mod ViewLemmas
 pub mod ValueLemmas
 pub mod LoopLemmas
 pub mod ScopeLemmas

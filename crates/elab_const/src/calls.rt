@@ -71,7 +71,7 @@ pub fn turns(alloc: Global, header: &For, scope: &Scope) -> Result<Turns, ConstF
 fn variable_of<'a>(name: &'a Expr, target: &Expr) -> Option<&'a Name>
     ensures { option_copied result ≡ spec.variable_of (expr_view name.now) (expr_view target.now) }
 {
-    match (&name.form, &target.form) {
+    match (&*name.form, &*target.form) {
         (ExprForm::Name(name), ExprForm::Name(target)) if name.as_slice() == target.as_slice() => {
             Some(name)
         }

@@ -13,7 +13,7 @@ use verilog_tree::{Expr, ExprForm};
 pub(crate) fn is_constant(names: &Names, expr: &Expr) -> bool
     ensures { result ≡ spec.is_constant (look_up names.now) (expr_view expr.now) }
 {
-    match &expr.form {
+    match &*expr.form {
         ExprForm::Number(_) => true,
         ExprForm::Name(name) => {
             matches!(names.get(name), Some(Entry::Constant(_) | Entry::Turn(_)))

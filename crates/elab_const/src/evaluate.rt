@@ -33,7 +33,7 @@ pub(crate) fn measure(names: &Names, expr: &Expr) -> Result<Shape, Fault>
     ensures answer { result ≡ spec.shape_answer (look_up names.now) (expr_view expr.now) }
     ensures within { IfOk result IsShape }
 {
-    match &expr.form {
+    match &*expr.form {
         ExprForm::Number(number) => Ok(Shape::of_number(number)),
         ExprForm::Name(name) => named_shape(expr.place, names.get(name)),
         ExprForm::Bit { of, index } => {
@@ -166,7 +166,7 @@ pub(crate) fn evaluate(
     ensures answer { result ≡ spec.evaluated_answer (look_up names.now) (expr_view expr.now) around }
     ensures within { IfOk result (λ e. IsShape e.shape) }
 {
-    match &expr.form {
+    match &*expr.form {
         ExprForm::Number(value) => Ok(Evaluated::of(Shape::of_number(value), value, around)),
         ExprForm::Name(name) => named(expr.place, names.get(name), around),
         ExprForm::Bit { .. } => unread(measure(names, expr), around),

@@ -16,7 +16,7 @@ pub(crate) fn select_shape(names: &Names, of: &Expr) -> Shape
     ensures value { result ≡ meaning.select_shape (look_up names.now) (expr_view of.now) }
     ensures within { IsShape result }
 {
-    match &of.form {
+    match &*of.form {
         ExprForm::Name(name) => indexed_shape(names.get(name)),
         _ => Shape::one_bit(),
     }
@@ -41,9 +41,9 @@ fn indexed_shape(entry: Option<&Entry>) -> Shape
 pub(crate) fn falls(names: &Names, of: &Expr) -> bool
     ensures { result ≡ meaning.falls (look_up names.now) (expr_view of.now) }
 {
-    match &of.form {
+    match &*of.form {
         ExprForm::Name(name) => signal_falls(names.get(name)),
-        ExprForm::Bit { of, .. } => match &of.form {
+        ExprForm::Bit { of, .. } => match &*of.form {
             ExprForm::Name(name) => word_falls(names.get(name)),
             _ => true,
         },

@@ -10,7 +10,7 @@ use verilog_tree::{Expr, ExprForm};
 pub(crate) fn repeats(expr: &Expr) -> u64
     ensures { result ≡ min (spec.repeats (expr_view expr.now)) 18446744073709551615 }
 {
-    match &expr.form {
+    match &*expr.form {
         ExprForm::Number(_) | ExprForm::Name(_) => 0,
         ExprForm::Bit { of, index } => repeats(of).saturating_add(repeats(index)),
         ExprForm::Part { of, high, low, .. } => {

@@ -134,26 +134,26 @@ fn add_item_params<'a>(
 pub fn check_constants<'a>(
     alloc: Global,
     overrides: &[Override],
-    module: &'a Module,
+    definition: &'a Module,
     tally: &mut Tally<'a>,
 ) -> Result<Constants<'a>, NoMemory>
-    ensures found { IfOk result (λ constants. bindings_view constants.found.items ≡ of.constants (overrides_view overrides.now) (module_view module.now)) }
-    ensures scope { IfOk result (λ constants. binding_of constants.scope ≡ of.constant_scope (overrides_view overrides.now) (module_view module.now)) }
-    ensures met { OnOk result (tally.new ≡ after_faults tally.old (spec.constants_faults (of.other_names (module_view module.now)) (overrides_view overrides.now) [] (params_of (module_view module.now)))) }
+    ensures found { IfOk result (λ constants. bindings_view constants.found.items ≡ of.constants (overrides_view overrides.now) (module_view definition.now)) }
+    ensures scope { IfOk result (λ constants. binding_of constants.scope ≡ of.constant_scope (overrides_view overrides.now) (module_view definition.now)) }
+    ensures met { OnOk result (tally.new ≡ after_faults tally.old (spec.constants_faults (of.other_names (module_view definition.now)) (overrides_view overrides.now) [] (params_of (module_view definition.now)))) }
 {
     let mut constants = Constants {
-        module,
-        scope: other_names(alloc, module)?,
+        module: definition,
+        scope: other_names(alloc, definition)?,
         found: Vec::new(alloc),
     };
     add_params(
         alloc,
         overrides,
-        module.params.as_slice(),
+        definition.params.as_slice(),
         &mut constants,
         tally,
     )?;
-    for item in module.items.as_slice() {
+    for item in definition.items.as_slice() {
         add_item_params(alloc, overrides, &item.form, &mut constants, tally)?;
     }
     Ok(constants)

@@ -151,16 +151,16 @@ pub(crate) fn check_directions<'a>(
 pub fn check_declarations<'a>(
     alloc: Global,
     scope: &Scope,
-    module: &'a Module,
+    definition: &'a Module,
     tally: &mut Tally<'a>,
 ) -> Result<Declarations<'a>, NoMemory>
-    ensures names { IfOk result (λ d. d ≡ spec.declarations (binding_of scope.now) (module_view module.now)) }
+    ensures names { IfOk result (λ d. d ≡ spec.declarations (binding_of scope.now) (module_view definition.now)) }
     ensures within { IfOk result (All IsInBounds) }
-    ensures met { OnOk result (tally.new ≡ after_faults tally.old (range_faults (binding_of scope.now) (module_view module.now) ++ spec.twice_faults [] (spec.all_declarations (binding_of scope.now) (module_view module.now)) ++ spec.listed_twice [] module.now.ports ++ spec.direction_faults (spec.declarations (binding_of scope.now) (module_view module.now)) module.now.ports)) }
+    ensures met { OnOk result (tally.new ≡ after_faults tally.old (range_faults (binding_of scope.now) (module_view definition.now) ++ spec.twice_faults [] (spec.all_declarations (binding_of scope.now) (module_view definition.now)) ++ spec.listed_twice [] definition.now.ports ++ spec.direction_faults (spec.declarations (binding_of scope.now) (module_view definition.now)) definition.now.ports)) }
 {
-    let all = all_declarations(alloc, scope, module, tally)?;
+    let all = all_declarations(alloc, scope, definition, tally)?;
     let declared = declare_all(alloc, &all, tally)?;
-    check_listed(alloc, module.ports.as_slice(), tally)?;
-    check_directions(&declared, module.ports.as_slice(), tally);
+    check_listed(alloc, definition.ports.as_slice(), tally)?;
+    check_directions(&declared, definition.ports.as_slice(), tally);
     Ok(declared)
 }

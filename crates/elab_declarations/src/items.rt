@@ -285,15 +285,15 @@ fn push_header<'a>(list: &mut Vec<Declaration<'a>>, params: &'a [Param]) -> Resu
 pub(crate) fn all_declarations<'a>(
     alloc: Global,
     scope: &Scope,
-    module: &'a Module,
+    definition: &'a Module,
     tally: &mut Tally<'a>,
 ) -> Result<Vec<Declaration<'a>>, NoMemory>
-    ensures names { IfOk result (λ list. declarations_view list.items ≡ spec.all_declarations (binding_of scope.now) (module_view module.now)) }
-    ensures met { OnOk result (tally.new ≡ after_faults tally.old (range_faults (binding_of scope.now) (module_view module.now))) }
+    ensures names { IfOk result (λ list. declarations_view list.items ≡ spec.all_declarations (binding_of scope.now) (module_view definition.now)) }
+    ensures met { OnOk result (tally.new ≡ after_faults tally.old (range_faults (binding_of scope.now) (module_view definition.now))) }
 {
     let mut list = Vec::new(alloc);
-    push_header(&mut list, module.params.as_slice())?;
-    for item in module.items.as_slice() {
+    push_header(&mut list, definition.params.as_slice())?;
+    for item in definition.items.as_slice() {
         declare_item(alloc, scope, item, &mut list, tally)?;
     }
     Ok(list)

@@ -69,12 +69,12 @@ fn add_item(scope: &mut Scope, form: &ItemForm) -> Result<(), NoMemory>
 }
 
 /// All names that a module declares, as no constants.
-pub(crate) fn other_names(alloc: Global, module: &Module) -> Result<Scope, NoMemory>
-    ensures { IfOk result (λ scope. binding_of scope ≡ of.other_names (module_view module.now)) }
+pub(crate) fn other_names(alloc: Global, definition: &Module) -> Result<Scope, NoMemory>
+    ensures { IfOk result (λ scope. binding_of scope ≡ of.other_names (module_view definition.now)) }
 {
     let mut scope = Scope::new(alloc);
-    add_params(&mut scope, module.params.as_slice())?;
-    for item in module.items.as_slice() {
+    add_params(&mut scope, definition.params.as_slice())?;
+    for item in definition.items.as_slice() {
         add_item(&mut scope, &item.form)?;
     }
     Ok(scope)

@@ -4,4 +4,3 @@ pub mod NamesLemmas
 pub mod OpeningLemmas
 pub mod PartLemmas
 pub mod RoleLemmas
-pub mod StatementViews

@@ -28,7 +28,7 @@ pub(crate) fn add_name<'a>(names: &mut NameSet<'a>, name: NameAt<'a>) -> Result<
 fn add_expr<'a>(names: &mut NameSet<'a>, expr: &'a Expr) -> Result<(), NoMemory>
     ensures { OnOk result (has names.new ≡ with_names (spec.identifiers (expr_view expr.now)) (has names.old)) }
 {
-    match &expr.form {
+    match &*expr.form {
         ExprForm::Number(_) => Ok(()),
         ExprForm::Name(name) => add_name(
             names,
@@ -94,7 +94,7 @@ fn add_exprs<'a>(names: &mut NameSet<'a>, exprs: &'a [Expr]) -> Result<(), NoMem
 fn add_statement<'a>(names: &mut NameSet<'a>, statement: &'a Statement) -> Result<(), NoMemory>
     ensures { OnOk result (has names.new ≡ with_names (spec.body_identifiers (statement_view statement.now)) (has names.old)) }
 {
-    match &statement.form {
+    match &*statement.form {
         StatementForm::Block(parts) => add_statements(names, parts),
         StatementForm::If { test, yes, no } => {
             add_expr(names, test)?;

@@ -17,7 +17,7 @@ use verilog_tree::{Arm, ItemForm, Statement, StatementForm};
 fn add_loops<'a>(names: &mut NameSet<'a>, statement: &'a Statement) -> Result<(), NoMemory>
     ensures { OnOk result (has names.new ≡ with_names (spec.loop_names (statement_view statement.now)) (has names.old)) }
 {
-    match &statement.form {
+    match &*statement.form {
         StatementForm::Block(parts) => add_all_loops(names, parts),
         StatementForm::If { yes, no, .. } => {
             add_loops(names, yes)?;

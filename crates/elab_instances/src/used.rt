@@ -24,12 +24,12 @@ impl<'a> Uses<'a> {
     ghost use Rattle.elab_instances.specs.Uses.{named_by};
 
     /// The names of a module.
-    pub fn new(alloc: Global, module: &'a Module) -> Result<Uses<'a>, NoMemory>
-        ensures { IfOk result (λ uses. named_by uses ≡ of.is_named_signal (module_view «module».now)) }
+    pub fn new(alloc: Global, definition: &'a Module) -> Result<Uses<'a>, NoMemory>
+        ensures { IfOk result (λ uses. named_by uses ≡ of.is_named_signal (module_view definition.now)) }
     {
         Ok(Uses {
-            used: used_names(alloc, module)?,
-            loops: loop_variables(alloc, module)?,
+            used: used_names(alloc, definition)?,
+            loops: loop_variables(alloc, definition)?,
         })
     }
 
@@ -42,22 +42,22 @@ impl<'a> Uses<'a> {
 }
 
 /// The names in processes and connections.
-fn used_names<'a>(alloc: Global, module: &'a Module) -> Result<NameSet<'a>, NoMemory>
-    ensures { IfOk result (λ set. has set ≡ is_among (of.used_names (module_view «module».now))) }
+fn used_names<'a>(alloc: Global, definition: &'a Module) -> Result<NameSet<'a>, NoMemory>
+    ensures { IfOk result (λ set. has set ≡ is_among (of.used_names (module_view definition.now))) }
 {
     let mut names = NameSet::new(alloc);
-    for item in module.items.as_slice() {
+    for item in definition.items.as_slice() {
         add_item(&mut names, &item.form)?;
     }
     Ok(names)
 }
 
 /// The names over which loops go.
-fn loop_variables<'a>(alloc: Global, module: &'a Module) -> Result<NameSet<'a>, NoMemory>
-    ensures { IfOk result (λ set. has set ≡ is_among (of.loop_variables (module_view «module».now))) }
+fn loop_variables<'a>(alloc: Global, definition: &'a Module) -> Result<NameSet<'a>, NoMemory>
+    ensures { IfOk result (λ set. has set ≡ is_among (of.loop_variables (module_view definition.now))) }
 {
     let mut names = NameSet::new(alloc);
-    for item in module.items.as_slice() {
+    for item in definition.items.as_slice() {
         add_item_loops(&mut names, &item.form)?;
     }
     Ok(names)

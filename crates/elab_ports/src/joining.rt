@@ -78,7 +78,7 @@ fn join_name(port: &Declaration, entry: Option<&Entry>) -> Joined
 fn is_name(expr: &Expr) -> bool
     ensures { result ≡ is_identifier (expr_view expr.now) }
 {
-    matches!(&expr.form, ExprForm::Name(_))
+    matches!(&*expr.form, ExprForm::Name(_))
 }
 
 /// The fault of an output that is joined to what is no concatenation, if there is one: to what is no net or is an
@@ -121,7 +121,7 @@ fn check_output<'a>(scope: &Scope, label: NameAt<'a>, expr: &'a Expr, tally: &mu
     ensures met { tally.new ≡ after_faults tally.old (spec.output_faults (binding_of scope.now) (name_view label.entry) (expr_view expr.now)) }
     ensures sound { result ≡ none (spec.output_faults (binding_of scope.now) (name_view label.entry) (expr_view expr.now)) }
 {
-    match &expr.form {
+    match &*expr.form {
         ExprForm::Concat(parts) => check_outputs(scope, label, parts, tally),
         _ => check_output_leaf(scope, label, expr, tally),
     }

@@ -44,12 +44,12 @@ fn push_item_free<'a>(names: &mut Vec<NameAt<'a>>, form: &'a ItemForm) -> Result
 }
 
 /// The parameters of a module that may be given another value, in order of text.
-fn free_names<'a>(alloc: Global, module: &'a Module) -> Result<Vec<NameAt<'a>>, NoMemory>
-    ensures { IfOk result (λ names. names_view names.items ≡ spec.free_names (module_view module.now)) }
+fn free_names<'a>(alloc: Global, definition: &'a Module) -> Result<Vec<NameAt<'a>>, NoMemory>
+    ensures { IfOk result (λ names. names_view names.items ≡ spec.free_names (module_view definition.now)) }
 {
     let mut names = Vec::new(alloc);
-    push_free(&mut names, module.params.as_slice())?;
-    for item in module.items.as_slice() {
+    push_free(&mut names, definition.params.as_slice())?;
+    for item in definition.items.as_slice() {
         push_item_free(&mut names, &item.form)?;
     }
     Ok(names)
@@ -142,14 +142,14 @@ pub fn check_overrides<'a>(
     alloc: Global,
     scope: &Scope,
     label: NameAt<'a>,
-    module: &'a Module,
+    definition: &'a Module,
     given: &'a [Given],
     tally: &mut Tally<'a>,
 ) -> Result<Option<Vec<Override>>, NoMemory>
-    ensures met { OnOk result (tally.new ≡ after_faults tally.old (spec.override_faults (binding_of scope.now) (name_view label.entry) (module_view module.now) (givens_view given.now))) }
-    ensures found { IfOk result (λ found. option_map (λ os. overrides_view os.items) found ≡ (if spec.are_sound_overrides (binding_of scope.now) (name_view label.entry) (module_view module.now) (givens_view given.now) then Some (spec.overrides (binding_of scope.now) (name_view label.entry) (module_view module.now) (givens_view given.now)) else None)) }
+    ensures met { OnOk result (tally.new ≡ after_faults tally.old (spec.override_faults (binding_of scope.now) (name_view label.entry) (module_view definition.now) (givens_view given.now))) }
+    ensures found { IfOk result (λ found. option_map (λ os. overrides_view os.items) found ≡ (if spec.are_sound_overrides (binding_of scope.now) (name_view label.entry) (module_view definition.now) (givens_view given.now) then Some (spec.overrides (binding_of scope.now) (name_view label.entry) (module_view definition.now) (givens_view given.now)) else None)) }
 {
-    let names = free_names(alloc, module)?;
+    let names = free_names(alloc, definition)?;
     let found = connections(alloc, label, &names, given)?;
     let known = check_connections(alloc, label, &names, given, &found, tally)?;
     let constant = check_values(scope, &found, tally);

@@ -71,14 +71,14 @@ fn joined_port<'a>(
 pub fn joined_ports<'a>(
     alloc: Global,
     declared: &Declarations<'a>,
-    module: &'a Module,
+    definition: &'a Module,
     connections: &[Connection<'a>],
 ) -> Result<Vec<JoinedPort<'a>>, NoMemory>
-    ensures { IfOk result (λ found. ports_view found.items ≡ flat_map (spec.joined_port declared.now (connections_view connections.now)) (module_view module.now).ports) }
+    ensures { IfOk result (λ found. ports_view found.items ≡ flat_map (spec.joined_port declared.now (connections_view connections.now)) (module_view definition.now).ports) }
 {
     let first = first_connections(alloc, connections)?;
     let mut found = Vec::new(alloc);
-    for port in module.ports.as_slice() {
+    for port in definition.ports.as_slice() {
         if let Some(joined) = joined_port(declared, &first, port.name.as_slice()) {
             found.push(joined)?;
         }

@@ -30,7 +30,7 @@ pub(crate) fn add_assigned(
     ensures assigned { OnOk result (has known.new ≡ has (listed_signals (binding_of scope.old) (spec.assigned (binding_of scope.old) (statement_view statement.now)) ++ known.old)) }
     ensures kept { OnOk result (binding_of scope.new ≡ binding_of scope.old) }
 {
-    match &statement.form {
+    match &*statement.form {
         StatementForm::Block(parts) => add_all_assigned(alloc, scope, parts, known),
         StatementForm::If { yes, no, .. } => {
             add_assigned(alloc, scope, yes, known)?;
@@ -106,7 +106,7 @@ fn add_turns(
 fn add_targets(scope: &Scope, target: &Expr, known: &mut SignalSet) -> Result<(), NoMemory>
     ensures { OnOk result (has known.new ≡ has (listed_signals (binding_of scope.now) (map spec_base_name (leaves (expr_view target.now))) ++ known.old)) }
 {
-    match &target.form {
+    match &*target.form {
         ExprForm::Concat(parts) => add_all_targets(scope, parts, known),
         _ => add_name(scope, base_name(target).name, known),
     }

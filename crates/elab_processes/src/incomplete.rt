@@ -36,7 +36,7 @@ pub(crate) fn check_reads<'a>(
     ensures met { OnOk result (tally.new ≡ after_faults tally.old (lacking (binding_of scope.old) known.now (spec.reads (binding_of scope.old) (statement_view statement.now)))) }
     ensures kept { OnOk result (binding_of scope.new ≡ binding_of scope.old) }
 {
-    match &statement.form {
+    match &*statement.form {
         StatementForm::Block(parts) => check_all_reads(alloc, scope, known, parts, tally),
         StatementForm::If { test, yes, no } => {
             check_names(scope, known, test, tally);
@@ -124,7 +124,7 @@ fn check_turns<'a>(
 fn check_names<'a>(scope: &Scope, known: &SignalSet, expr: &'a Expr, tally: &mut Tally<'a>)
     ensures { tally.new ≡ after_faults tally.old (lacking (binding_of scope.now) known.now (identifiers (expr_view expr.now))) }
 {
-    match &expr.form {
+    match &*expr.form {
         ExprForm::Number(_) => {}
         ExprForm::Name(name) => {
             let name = NameAt {
@@ -195,7 +195,7 @@ fn check_all_names<'a>(scope: &Scope, known: &SignalSet, exprs: &'a [Expr], tall
 fn check_target_names<'a>(scope: &Scope, known: &SignalSet, expr: &'a Expr, tally: &mut Tally<'a>)
     ensures { tally.new ≡ after_faults tally.old (lacking (binding_of scope.now) known.now (target_reads (expr_view expr.now))) }
 {
-    match &expr.form {
+    match &*expr.form {
         ExprForm::Bit { of, index } => {
             check_target_names(scope, known, of, tally);
             check_names(scope, known, index, tally);

@@ -43,7 +43,7 @@ pub(crate) fn check_reads<'a>(
 fn add_parts<'a>(expr: &'a Expr, parts: &mut Vec<&'a Expr>) -> Result<(), NoMemory>
     ensures { OnOk result (parts_view parts.new.items ≡ parts_view parts.old.items ++ read_parts (expr_view expr.now)) }
 {
-    match &expr.form {
+    match &*expr.form {
         ExprForm::Number(_) => Ok(()),
         ExprForm::Name(_) => {
             parts.push(expr)?;
@@ -104,7 +104,7 @@ fn add_all_parts<'a>(exprs: &'a [Expr], parts: &mut Vec<&'a Expr>) -> Result<(),
 fn is_name(expr: &Expr) -> bool
     ensures { result ≡ is_identifier (expr_view expr.now) }
 {
-    matches!(&expr.form, ExprForm::Name(_))
+    matches!(&*expr.form, ExprForm::Name(_))
 }
 
 /// Tells the names and selects that read a bit that these targets drive.

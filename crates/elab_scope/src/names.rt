@@ -39,7 +39,7 @@ impl<'a> NameAt<'a> {
 pub fn base_name(expr: &Expr) -> NameAt
     ensures { name_view result ≡ spec.base_name (expr_view expr.now) }
 {
-    match &expr.form {
+    match &*expr.form {
         ExprForm::Name(name) => NameAt {
             name: name.as_slice(),
             place: expr.place,
@@ -57,7 +57,7 @@ pub fn base_name(expr: &Expr) -> NameAt
 pub fn is_memory_name(scope: &Scope, expr: &Expr) -> bool
     ensures { result ≡ of.is_memory_name (binding_of scope.now) (expr_view expr.now) }
 {
-    match &expr.form {
+    match &*expr.form {
         ExprForm::Name(name) => matches!(scope.get(name.as_slice()), Some(Entry::Memory(_))),
         _ => false,
     }
@@ -99,7 +99,7 @@ impl NameTest {
 fn names_some(scope: &Scope, test: NameTest, expr: &Expr) -> bool
     ensures { result ≡ pass_some test (binding_of scope.now) (spec.identifiers (expr_view expr.now)) }
 {
-    match &expr.form {
+    match &*expr.form {
         ExprForm::Number(_) => false,
         ExprForm::Name(name) => test.passes(scope.get(name.as_slice())),
         ExprForm::Unary(_, a) | ExprForm::Sign(_, a) | ExprForm::Paren(a) => {

@@ -6,20 +6,19 @@ use Rattle.design_model.specs.View.{stmt_view, stmts_of, term_view, terms_of}
 use Rattle.verilog_tree.specs.Tree.{exprs_of, statements_of, arms_of, a_statement, case_item}
 use Rattle.verilog_tree.specs.View.{arms_view, exprs_view, loop_view, statement_view, statements_view}
 use Rattle.verilog_tree.specs.declared.statement.Arm.{out-Arm}
-use Rattle.verilog_tree.specs.declared.statement.For.{the_lemmas}
+use Rattle.verilog_tree.specs.declared.statement.For.{out-For, the_lemmas}
 use Rattle.flat_design.specs.Bodies.{statement, statements, arms, label_terms, turn_stmts}
 use Rattle.flat_design.specs.Numbering.{all_nodes, lines, all_lines, item_lines, statement_nodes, all_statement_nodes, item_nodes}
 use Rattle.flat_design.specs.Scope.{binding_of, with_turn}
 use Rattle.flat_design.specs.declared.entry.Entry.TheVariants.{Turn}
 use Rattle.elab_build.specs.Sound.{IsClear}
 use Rattle.elab_checks.proofs.RestoredLemmas.{SameBut, same_itself, same_with, with_same, restored_same}
-use Rattle.elab_checks.proofs.TreeLemmas.{statements_from, arms_from}
 use Rattle.elab_bodies.specs.Sound.{IsSoundStatement, AreSoundStatements, AreSoundItems, InTurns}
 use Rattle.elab_bodies.specs.View.{arm_view, else_view}
 use Rattle.elab_bodies.proofs.ClearTurns.{clear_turn}
 use Rattle.elab_bodies.proofs.FlatLists.{values_from, stmts_before, stmts_before_none, next_stmts, next_turn, same_turns, arms_before, arms_before_none, next_arms}
 use Rattle.elab_bodies.proofs.SoundLoops.{same_sound}
-use Rattle.elab_bodies.proofs.StatementViews.{body_view}
+use Rattle.verilog_tree.proofs.StatementViews.{arms_from, body_view, statements_from}
 use Rattle.elab_bodies.proofs.statements.+statement.Goals as goal
 
 pub branch-otherwise-requires : goal.branch-otherwise-requires
@@ -109,14 +108,14 @@ pub for_loop-turn_statements-requires : goal.for_loop-turn_statements-requires
 for_loop-turn_statements-requires t c =
     let g = binding_of c.args.scope.now in
     let values = c.as_slice-values.ensures ∙ c.in_ok-values.ensures in
-    let body = ap statement_view c.deref.ensures ∙ sym (body_view c.args.header.now) in
+    let body = sym (body_view c.args.header.now) in
     (search (rules, the_lemmas), (c.requires.base, (c.requires.clear, same_sound _ _ _ _ g _ _ values c.in_ok-variable.ensures body c.requires.sound.1)))
 
 pub for_loop-returns-clause-built : goal.for_loop-returns-clause-built
 for_loop-returns-clause-built t c =
     let g = binding_of c.args.scope.now in
     let values = c.as_slice-values.ensures ∙ c.in_ok-values.ensures in
-    let body = ap statement_view c.deref.ensures ∙ sym (body_view c.args.header.now) in
+    let body = sym (body_view c.args.header.now) in
     let turns = c.in_ok-turns.ensures.built ∙ same_turns c.args.base _ _ _ _ g _ _ _ _ c.args.nodes.now values c.in_ok-variable.ensures body c.in_ok-number.ensures.counted in
     c.unrolled.ensures ∙ ap (λ k. flat.turns c.args.place k (stmts_of (map stmt_view c.in_ok-turns.turns.items))) c.in_ok-number.ensures.value ∙ ap (flat.turns c.args.place c.args.line.now) turns
 
@@ -132,8 +131,8 @@ for_loop-returns-clause-counted t c =
     let g = binding_of c.args.scope.now in
     let n = c.args.nodes.now in
     let kept = for_loop-returns-clause-kept t c in
-    let body = ap statement_view c.deref-3.ensures ∙ sym (body_view c.args.header.now) in
-    c.in_ok-pass_statement_nodes.ensures ∙ ap (λ h. n + statement_nodes h (statement_view c.deref-3.result.now)) kept ∙ ap (λ s. n + statement_nodes g s) body
+    let body = sym (body_view c.args.header.now) in
+    c.in_ok-pass_statement_nodes.ensures ∙ ap (λ h. n + statement_nodes h (statement_view (out-For c.args.header.now).body)) kept ∙ ap (λ s. n + statement_nodes g s) body
 
 pub turn_statements-statement-requires : goal.turn_statements-statement-requires
 turn_statements-statement-requires t c =

@@ -10,7 +10,7 @@ use Rattle.flat_design.specs.Targets.{targets}
 use Rattle.verilog_tree.specs.Tree.{exprs_of, an_expr}
 use Rattle.verilog_tree.specs.View.{expr_view, exprs_view}
 use Rattle.elab_const.proofs.PartLemmas.{next_part_is}
-use Rattle.elab_const.proofs.ViewLemmas.{bit_view, part_view}
+use Rattle.verilog_tree.proofs.ExprViews.{bit_view, part_view}
 use Rattle.elab_build.specs.Sound.{IsSound, IsSoundTarget}
 use Rattle.elab_build.specs.SoundTargets.{EachSoundTarget}
 use Rattle.elab_build.proofs.SoundTargets.{target_bit, target_part, target_concat, target_sound}
@@ -46,7 +46,7 @@ target-alone-requires-clause-sound t c =
     let e = c.args.expr.now in
     let g = binding_of c.args.scope.now in
     let sound = subst (λ x. IsSoundTarget g x) (bit_view e c.in-Bit.of c.in-Bit.index c.in-Bit.is) c.requires.sound in
-    subst (λ x. IsSound g (expr_view x)) (sym c.deref-in-Bit.ensures) (target_bit g e.place (expr_view c.in-Bit.of.value) (expr_view c.in-Bit.index.value) c.requires.clear sound).0
+    (target_bit g e.place (expr_view c.in-Bit.of) (expr_view c.in-Bit.index) c.requires.clear sound).0
 
 pub target-shape_of-width-requires-in-Part : goal.target-shape_of-width-requires-in-Part
 target-shape_of-width-requires-in-Part t c = record { sound = target_sound (binding_of c.args.scope.now) (expr_view c.args.expr.now) c.requires.clear c.requires.sound }
@@ -57,7 +57,7 @@ target-alone-requires-in-Part-clause-sound t c =
     let g = binding_of c.args.scope.now in
     let p = c.in-Part in
     let sound = subst (λ x. IsSoundTarget g x) (part_view e p.of p.high p.low p.bracket p.is) c.requires.sound in
-    subst (λ x. IsSound g (expr_view x)) (sym c.deref-in-Part-2.ensures) (target_part g e.place (expr_view p.of.value) (expr_view p.high.value) (expr_view p.low.value) p.bracket c.requires.clear sound).1.0
+    (target_part g e.place (expr_view p.of) (expr_view p.high) (expr_view p.low) p.bracket c.requires.clear sound).1.0
 
 pub concat_target-targets-requires : goal.concat_target-targets-requires
 concat_target-targets-requires t c =
@@ -68,14 +68,14 @@ target-returns-else-is_memory_name-clause-built t c =
     let e = c.args.expr.now in
     let g = binding_of c.args.scope.now in
     let n = c.args.nodes.now in
-    let of = expr_view c.in-Bit.of.value in
-    let index = expr_view c.in-Bit.index.value in
+    let of = expr_view c.in-Bit.of in
+    let index = expr_view c.in-Bit.index in
     let view = bit_view e c.in-Bit.of c.in-Bit.index c.in-Bit.is in
     let sound = subst (λ x. IsSoundTarget g x) view c.requires.sound in
     let none = (target_bit g e.place of index c.requires.clear sound).1 in
-    let number = c.thing_number-thing.ensures ∙ ap (λ x. thing_number c.args.base (thing_of (look_up g (base_name (expr_view x)).name))) c.deref.ensures in
-    let other = ap (λ x. is_memory_name g (expr_view x)) (sym c.deref-in-Bit-2.ensures) ∙ sym c.is_memory_name.ensures ∙ c.if-is_memory_name.false in
-    let built = c.in_ok-index-in-Bit.ensures.built ∙ ap (λ x. alone c.args.base g (expr_view x) n) c.deref-in-Bit.ensures in
+    let number = c.thing_number-thing.ensures in
+    let other = sym c.is_memory_name.ensures ∙ c.if-is_memory_name.false in
+    let built = c.in_ok-index-in-Bit.ensures.built in
     c.bits.ensures ∙ bit_built c.args.base g e.place of index n c.thing_number-thing.result _ none other number built ∙ ap (λ x. spec.target c.args.base g x n) (sym view)
 
 pub target-returns-else-is_memory_name-clause-counted : goal.target-returns-else-is_memory_name-clause-counted
@@ -84,10 +84,9 @@ target-returns-else-is_memory_name-clause-counted t c =
     let g = binding_of c.args.scope.now in
     let view = bit_view e c.in-Bit.of c.in-Bit.index c.in-Bit.is in
     let sound = subst (λ x. IsSoundTarget g x) view c.requires.sound in
-    let none = (target_bit g e.place (expr_view c.in-Bit.of.value) (expr_view c.in-Bit.index.value) c.requires.clear sound).1 in
-    let here = ap (λ x. nodes g (expr_view x)) c.deref-in-Bit.ensures in
+    let none = (target_bit g e.place (expr_view c.in-Bit.of) (expr_view c.in-Bit.index) c.requires.clear sound).1 in
     let all = ap (nodes g) view in
-    omega (arith, none, here, all, c.in_ok-index-in-Bit.ensures.counted)
+    omega (arith, none, all, c.in_ok-index-in-Bit.ensures.counted)
 
 pub target-returns-in_ok-low-in-Part-clause-built : goal.target-returns-in_ok-low-in-Part-clause-built
 target-returns-in_ok-low-in-Part-clause-built t c =
@@ -95,15 +94,15 @@ target-returns-in_ok-low-in-Part-clause-built t c =
     let g = binding_of c.args.scope.now in
     let n = c.args.nodes.now in
     let p = c.in-Part in
-    let of = expr_view p.of.value in
-    let high = expr_view p.high.value in
-    let low = expr_view p.low.value in
+    let of = expr_view p.of in
+    let high = expr_view p.high in
+    let low = expr_view p.low in
     let view = part_view e p.of p.high p.low p.bracket p.is in
     let sound = subst (λ x. IsSoundTarget g x) view c.requires.sound in
     let none = (target_part g e.place of high low p.bracket c.requires.clear sound).1.1 in
-    let number = c.thing_number-signal.ensures ∙ ap (λ x. thing_number c.args.base (thing_of (look_up g (base_name (expr_view x)).name))) c.deref-in-Part.ensures in
+    let number = c.thing_number-signal.ensures in
     let width = ap (λ s. s.width) (c.shape_of-width.ensures.value ∙ ap (shape g) view) in
-    let built = c.in_ok-low-in-Part.ensures.built ∙ ap (λ x. alone c.args.base g (expr_view x) n) c.deref-in-Part-2.ensures in
+    let built = c.in_ok-low-in-Part.ensures.built in
     c.bits-in-Part.ensures ∙ part_built c.args.base g e.place of high low p.bracket n c.thing_number-signal.result c.shape_of-width.result.width _ none.0 none.1 number width built ∙ ap (λ x. spec.target c.args.base g x n) (sym view)
 
 pub target-returns-in_ok-low-in-Part-clause-counted : goal.target-returns-in_ok-low-in-Part-clause-counted
@@ -113,7 +112,6 @@ target-returns-in_ok-low-in-Part-clause-counted t c =
     let p = c.in-Part in
     let view = part_view e p.of p.high p.low p.bracket p.is in
     let sound = subst (λ x. IsSoundTarget g x) view c.requires.sound in
-    let none = (target_part g e.place (expr_view p.of.value) (expr_view p.high.value) (expr_view p.low.value) p.bracket c.requires.clear sound).1.1 in
-    let here = ap (λ x. nodes g (expr_view x)) c.deref-in-Part-2.ensures in
+    let none = (target_part g e.place (expr_view p.of) (expr_view p.high) (expr_view p.low) p.bracket c.requires.clear sound).1.1 in
     let all = ap (nodes g) view in
-    omega (arith, none.0, none.1, here, all, c.in_ok-low-in-Part.ensures.counted)
+    omega (arith, none.0, none.1, all, c.in_ok-low-in-Part.ensures.counted)

@@ -3,7 +3,7 @@ use Rattle.verilog_tree.specs.declared.statement.For.{out-For}
 use Rattle.flat_design.specs.Loops.{named_faults}
 use Rattle.flat_design.specs.Scope.{binding_of}
 use Rattle.elab_checks.proofs.MetLemmas.{after_two, sound_two}
-use Rattle.elab_checks.proofs.TreeLemmas.{header_view}
+use Rattle.verilog_tree.proofs.StatementViews.{header_view}
 use Rattle.elab_checks.proofs.loops.check_inside.Goals as goal
 
 pub returns-clause-met : goal.returns-clause-met

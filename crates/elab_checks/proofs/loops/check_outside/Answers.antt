@@ -4,7 +4,7 @@ use Rattle.verilog_tree.specs.declared.statement.For.{out-For}
 use Rattle.flat_design.specs.Loops.{named_faults, over_faults}
 use Rattle.flat_design.specs.Scope.{binding_of}
 use Rattle.elab_checks.proofs.MetLemmas.{sound_two}
-use Rattle.elab_checks.proofs.TreeLemmas.{header_view}
+use Rattle.verilog_tree.proofs.StatementViews.{header_view}
 use Rattle.elab_checks.proofs.loops.check_outside.Goals as goal
 
 pub returns-clause-sound : goal.returns-clause-sound

@@ -3,7 +3,7 @@ use Rattle.design_model.specs.Value.{offset, slide_offset}
 use Rattle.elab_const.specs.Faults.{is_bad_bound}
 use Rattle.elab_const.specs.Meaning.{number_of}
 use Rattle.elab_const.specs.Scope.{IsWidth}
-use Rattle.elab_const.proofs.ViewLemmas.{bit_view, part_view, slide_view}
+use Rattle.verilog_tree.proofs.ExprViews.{bit_view, part_view, slide_view}
 use Rattle.flat_design.specs.Expressions.{faults, is_inside, some_offset}
 use Rattle.flat_design.specs.Fault.{none}
 use Rattle.flat_design.specs.Identifiers.{base_name}
@@ -19,8 +19,8 @@ bit-requires-clause-sound c =
     let view = bit_view c.args.expr.now c.in-Bit.of c.in-Bit.index c.in-Bit.is in
     let base = sym (ap (λ e. look_up g (base_name e).name) view) ∙ c.requires.base in
     let sound = sym (ap (λ e. none (faults g e)) view) ∙ c.requires.sound in
-    let bit = sound_bit g c.args.signal c.args.expr.now.place (expr_view c.in-Bit.of.value) (expr_view c.in-Bit.index.value) base sound in
-    ap (λ e. none (faults g (expr_view e))) c.deref.ensures ∙ bit.0
+    let bit = sound_bit g c.args.signal c.args.expr.now.place (expr_view c.in-Bit.of) (expr_view c.in-Bit.index) base sound in
+    bit.0
 
 pub bit-requires-clause-inside : goal.bit-requires-clause-inside
 bit-requires-clause-inside c =
@@ -29,8 +29,8 @@ bit-requires-clause-inside c =
     let view = bit_view c.args.expr.now c.in-Bit.of c.in-Bit.index c.in-Bit.is in
     let base = sym (ap (λ e. look_up g (base_name e).name) view) ∙ c.requires.base in
     let sound = sym (ap (λ e. none (faults g e)) view) ∙ c.requires.sound in
-    let bit = sound_bit g c.args.signal c.args.expr.now.place (expr_view c.in-Bit.of.value) (expr_view c.in-Bit.index.value) base sound in
-    subst (λ e. names_constants g (expr_view e) ≡ true → is_inside r (some_offset r (whole_number g (expr_view e))) 1 ≡ true) (sym c.deref.ensures) bit.1
+    let bit = sound_bit g c.args.signal c.args.expr.now.place (expr_view c.in-Bit.of) (expr_view c.in-Bit.index) base sound in
+    bit.1
 
 pub part-requires-clause-constant : goal.part-requires-clause-constant
 part-requires-clause-constant c =
@@ -39,8 +39,8 @@ part-requires-clause-constant c =
     let base = sym (ap (λ e. look_up g (base_name e).name) view) ∙ c.requires.base in
     let sound = sym (ap (λ e. none (faults g e)) view) ∙ c.requires.sound in
     let known = sym (ap (names_faulty g) view) ∙ c.requires.known in
-    let part = sound_part g c.args.signal c.args.expr.now.place (expr_view c.in-Part.of.value) (expr_view c.in-Part.high.value) (expr_view c.in-Part.low.value) c.in-Part.bracket base sound known in
-    ap (λ e. names_constants g (expr_view e)) c.deref-in-Part.ensures ∙ part.constant
+    let part = sound_part g c.args.signal c.args.expr.now.place (expr_view c.in-Part.of) (expr_view c.in-Part.high) (expr_view c.in-Part.low) c.in-Part.bracket base sound known in
+    part.constant
 
 pub part-requires-clause-sound : goal.part-requires-clause-sound
 part-requires-clause-sound c =
@@ -49,8 +49,8 @@ part-requires-clause-sound c =
     let base = sym (ap (λ e. look_up g (base_name e).name) view) ∙ c.requires.base in
     let sound = sym (ap (λ e. none (faults g e)) view) ∙ c.requires.sound in
     let known = sym (ap (names_faulty g) view) ∙ c.requires.known in
-    let part = sound_part g c.args.signal c.args.expr.now.place (expr_view c.in-Part.of.value) (expr_view c.in-Part.high.value) (expr_view c.in-Part.low.value) c.in-Part.bracket base sound known in
-    ap (λ e. none (faults g (expr_view e))) c.deref-in-Part.ensures ∙ part.sound
+    let part = sound_part g c.args.signal c.args.expr.now.place (expr_view c.in-Part.of) (expr_view c.in-Part.high) (expr_view c.in-Part.low) c.in-Part.bracket base sound known in
+    part.sound
 
 pub part-requires-clause-number : goal.part-requires-clause-number
 part-requires-clause-number c =
@@ -59,8 +59,8 @@ part-requires-clause-number c =
     let base = sym (ap (λ e. look_up g (base_name e).name) view) ∙ c.requires.base in
     let sound = sym (ap (λ e. none (faults g e)) view) ∙ c.requires.sound in
     let known = sym (ap (names_faulty g) view) ∙ c.requires.known in
-    let part = sound_part g c.args.signal c.args.expr.now.place (expr_view c.in-Part.of.value) (expr_view c.in-Part.high.value) (expr_view c.in-Part.low.value) c.in-Part.bracket base sound known in
-    ap (λ e. is_bad_bound (number_of (names g) (expr_view e))) c.deref-in-Part.ensures ∙ part.number
+    let part = sound_part g c.args.signal c.args.expr.now.place (expr_view c.in-Part.of) (expr_view c.in-Part.high) (expr_view c.in-Part.low) c.in-Part.bracket base sound known in
+    part.number
 
 pub part-requires-clause-first : goal.part-requires-clause-first
 part-requires-clause-first c =
@@ -69,8 +69,8 @@ part-requires-clause-first c =
     let base = sym (ap (λ e. look_up g (base_name e).name) view) ∙ c.requires.base in
     let sound = sym (ap (λ e. none (faults g e)) view) ∙ c.requires.sound in
     let known = sym (ap (names_faulty g) view) ∙ c.requires.known in
-    let part = sound_part g c.args.signal c.args.expr.now.place (expr_view c.in-Part.of.value) (expr_view c.in-Part.high.value) (expr_view c.in-Part.low.value) c.in-Part.bracket base sound known in
-    ap (λ e. contains (range_or c.args.signal.range) (natural_number g (expr_view e))) c.deref-in-Part.ensures ∙ part.first
+    let part = sound_part g c.args.signal c.args.expr.now.place (expr_view c.in-Part.of) (expr_view c.in-Part.high) (expr_view c.in-Part.low) c.in-Part.bracket base sound known in
+    part.first
 
 pub part-requires-clause-inside : goal.part-requires-clause-inside
 part-requires-clause-inside c =
@@ -79,10 +79,10 @@ part-requires-clause-inside c =
     let base = sym (ap (λ e. look_up g (base_name e).name) view) ∙ c.requires.base in
     let sound = sym (ap (λ e. none (faults g e)) view) ∙ c.requires.sound in
     let known = sym (ap (names_faulty g) view) ∙ c.requires.known in
-    let part = sound_part g c.args.signal c.args.expr.now.place (expr_view c.in-Part.of.value) (expr_view c.in-Part.high.value) (expr_view c.in-Part.low.value) c.in-Part.bracket base sound known in
+    let part = sound_part g c.args.signal c.args.expr.now.place (expr_view c.in-Part.of) (expr_view c.in-Part.high) (expr_view c.in-Part.low) c.in-Part.bracket base sound known in
     let r = range_or c.args.signal.range in
     let width = ap (λ s. s.width) (c.shape.ensures.value ∙ ap (shape g) view) in
-    ap (λ e. is_inside r (Some (offset r (pos (natural_number g (expr_view e))))) c.shape.result.width) c.deref-in-Part.ensures ∙ ap (is_inside r (Some (offset r (pos (natural_number g (expr_view c.in-Part.low.value)))))) width ∙ part.inside
+    ap (is_inside r (Some (offset r (pos (natural_number g (expr_view c.in-Part.low)))))) width ∙ part.inside
 
 pub slide-requires-clause-base : goal.slide-requires-clause-base
 slide-requires-clause-base c =
@@ -91,8 +91,8 @@ slide-requires-clause-base c =
     let base = sym (ap (λ e. look_up g (base_name e).name) view) ∙ c.requires.base in
     let sound = sym (ap (λ e. none (faults g e)) view) ∙ c.requires.sound in
     let known = sym (ap (names_faulty g) view) ∙ c.requires.known in
-    let slide = sound_slide g c.args.signal c.args.expr.now.place (expr_view c.in-Slide.of.value) (expr_view c.in-Slide.base.value) (expr_view c.in-Slide.width.value) c.in-Slide.up c.in-Slide.bracket base sound known in
-    ap (λ e. none (faults g (expr_view e))) c.deref-in-Slide.ensures ∙ slide.base
+    let slide = sound_slide g c.args.signal c.args.expr.now.place (expr_view c.in-Slide.of) (expr_view c.in-Slide.base) (expr_view c.in-Slide.width) c.in-Slide.up c.in-Slide.bracket base sound known in
+    slide.base
 
 pub slide-requires-clause-constant : goal.slide-requires-clause-constant
 slide-requires-clause-constant c =
@@ -101,8 +101,8 @@ slide-requires-clause-constant c =
     let base = sym (ap (λ e. look_up g (base_name e).name) view) ∙ c.requires.base in
     let sound = sym (ap (λ e. none (faults g e)) view) ∙ c.requires.sound in
     let known = sym (ap (names_faulty g) view) ∙ c.requires.known in
-    let slide = sound_slide g c.args.signal c.args.expr.now.place (expr_view c.in-Slide.of.value) (expr_view c.in-Slide.base.value) (expr_view c.in-Slide.width.value) c.in-Slide.up c.in-Slide.bracket base sound known in
-    ap (λ e. names_constants g (expr_view e)) c.deref-in-Slide-2.ensures ∙ slide.constant
+    let slide = sound_slide g c.args.signal c.args.expr.now.place (expr_view c.in-Slide.of) (expr_view c.in-Slide.base) (expr_view c.in-Slide.width) c.in-Slide.up c.in-Slide.bracket base sound known in
+    slide.constant
 
 pub slide-requires-clause-width : goal.slide-requires-clause-width
 slide-requires-clause-width c =
@@ -111,8 +111,8 @@ slide-requires-clause-width c =
     let base = sym (ap (λ e. look_up g (base_name e).name) view) ∙ c.requires.base in
     let sound = sym (ap (λ e. none (faults g e)) view) ∙ c.requires.sound in
     let known = sym (ap (names_faulty g) view) ∙ c.requires.known in
-    let slide = sound_slide g c.args.signal c.args.expr.now.place (expr_view c.in-Slide.of.value) (expr_view c.in-Slide.base.value) (expr_view c.in-Slide.width.value) c.in-Slide.up c.in-Slide.bracket base sound known in
-    ap (λ e. none (faults g (expr_view e))) c.deref-in-Slide-2.ensures ∙ slide.width
+    let slide = sound_slide g c.args.signal c.args.expr.now.place (expr_view c.in-Slide.of) (expr_view c.in-Slide.base) (expr_view c.in-Slide.width) c.in-Slide.up c.in-Slide.bracket base sound known in
+    slide.width
 
 pub slide-requires-clause-some : goal.slide-requires-clause-some
 slide-requires-clause-some c =
@@ -121,8 +121,8 @@ slide-requires-clause-some c =
     let base = sym (ap (λ e. look_up g (base_name e).name) view) ∙ c.requires.base in
     let sound = sym (ap (λ e. none (faults g e)) view) ∙ c.requires.sound in
     let known = sym (ap (names_faulty g) view) ∙ c.requires.known in
-    let slide = sound_slide g c.args.signal c.args.expr.now.place (expr_view c.in-Slide.of.value) (expr_view c.in-Slide.base.value) (expr_view c.in-Slide.width.value) c.in-Slide.up c.in-Slide.bracket base sound known in
-    subst (λ e. IsWidth (natural_number g (expr_view e))) (sym c.deref-in-Slide-2.ensures) slide.some
+    let slide = sound_slide g c.args.signal c.args.expr.now.place (expr_view c.in-Slide.of) (expr_view c.in-Slide.base) (expr_view c.in-Slide.width) c.in-Slide.up c.in-Slide.bracket base sound known in
+    slide.some
 
 pub slide-requires-clause-inside : goal.slide-requires-clause-inside
 slide-requires-clause-inside c =
@@ -131,7 +131,6 @@ slide-requires-clause-inside c =
     let base = sym (ap (λ e. look_up g (base_name e).name) view) ∙ c.requires.base in
     let sound = sym (ap (λ e. none (faults g e)) view) ∙ c.requires.sound in
     let known = sym (ap (names_faulty g) view) ∙ c.requires.known in
-    let slide = sound_slide g c.args.signal c.args.expr.now.place (expr_view c.in-Slide.of.value) (expr_view c.in-Slide.base.value) (expr_view c.in-Slide.width.value) c.in-Slide.up c.in-Slide.bracket base sound known in
+    let slide = sound_slide g c.args.signal c.args.expr.now.place (expr_view c.in-Slide.of) (expr_view c.in-Slide.base) (expr_view c.in-Slide.width) c.in-Slide.up c.in-Slide.bracket base sound known in
     let r = range_or c.args.signal.range in
-    let by_base = subst (λ e. names_constants g (expr_view e) ≡ true → is_inside r (slide_offset r c.in-Slide.up (natural_number g (expr_view c.in-Slide.width.value)) (whole_number g (expr_view e))) (natural_number g (expr_view c.in-Slide.width.value)) ≡ true) (sym c.deref-in-Slide.ensures) slide.inside in
-    subst (λ e. names_constants g (expr_view c.deref-in-Slide.result.now) ≡ true → is_inside r (slide_offset r c.in-Slide.up (natural_number g (expr_view e)) (whole_number g (expr_view c.deref-in-Slide.result.now))) (natural_number g (expr_view e)) ≡ true) (sym c.deref-in-Slide-2.ensures) by_base
+    slide.inside

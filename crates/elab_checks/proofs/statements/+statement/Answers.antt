@@ -18,8 +18,7 @@ use Rattle.elab_scope.proofs.TallyLemmas.{after_all-append, after_all-faults, af
 use Rattle.elab_checks.specs.Turns.{restored}
 use Rattle.elab_checks.proofs.RestoredLemmas.{restored_same, same_itself, same_with, with_same}
 use Rattle.elab_checks.proofs.StatementLemmas.{all_next, all_then, flat_map_next, ok_along, on_ok}
-use Rattle.elab_checks.proofs.StatementViews.{body_view, case_view, if_else_view, if_view}
-use Rattle.elab_checks.proofs.TreeLemmas.{arms_from, statements_from}
+use Rattle.verilog_tree.proofs.StatementViews.{arms_from, body_view, case_view, if_else_view, if_view, statements_from}
 use Rattle.elab_checks.proofs.statements.+statement.Goals as goal
 use Rattle.elab_checks.proofs.statements.+statement.Goals.{check_turns-else-loop-value-test, check_turns-then-loop-value-test+then-is_ended}
 
@@ -32,13 +31,13 @@ check_statement-returns-in-Some-clause-met t c =
     let g = binding_of c.args.scope.now in
     let s = c.args.statement.now in
     let fs = faults g (expr_view c.in-If.test) in
-    let yes = met g c.args.mode c.args.process (statement_view c.in-If.yes.value) in
-    let other = met g c.args.mode c.args.process (statement_view c.in-Some.no.value) in
+    let yes = met g c.args.mode c.args.process (statement_view c.in-If.yes) in
+    let other = met g c.args.mode c.args.process (statement_view c.in-Some.no) in
     let front = met_statement s.place ∷ met_faults fs in
     let tested : c.check.new.tally ≡ after_all c.args.tally.now front = c.check.ensures.met ∙ ap (λ u. after_faults u fs) c.statement.ensures in
-    let first : c.check_statement.new.tally ≡ after_all c.args.tally.now (front ++ yes) = all_then c.args.tally.now c.check.new.tally c.check_statement.new.tally front yes tested (rw c.deref-in-If.ensures at c.in_ok-check_statement-in-If.ensures.met) in
+    let first : c.check_statement.new.tally ≡ after_all c.args.tally.now (front ++ yes) = all_then c.args.tally.now c.check.new.tally c.check_statement.new.tally front yes tested c.in_ok-check_statement-in-If.ensures.met in
     let view = if_else_view s c.in-If.test c.in-If.yes c.in-Some.no (c.in-If.is ∙ ap (form.If c.in-If.test c.in-If.yes) c.in-Some.is) in
-    let last = rw (c.deref-in-Some.ensures, c.in_ok-check_statement-in-If.ensures.kept) at c.check_statement-in-Some.ensures.met in
+    let last = rw c.in_ok-check_statement-in-If.ensures.kept at c.check_statement-in-Some.ensures.met in
     let whole : after_all c.check_statement.new.tally other ≡ after_all c.args.tally.now (met g c.args.mode c.args.process (statement_view s)) =
     ap (λ u. after_all u other) first ∙ sym (after_all-append c.args.tally.now (front ++ yes) other) ∙ ap (λ ms. after_all c.args.tally.now ((front ++ yes) ++ ms)) (sym (append-nil other)) ∙ ap (λ x. after_all c.args.tally.now (met g c.args.mode c.args.process x)) (sym view) in
     ok_along c.check_statement-in-Some.result c.check_statement-in-Some.new.tally (after_all c.check_statement.new.tally other) _ whole last
@@ -48,10 +47,10 @@ check_statement-returns-in-None-clause-met t c =
     let g = binding_of c.args.scope.now in
     let s = c.args.statement.now in
     let fs = faults g (expr_view c.in-If.test) in
-    let yes = met g c.args.mode c.args.process (statement_view c.in-If.yes.value) in
+    let yes = met g c.args.mode c.args.process (statement_view c.in-If.yes) in
     let front = met_statement s.place ∷ met_faults fs in
     let tested : c.check.new.tally ≡ after_all c.args.tally.now front = c.check.ensures.met ∙ ap (λ u. after_faults u fs) c.statement.ensures in
-    let first : c.check_statement.new.tally ≡ after_all c.args.tally.now (front ++ yes) = all_then c.args.tally.now c.check.new.tally c.check_statement.new.tally front yes tested (rw c.deref-in-If.ensures at c.in_ok-check_statement-in-If.ensures.met) in
+    let first : c.check_statement.new.tally ≡ after_all c.args.tally.now (front ++ yes) = all_then c.args.tally.now c.check.new.tally c.check_statement.new.tally front yes tested c.in_ok-check_statement-in-If.ensures.met in
     let view = if_view s c.in-If.test c.in-If.yes (c.in-If.is ∙ ap (form.If c.in-If.test c.in-If.yes) c.in-None.is) in
     first ∙ ap (after_all c.args.tally.now) (sym (append-nil (front ++ yes))) ∙ ap (λ x. after_all c.args.tally.now (met g c.args.mode c.args.process x)) (sym view)
 
@@ -112,12 +111,12 @@ check_turns-loop-value-preserved t c =
     let v = c.value-item.result in
     let i = c.loop-value.value-index in
     let vs = c.as_slice-value-items.result.now in
-    let body = statement_view (out-For c.args.header.now).body.value in
+    let body = statement_view (out-For c.args.header.now).body in
     let each : Vector → List Met = λ v. met (in_turn h v g) c.args.mode c.args.process (loop_view c.args.header.now).1 in
     let before = binding_of c.loop-value.scope in
     let now : binding_of c.insert.new.self ≡ with_entry x (Turn v) g = c.in_ok-insert.ensures ∙ ap (λ y. with_entry y (Turn v) before) c.in_ok-variable.ensures ∙ with_same x (Turn v) before g c.loop-value.invariant.kept in
     let told : c.check_statement.new.tally ≡ after_all c.loop-value.tally (each v) =
-    rw c.deref.ensures at c.in_ok-check_statement.ensures.met ∙ ap (λ f. after_all c.loop-value.tally (met f c.args.mode c.args.process body)) now ∙ ap (λ b. after_all c.loop-value.tally (met (in_turn h v g) c.args.mode c.args.process b)) (sym (body_view c.args.header.now)) in
+    c.in_ok-check_statement.ensures.met ∙ ap (λ f. after_all c.loop-value.tally (met f c.args.mode c.args.process body)) now ∙ ap (λ b. after_all c.loop-value.tally (met (in_turn h v g) c.args.mode c.args.process b)) (sym (body_view c.args.header.now)) in
     let kept = c.in_ok-check_statement.ensures.kept ∙ now in
     record {
       met = all_next c.loop-value.tally c.check_statement.new.tally _ (each v) (met_turns (drop (i + 1) vs) each) _ (flat_map_next each vs i v c.loop-value-test.true c.value-item.is) c.loop-value.invariant.met told;

@@ -15,13 +15,13 @@ use Rattle.elab_scope.specs.Tally.{after_faults}
 use Rattle.elab_checks.proofs.MetLemmas.{both_sound}
 use Rattle.elab_scope.proofs.TallyLemmas.{after_faults-append}
 use Rattle.elab_checks.proofs.ExpressionLemmas.{none_append}
-use Rattle.elab_checks.proofs.TreeLemmas.{concatenation_view}
+use Rattle.verilog_tree.proofs.ExprViews.{concatenation_view}
 use Rattle.elab_checks.proofs.ExpressionLemmas.{next_is}
 use Rattle.elab_checks.proofs.targets.+targets.Goals as goal
 use Rattle.elab_checks.proofs.targets.+targets.Goals.{check_all_targets-then-check_target, check_all_targets-else-check_target}
 
 -- the faults of a concatenation whose parts have none
-joined : (g : Scope) (mode : Mode) (e : Expr) (v : Vec Expr) → e.form ≡ form.Concat v → none (all_target_faults g mode (exprs_of (exprs_view v.items))) ≡ true → target_faults g mode (expr_view e) ≡ all_target_faults g mode (exprs_of (exprs_view v.items)) ++ joined_size_faults (known_width g (exprs_of (exprs_view v.items))) e.place
+joined : (g : Scope) (mode : Mode) (e : Expr) (v : Vec Expr) → e.form.value ≡ form.Concat v → none (all_target_faults g mode (exprs_of (exprs_view v.items))) ≡ true → target_faults g mode (expr_view e) ≡ all_target_faults g mode (exprs_of (exprs_view v.items)) ++ joined_size_faults (known_width g (exprs_of (exprs_view v.items))) e.place
 joined g mode e v is sound =
     ap (target_faults g mode) (concatenation_view e v is) ∙ joined_target_faults g mode e.place (exprs_of (exprs_view v.items)) sound
 

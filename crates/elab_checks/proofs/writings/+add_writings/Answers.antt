@@ -5,7 +5,7 @@ use Rattle.flat_design.specs.Scope.{binding_of}
 use Rattle.flat_design.specs.Targets.{all_leaves, leaves, writing_of}
 use Rattle.elab_scope.specs.View.{writing_view}
 use Rattle.elab_checks.specs.Writings.{EachTarget, IsTarget}
-use Rattle.elab_checks.proofs.TreeLemmas.{concatenation_view}
+use Rattle.verilog_tree.proofs.ExprViews.{concatenation_view}
 use Rattle.elab_checks.proofs.WritingLemmas.{joined_targets}
 use Rattle.elab_checks.proofs.writings.+add_writings.Goals as goal
 

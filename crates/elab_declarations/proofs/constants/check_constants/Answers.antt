@@ -14,7 +14,7 @@ use Rattle.elab_declarations.proofs.constants.check_constants.Goals as goal
 
 pub loop-item-preserved : goal.loop-item-preserved
 loop-item-preserved c =
-    let m = module_view c.args.«module».now in
+    let m = module_view c.args.definition.now in
     let others = other_names m in
     let os = overrides_view c.args.overrides.now in
     let bs = bindings_view c.loop-item.constants.found.items in
@@ -36,12 +36,12 @@ loop-item-preserved c =
 
 pub add_params-requires : goal.add_params-requires
 add_params-requires c =
-    let others = other_names (module_view c.args.«module».now) in
+    let others = other_names (module_view c.args.definition.now) in
     (c.in_ok-other_names.ensures ∙ ap (λ ps. with_bindings (bindings_view ps) others) (sym c.new.ensures.items), subst (λ ps. AreParams (bindings_view ps)) (sym c.new.ensures.items) tt)
 
 pub loop-item-init : goal.loop-item-init
 loop-item-init c =
-    let m = module_view c.args.«module».now in
+    let m = module_view c.args.definition.now in
     let others = other_names m in
     let os = overrides_view c.args.overrides.now in
     let t = c.args.tally.now in

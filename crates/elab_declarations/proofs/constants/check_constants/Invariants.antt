@@ -13,8 +13,8 @@ use Rattle.elab_declarations.proofs.constants.check_constants.Given as goal
 abbrev pub invariant-loop-item : goal.invariant-loop-item
 invariant-loop-item l =
     record {
-      same : l.constants.module.now ≡ l.fn.module;
-      seen : AreSeen (module_view l.fn.module) (bindings_view l.constants.found.items) (binding_of l.constants.scope);
-      found : constants_from (other_names (module_view l.fn.module)) (overrides_view l.fn.overrides) (bindings_view l.constants.found.items) (flat_map (λ i. item_params i.form) (items_view (drop l.item-index l.item-items))) ≡ constants (overrides_view l.fn.overrides) (module_view l.fn.module);
-      met : after_faults l.tally (constants_faults (other_names (module_view l.fn.module)) (overrides_view l.fn.overrides) (bindings_view l.constants.found.items) (flat_map (λ i. item_params i.form) (items_view (drop l.item-index l.item-items)))) ≡ after_faults l.fn.tally (constants_faults (other_names (module_view l.fn.module)) (overrides_view l.fn.overrides) [] (params_of (module_view l.fn.module)));
+      same : l.constants.module.now ≡ l.fn.definition;
+      seen : AreSeen (module_view l.fn.definition) (bindings_view l.constants.found.items) (binding_of l.constants.scope);
+      found : constants_from (other_names (module_view l.fn.definition)) (overrides_view l.fn.overrides) (bindings_view l.constants.found.items) (flat_map (λ i. item_params i.form) (items_view (drop l.item-index l.item-items))) ≡ constants (overrides_view l.fn.overrides) (module_view l.fn.definition);
+      met : after_faults l.tally (constants_faults (other_names (module_view l.fn.definition)) (overrides_view l.fn.overrides) (bindings_view l.constants.found.items) (flat_map (λ i. item_params i.form) (items_view (drop l.item-index l.item-items)))) ≡ after_faults l.fn.tally (constants_faults (other_names (module_view l.fn.definition)) (overrides_view l.fn.overrides) [] (params_of (module_view l.fn.definition)));
     }

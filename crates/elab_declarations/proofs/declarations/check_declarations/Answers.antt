@@ -14,8 +14,8 @@ use Rattle.elab_declarations.proofs.declarations.check_declarations.Goals as goa
 pub returns : goal.returns
 returns c =
     let g = binding_of c.args.scope.now in
-    let m = module_view c.args.module.now in
-    let ports = c.args.module.now.ports in
+    let m = module_view c.args.definition.now in
+    let ports = c.args.definition.now.ports in
     let all : declarations_view c.deref.result.now ≡ all_declarations g m = ap declarations_view c.deref.ensures.value ∙ c.in_ok-all.ensures.names in
     let names : c.in_ok-declared.declared ≡ declarations g m = c.in_ok-declared.ensures.names ∙ ap (declarations_from []) all in
     let first : Tally = after_faults c.args.tally.now (range_faults g m) in

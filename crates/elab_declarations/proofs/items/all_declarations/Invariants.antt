@@ -12,6 +12,6 @@ use Rattle.elab_declarations.proofs.items.all_declarations.Given as goal
 abbrev pub invariant-loop-item : goal.invariant-loop-item
 invariant-loop-item l =
     record {
-      names : declarations_view l.list.items ++ flat_map (λ i. item_declarations (binding_of l.fn.scope) i.place i.form) (items_view (drop l.item-index l.item-items)) ≡ all_declarations (binding_of l.fn.scope) (module_view l.fn.module);
-      met : after_faults l.tally (flat_map (λ i. item_range_faults (binding_of l.fn.scope) i.place i.form) (items_view (drop l.item-index l.item-items))) ≡ after_faults l.fn.tally (range_faults (binding_of l.fn.scope) (module_view l.fn.module));
+      names : declarations_view l.list.items ++ flat_map (λ i. item_declarations (binding_of l.fn.scope) i.place i.form) (items_view (drop l.item-index l.item-items)) ≡ all_declarations (binding_of l.fn.scope) (module_view l.fn.definition);
+      met : after_faults l.tally (flat_map (λ i. item_range_faults (binding_of l.fn.scope) i.place i.form) (items_view (drop l.item-index l.item-items))) ≡ after_faults l.fn.tally (range_faults (binding_of l.fn.scope) (module_view l.fn.definition));
     }

@@ -12,8 +12,8 @@ use Rattle.elab_declarations.proofs.others.other_names.Goals as goal
 
 pub loop-item-init : goal.loop-item-init
 loop-item-init c =
-    let own : List Named = map (λ p. p.name) (params_view c.args.module.now.params) in
-    let rest : List Named = flat_map (λ i. declared_names i.form) (items_view c.args.module.now.items) in
+    let own : List Named = map (λ p. p.name) (params_view c.args.definition.now.params) in
+    let rest : List Named = flat_map (λ i. declared_names i.form) (items_view c.args.definition.now.items) in
     let names : map (λ p. p.name) (params_view c.as_slice.result.now) ≡ own = ap (λ ps. map (λ p. p.name) (params_view ps)) c.as_slice.ensures in
     let items : flat_map (λ i. declared_names i.form) (items_view c.as_slice-item-items.result.now) ≡ rest = ap (λ is. flat_map (λ i. declared_names i.form) (items_view is)) c.as_slice-item-items.ensures in
     let first : binding_of c.add_params.new.scope ≡ with_others own no_names = c.in_ok-add_params.ensures ∙ ap (λ ns. with_others ns (binding_of c.new-scope.result)) names ∙ ap (with_others own) c.new-scope.ensures in

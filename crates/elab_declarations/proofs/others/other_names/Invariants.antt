@@ -9,4 +9,4 @@ use Rattle.elab_declarations.proofs.others.other_names.Given as goal
 
 -- with the names of the items that are left the scope is the whole
 abbrev pub invariant-loop-item : goal.invariant-loop-item
-invariant-loop-item l = with_others (flat_map (λ i. declared_names i.form) (items_view (drop l.item-index l.item-items))) (binding_of l.scope) ≡ of.other_names (module_view l.fn.module)
+invariant-loop-item l = with_others (flat_map (λ i. declared_names i.form) (items_view (drop l.item-index l.item-items))) (binding_of l.scope) ≡ of.other_names (module_view l.fn.definition)

@@ -1,5 +1,5 @@
 use Rattle.std.proofs.Common.{◌+◌, ◌++◌, ap, drop, refl}
-use Rattle.elab_const.proofs.ViewLemmas.{repeat_view}
+use Rattle.verilog_tree.proofs.ExprViews.{repeat_view}
 use Rattle.elab_checks.proofs.ExpressionLemmas.{next_is}
 use Rattle.flat_design.specs.Identifiers.{all_identifiers, identifiers}
 use Rattle.verilog_tree.specs.Tree.{exprs_of}
@@ -10,9 +10,9 @@ use Rattle.elab_instances.proofs.identifiers.+add_expr.Goals as goal
 
 pub add_expr-returns-in_ok-add_expr-in-Repeat : goal.add_expr-returns-in_ok-add_expr-in-Repeat
 add_expr-returns-in_ok-add_expr-in-Repeat t c =
-    let one = rw c.deref-in-Repeat.ensures at c.in_ok-add_expr-in-Repeat.ensures in
-    let others = rw c.deref-in-Repeat-2.ensures.value at c.add_exprs-in-Repeat.ensures in
-    names_then c.add_exprs-in-Repeat.result (has c.args.names.now) (has c.add_expr.new.names) (has c.add_exprs-in-Repeat.new.names) (identifiers (expr_view c.in-Repeat.count.value)) (all_identifiers (exprs_of (exprs_view c.in-Repeat.parts.items))) _ (ap identifiers (repeat_view c.args.expr.now c.in-Repeat.count c.in-Repeat.parts c.in-Repeat.is)) one others
+    let one = c.in_ok-add_expr-in-Repeat.ensures in
+    let others = rw c.deref-in-Repeat.ensures.value at c.add_exprs-in-Repeat.ensures in
+    names_then c.add_exprs-in-Repeat.result (has c.args.names.now) (has c.add_expr.new.names) (has c.add_exprs-in-Repeat.new.names) (identifiers (expr_view c.in-Repeat.count)) (all_identifiers (exprs_of (exprs_view c.in-Repeat.parts.items))) _ (ap identifiers (repeat_view c.args.expr.now c.in-Repeat.count c.in-Repeat.parts c.in-Repeat.is)) one others
 
 pub add_exprs-loop-expr-preserved : goal.add_exprs-loop-expr-preserved
 add_exprs-loop-expr-preserved t c =

@@ -1,5 +1,4 @@
 use Rattle.std.proofs.Common.{◌≡◌, ◌+◌, ◌++◌, Some, append-nil, drop, ap, sym, ◌∙◌}
-use Rattle.elab_checks.proofs.TreeLemmas.{arms_from, statements_from}
 use Rattle.flat_design.specs.Identifiers.{all_identifiers, body_identifiers, bodies_identifiers, header_identifiers, identifiers, items_identifiers}
 use Rattle.verilog_tree.specs.Tree.{arms_of, exprs_of, statements_of}
 use Rattle.verilog_tree.specs.View.{arms_view, expr_view, exprs_view, loop_view, statement_view, statements_view}
@@ -8,16 +7,16 @@ use Rattle.verilog_tree.specs.declared.statement.StatementForm as form
 use Rattle.elab_scope.specs.NameSet.{has}
 use Rattle.elab_instances.specs.Names.{with_names}
 use Rattle.elab_instances.proofs.NamesLemmas.{names_both, names_next, names_then}
-use Rattle.elab_instances.proofs.StatementViews.{body_view, case_view, for_view, if_else_view, if_view}
+use Rattle.verilog_tree.proofs.StatementViews.{arms_from, body_view, case_view, for_view, if_else_view, if_view, statements_from}
 use Rattle.elab_instances.proofs.identifiers.+add_statement.Goals as goal
 
 pub add_statement-returns-in-Some : goal.add_statement-returns-in-Some
 add_statement-returns-in-Some t c =
     let test = identifiers (expr_view c.in-If.test) in
-    let then = body_identifiers (statement_view c.in-If.yes.value) in
-    let other = body_identifiers (statement_view c.in-Some.no.value) in
-    let second = rw c.deref-in-If.ensures at c.in_ok-add_statement-in-If.ensures in
-    let third = rw c.deref-in-Some.ensures at c.add_statement-in-Some.ensures in
+    let then = body_identifiers (statement_view c.in-If.yes) in
+    let other = body_identifiers (statement_view c.in-Some.no) in
+    let second = c.in_ok-add_statement-in-If.ensures in
+    let third = c.add_statement-in-Some.ensures in
     let front = names_both (has c.args.names.now) (has c.add_expr.new.names) (has c.add_statement.new.names) test then c.in_ok-add_expr-in-If.ensures second in
     let is = c.in-If.is ∙ ap (λ o. form.If c.in-If.test c.in-If.yes o) c.in-Some.is in
     names_then c.add_statement-in-Some.result (has c.args.names.now) (has c.add_statement.new.names) (has c.add_statement-in-Some.new.names) (test ++ then) other _ (ap body_identifiers (if_else_view c.args.statement.now c.in-If.test c.in-If.yes c.in-Some.no is) ∙ ap (λ ns. test ++ then ++ ns) (append-nil other)) front third
@@ -25,8 +24,8 @@ add_statement-returns-in-Some t c =
 pub add_statement-returns-in-None : goal.add_statement-returns-in-None
 add_statement-returns-in-None t c =
     let test = identifiers (expr_view c.in-If.test) in
-    let then = body_identifiers (statement_view c.in-If.yes.value) in
-    let second = rw c.deref-in-If.ensures at c.in_ok-add_statement-in-If.ensures in
+    let then = body_identifiers (statement_view c.in-If.yes) in
+    let second = c.in_ok-add_statement-in-If.ensures in
     let is = c.in-If.is ∙ ap (λ o. form.If c.in-If.test c.in-If.yes o) c.in-None.is in
     names_both (has c.args.names.now) (has c.add_expr.new.names) (has c.add_statement.new.names) test then c.in_ok-add_expr-in-If.ensures second
     ∙ ap (λ ns. with_names ns (has c.args.names.now)) (sym (ap body_identifiers (if_view c.args.statement.now c.in-If.test c.in-If.yes is) ∙ append-nil (test ++ then)))
@@ -39,7 +38,7 @@ add_statement-returns-in_ok-add_expr-in-Case t c =
 pub add_statement-returns-in_ok-add_header-in-For : goal.add_statement-returns-in_ok-add_header-in-For
 add_statement-returns-in_ok-add_header-in-For t c =
     let h = c.in-For.header in
-    let body = rw (c.deref-in-For.ensures, ← body_view h) at c.add_statement-in-For.ensures in
+    let body = rw (← body_view h) at c.add_statement-in-For.ensures in
     names_then c.add_statement-in-For.result (has c.args.names.now) (has c.add_header.new.names) (has c.add_statement-in-For.new.names) (header_identifiers (loop_view h).0) (body_identifiers (loop_view h).1) _ (ap body_identifiers (for_view c.args.statement.now h c.in-For.is)) c.in_ok-add_header-in-For.ensures body
 
 pub add_statements-loop-statement-preserved : goal.add_statements-loop-statement-preserved

@@ -1,5 +1,5 @@
 use Rattle.std.proofs.Common.{◌++◌, append_assoc, ap, ◌∙◌}
-use Rattle.elab_checks.proofs.TreeLemmas.{header_view}
+use Rattle.verilog_tree.proofs.StatementViews.{header_view}
 use Rattle.flat_design.specs.Identifiers.{header_identifiers, identifiers}
 use Rattle.verilog_tree.specs.View.{expr_view}
 use Rattle.verilog_tree.specs.declared.statement.For.{out-For}

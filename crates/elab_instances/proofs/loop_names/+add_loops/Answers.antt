@@ -1,5 +1,4 @@
 use Rattle.std.proofs.Common.{◌≡◌, ◌+◌, ◌++◌, Some, append-nil, drop, ap, ◌∙◌}
-use Rattle.elab_checks.proofs.TreeLemmas.{arms_from, statements_from}
 use Rattle.flat_design.specs.Identifiers.{items_loop_names, loop_names, loops_names}
 use Rattle.verilog_tree.specs.Tree.{arms_of, statements_of}
 use Rattle.verilog_tree.specs.View.{arms_view, statement_view, statements_view}
@@ -7,15 +6,15 @@ use Rattle.verilog_tree.specs.declared.statement.Arm.{out-Arm}
 use Rattle.verilog_tree.specs.declared.statement.StatementForm as form
 use Rattle.elab_scope.specs.NameSet.{has}
 use Rattle.elab_instances.proofs.NamesLemmas.{names_next, names_then}
-use Rattle.elab_instances.proofs.StatementViews.{if_else_view}
+use Rattle.verilog_tree.proofs.StatementViews.{arms_from, if_else_view, statements_from}
 use Rattle.elab_instances.proofs.loop_names.+add_loops.Goals as goal
 
 pub add_loops-returns-in-Some : goal.add_loops-returns-in-Some
 add_loops-returns-in-Some t c =
-    let then = loop_names (statement_view c.in-If.yes.value) in
-    let other = loop_names (statement_view c.in-Some.no.value) in
-    let first = rw c.deref-in-If.ensures at c.in_ok-add_loops-in-If.ensures in
-    let second = rw c.deref-in-Some.ensures at c.add_loops-in-Some.ensures in
+    let then = loop_names (statement_view c.in-If.yes) in
+    let other = loop_names (statement_view c.in-Some.no) in
+    let first = c.in_ok-add_loops-in-If.ensures in
+    let second = c.add_loops-in-Some.ensures in
     let is = c.in-If.is ∙ ap (λ o. form.If c.in-If.test c.in-If.yes o) c.in-Some.is in
     names_then c.add_loops-in-Some.result (has c.args.names.now) (has c.add_loops.new.names) (has c.add_loops-in-Some.new.names) then other _ (ap loop_names (if_else_view c.args.statement.now c.in-If.test c.in-If.yes c.in-Some.no is) ∙ ap (λ ns. then ++ ns) (append-nil other)) first second
 

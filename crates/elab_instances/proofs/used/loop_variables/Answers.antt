@@ -12,7 +12,7 @@ use Rattle.elab_instances.proofs.used.loop_variables.Goals as goal
 pub loop-item-init : goal.loop-item-init
 loop-item-init c =
     let own : Item → List Named = λ i. item_loops i.form in
-    let all : List Named = flat_map own (items_view c.args.module.now.items) in
+    let all : List Named = flat_map own (items_view c.args.definition.now.items) in
     ap (λ is. with_names (flat_map own (items_view is)) (has c.new-names.result)) c.as_slice-item-items.ensures ∙ ap (λ s. with_names all (has s)) c.new-names.ensures ∙ names_alone all
 
 pub loop-item-preserved : goal.loop-item-preserved

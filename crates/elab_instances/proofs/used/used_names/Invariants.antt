@@ -9,4 +9,4 @@ use Rattle.elab_instances.proofs.used.used_names.Given as goal
 
 -- the set with the names of the items that are left has all
 abbrev pub invariant-loop-item : goal.invariant-loop-item
-invariant-loop-item l = with_names (flat_map (λ i. item_identifiers i.form) (items_view (drop l.item-index l.item-items))) (has l.names) ≡ is_among (used_names (module_view l.fn.module))
+invariant-loop-item l = with_names (flat_map (λ i. item_identifiers i.form) (items_view (drop l.item-index l.item-items))) (has l.names) ≡ is_among (used_names (module_view l.fn.definition))

@@ -20,7 +20,7 @@ returns-then-not-known-clause-met c =
     let t = c.args.tally.now in
     let u = c.check_connections.new.tally in
     let made = c.in_ok-found.ensures ∙ ap (λ ns. connections label (names_view ns) cs) c.deref.ensures.value in
-    overrides_met g label (module_view c.args.«module».now) cs (names_view c.in_ok-names.names.items) (connections_view c.in_ok-found.found.items) c.in_ok-names.ensures made t u c.check_values-constant.new.tally
+    overrides_met g label (module_view c.args.definition.now) cs (names_view c.in_ok-names.names.items) (connections_view c.in_ok-found.found.items) c.in_ok-names.ensures made t u c.check_values-constant.new.tally
     (c.in_ok-known.ensures.met ∙ ap (λ ns. after_faults t (given_faults label (names_view ns) cs)) c.deref-2.ensures.value)
     (c.check_values-constant.ensures.met ∙ ap (λ ds. after_faults u (flat_map (λ d. override_value_faults g d.value) (connections_view ds))) c.deref-4.ensures.value)
 
@@ -37,7 +37,7 @@ pub returns-clause-found : goal.returns-clause-found
 returns-clause-found c =
     let g = binding_of c.args.scope.now in
     let label = name_view c.args.label in
-    let m = module_view c.args.«module».now in
+    let m = module_view c.args.definition.now in
     let cs = givens_view c.args.given.now in
     let xs = names_view c.in_ok-names.names.items in
     let found = connections_view c.in_ok-found.found.items in

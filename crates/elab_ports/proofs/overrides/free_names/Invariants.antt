@@ -9,4 +9,4 @@ use Rattle.elab_ports.proofs.overrides.free_names.Given as goal
 -- the names so far, with those of the items that are left, are all
 abbrev pub invariant-loop-item : goal.invariant-loop-item
 invariant-loop-item l =
-    names_view l.names.items ++ map (λ p. p.name) (filter (λ p. not p.local) (flat_map (λ i. item_params i.form) (items_view (drop l.item-index l.item-items)))) ≡ free_names (module_view l.fn.module)
+    names_view l.names.items ++ map (λ p. p.name) (filter (λ p. not p.local) (flat_map (λ i. item_params i.form) (items_view (drop l.item-index l.item-items)))) ≡ free_names (module_view l.fn.definition)

@@ -9,4 +9,4 @@ use Rattle.elab_ports.proofs.ports.joined_ports.Given as goal
 -- the ports so far, with those of the names that are left, are all
 abbrev pub invariant-loop-port : goal.invariant-loop-port
 invariant-loop-port l =
-    ports_view l.found.items ++ flat_map (joined_port l.fn.declared (connections_view l.fn.connections)) (drop l.port-index l.port-items) ≡ flat_map (joined_port l.fn.declared (connections_view l.fn.connections)) (module_view l.fn.module).ports
+    ports_view l.found.items ++ flat_map (joined_port l.fn.declared (connections_view l.fn.connections)) (drop l.port-index l.port-items) ≡ flat_map (joined_port l.fn.declared (connections_view l.fn.connections)) (module_view l.fn.definition).ports

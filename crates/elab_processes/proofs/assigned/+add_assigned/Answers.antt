@@ -17,8 +17,7 @@ use Rattle.flat_design.specs.declared.entry.Entry.TheVariants.{Turn}
 use Rattle.elab_checks.specs.Turns.{restored}
 use Rattle.elab_checks.proofs.RestoredLemmas.{restored_same, same_itself, same_with, with_same}
 use Rattle.elab_checks.proofs.StatementLemmas.{flat_map_next, ok_along, on_ok}
-use Rattle.elab_checks.proofs.StatementViews.{body_view, for_view, if_else_view, if_view}
-use Rattle.elab_checks.proofs.TreeLemmas.{arms_from, statements_from}
+use Rattle.verilog_tree.proofs.StatementViews.{arms_from, body_view, for_view, if_else_view, if_view, statements_from}
 use Rattle.elab_processes.specs.Listed.{has}
 use Rattle.elab_processes.proofs.LoopVariables.{turn_variable}
 use Rattle.elab_processes.proofs.SignalLemmas.{listed_in_turn, listed_next, listed_then}
@@ -29,13 +28,13 @@ add_assigned-returns-in-Some-clause-assigned t c =
     let g = binding_of c.args.scope.now in
     let k = c.args.known.now in
     let s = c.args.statement.now in
-    let yes = assigned g (statement_view c.in-If.yes.value) in
-    let other = assigned g (statement_view c.in-Some.no.value) in
-    let first = rw c.deref-in-If.ensures at c.in_ok-add_assigned-in-If.ensures.assigned in
+    let yes = assigned g (statement_view c.in-If.yes) in
+    let other = assigned g (statement_view c.in-Some.no) in
+    let first = c.in_ok-add_assigned-in-If.ensures.assigned in
     let view = if_else_view s c.in-If.test c.in-If.yes c.in-Some.no (c.in-If.is ∙ ap (form.If c.in-If.test c.in-If.yes) c.in-Some.is) in
     let one = c.add_assigned.new.known in
     let f = binding_of c.add_assigned.new.scope in
-    let last = ap (λ x. has (listed_signals f (assigned f (statement_view x)) ++ one)) c.deref-in-Some.ensures ∙ ap (λ f. has (listed_signals f (assigned f (statement_view c.in-Some.no.value)) ++ one)) c.in_ok-add_assigned-in-If.ensures.kept in
+    let last = ap (λ f. has (listed_signals f (assigned f (statement_view c.in-Some.no)) ++ one)) c.in_ok-add_assigned-in-If.ensures.kept in
     let whole : has (listed_signals g other ++ one) ≡ has (listed_signals g (assigned g (statement_view s)) ++ k) =
     listed_then g k one (listed_signals g other ++ one) yes other first refl ∙ ap (λ xs. has (listed_signals g (yes ++ xs) ++ k)) (sym (append-nil other)) ∙ ap (λ x. has (listed_signals g (assigned g x) ++ k)) (sym view) in
     ok_along c.add_assigned-in-Some.result (has c.add_assigned-in-Some.new.known) _ _ (last ∙ whole) c.add_assigned-in-Some.ensures.assigned
@@ -45,8 +44,8 @@ add_assigned-returns-in-None-clause-assigned t c =
     let g = binding_of c.args.scope.now in
     let k = c.args.known.now in
     let s = c.args.statement.now in
-    let yes = assigned g (statement_view c.in-If.yes.value) in
-    let first = rw c.deref-in-If.ensures at c.in_ok-add_assigned-in-If.ensures.assigned in
+    let yes = assigned g (statement_view c.in-If.yes) in
+    let first = c.in_ok-add_assigned-in-If.ensures.assigned in
     let view = if_view s c.in-If.test c.in-If.yes (c.in-If.is ∙ ap (form.If c.in-If.test c.in-If.yes) c.in-None.is) in
     first ∙ ap (λ xs. has (listed_signals g xs ++ k)) (sym (append-nil yes)) ∙ ap (λ x. has (listed_signals g (assigned g x) ++ k)) (sym view)
 
@@ -95,14 +94,14 @@ add_turns-loop-value-preserved t c =
     let i = c.loop-value.value-index in
     let k = c.loop-value.known in
     let vs = c.as_slice-value-items.result.now in
-    let body = statement_view (out-For c.args.header.now).body.value in
+    let body = statement_view (out-For c.args.header.now).body in
     let each : Vector → List Named = λ v. assigned (in_turn h v g) (loop_view c.args.header.now).1 in
     let before = binding_of c.loop-value.scope in
     let values : vs ≡ loops.turns g h = c.as_slice-value-items.ensures ∙ c.in_ok-values.ensures.values in
     let variable = turn_variable g h i (subst (λ xs. i < length xs) values c.loop-value-test.true) in
     let now : binding_of c.insert.new.self ≡ with_entry x (Turn v) g = c.in_ok-insert.ensures ∙ ap (λ y. with_entry y (Turn v) before) c.in_ok-variable.ensures ∙ with_same x (Turn v) before g c.loop-value.invariant.kept in
     let here : has c.add_assigned.new.known ≡ has (listed_signals g (each v) ++ k) =
-    rw c.deref.ensures at c.in_ok-add_assigned.ensures.assigned ∙ ap (λ f. has (listed_signals f (assigned f body) ++ k)) now ∙ ap (λ l. has (l ++ k)) (listed_in_turn g h v (assigned (in_turn h v g) body) variable) ∙ ap (λ b. has (listed_signals g (assigned (in_turn h v g) b) ++ k)) (sym (body_view c.args.header.now)) in
+    c.in_ok-add_assigned.ensures.assigned ∙ ap (λ f. has (listed_signals f (assigned f body) ++ k)) now ∙ ap (λ l. has (l ++ k)) (listed_in_turn g h v (assigned (in_turn h v g) body) variable) ∙ ap (λ b. has (listed_signals g (assigned (in_turn h v g) b) ++ k)) (sym (body_view c.args.header.now)) in
     let kept = c.in_ok-add_assigned.ensures.kept ∙ now in
     record {
       assigned = listed_next g k c.add_assigned.new.known _ (each v) (names_in_turns (drop (i + 1) vs) each) _ (flat_map_next each vs i v c.loop-value-test.true c.value-item.is) c.loop-value.invariant.assigned here;

@@ -1,5 +1,5 @@
 use Rattle.std.proofs.Common.{◌+◌, ◌++◌, ◌∙◌, sym, ap, drop}
-use Rattle.elab_const.proofs.ViewLemmas.{bit_view, part_view, slide_view, binary_view, choice_view, repeat_view}
+use Rattle.verilog_tree.proofs.ExprViews.{bit_view, part_view, slide_view, binary_view, choice_view, repeat_view}
 use Rattle.verilog_tree.specs.Tree.{exprs_of}
 use Rattle.verilog_tree.specs.View.{expr_view, exprs_view}
 use Rattle.flat_design.specs.Identifiers.{all_identifiers, identifiers}
@@ -12,33 +12,33 @@ use Rattle.elab_processes.proofs.incomplete.+check_names.Goals as goal
 
 pub check_names-returns-in-Bit : goal.check_names-returns-in-Bit
 check_names-returns-in-Bit t c =
-    rw (c.deref.ensures, c.deref-in-Bit.ensures) at c.check_two.ensures ∙ sym (ap (λ e. after_faults c.args.tally.now (lacking (binding_of c.args.scope.now) c.args.known.now (identifiers e))) (bit_view c.args.expr.now c.in-Bit.of c.in-Bit.index c.in-Bit.is))
+    c.check_two.ensures ∙ sym (ap (λ e. after_faults c.args.tally.now (lacking (binding_of c.args.scope.now) c.args.known.now (identifiers e))) (bit_view c.args.expr.now c.in-Bit.of c.in-Bit.index c.in-Bit.is))
 
 pub check_names-returns-in-Part : goal.check_names-returns-in-Part
 check_names-returns-in-Part t c =
-    rw (c.deref-in-Part.ensures, c.deref-in-Part-2.ensures, c.deref-in-Part-3.ensures) at c.check_three.ensures ∙ sym (ap (λ e. after_faults c.args.tally.now (lacking (binding_of c.args.scope.now) c.args.known.now (identifiers e))) (part_view c.args.expr.now c.in-Part.of c.in-Part.high c.in-Part.low c.in-Part.bracket c.in-Part.is))
+    c.check_three.ensures ∙ sym (ap (λ e. after_faults c.args.tally.now (lacking (binding_of c.args.scope.now) c.args.known.now (identifiers e))) (part_view c.args.expr.now c.in-Part.of c.in-Part.high c.in-Part.low c.in-Part.bracket c.in-Part.is))
 
 pub check_names-returns-in-Slide : goal.check_names-returns-in-Slide
 check_names-returns-in-Slide t c =
-    rw (c.deref-in-Slide.ensures, c.deref-in-Slide-2.ensures, c.deref-in-Slide-3.ensures) at c.check_three-in-Slide.ensures ∙ sym (ap (λ e. after_faults c.args.tally.now (lacking (binding_of c.args.scope.now) c.args.known.now (identifiers e))) (slide_view c.args.expr.now c.in-Slide.of c.in-Slide.base c.in-Slide.width c.in-Slide.up c.in-Slide.bracket c.in-Slide.is))
+    c.check_three-in-Slide.ensures ∙ sym (ap (λ e. after_faults c.args.tally.now (lacking (binding_of c.args.scope.now) c.args.known.now (identifiers e))) (slide_view c.args.expr.now c.in-Slide.of c.in-Slide.base c.in-Slide.width c.in-Slide.up c.in-Slide.bracket c.in-Slide.is))
 
 pub check_names-returns-in-Binary : goal.check_names-returns-in-Binary
 check_names-returns-in-Binary t c =
-    rw (c.deref-in-Binary.ensures, c.deref-in-Binary-2.ensures) at c.check_two-in-Binary.ensures ∙ sym (ap (λ e. after_faults c.args.tally.now (lacking (binding_of c.args.scope.now) c.args.known.now (identifiers e))) (binary_view c.args.expr.now c.in-Binary.field-0 c.in-Binary.a c.in-Binary.b c.in-Binary.is))
+    c.check_two-in-Binary.ensures ∙ sym (ap (λ e. after_faults c.args.tally.now (lacking (binding_of c.args.scope.now) c.args.known.now (identifiers e))) (binary_view c.args.expr.now c.in-Binary.field-0 c.in-Binary.a c.in-Binary.b c.in-Binary.is))
 
 pub check_names-returns-in-Choice : goal.check_names-returns-in-Choice
 check_names-returns-in-Choice t c =
-    rw (c.deref-in-Choice.ensures, c.deref-in-Choice-2.ensures, c.deref-in-Choice-3.ensures) at c.check_three-in-Choice.ensures ∙ sym (ap (λ e. after_faults c.args.tally.now (lacking (binding_of c.args.scope.now) c.args.known.now (identifiers e))) (choice_view c.args.expr.now c.in-Choice.test c.in-Choice.yes c.in-Choice.no c.in-Choice.is))
+    c.check_three-in-Choice.ensures ∙ sym (ap (λ e. after_faults c.args.tally.now (lacking (binding_of c.args.scope.now) c.args.known.now (identifiers e))) (choice_view c.args.expr.now c.in-Choice.test c.in-Choice.yes c.in-Choice.no c.in-Choice.is))
 
 pub check_names-returns-in-Repeat : goal.check_names-returns-in-Repeat
 check_names-returns-in-Repeat t c =
     let g = binding_of c.args.scope.now in
     let k = c.args.known.now in
     let u = c.args.tally.now in
-    let count = identifiers (expr_view c.in-Repeat.count.value) in
+    let count = identifiers (expr_view c.in-Repeat.count) in
     let parts = all_identifiers (exprs_of (exprs_view c.in-Repeat.parts.items)) in
-    let first = rw c.deref-in-Repeat.ensures at c.check_names.ensures in
-    let others = rw c.deref-in-Repeat-2.ensures.value at c.check_all_names-in-Repeat.ensures in
+    let first = c.check_names.ensures in
+    let others = rw c.deref-in-Repeat.ensures.value at c.check_all_names-in-Repeat.ensures in
     lacking_then g k u c.check_names.new.tally c.check_all_names-in-Repeat.new.tally count parts first others ∙ sym (ap (λ e. after_faults u (lacking g k (identifiers e))) (repeat_view c.args.expr.now c.in-Repeat.count c.in-Repeat.parts c.in-Repeat.is))
 
 pub check_two-returns : goal.check_two-returns

@@ -18,8 +18,7 @@ use Rattle.elab_scope.specs.Tally.{after_faults}
 use Rattle.elab_checks.specs.Turns.{restored}
 use Rattle.elab_checks.proofs.RestoredLemmas.{restored_same, same_itself, same_with, with_same}
 use Rattle.elab_checks.proofs.StatementLemmas.{flat_map_next, ok_along, on_ok}
-use Rattle.elab_checks.proofs.StatementViews.{body_view, case_view, if_else_view, if_view, set_view}
-use Rattle.elab_checks.proofs.TreeLemmas.{arms_from, statements_from}
+use Rattle.verilog_tree.proofs.StatementViews.{arms_from, body_view, case_view, if_else_view, if_view, set_view, statements_from}
 use Rattle.elab_processes.specs.Listed.{lacking}
 use Rattle.elab_processes.proofs.LoopVariables.{turn_variable}
 use Rattle.elab_processes.proofs.SignalLemmas.{lacking_in_turn, lacking_next, lacking_then}
@@ -32,12 +31,12 @@ check_reads-returns-in-Some-clause-met t c =
     let u = c.args.tally.now in
     let s = c.args.statement.now in
     let test = identifiers (expr_view c.in-If.test) in
-    let yes = reads g (statement_view c.in-If.yes.value) in
-    let other = reads g (statement_view c.in-Some.no.value) in
-    let first = lacking_then g k u c.check_names.new.tally c.check_reads.new.tally test yes c.check_names.ensures (rw c.deref-in-If.ensures at c.in_ok-check_reads-in-If.ensures.met) in
+    let yes = reads g (statement_view c.in-If.yes) in
+    let other = reads g (statement_view c.in-Some.no) in
+    let first = lacking_then g k u c.check_names.new.tally c.check_reads.new.tally test yes c.check_names.ensures c.in_ok-check_reads-in-If.ensures.met in
     let view = if_else_view s c.in-If.test c.in-If.yes c.in-Some.no (c.in-If.is ∙ ap (form.If c.in-If.test c.in-If.yes) c.in-Some.is) in
     let told = after_faults c.check_reads.new.tally (lacking g k other) in
-    let last = ap (λ x. after_faults c.check_reads.new.tally (lacking (binding_of c.check_reads.new.scope) k (reads (binding_of c.check_reads.new.scope) (statement_view x)))) c.deref-in-Some.ensures ∙ ap (λ f. after_faults c.check_reads.new.tally (lacking f k (reads f (statement_view c.in-Some.no.value)))) c.in_ok-check_reads-in-If.ensures.kept in
+    let last = ap (λ f. after_faults c.check_reads.new.tally (lacking f k (reads f (statement_view c.in-Some.no)))) c.in_ok-check_reads-in-If.ensures.kept in
     let whole : told ≡ after_faults u (lacking g k (reads g (statement_view s))) =
     lacking_then g k u c.check_reads.new.tally told (test ++ yes) other first refl ∙ ap (λ xs. after_faults u (lacking g k ((test ++ yes) ++ xs))) (sym (append-nil other)) ∙ ap (λ x. after_faults u (lacking g k (reads g x))) (sym view) in
     ok_along c.check_reads-in-Some.result c.check_reads-in-Some.new.tally _ _ (last ∙ whole) c.check_reads-in-Some.ensures.met
@@ -49,8 +48,8 @@ check_reads-returns-in-None-clause-met t c =
     let u = c.args.tally.now in
     let s = c.args.statement.now in
     let test = identifiers (expr_view c.in-If.test) in
-    let yes = reads g (statement_view c.in-If.yes.value) in
-    let first = lacking_then g k u c.check_names.new.tally c.check_reads.new.tally test yes c.check_names.ensures (rw c.deref-in-If.ensures at c.in_ok-check_reads-in-If.ensures.met) in
+    let yes = reads g (statement_view c.in-If.yes) in
+    let first = lacking_then g k u c.check_names.new.tally c.check_reads.new.tally test yes c.check_names.ensures c.in_ok-check_reads-in-If.ensures.met in
     let view = if_view s c.in-If.test c.in-If.yes (c.in-If.is ∙ ap (form.If c.in-If.test c.in-If.yes) c.in-None.is) in
     first ∙ ap (λ xs. after_faults u (lacking g k xs)) (sym (append-nil (test ++ yes))) ∙ ap (λ x. after_faults u (lacking g k (reads g x))) (sym view)
 
@@ -124,14 +123,14 @@ check_turns-loop-value-preserved t c =
     let i = c.loop-value.value-index in
     let u = c.loop-value.tally in
     let vs = c.as_slice-value-items.result.now in
-    let body = statement_view (out-For c.args.header.now).body.value in
+    let body = statement_view (out-For c.args.header.now).body in
     let each : Vector → List Named = λ v. reads (in_turn h v g) (loop_view c.args.header.now).1 in
     let before = binding_of c.loop-value.scope in
     let values : vs ≡ loops.turns g h = c.as_slice-value-items.ensures ∙ c.in_ok-values.ensures.values in
     let variable = turn_variable g h i (subst (λ xs. i < length xs) values c.loop-value-test.true) in
     let now : binding_of c.insert.new.self ≡ with_entry x (Turn v) g = c.in_ok-insert.ensures ∙ ap (λ y. with_entry y (Turn v) before) c.in_ok-variable.ensures ∙ with_same x (Turn v) before g c.loop-value.invariant.kept in
     let told : c.check_reads.new.tally ≡ after_faults u (lacking g k (each v)) =
-    rw c.deref.ensures at c.in_ok-check_reads.ensures.met ∙ ap (λ f. after_faults u (lacking f k (reads f body))) now ∙ ap (after_faults u) (lacking_in_turn g h v k (reads (in_turn h v g) body) variable) ∙ ap (λ b. after_faults u (lacking g k (reads (in_turn h v g) b))) (sym (body_view c.args.header.now)) in
+    c.in_ok-check_reads.ensures.met ∙ ap (λ f. after_faults u (lacking f k (reads f body))) now ∙ ap (after_faults u) (lacking_in_turn g h v k (reads (in_turn h v g) body) variable) ∙ ap (λ b. after_faults u (lacking g k (reads (in_turn h v g) b))) (sym (body_view c.args.header.now)) in
     let kept = c.in_ok-check_reads.ensures.kept ∙ now in
     record {
       met = lacking_next g k u c.check_reads.new.tally _ (each v) (names_in_turns (drop (i + 1) vs) each) _ (flat_map_next each vs i v c.loop-value-test.true c.value-item.is) c.loop-value.invariant.met told;

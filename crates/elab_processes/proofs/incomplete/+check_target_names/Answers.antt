@@ -1,5 +1,5 @@
 use Rattle.std.proofs.Common.{◌+◌, ◌++◌, ◌∙◌, append_assoc, sym, ap, drop}
-use Rattle.elab_const.proofs.ViewLemmas.{bit_view, part_view, slide_view}
+use Rattle.verilog_tree.proofs.ExprViews.{bit_view, part_view, slide_view}
 use Rattle.verilog_tree.specs.Tree.{exprs_of}
 use Rattle.verilog_tree.specs.View.{expr_view, exprs_view}
 use Rattle.flat_design.specs.Identifiers.{identifiers}
@@ -16,10 +16,10 @@ check_target_names-returns-in-Bit t c =
     let g = binding_of c.args.scope.now in
     let k = c.args.known.now in
     let u = c.args.tally.now in
-    let of = target_reads (expr_view c.in-Bit.of.value) in
-    let index = identifiers (expr_view c.in-Bit.index.value) in
-    let first = rw c.deref.ensures at c.check_target_names.ensures in
-    let last = rw c.deref-in-Bit.ensures at c.check_names.ensures in
+    let of = target_reads (expr_view c.in-Bit.of) in
+    let index = identifiers (expr_view c.in-Bit.index) in
+    let first = c.check_target_names.ensures in
+    let last = c.check_names.ensures in
     lacking_then g k u c.check_target_names.new.tally c.check_names.new.tally of index first last ∙ sym (ap (λ e. after_faults u (lacking g k (target_reads e))) (bit_view c.args.expr.now c.in-Bit.of c.in-Bit.index c.in-Bit.is))
 
 pub check_target_names-returns-in-Part : goal.check_target_names-returns-in-Part
@@ -27,11 +27,11 @@ check_target_names-returns-in-Part t c =
     let g = binding_of c.args.scope.now in
     let k = c.args.known.now in
     let u = c.args.tally.now in
-    let of = target_reads (expr_view c.in-Part.of.value) in
-    let xs = identifiers (expr_view c.in-Part.high.value) in
-    let ys = identifiers (expr_view c.in-Part.low.value) in
-    let first = rw c.deref-in-Part.ensures at c.check_target_names-in-Part.ensures in
-    let last = rw (c.deref-in-Part-2.ensures, c.deref-in-Part-3.ensures) at c.check_two.ensures in
+    let of = target_reads (expr_view c.in-Part.of) in
+    let xs = identifiers (expr_view c.in-Part.high) in
+    let ys = identifiers (expr_view c.in-Part.low) in
+    let first = c.check_target_names-in-Part.ensures in
+    let last = c.check_two.ensures in
     lacking_then g k u c.check_target_names-in-Part.new.tally c.check_two.new.tally of (xs ++ ys) first last ∙ ap (λ ns. after_faults u (lacking g k ns)) (sym (append_assoc of xs ys)) ∙ sym (ap (λ e. after_faults u (lacking g k (target_reads e))) (part_view c.args.expr.now c.in-Part.of c.in-Part.high c.in-Part.low c.in-Part.bracket c.in-Part.is))
 
 pub check_target_names-returns-in-Slide : goal.check_target_names-returns-in-Slide
@@ -39,11 +39,11 @@ check_target_names-returns-in-Slide t c =
     let g = binding_of c.args.scope.now in
     let k = c.args.known.now in
     let u = c.args.tally.now in
-    let of = target_reads (expr_view c.in-Slide.of.value) in
-    let xs = identifiers (expr_view c.in-Slide.base.value) in
-    let ys = identifiers (expr_view c.in-Slide.width.value) in
-    let first = rw c.deref-in-Slide.ensures at c.check_target_names-in-Slide.ensures in
-    let last = rw (c.deref-in-Slide-2.ensures, c.deref-in-Slide-3.ensures) at c.check_two-in-Slide.ensures in
+    let of = target_reads (expr_view c.in-Slide.of) in
+    let xs = identifiers (expr_view c.in-Slide.base) in
+    let ys = identifiers (expr_view c.in-Slide.width) in
+    let first = c.check_target_names-in-Slide.ensures in
+    let last = c.check_two-in-Slide.ensures in
     lacking_then g k u c.check_target_names-in-Slide.new.tally c.check_two-in-Slide.new.tally of (xs ++ ys) first last ∙ ap (λ ns. after_faults u (lacking g k ns)) (sym (append_assoc of xs ys)) ∙ sym (ap (λ e. after_faults u (lacking g k (target_reads e))) (slide_view c.args.expr.now c.in-Slide.of c.in-Slide.base c.in-Slide.width c.in-Slide.up c.in-Slide.bracket c.in-Slide.is))
 
 pub check_all_target_names-loop-expr-preserved : goal.check_all_target_names-loop-expr-preserved
