@@ -28,19 +28,11 @@ pub(crate) fn number(alloc: Global, cursor: &mut Cursor<'_, '_>) -> Result<Measu
 {
     if !cursor.sees(Kind::Decimal) {
         let based = cursor.take(Kind::Based)?;
-        return Ok(Measured::number(
-            alloc,
-            based.place,
-            based_value(32, based.text),
-        )?);
+        return Ok(Measured::number(alloc, based.place, based_value(32, based.text))?);
     }
     let decimal = cursor.take(Kind::Decimal)?;
     if !cursor.sees(Kind::Based) {
-        return Ok(Measured::number(
-            alloc,
-            decimal.place,
-            decimal_value(decimal.text),
-        )?);
+        return Ok(Measured::number(alloc, decimal.place, decimal_value(decimal.text))?);
     }
     let based = cursor.take(Kind::Based)?;
     let value = based_value(width_of(decimal.text), based.text);

@@ -193,7 +193,11 @@ impl Measured {
     }
 
     /// A concatenation of all these, of which this is the depth.
-    pub(crate) fn concat(alloc: Global, place: Place, parts: MeasuredList) -> Result<Measured, NoMemory>
+    pub(crate) fn concat(
+        alloc: Global,
+        place: Place,
+        parts: MeasuredList,
+    ) -> Result<Measured, NoMemory>
         requires { parts.start ≡ none place }
         ensures { IfOk result (λ e. measured_view e ≡ t.concatenation place (exprs_of (list_view parts).exprs)) }
     {
