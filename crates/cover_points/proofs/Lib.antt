@@ -1,5 +1,8 @@
 pub mod Members
 pub mod Orders
 pub mod Pieces
+pub mod Ranges
 pub mod LineMembers
 pub mod NodeMembers
+pub mod ThingMembers
+pub mod Assembly

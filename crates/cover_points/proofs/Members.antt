@@ -110,7 +110,7 @@ same_bytes (x ∷ xs) (y ∷ ys) h =
     let others = same_bytes xs ys both.1 in
     cc
 
-in_at : {A : Type 0} (xs : List A) (j : ℕ) (d : A) → j < length xs → In (get_or xs j d) xs
+pub in_at : {A : Type 0} (xs : List A) (j : ℕ) (d : A) → j < length xs → In (get_or xs j d) xs
 in_at [] j d l = absurd (omega arith)
 in_at (x ∷ xs) zero d l = inl refl
 in_at (x ∷ xs) (suc j) d l = inr (in_at xs j d (omega arith))

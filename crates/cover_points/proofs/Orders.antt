@@ -3,7 +3,9 @@ use Rattle.std.proofs.Common.{List}
 use Rattle.std.specs.Cmp.{IsTotalOrder}
 use Rattle.std.proofs.lemmas.Cmp.{nat_cmp_total, nat_list_cmp_total, on_total, then_total}
 use Rattle.design_model.specs.declared.design.Instance.{Instance}
-use Rattle.cover_points.specs.Order.{case_rank, line_cmp, node_cmp, path_at}
+use Rattle.design_model.specs.Design.{Design}
+use Rattle.cover_points.specs.Order.{case_rank, index_cmp, line_cmp, node_cmp, path_at, second_rank, thing_instance, thing_name}
+use Rattle.cover_points.specs.declared.points.IndexPoint.{IndexPoint}
 use Rattle.text_points.specs.declared.points.LinePoint.{LinePoint}
 use Rattle.text_points.specs.declared.points.NodePoint.{NodePoint}
 
@@ -12,3 +14,7 @@ line_total is = then_total (on_total (λ (x : LinePoint). path_at is x.instance)
 
 pub node_total : (is : List Instance) → IsTotalOrder (node_cmp is)
 node_total is = then_total (then_total (on_total (λ (x : NodePoint). path_at is x.instance) nat_list_cmp_total) (on_total (λ (x : NodePoint). x.node) nat_cmp_total)) (on_total (λ (x : NodePoint). case_rank x.case) nat_cmp_total)
+
+pub index_total : (d : Design) → IsTotalOrder (index_cmp d)
+index_total d =
+    then_total (then_total (then_total (on_total (λ (x : IndexPoint). path_at d.instances (thing_instance d x.thing)) nat_list_cmp_total) (on_total (λ (x : IndexPoint). thing_name d x.thing) nat_list_cmp_total)) (on_total (λ (x : IndexPoint). x.index) nat_cmp_total)) (on_total (λ (x : IndexPoint). second_rank x.second) nat_cmp_total)

@@ -1,2 +1,4 @@
 pub mod Order
 pub mod Texts
+pub mod Things
+pub mod Listed

@@ -15,8 +15,8 @@ use Rattle.text_points.specs.declared.points.Owner.{Owner}
 abbrev pub owner : ℕ → Process → Owner
 owner k p = record { instance = instance_of p; process = k }
 
--- what processes have that are numbered from k on
-abbrev pub each_from : {X : Type 0} → (ℕ → Process → List X) → ℕ → List Process → List X
+-- what items have that are numbered from k on
+abbrev pub each_from : {A X : Type 0} → (ℕ → A → List X) → ℕ → List A → List X
 each_from f k [] = []
 each_from f k (p ∷ ps) = f k p ++ each_from f (k + 1) ps
 

@@ -1,9 +1,11 @@
 //! The order of points.
 
 ghost use Rattle.std.specs.Prelude.{◌≡◌};
-ghost use Rattle.cover_points.specs.Order.{case_rank, line_cmp, node_cmp, path_at};
+ghost use Rattle.cover_points.specs.Order.{case_rank, index_cmp, line_cmp, node_cmp, path_at, second_rank, thing_instance, thing_name};
+ghost use Rattle.design_model.specs.View.{design_view};
 
-use design_model::{Instance, NodeCase};
+use crate::points::IndexPoint;
+use design_model::{Design, Instance, NodeCase};
 use std::cmp::Ordering;
 use text_points::{LinePoint, NodePoint};
 
@@ -52,4 +54,49 @@ fn case_rank(case: NodeCase) -> u8
         NodeCase::TrueFalse => 8,
         NodeCase::BothTrue => 9,
     }
+}
+
+/// By the path of the instance, then by name, then by index; of one index the first point before the second.
+pub(crate) fn compare_indexes(design: &Design, a: &IndexPoint, b: &IndexPoint) -> Ordering
+    ensures { result ≡ index_cmp (design_view design.now) a.now b.now }
+{
+    let instances = design.instances.as_slice();
+    path_at(instances, thing_instance(design, a.thing))
+        .cmp(path_at(instances, thing_instance(design, b.thing)))
+        .then(thing_name(design, a.thing).cmp(thing_name(design, b.thing)))
+        .then(a.index.cmp(&b.index))
+        .then(second_rank(a.second).cmp(&second_rank(b.second)))
+}
+
+/// The instance of a signal or memory.
+fn thing_instance(design: &Design, thing: u32) -> u32
+    ensures { result ≡ thing_instance (design_view design.now) thing }
+{
+    match design.signals.get(thing as usize) {
+        Some(signal) => signal.instance,
+        None => match design.memories.get(thing as usize - design.signals.len()) {
+            Some(memory) => memory.instance,
+            None => 0,
+        },
+    }
+}
+
+/// The name of a signal or memory.
+fn thing_name(design: &Design, thing: u32) -> &[u8]
+    ensures { result.now ≡ thing_name (design_view design.now) thing }
+{
+    match design.signals.get(thing as usize) {
+        Some(signal) => signal.name.as_slice(),
+        None => match design.memories.get(thing as usize - design.signals.len()) {
+            Some(memory) => memory.name.as_slice(),
+            None => &[],
+        },
+    }
+}
+
+/// The place of a point among the two of its index, from 0.
+fn second_rank(second: bool) -> u8
+    ensures { result ≡ second_rank second }
+{
+    if second { 1 } else { 0 }
 }

@@ -2,8 +2,16 @@
 #![tactic(auto)]
 
 mod compare;
+mod fault;
 mod lines;
+mod listing;
 mod nodes;
+mod points;
+mod things;
 
+pub use fault::PointFault;
 pub use lines::line_points;
+pub use listing::{MOST_POINTS, Points, list};
 pub use nodes::node_points;
+pub use points::IndexPoint;
+pub use things::{toggle_points, word_points};
