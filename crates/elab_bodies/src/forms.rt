@@ -10,14 +10,22 @@ use design_model::{CaseArm, Stmt, StmtForm, Target, Term};
 use four_state::CaseKind;
 use std::alloc::Global;
 
-/// `begin parts end`.
-pub(crate) fn block(place: Place, parts: Vec<Stmt>) -> Stmt
-    ensures { stmt_view result ≡ t.block place (stmts_of (map stmt_view parts.items)) }
+/// A statement of this form.
+fn made(alloc: Global, place: Place, form: StmtForm) -> Result<Stmt, NoMemory>
+    ensures place { IfOk result (λ s. s.place ≡ place) }
+    ensures form { IfOk result (λ s. s.form.value ≡ form) }
 {
-    Stmt {
+    Ok(Stmt {
         place,
-        form: StmtForm::Block(parts),
-    }
+        form: Box::new(alloc, form)?,
+    })
+}
+
+/// `begin parts end`.
+pub(crate) fn block(alloc: Global, place: Place, parts: Vec<Stmt>) -> Result<Stmt, NoMemory>
+    ensures { IfOk result (λ s. stmt_view s ≡ t.block place (stmts_of (map stmt_view parts.items))) }
+{
+    made(alloc, place, StmtForm::Block(parts))
 }
 
 /// `if (test) yes`, with `else no` where there is one, and its number as a line point.
@@ -31,35 +39,33 @@ pub(crate) fn branch(
 ) -> Result<Stmt, NoMemory>
     ensures { IfOk result (λ s. stmt_view s ≡ t.branch place line (term_view test) (stmt_view yes) (other_view no)) }
 {
-    let yes = Box::new(alloc, yes)?;
-    let no = match no {
-        Some(no) => Some(Box::new(alloc, no)?),
-        None => None,
+    let form = StmtForm::If {
+        line,
+        test,
+        yes,
+        no,
     };
-    Ok(Stmt {
-        place,
-        form: StmtForm::If {
-            line,
-            test,
-            yes,
-            no,
-        },
-    })
+    made(alloc, place, form)
 }
 
 /// A `case`, `casez` or `casex`, and its number as a line point.
-pub(crate) fn select(place: Place, line: u32, kind: CaseKind, on: Term, arms: Vec<CaseArm>) -> Stmt
-    ensures { stmt_view result ≡ t.select place line kind (term_view on) (arms_of (map arm_view arms.items)) }
+pub(crate) fn select(
+    alloc: Global,
+    place: Place,
+    line: u32,
+    kind: CaseKind,
+    on: Term,
+    arms: Vec<CaseArm>,
+) -> Result<Stmt, NoMemory>
+    ensures { IfOk result (λ s. stmt_view s ≡ t.select place line kind (term_view on) (arms_of (map arm_view arms.items))) }
 {
-    Stmt {
-        place,
-        form: StmtForm::Case {
-            line,
-            kind,
-            on,
-            arms,
-        },
-    }
+    let form = StmtForm::Case {
+        line,
+        kind,
+        on,
+        arms,
+    };
+    made(alloc, place, form)
 }
 
 /// An arm of a case.
@@ -70,36 +76,40 @@ pub(crate) fn arm(labels: Vec<Term>, body: Stmt) -> CaseArm
 }
 
 /// A `for` with its turns, and its number as a line point.
-pub(crate) fn unrolled(place: Place, line: u32, turns: Vec<Stmt>) -> Stmt
-    ensures { stmt_view result ≡ t.turns place line (stmts_of (map stmt_view turns.items)) }
+pub(crate) fn unrolled(
+    alloc: Global,
+    place: Place,
+    line: u32,
+    turns: Vec<Stmt>,
+) -> Result<Stmt, NoMemory>
+    ensures { IfOk result (λ s. stmt_view s ≡ t.turns place line (stmts_of (map stmt_view turns.items))) }
 {
-    Stmt {
-        place,
-        form: StmtForm::Turns { line, turns },
-    }
+    made(alloc, place, StmtForm::Turns { line, turns })
 }
 
 /// An assignment, and its number as a line point.
-pub(crate) fn set(place: Place, line: u32, blocking: bool, target: Target, value: Term) -> Stmt
-    ensures { stmt_view result ≡ t.set place line blocking (target_view target) (term_view value) }
+pub(crate) fn set(
+    alloc: Global,
+    place: Place,
+    line: u32,
+    blocking: bool,
+    target: Target,
+    value: Term,
+) -> Result<Stmt, NoMemory>
+    ensures { IfOk result (λ s. stmt_view s ≡ t.set place line blocking (target_view target) (term_view value)) }
 {
-    Stmt {
-        place,
-        form: StmtForm::Set {
-            line,
-            blocking,
-            target,
-            value,
-        },
-    }
+    let form = StmtForm::Set {
+        line,
+        blocking,
+        target,
+        value,
+    };
+    made(alloc, place, form)
 }
 
 /// Nothing.
-pub(crate) fn empty(place: Place) -> Stmt
-    ensures { stmt_view result ≡ t.empty place }
+pub(crate) fn empty(alloc: Global, place: Place) -> Result<Stmt, NoMemory>
+    ensures { IfOk result (λ s. stmt_view s ≡ t.empty place) }
 {
-    Stmt {
-        place,
-        form: StmtForm::Empty,
-    }
+    made(alloc, place, StmtForm::Empty)
 }

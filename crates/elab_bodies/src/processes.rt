@@ -3,7 +3,7 @@
 ghost use Rattle.std.specs.Prelude.{◌≡◌, ◌≤◌, ◌+◌, ℕ, None, IfOk, OnOk};
 ghost use Rattle.cov_host.specs.declared.place.Place.{Place};
 ghost use Rattle.design_model.specs.Tree as t;
-ghost use Rattle.design_model.specs.View.{process_view, target_view, term_view};
+ghost use Rattle.design_model.specs.View.{process_view, stmt_view, target_view, term_view};
 ghost use Rattle.elab_bodies.specs.Sound.{IsSoundStatement};
 ghost use Rattle.elab_bodies.specs.View.{listed};
 ghost use Rattle.elab_build.specs.Sound.{IsClear, IsSound, IsSoundTarget};
@@ -17,7 +17,7 @@ ghost use Rattle.verilog_tree.specs.declared.item.Named.{Named};
 use crate::statements::{statement, target_width};
 use crate::uncounted::uncounted;
 use cov_host::{NoMemory, Place, Sequence};
-use design_model::{Form, Process, Target, Term};
+use design_model::{Form, Process, Stmt, Target, Term};
 use elab_build::{right_side, target};
 use elab_scope::{Scope, range_or, span};
 use flat_design::{Entry, SignalEntry};
@@ -74,6 +74,19 @@ pub fn always_process(
     ensures kept { OnOk result (binding_of scope.new ≡ binding_of scope.old) }
 {
     let body = statement(alloc, base, scope, body, line, nodes)?;
+    Ok(process_of(alloc, scope, instance, when, body)?)
+}
+
+/// The process of an `always` block with this body.
+fn process_of(
+    alloc: Global,
+    scope: &Scope,
+    instance: u32,
+    when: &When,
+    body: Stmt,
+) -> Result<Process, NoMemory>
+    ensures { IfOk result (λ x. process_view x ≡ spec.process_of (binding_of scope.now) instance when.now (stmt_view body)) }
+{
     match when {
         When::Star => Ok(Process::Comb {
             instance,
@@ -138,7 +151,7 @@ pub fn joined_output_process(
 {
     let mut nodes = 0;
     let width = signal_width(port).max(target_width(scope, to));
-    let value = signal_term(to.place, width, port);
+    let value = signal_term(alloc, to.place, width, port)?;
     let target = target(alloc, base, scope, to, &mut nodes)?;
     Ok(Process::Assign {
         instance,
@@ -204,14 +217,19 @@ pub(crate) fn whole(signal: u32) -> Target
 }
 
 /// The value of a signal at a place, in a context of this width and of the signal's sign.
-fn signal_term(place: Place, width: u8, signal: SignalEntry) -> Term
-    ensures { term_view result ≡ t.signal (record { place = place; width = width; signed = signal.signed; node = None }) signal.number }
+fn signal_term(
+    alloc: Global,
+    place: Place,
+    width: u8,
+    signal: SignalEntry,
+) -> Result<Term, NoMemory>
+    ensures { IfOk result (λ x. term_view x ≡ t.signal (record { place = place; width = width; signed = signal.signed; node = None }) signal.number) }
 {
-    Term {
+    Ok(Term {
         place,
         width,
         signed: signal.signed,
         node: None,
-        form: Form::Signal(signal.number),
-    }
+        form: Box::new(alloc, Form::Signal(signal.number))?,
+    })
 }

@@ -51,7 +51,7 @@ pub fn statement(
     match &statement.form {
         StatementForm::Block(parts) => {
             let parts = statements(alloc, base, scope, parts, line, nodes)?;
-            Ok(forms::block(place, parts))
+            forms::block(alloc, place, parts)
         }
         StatementForm::If { test, yes, no } => {
             branch(alloc, base, scope, place, no, test, yes, line, nodes)
@@ -67,7 +67,7 @@ pub fn statement(
         } => assignment(
             alloc, base, scope, place, target, *blocking, value, line, nodes,
         ),
-        StatementForm::Task | StatementForm::Empty => Ok(forms::empty(place)),
+        StatementForm::Task | StatementForm::Empty => forms::empty(alloc, place),
     }
 }
 
@@ -173,7 +173,7 @@ fn select(
     let number = take(line)?;
     let on = term(alloc, base, scope, on, nodes, shape)?;
     let arms = case_arms(alloc, base, scope, shape, arms, line, nodes)?;
-    Ok(forms::select(place, number, kind, on, arms))
+    forms::select(alloc, place, number, kind, on, arms)
 }
 
 /// The same of all arms of a case of this shape.
@@ -241,7 +241,7 @@ fn for_loop(
     put_back(scope, &variable, before)?;
     pass_lines(&header.body, line)?;
     pass_statement_nodes(scope, &header.body, nodes)?;
-    Ok(forms::unrolled(place, number, turns))
+    Ok(forms::unrolled(alloc, place, number, turns)?)
 }
 
 /// A statement for each value of a loop's variable, each with the numbers from `line` and from `nodes` on. The variable
@@ -296,7 +296,7 @@ fn assignment(
     let width = target_width(scope, to);
     let to = target(alloc, base, scope, to, nodes)?;
     let value = right_side(alloc, base, scope, width, value, nodes)?;
-    Ok(forms::set(place, number, blocking, to, value))
+    forms::set(alloc, place, number, blocking, to, value)
 }
 
 /// How wide the target of an assignment is.

@@ -8,15 +8,6 @@ use cov_host::NoMemory;
 use design_model::{Form, Term};
 use std::alloc::Global;
 
-/// The same term without counted nodes in a box.
-#[cycle(uncounted)]
-fn boxed(alloc: Global, term: &Term) -> Result<Box<Term>, NoMemory>
-    ensures { IfOk result (λ copy. term_view copy.value ≡ spec.uncounted (term_view term.now)) }
-{
-    let copy = uncounted(alloc, term)?;
-    Ok(Box::new(alloc, copy)?)
-}
-
 /// The same terms without counted nodes.
 #[cycle(uncounted)]
 fn all_uncounted(alloc: Global, terms: &[Term]) -> Result<Vec<Term>, NoMemory>
@@ -34,21 +25,21 @@ fn all_uncounted(alloc: Global, terms: &[Term]) -> Result<Vec<Term>, NoMemory>
 pub(crate) fn uncounted(alloc: Global, term: &Term) -> Result<Term, NoMemory>
     ensures { IfOk result (λ copy. term_view copy ≡ spec.uncounted (term_view term.now)) }
 {
-    let form = match &term.form {
+    let form = match &*term.form {
         Form::Number(value) => Form::Number(*value),
         Form::Signal(signal) => Form::Signal(*signal),
         Form::Word { memory, index } => Form::Word {
             memory: *memory,
-            index: boxed(alloc, index)?,
+            index: uncounted(alloc, index)?,
         },
         Form::Bit { of, index } => Form::Bit {
-            of: boxed(alloc, of)?,
-            index: boxed(alloc, index)?,
+            of: uncounted(alloc, of)?,
+            index: uncounted(alloc, index)?,
         },
         Form::Part { of, high, low } => Form::Part {
-            of: boxed(alloc, of)?,
-            high: boxed(alloc, high)?,
-            low: boxed(alloc, low)?,
+            of: uncounted(alloc, of)?,
+            high: uncounted(alloc, high)?,
+            low: uncounted(alloc, low)?,
         },
         Form::Slide {
             of,
@@ -56,29 +47,29 @@ pub(crate) fn uncounted(alloc: Global, term: &Term) -> Result<Term, NoMemory>
             width,
             up,
         } => Form::Slide {
-            of: boxed(alloc, of)?,
-            base: boxed(alloc, base)?,
-            width: boxed(alloc, width)?,
+            of: uncounted(alloc, of)?,
+            base: uncounted(alloc, base)?,
+            width: uncounted(alloc, width)?,
             up: *up,
         },
-        Form::Unary(op, a) => Form::Unary(*op, boxed(alloc, a)?),
-        Form::Binary(op, a, b) => Form::Binary(*op, boxed(alloc, a)?, boxed(alloc, b)?),
+        Form::Unary(op, a) => Form::Unary(*op, uncounted(alloc, a)?),
+        Form::Binary(op, a, b) => Form::Binary(*op, uncounted(alloc, a)?, uncounted(alloc, b)?),
         Form::Choice { test, yes, no } => Form::Choice {
-            test: boxed(alloc, test)?,
-            yes: boxed(alloc, yes)?,
-            no: boxed(alloc, no)?,
+            test: uncounted(alloc, test)?,
+            yes: uncounted(alloc, yes)?,
+            no: uncounted(alloc, no)?,
         },
         Form::Concat(parts) => Form::Concat(all_uncounted(alloc, parts)?),
         Form::Repeat(count, parts) => {
-            Form::Repeat(boxed(alloc, count)?, all_uncounted(alloc, parts)?)
+            Form::Repeat(uncounted(alloc, count)?, all_uncounted(alloc, parts)?)
         }
-        Form::Sign(signed, a) => Form::Sign(*signed, boxed(alloc, a)?),
+        Form::Sign(signed, a) => Form::Sign(*signed, uncounted(alloc, a)?),
     };
     Ok(Term {
         place: term.place,
         width: term.width,
         signed: term.signed,
         node: None,
-        form,
+        form: Box::new(alloc, form)?,
     })
 }

@@ -118,7 +118,7 @@ for_loop-returns-clause-built t c =
     let values = c.as_slice-values.ensures ∙ c.in_ok-values.ensures in
     let body = ap statement_view c.deref.ensures ∙ sym (body_view c.args.header.now) in
     let turns = c.in_ok-turns.ensures.built ∙ same_turns c.args.base _ _ _ _ g _ _ _ _ c.args.nodes.now values c.in_ok-variable.ensures body c.in_ok-number.ensures.counted in
-    c.unrolled.ensures ∙ ap (λ k. flat.turns c.args.place k (stmts_of (map stmt_view c.in_ok-turns.turns.items))) c.in_ok-number.ensures.value ∙ ap (flat.turns c.args.place c.args.line.now) turns
+    c.in_ok-unrolled.ensures ∙ ap (λ k. flat.turns c.args.place k (stmts_of (map stmt_view c.in_ok-turns.turns.items))) c.in_ok-number.ensures.value ∙ ap (flat.turns c.args.place c.args.line.now) turns
 
 pub for_loop-returns-clause-kept : goal.for_loop-returns-clause-kept
 for_loop-returns-clause-kept t c =
