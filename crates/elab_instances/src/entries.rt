@@ -47,6 +47,15 @@ pub(crate) fn enter(
     Ok(Inside { scope, next })
 }
 
+impl Inside {
+    /// The scope alone.
+    pub fn into_scope(self) -> Scope
+        ensures { binding_of result ≡ binding_of self.scope }
+    {
+        self.scope
+    }
+}
+
 /// Lets parameters stand for their values.
 fn bind_constants(scope: &mut Scope, constants: &[BoundParam]) -> Result<(), NoMemory>
     requires { All (λ p. IsEntry p.entry) constants.now }

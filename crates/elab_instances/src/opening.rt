@@ -72,6 +72,13 @@ impl<'b, 'a> Opened<'b, 'a> {
     {
         enter(alloc, &self.links, &self.constants, &self.declared, first)
     }
+
+    /// The declared names alone.
+    pub fn into_declared(self) -> Declarations<'a>
+        ensures { result ≡ of.declared (overrides_view self.entry.given.now.overrides.items) (module_view self.entry.given.now.module.now) }
+    {
+        self.declared
+    }
 }
 
 /// An instance, and whether its path is too long.

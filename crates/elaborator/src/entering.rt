@@ -3,16 +3,21 @@
 ghost use Rattle.std.specs.Prelude.{◌≡◌, ◌≤◌, MatchOption, Some, false, true, length, IfOk, OnOk};
 ghost use Rattle.design_model.specs.View.{design_view};
 ghost use Rattle.design_model.specs.declared.design.Design as the;
+ghost use Rattle.elab_instances.specs.Entering.{AreFew, IsInside, numbers_after};
 ghost use Rattle.elab_instances.specs.InstanceView.{instantiation_view};
+ghost use Rattle.elab_instances.specs.Opening.{AreCounted};
+ghost use Rattle.elab_instances.specs.declared.instantiation.Numbers.{Numbers as FirstNumbers};
+ghost use Rattle.elab_scope.specs.Tally.{after_all};
 ghost use Rattle.elaborator.specs.Entered.{IsEntered, IsPassed};
 ghost use Rattle.elaborator.specs.Walk.{IsClean, opened_design};
+ghost use Rattle.flat_design.specs.Instances.{opening_met};
 
 use crate::opening::add_instance;
 use crate::walk::{Numbers, Walk};
 use cov_host::NoMemory;
 use elab_declarations::Declarations;
-use elab_instances::{Instantiation, Opened, open_instance};
-use elab_scope::Scope;
+use elab_instances::{Inside, Instantiation, Opened, open_instance};
+use elab_scope::{Scope, Tally};
 use std::alloc::Global;
 
 /// The declared names of an instance, what they stand for, and the first numbers of its items.
@@ -38,6 +43,33 @@ fn add_opened(alloc: Global, opened: &Opened, walk: &mut Walk) -> Result<u32, No
     }
 }
 
+/// An instance that is opened, in a box.
+fn boxed_opened<'b, 'a>(
+    alloc: Global,
+    given: &'b Instantiation<'a>,
+    tally: &mut Tally<'a>,
+) -> Result<Box<Opened<'b, 'a>>, NoMemory>
+    ensures given { IfOk result (λ opened. opened.value.given.now ≡ given.now) }
+    ensures met { OnOk result (tally.new ≡ after_all tally.old (opening_met (instantiation_view given.now))) }
+    ensures counted { OnOk result ((first : FirstNumbers) → AreCounted tally.old first → AreCounted tally.new (numbers_after (instantiation_view given.now) first)) }
+{
+    let opened = open_instance(alloc, given, tally)?;
+    Ok(Box::new(alloc, opened)?)
+}
+
+/// What the names of an opened instance stand for, in a box.
+fn boxed_inside(
+    alloc: Global,
+    opened: &Opened,
+    first: elab_instances::Numbers,
+) -> Result<Box<Inside>, NoMemory>
+    requires { AreFew (numbers_after (instantiation_view opened.now.given.now) first) }
+    ensures { IfOk result (λ inside. IsInside (instantiation_view opened.now.given.now) first inside.value) }
+{
+    let inside = opened.enter(alloc, first)?;
+    Ok(Box::new(alloc, inside)?)
+}
+
 /// Enters an instance. None where a limit is passed with it.
 pub(crate) fn enter<'a>(
     alloc: Global,
@@ -51,16 +83,16 @@ pub(crate) fn enter<'a>(
         signal: walk.tally.counts().signals,
         memory: walk.memories,
     };
-    let opened = open_instance(alloc, given, &mut walk.tally)?;
+    let opened = boxed_opened(alloc, given, &mut walk.tally)?;
     if walk.tally.is_ended() {
         return Ok(None);
     }
-    let inside = opened.enter(alloc, first)?;
+    let inside = boxed_inside(alloc, &opened, first)?;
     let instance = add_opened(alloc, &opened, walk)?;
     walk.memories = inside.next.memory;
     Ok(Some(Entered {
-        declared: opened.declared,
-        scope: inside.scope,
+        declared: Box::into_inner(opened).into_declared(),
+        scope: Box::into_inner(inside).into_scope(),
         numbers: Numbers {
             instance,
             line: 1,

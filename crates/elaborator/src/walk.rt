@@ -44,9 +44,12 @@ impl<'a> Walk<'a> {
         ensures memories { OnOk result (self.new.memories ≡ self.old.memories) }
         ensures draft { OnOk result ((d : the.Design) → self.new.draft ≡ Some d → (o : the.Design) × (self.old.draft ≡ Some o) × (design_view d ≡ with_process (process_view process) (design_view o))) }
     {
-        if let Some(draft) = &mut self.draft {
-            draft.processes.push(process)?;
+        match &mut self.draft {
+            Some(draft) => draft.add_process(process),
+            None => {
+                process.discard();
+                Ok(())
+            }
         }
-        Ok(())
     }
 }
