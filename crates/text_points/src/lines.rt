@@ -33,7 +33,7 @@ fn push_stmt(owner: Owner, stmt: &Stmt, found: &mut Vec<LinePoint>) -> Result<()
     ensures { OnOk result (found.new.items ≡ found.old.items ++ lines_with owner (lines (stmt_view stmt.now))) }
 {
     let place = stmt.place;
-    match &stmt.form {
+    match &*stmt.form {
         StmtForm::Block(parts) => push_all(owner, parts, found),
         StmtForm::If { line, yes, no, .. } => {
             push_line(owner, *line, place, LineWord::If, found)?;

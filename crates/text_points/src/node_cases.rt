@@ -30,7 +30,7 @@ static FOUR_CASES: [NodeCase; 4] = [
 pub(crate) fn node_cases(term: &Term) -> &'static [NodeCase]
     ensures { result.now ≡ node_cases (term_view term.now) }
 {
-    match &term.form {
+    match &*term.form {
         Form::Binary(op, _, _) => operator_cases(*op),
         _ => &OWN_CASES,
     }

@@ -46,7 +46,7 @@ pub fn push_nodes(
 fn push_stmt(owner: Owner, stmt: &Stmt, found: &mut Vec<NodePoint>) -> Result<(), NoMemory>
     ensures { OnOk result (found.new.items ≡ found.old.items ++ nodes_with owner (body_terms (stmt_view stmt.now))) }
 {
-    match &stmt.form {
+    match &*stmt.form {
         StmtForm::Block(parts) => push_stmts(owner, parts, found),
         StmtForm::If { test, yes, no, .. } => {
             push_term(owner, test, found)?;
@@ -134,7 +134,7 @@ fn push_term(owner: Owner, term: &Term, found: &mut Vec<NodePoint>) -> Result<()
 fn push_inner(owner: Owner, term: &Term, found: &mut Vec<NodePoint>) -> Result<(), NoMemory>
     ensures { OnOk result (found.new.items ≡ found.old.items ++ nodes_with owner (inner_terms (term_view term.now))) }
 {
-    match &term.form {
+    match &*term.form {
         Form::Number(_) | Form::Signal(_) => Ok(()),
         Form::Word { index, .. } => push_term(owner, index, found),
         Form::Bit { of, index } => push_two(owner, of, index, found),

@@ -9,7 +9,7 @@ use design_model::{Form, Term};
 pub(crate) fn operator_of(term: &Term) -> NodeOperator
     ensures { result ≡ operator_of (term_view term.now) }
 {
-    match &term.form {
+    match &*term.form {
         Form::Unary(op, _) => NodeOperator::Unary(*op),
         Form::Binary(op, _, _) => NodeOperator::Binary(*op),
         _ => NodeOperator::Value,

@@ -22,14 +22,14 @@ measure-returns-in-Sign-clause-answer t c =
     let g = look_up c.args.names.now in
     let a = expr_view c.in-Sign.a in
     let found = c.measure-in-Sign.ensures.answer in
-    c.signed_shape.ensures.value ∙ of_made (fault_of g a) (shape g a) (λ x. shape_as x.width c.in-Sign.signed) c.measure-in-Sign.result found ∙ sym (ap (shape_answer g) (sign_view c.args.expr.now c.in-Sign.signed c.in-Sign.a c.in-Sign.is))
+    c.signed_shape.ensures.value ∙ of_made (fault_of g a) (shape g a) (λ x. shape_as x.width c.in-Sign.signed) c.measure-in-Sign.result found ∙ sym (ap (shape_answer g) (sign_view c.args.expr.now c.in-Sign.signed c.in-Sign.a (sym c.deref.ensures ∙ c.in-Sign.is)))
 
 pub measure-returns-in-Unary-clause-answer : goal.measure-returns-in-Unary-clause-answer
 measure-returns-in-Unary-clause-answer t c =
     let g = look_up c.args.names.now in
     let a = expr_view c.in-Unary.a in
     let found = c.measure-in-Unary.ensures.answer in
-    c.operand_shape.ensures.value ∙ of_made (fault_of g a) (shape g a) (unary_shape c.in-Unary.op) c.measure-in-Unary.result found ∙ sym (ap (shape_answer g) (unary_view c.args.expr.now c.in-Unary.op c.in-Unary.a c.in-Unary.is))
+    c.operand_shape.ensures.value ∙ of_made (fault_of g a) (shape g a) (unary_shape c.in-Unary.op) c.measure-in-Unary.result found ∙ sym (ap (shape_answer g) (unary_view c.args.expr.now c.in-Unary.op c.in-Unary.a (sym c.deref.ensures ∙ c.in-Unary.is)))
 
 pub measure-returns-in-Choice-clause-answer : goal.measure-returns-in-Choice-clause-answer
 measure-returns-in-Choice-clause-answer t c =
@@ -42,7 +42,7 @@ measure-returns-in-Choice-clause-answer t c =
     let test = c.measure-in-Choice-3.ensures.answer in
     let sides = of_both (fault_of g a) (fault_of g b) (shape g a) (shape g b) c.measure-in-Choice.result c.measure-in-Choice-2.result c.both-sides.result yes no c.both-sides.ensures in
     let all = of_both (fault_of g x) (earlier (fault_of g a) (fault_of g b)) (shape g x) (shape g a, shape g b) c.measure-in-Choice-3.result c.both-sides.result c.both-in-Choice.result test sides c.both-in-Choice.ensures in
-    c.choice_shape.ensures.value ∙ of_made (earlier (fault_of g x) (earlier (fault_of g a) (fault_of g b))) (shape g x, (shape g a, shape g b)) (λ r. common_shape r.1.0 r.1.1) c.both-in-Choice.result all ∙ sym (ap (shape_answer g) (choice_view c.args.expr.now c.in-Choice.test c.in-Choice.yes c.in-Choice.no c.in-Choice.is))
+    c.choice_shape.ensures.value ∙ of_made (earlier (fault_of g x) (earlier (fault_of g a) (fault_of g b))) (shape g x, (shape g a, shape g b)) (λ r. common_shape r.1.0 r.1.1) c.both-in-Choice.result all ∙ sym (ap (shape_answer g) (choice_view c.args.expr.now c.in-Choice.test c.in-Choice.yes c.in-Choice.no (sym c.deref.ensures ∙ c.in-Choice.is)))
 
 pub measure-returns-in-Binary-clause-answer : goal.measure-returns-in-Binary-clause-answer
 measure-returns-in-Binary-clause-answer t c =
@@ -52,7 +52,7 @@ measure-returns-in-Binary-clause-answer t c =
     let left = c.measure-in-Binary.ensures.answer in
     let right = c.measure-in-Binary-2.ensures.answer in
     let both = of_both (fault_of g a) (fault_of g b) (shape g a) (shape g b) c.measure-in-Binary.result c.measure-in-Binary-2.result c.both.result left right c.both.ensures in
-    c.joint_shape.ensures.value ∙ of_made (earlier (fault_of g a) (fault_of g b)) (shape g a, shape g b) (λ x. binary_shape c.in-Binary.op x.0 x.1) c.both.result both ∙ sym (ap (shape_answer g) (binary_view c.args.expr.now c.in-Binary.op c.in-Binary.a c.in-Binary.b c.in-Binary.is))
+    c.joint_shape.ensures.value ∙ of_made (earlier (fault_of g a) (fault_of g b)) (shape g a, shape g b) (λ x. binary_shape c.in-Binary.op x.0 x.1) c.both.result both ∙ sym (ap (shape_answer g) (binary_view c.args.expr.now c.in-Binary.op c.in-Binary.a c.in-Binary.b (sym c.deref.ensures ∙ c.in-Binary.is)))
 
 pub measure-returns-in-Bit-clause-answer : goal.measure-returns-in-Bit-clause-answer
 measure-returns-in-Bit-clause-answer t c =
@@ -63,7 +63,7 @@ measure-returns-in-Bit-clause-answer t c =
     let right = c.measure-in-Bit.ensures.answer in
     let both = of_both (fault_of g a) (fault_of g b) (shape g a) (shape g b) c.measure.result c.measure-in-Bit.result c.both-parts.result left right c.both-parts.ensures in
     let of_is = c.select_shape.ensures.value in
-    c.bit_shape.ensures.value ∙ of_made (earlier (fault_of g a) (fault_of g b)) (shape g a, shape g b) (λ x. c.select_shape.result) c.both-parts.result both ∙ rw of_is (sym (ap (shape_answer g) (bit_view c.args.expr.now c.in-Bit.of c.in-Bit.index c.in-Bit.is)))
+    c.bit_shape.ensures.value ∙ of_made (earlier (fault_of g a) (fault_of g b)) (shape g a, shape g b) (λ x. c.select_shape.result) c.both-parts.result both ∙ rw of_is (sym (ap (shape_answer g) (bit_view c.args.expr.now c.in-Bit.of c.in-Bit.index (sym c.deref.ensures ∙ c.in-Bit.is))))
 
 pub measure-returns-in-Repeat-clause-answer : goal.measure-returns-in-Repeat-clause-answer
 measure-returns-in-Repeat-clause-answer t c =
@@ -76,7 +76,7 @@ measure-returns-in-Repeat-clause-answer t c =
     let fn = count_fault g p n (fault_of g n) in
     let fs = first_fault g None es in
     let both = of_both fn fs (count_of (number_of g n)) (parts_of g es).width c.count_in-times.result c.total_width-in-Repeat.result c.both-in-Repeat.result times width c.both-in-Repeat.ensures in
-    c.repeated_shape.ensures.value ∙ of_made_or (earlier fn fs) (count_of (number_of g n), (parts_of g es).width) (λ r. size_fault (r.0 * r.1) p) (λ r. shape_as (r.0 * r.1) false) c.both-in-Repeat.result both ∙ sym (ap (shape_answer g) (repeat_view c.args.expr.now c.in-Repeat.count c.in-Repeat.parts c.in-Repeat.is))
+    c.repeated_shape.ensures.value ∙ of_made_or (earlier fn fs) (count_of (number_of g n), (parts_of g es).width) (λ r. size_fault (r.0 * r.1) p) (λ r. shape_as (r.0 * r.1) false) c.both-in-Repeat.result both ∙ sym (ap (shape_answer g) (repeat_view c.args.expr.now c.in-Repeat.count c.in-Repeat.parts (sym c.deref.ensures ∙ c.in-Repeat.is)))
 
 pub measure_part-returns-clause-answer : goal.measure_part-returns-clause-answer
 measure_part-returns-clause-answer t c =
@@ -119,7 +119,7 @@ evaluate-returns-in-Bit-clause-answer t c =
     let g = look_up c.args.names.now in
     let e = expr_view c.args.expr.now in
     let r = c.args.around in
-    let is = bit_view c.args.expr.now c.in-Bit.of c.in-Bit.index c.in-Bit.is in
+    let is = bit_view c.args.expr.now c.in-Bit.of c.in-Bit.index (sym c.deref.ensures ∙ c.in-Bit.is) in
     let unread = subst (λ x. bits_within (shape g x) (X ∷ []) r ≡ within (meaning g x) r) (sym is) refl in
     c.unread.ensures.value ∙ of_made (fault_of g e) (shape g e) (λ s. bits_within s (X ∷ []) r) c.measure.result c.measure.ensures.answer ∙ ap (λ v. unless (fault_of g e) v) unread
 
@@ -131,7 +131,7 @@ evaluate-returns-in-Unary-clause-answer t c =
     let r = c.args.around in
     let answer = rw c.around_operand.ensures.value at c.evaluate-a.ensures.answer in
     let made = of_made (fault_of g a) _ (λ x. bits_within (unary_shape op x.shape) (unary_value op x.value.bits) r) c.evaluate-a.result answer in
-    c.unary.ensures.value ∙ made ∙ ap (λ v. unless (fault_of g a) v) (unary_is op r (meaning g a)) ∙ sym (ap (λ x. evaluated_answer g x r) (unary_view c.args.expr.now op c.in-Unary.a c.in-Unary.is))
+    c.unary.ensures.value ∙ made ∙ ap (λ v. unless (fault_of g a) v) (unary_is op r (meaning g a)) ∙ sym (ap (λ x. evaluated_answer g x r) (unary_view c.args.expr.now op c.in-Unary.a (sym c.deref.ensures ∙ c.in-Unary.is)))
 
 pub evaluate-binary-requires-clause-fit : goal.evaluate-binary-requires-clause-fit
 evaluate-binary-requires-clause-fit t c =
@@ -151,7 +151,7 @@ evaluate-returns-in-Binary-clause-answer t c =
     let r = c.args.around in
     let answer = c.operands.ensures.answer in
     let made = of_made (earlier (fault_of g a) (fault_of g b)) (operands_within op (meaning g a) (meaning g b) r) (λ p. bits_within (binary_shape op p.0.shape p.1.shape) (pair_bits op (p.0.value, p.1.value)) r) c.operands.result answer in
-    c.binary.ensures.value ∙ made ∙ sym (ap (λ x. evaluated_answer g x r) (binary_view c.args.expr.now op c.in-Binary.a c.in-Binary.b c.in-Binary.is))
+    c.binary.ensures.value ∙ made ∙ sym (ap (λ x. evaluated_answer g x r) (binary_view c.args.expr.now op c.in-Binary.a c.in-Binary.b (sym c.deref.ensures ∙ c.in-Binary.is)))
 
 pub evaluate-choice-requires-clause-fit : goal.evaluate-choice-requires-clause-fit
 evaluate-choice-requires-clause-fit t c =
@@ -176,7 +176,7 @@ evaluate-returns-in-Choice-clause-answer t c =
     let test = c.evaluate.ensures.answer in
     let all = of_both (fault_of g x) (earlier (fault_of g a) (fault_of g b)) (within (meaning g x) None) (pair_within (meaning g a) (meaning g b) r) c.evaluate.result c.pair-sides.result c.both.result test sides c.both.ensures in
     let made = of_made (earlier (fault_of g x) (earlier (fault_of g a) (fault_of g b))) (within (meaning g x) None, pair_within (meaning g a) (meaning g b) r) (λ p. bits_within (common_shape p.1.0.shape p.1.1.shape) (choice_value (truth p.0.value.bits) p.1.0.value.bits p.1.1.value.bits) r) c.both.result all in
-    c.choice.ensures.value ∙ made ∙ sym (ap (λ e. evaluated_answer g e r) (choice_view c.args.expr.now c.in-Choice.test c.in-Choice.yes c.in-Choice.no c.in-Choice.is))
+    c.choice.ensures.value ∙ made ∙ sym (ap (λ e. evaluated_answer g e r) (choice_view c.args.expr.now c.in-Choice.test c.in-Choice.yes c.in-Choice.no (sym c.deref.ensures ∙ c.in-Choice.is)))
 
 pub evaluate-returns-in-Repeat-clause-answer : goal.evaluate-returns-in-Repeat-clause-answer
 evaluate-returns-in-Repeat-clause-answer t c =
@@ -188,7 +188,7 @@ evaluate-returns-in-Repeat-clause-answer t c =
     let times = count_is g p n c.number.result c.count_in-times.result c.number.ensures c.count_in-times.ensures in
     let width = rw c.deref-in-Repeat.ensures.value at c.joined_parts-in-Repeat.ensures.width in
     let bits = rw c.deref-in-Repeat.ensures.value at c.joined_parts-in-Repeat.ensures.bits in
-    repeat_is p r (count_fault g p n (fault_of g n)) (first_fault g None es) (count_of (number_of g n)) (parts_of g es).width (parts_of g es).bits c.count_in-times.result c.joined_parts-in-Repeat.result c.both-in-Repeat.result c.repeat.result times width bits c.both-in-Repeat.ensures c.repeat.ensures.value ∙ sym (ap (λ x. evaluated_answer g x r) (repeat_view c.args.expr.now c.in-Repeat.count c.in-Repeat.parts c.in-Repeat.is))
+    repeat_is p r (count_fault g p n (fault_of g n)) (first_fault g None es) (count_of (number_of g n)) (parts_of g es).width (parts_of g es).bits c.count_in-times.result c.joined_parts-in-Repeat.result c.both-in-Repeat.result c.repeat.result times width bits c.both-in-Repeat.ensures c.repeat.ensures.value ∙ sym (ap (λ x. evaluated_answer g x r) (repeat_view c.args.expr.now c.in-Repeat.count c.in-Repeat.parts (sym c.deref.ensures ∙ c.in-Repeat.is)))
 
 pub evaluate-returns-in-Sign-clause-answer : goal.evaluate-returns-in-Sign-clause-answer
 evaluate-returns-in-Sign-clause-answer t c =
@@ -198,7 +198,7 @@ evaluate-returns-in-Sign-clause-answer t c =
     let r = c.args.around in
     let answer = c.evaluate-in-Sign.ensures.answer in
     let made = of_made (fault_of g a) (within (meaning g a) None) (λ x. bits_within (shape_as x.shape.width signed) x.value.bits r) c.evaluate-in-Sign.result answer in
-    c.sign.ensures.value ∙ made ∙ sym (ap (λ x. evaluated_answer g x r) (sign_view c.args.expr.now signed c.in-Sign.a c.in-Sign.is))
+    c.sign.ensures.value ∙ made ∙ sym (ap (λ x. evaluated_answer g x r) (sign_view c.args.expr.now signed c.in-Sign.a (sym c.deref.ensures ∙ c.in-Sign.is)))
 
 pub pair-returns-then-repeats-clause-answer : goal.pair-returns-then-repeats-clause-answer
 pair-returns-then-repeats-clause-answer t c =
