@@ -12,8 +12,8 @@ use Rattle.vcd_reader.specs.declared.fault.DumpFault.TheVariants as dump_fault
 use Rattle.vcd_reader.specs.declared.fault.DumpKind.{DumpKind}
 use Rattle.vcd_reader.specs.declared.vars.Var.{Var}
 use Rattle.input_toggles.specs.Binding.{AreBound, IsBindFault}
-use Rattle.input_toggles.specs.declared.fault.BindFault.{BindFault}
-use Rattle.input_toggles.specs.declared.fault.BindFault.TheVariants as bind_fault
+use Rattle.signal_binding.specs.declared.fault.BindFault.{BindFault}
+use Rattle.signal_binding.specs.declared.fault.BindFault.TheVariants as bind_fault
 use Rattle.input_toggles.specs.declared.fault.NoBaseline.{NoBaseline}
 use Rattle.dump_score.specs.Faults.{IsTextFault}
 use Rattle.dump_score.specs.declared.fault.ScoreFault.TheVariants as score_fault

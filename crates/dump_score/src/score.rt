@@ -65,7 +65,7 @@ fn score_file<H: Host>(
 {
     open(host, name)?;
     let mut opened = read_header(alloc, host, piece)?;
-    let mut scorer = Scorer::new(alloc, design, opened.vars.as_slice(), instance)?;
+    let mut scorer = Scorer::new(alloc, design, &opened.vars, instance)?;
     let span = opened.span;
     score_body(host, piece, &span, &mut opened.body, &mut scorer)?;
     score_end(&mut opened.body, &mut scorer)?;

@@ -1,7 +1,6 @@
 pub mod ListLemmas
 pub mod NameOrder
-pub mod Joined
-pub mod AliasLemmas
+pub mod BindingLemmas
 pub mod RowOrder
 pub mod PointOrder
 pub mod TableLemmas

@@ -1,7 +1,6 @@
 pub mod InputDesign
 pub mod Points
 pub mod Binding
-pub mod Sought
 pub mod Toggling
 pub mod Tracked
 pub mod Watched

@@ -1,38 +1,4 @@
-ghost use Rattle.std.specs.Prelude.{◌≡◌};
-ghost use Rattle.input_toggles.specs.declared.fault.BindFault.TheVariants as bind_fault;
-
-use cov_host::NoMemory;
-use std::alloc::AllocFailed;
 use thiserror::Error;
-
-/// Why the signals of a design are not bound to the variables of a dump.
-#[derive(Clone, Copy, Debug, PartialEq, Eq, Error)]
-pub enum BindFault {
-    #[error("memory ran out")]
-    NoMemory,
-    /// No variable stands in the scope of the instance or below it.
-    #[error("no such instance")]
-    NoInstance,
-    /// The input with this number, the first such one, has no variable of its width under any of its names.
-    #[error("input {signal} is not dumped")]
-    InputNotDumped { signal: usize },
-}
-
-impl From<NoMemory> for BindFault {
-    ghost from_gives = { λ _ fault. fault ≡ bind_fault.NoMemory };
-
-    fn from(_: NoMemory) -> Self {
-        BindFault::NoMemory
-    }
-}
-
-impl<T: Drop> From<AllocFailed<T>> for BindFault {
-    ghost from_gives = { λ _ fault. fault ≡ bind_fault.NoMemory };
-
-    fn from(_: AllocFailed<T>) -> Self {
-        BindFault::NoMemory
-    }
-}
 
 /// There is a second time, and the signal with this number, the first such one, has no value before it.
 #[derive(Clone, Copy, Debug, PartialEq, Eq, Error)]

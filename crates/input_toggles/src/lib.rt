@@ -13,5 +13,6 @@ mod track;
 mod tracks;
 mod watched;
 
-pub use fault::{BindFault, NoBaseline};
+pub use fault::NoBaseline;
 pub use scorer::Scorer;
+pub use signal_binding::BindFault;

@@ -20,7 +20,7 @@ use coverage_db::Db;
 use design_model::{Design, Signal};
 use four_state::Four;
 use std::alloc::Global;
-use vcd_reader::Var;
+use vcd_reader::Vars;
 
 /// Scores a dump for a design of inputs alone while the dump is read.
 ///
@@ -37,9 +37,10 @@ impl Scorer {
     pub fn new(
         alloc: Global,
         design: &Design,
-        vars: &[Var],
+        vars: &Vars,
         instance: &str,
     ) -> Result<Self, BindFault>
+        requires { IsInputDesign design.now }
         ensures bound { IfOk result (λ scorer. Scores scorer design.now vars.now instance.now []) }
         ensures fault { IfErr result (IsBindFault design.now vars.now instance.now design.now.signals) }
     {

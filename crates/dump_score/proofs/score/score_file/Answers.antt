@@ -22,7 +22,7 @@ returns-in_err-scorer-clause-fault g c =
     let piece = c.read_header.new.piece in
     let opened = c.in_ok-opened.opened in
     let o = c.in_ok-opened.ensures.opened name before start in
-    let is = rw c.as_slice.ensures at c.in_err-scorer.ensures.fault in
+    let is = c.in_err-scorer.ensures.fault in
     rw (fault.1, fault.2) (bind_in_file name before now now c.args.design.now c.args.instance.now piece opened _ o is)
 
 pub score_body-requires-clause-used : goal.score_body-requires-clause-used
@@ -70,7 +70,7 @@ returns-in_err-score_body-clause-fault g c =
     let o = c.in_ok-opened.ensures.opened name before start in
     let design = c.args.design.now in
     let instance = c.args.instance.now in
-    let bound = rw c.as_slice.ensures at c.in_ok-scorer.ensures.bound in
+    let bound = c.in_ok-scorer.ensures.bound in
     let is = opened_bound name before now piece opened c.in_ok-scorer.scorer design instance o bound in
     rw (fault.1, fault.2) (c.in_err-score_body.ensures.fault name before design opened.vars instance is)
 
@@ -86,7 +86,7 @@ returns-in_err-score_end-clause-fault g c =
     let o = c.in_ok-opened.ensures.opened name before start in
     let design = c.args.design.now in
     let instance = c.args.instance.now in
-    let bound = rw c.as_slice.ensures at c.in_ok-scorer.ensures.bound in
+    let bound = c.in_ok-scorer.ensures.bound in
     let is = opened_bound name before now piece opened c.in_ok-scorer.scorer design instance o bound in
     let on = c.in_ok-score_body.ensures.ok name before design opened.vars instance is in
     rw (fault.1, fault.2) (end_in_file name before (g.H.Host.outside c.score_body.new.host) design instance on.0 _ on.1 (can_end_binds _ _ design opened.vars instance on.0 on.2) (c.in_err-score_end.ensures.fault design opened.vars instance on.0 on.2))
@@ -102,7 +102,7 @@ finish-requires-clause-codes g c =
     let o = c.in_ok-opened.ensures.opened name before start in
     let design = c.args.design.now in
     let instance = c.args.instance.now in
-    let bound = rw c.as_slice.ensures at c.in_ok-scorer.ensures.bound in
+    let bound = c.in_ok-scorer.ensures.bound in
     let is = opened_bound name before now piece opened c.in_ok-scorer.scorer design instance o bound in
     let on = c.in_ok-score_body.ensures.ok name before design opened.vars instance is in
     let scored = c.in_ok-score_end.ensures.ok design opened.vars instance on.0 on.2 in
@@ -119,7 +119,7 @@ returns-clause-scored g c =
     let o = c.in_ok-opened.ensures.opened name before start in
     let design = c.args.design.now in
     let instance = c.args.instance.now in
-    let bound = rw c.as_slice.ensures at c.in_ok-scorer.ensures.bound in
+    let bound = c.in_ok-scorer.ensures.bound in
     let is = opened_bound name before now piece opened c.in_ok-scorer.scorer design instance o bound in
     let on = c.in_ok-score_body.ensures.ok name before design opened.vars instance is in
     let scored = c.in_ok-score_end.ensures.ok design opened.vars instance on.0 on.2 in

@@ -1,6 +1,6 @@
-use Rattle.std.proofs.Common.{take}
-use Rattle.input_toggles.specs.Binding.{AreCodes}
+use Rattle.std.proofs.Common.{◌≡◌, ◌<◌, ℕ, Some, None, length, slice_index_or}
 use Rattle.input_toggles.proofs.binding.codes_of.Given as goal
 
-abbrev pub invariant-loop-place : goal.invariant-loop-place
-invariant-loop-place l = AreCodes l.design l.vars l.instance (take l.place l.design.signals) l.codes.items
+abbrev pub invariant-loop-signal : goal.invariant-loop-signal
+invariant-loop-signal l =
+    (length l.codes.items ≡ l.signal) × ((s : ℕ) → s < l.signal → Some (slice_index_or l.codes.items s 0) ≡ slice_index_or l.binding s None)

@@ -1,0 +1,4 @@
+pub mod Kinds
+pub mod Names
+pub mod Binding
+pub mod Table
