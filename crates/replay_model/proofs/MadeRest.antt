@@ -32,14 +32,14 @@ use Rattle.replay_model.specs.Laws.{IsReplayOf, closing_at}
 use Rattle.replay_model.proofs.Allows.{past, window_shown_at}
 use Rattle.replay_model.proofs.Bits.{any_in, in_any, none_in}
 use Rattle.replay_model.proofs.Clocked.{at_false, at_true}
-use Rattle.replay_model.proofs.ClearRounds.{inside_as, read_in}
+use Rattle.replay_model.proofs.ClearRounds.{inside_as, read_in, signal_dumped}
 use Rattle.replay_model.proofs.ClockedKept.{away_from, clocked_stays}
 use Rattle.replay_model.proofs.Existing.{signal_has}
 use Rattle.replay_model.proofs.Grows.{sample}
-use Rattle.replay_model.proofs.MadeNow.{acted_all, made_agrees, same_all, written_makes}
-use Rattle.replay_model.proofs.Order.{final_dumped, kept_all, makes}
+use Rattle.replay_model.proofs.MadeNow.{acted_all, made_agrees, same_all, target_plain, written_target}
+use Rattle.replay_model.proofs.Order.{final_dumped, kept_all, made_dumped, makes}
 use Rattle.replay_model.proofs.Reasons.{in_owner, map_same}
-use Rattle.replay_model.proofs.Calm.{calm_dumped, target_moves}
+use Rattle.replay_model.proofs.Calm.{calm_dumped, made_start, target_moves}
 use Rattle.replay_model.proofs.SettleReasons.{bound_clear, sure_at}
 use Rattle.replay_model.proofs.Settling.{in_signal, level_mentioned, same_visits, same_writes}
 
@@ -91,11 +91,21 @@ module _ (h : Habit) (d : Design) (dump : BoundDump) (run : Runs) (tables : Tabl
     mention_same : (c : Cell) → body_mentions c.thing (body_at d p) ≡ true → final c ≡ a.kept c
     mention_same c m = calm_same c (calm_level c.thing (level_mentioned (process_at d p) c.thing settles m))
 
-    target_same : (c : Cell) → blocking_target d (body_at d p) c ≡ true → dump.bound c.thing ≡ false → final c ≡ a.kept c
-    target_same c target free =
-        undumped_same c (and_left _ _ free)
-        (λ q at woken. let e = (machine_lawful d is.lawful).one_writer q p c at (inl target) in
-        ⊎_elim (λ f. both_ways _ untouched (subst (λ z. is_touched st z ≡ true) e f)) (λ f. settles (Rattle.replay_model.proofs.Hits.edge_clocked (process_at d p) f.1.0.0 f.0 (subst (λ z. (machine d).edge z f.1.0.0 f.0 ≡ true) e f.1.0.1))) woken)
+    -- no other process that runs writes a target of its
+    never : (c : Cell) → blocking_target d (body_at d p) c ≡ true → (q : ℕ) → IsTarget (machine d) q c → (is_touched st q ≡ true) ⊎ Rattle.design_model.specs.MayMove.CanWakeSome d dump (suc t) q → ⊥
+    never c target q at woken =
+        let e = (machine_lawful d is.lawful).one_writer q p c at (inl target) in
+        ⊎_elim (λ f. both_ways _ untouched (subst (λ z. is_touched st z ≡ true) e f)) (λ f. settles (Rattle.replay_model.proofs.Hits.edge_clocked (process_at d p) f.1.0.0 f.0 (subst (λ z. (machine d).edge z f.1.0.0 f.0 ≡ true) e f.1.0.1))) woken
+
+    target_same : (c : Cell) → blocking_target d (body_at d p) c ≡ true → final c ≡ a.kept c
+    target_same c target = ⊎_elim of_dump (λ away. undumped_same c away (never c target)) (cases_Bool (is_dumped d dump.bound c))
+      where
+        of_dump : is_dumped d dump.bound c ≡ true → final c ≡ a.kept c
+        of_dump has =
+            final_dumped d h (early_law (machine d)) dump run tables points is t sets are a c has
+            ∙ ap Some (sym (made_dumped d h (early_law (machine d)) dump run tables points is t sets are a c (agreed c) has (target_plain d h (early_law (machine d)) dump run tables points is t sets are a p settles c target) (dump.values t c)
+            (made_start h d dump run tables points is asked t sets a window listed are at_start agreed c (never c target) ∙ start_dumped c has)))
+            ∙ sym (start_dumped c has)
 
     abbrev mixed : Values Bit
     mixed c = if body_mentions c.thing (body_at d p) then sample final c else sample a.kept c
@@ -120,12 +130,12 @@ module _ (h : Habit) (d : Design) (dump : BoundDump) (run : Runs) (tables : Tabl
             ∙ made_agrees d h (early_law (machine d)) dump run tables points is t sets are a p a.kept x bits e
 
     pub made_untouched : IsMade d dump.bound p a.kept → IsMade d dump.bound p final
-    made_untouched was v agrees told c free has =
-        target_same c target free ∙ was mixed mixed_agrees mixed_told c free (subst (λ z. has_cell z c ≡ true) (sym all_same) has)
+    made_untouched was v agrees told c has =
+        target_same c target ∙ was mixed mixed_agrees mixed_told c (subst (λ z. has_cell z c ≡ true) (sym all_same) has)
         ∙ ap Some (put_covered mixed v (all_written d (body_at d p) mixed) c (subst (λ z. has_cell z c ≡ true) (sym all_same) has) ∙ ap (λ z. put_all v z c) all_same)
       where
         target : blocking_target d (body_at d p) c ≡ true
-        target = (and_parts (blocking_target d (body_at d p) c) _ (written_makes d h (early_law (machine d)) dump run tables points is t sets are a p settles v c free has)).0
+        target = written_target d h (early_law (machine d)) dump run tables points is t sets are a p settles v c has
 
         all_same : all_written d (body_at d p) mixed ≡ all_written d (body_at d p) v
         all_same =
@@ -207,7 +217,7 @@ module _ (h : Habit) (d : Design) (dump : BoundDump) (run : Runs) (tables : Tabl
       below (inr le) = absurd (both_ways false refl (subst (λ z. body_mentions s (Rattle.design_model.specs.Design.body z) ≡ true) (past d.processes p le) mention))
 
       dumped_cell : (c : Cell) → In c (signal_cells d s) → is_dumped d dump.bound c ≡ true
-      dumped_cell c inside = and_from (dump.bound c.thing) _ (subst (λ z. dump.bound z ≡ true) (sym (in_signal d s c inside).0) bound) (lt-ltb _ _ (subst (λ z. c.place < (signal_at d z).width) (sym (in_signal d s c inside).0) (in_signal d s c inside).1))
+      dumped_cell c inside = signal_dumped d dump.bound s c bound inside
 
       inner : list_any (λ c. surely_differ (a.kept c) (Some (dump.values (suc t) c))) (signal_cells d s) ≡ true
       inner =

@@ -22,7 +22,7 @@ use Rattle.replay_model.specs.Marks.{IsToldDoubt, IsToldHit, Told}
 use Rattle.replay_model.specs.Step.{Replay, all_run, contradicts, is_comb, is_dumped, is_touched}
 use Rattle.replay_model.specs.Stands.{IsMade}
 use Rattle.replay_model.proofs.AskedLaws.{AskedLaws, asked_of}
-use Rattle.replay_model.specs.Laws.{IsReplayOf, ReasonedVerdictLaw, RestKnownLaw, RestKnownLawBy, RestToldLaw, StepKnownLaw, StepKnownLawBy, StepToldLaw, StepToldLawBy, closed_at, closing_at}
+use Rattle.replay_model.specs.Laws.{IsReplayOf, ReasonedVerdictLaw, RestForcedLaw, RestKnownLaw, RestKnownLawBy, RestToldLaw, StepKnownLaw, StepKnownLawBy, StepToldLaw, StepToldLawBy, closed_at, closing_at}
 use Rattle.replay_model.proofs.Bits.{in_left}
 use Rattle.replay_model.proofs.Calm.{calm_dumped}
 use Rattle.replay_model.proofs.ClearClocked.{unwoken_sure, written_sure}
@@ -56,7 +56,7 @@ step_known_by h d dump run tables points is asked t sets a window listed are kno
         ran : is_touched (closing_at d dump run tables sets t a) p ≡ true → IsMade d dump.bound p (all_run (closing_at d dump run tables sets t a)).kept
         ran touched =
             let k = find d h (early_law (machine d)) dump run tables points is t sets are a p tables.order (Rattle.replay_model.specs.Step.settle_start (closing_at d dump run tables sets t a) (Rattle.replay_model.specs.Step.clocked_run (closing_at d dump run tables sets t a))) (starts d h (early_law (machine d)) dump run tables points is t sets are a) inside in
-            made_touched d h (early_law (machine d)) dump run tables points is t sets are a p settles k.0 k.1 k.2 touched (λ c. acted (is_comb-from (process_at d p) c))
+            made_touched d h (early_law (machine d)) dump run tables points is t sets are a p settles k.0 k.1 k.2 touched (λ c. acted (is_comb-from (process_at d p) c)) agreed
 
         rested : is_touched (closing_at d dump run tables sets t a) p ≡ false → IsMade d dump.bound p (all_run (closing_at d dump run tables sets t a)).kept
         rested untouched =
@@ -134,6 +134,9 @@ rest_known_by d h dump run tables points is asked t a window unlisted known =
         old ne =
             known.has_acted p c
             (record { by = changed.by; time = changed.time; mentioned = changed.mentioned; is_bound = changed.is_bound; until = earlier ne changed.until; in_window = changed.in_window; changed = changed.changed })
+
+pub rest_forced_law : RestForcedLaw
+rest_forced_law d h dump t unlisted before u s bits le forced = ⊎_elim (λ e. absurd (unlisted (subst (IsListed dump) e forced.is_listed))) (λ ne. before u s bits (omega (arith, le, ne)) forced) (cases_eq u (suc t))
 
 -- the reasoned verdicts
 pub reasoned_verdict_law : ReasonedVerdictLaw

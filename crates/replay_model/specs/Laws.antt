@@ -115,6 +115,9 @@ StepForcedLawBy premise h =
 abbrev pub StepForcedLaw : Habit → Type 0
 StepForcedLaw h = StepForcedLawBy OwnLaws h
 
+abbrev pub RestForcedLaw : Type 0
+RestForcedLaw = (d : Design) (h : Habit) (dump : BoundDump) (t : ℕ) → (IsListed dump (suc t) → ⊥) → AreForced d h dump t → AreForced d h dump (suc t)
+
 -- Contradiction law: where the replay contradicts, no run shows the dump up to that time.
 abbrev pub ContradictionLaw : Habit → Type 0
 ContradictionLaw h =

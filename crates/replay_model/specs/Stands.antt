@@ -1,5 +1,5 @@
 -- What the replay stands for, once it has closed the steps of a dump up to a time.
-use Rattle.std.specs.Prelude.{◌≡◌, ◌⊎◌, ◌≤◌, ◌&&◌, ◌||◌, not, if◌then◌else◌, ℕ, Bool, true, false, List, Some, None}
+use Rattle.std.specs.Prelude.{◌≡◌, ◌⊎◌, ◌≤◌, ◌&&◌, ◌||◌, not, if◌then◌else◌, ℕ, Bool, true, List, Some, None}
 use Rattle.event_machine.specs.Cell.{Cell, Values, put_all}
 use Rattle.event_machine.specs.Machine.{IsWakeCell, output}
 use Rattle.event_machine.specs.Habit.{Habit}
@@ -31,10 +31,10 @@ pub record IsLeft (d : Design) (p : ℕ) (w : Values Bit) : Type 0 where
 abbrev pub made_kept : Design → (ℕ → Bool) → ℕ → Kept → Kept
 made_kept d bound p k c = if body_assigns c.thing (body_at d p) && (is_comb (process_at d p) || not (bound c.thing)) then None else k c
 
--- where all that p reads is sure, so is each unbound bit that it writes, with its value
+-- where all that p reads is sure, so is each bit that it writes, with its value
 abbrev pub IsMade : Design → (ℕ → Bool) → ℕ → Kept → Type 0
 IsMade d bound p k =
-    (v : Values Bit) → Agrees d (sure_in d (made_kept d bound p k)) v → IsTold d (sure_in d (made_kept d bound p k)) (body_at d p) → (c : Cell) → bound c.thing ≡ false → has_cell (all_written d (body_at d p) v) c ≡ true → k c ≡ Some (put_all v (all_written d (body_at d p) v) c)
+    (v : Values Bit) → Agrees d (sure_in d (made_kept d bound p k)) v → IsTold d (sure_in d (made_kept d bound p k)) (body_at d p) → (c : Cell) → has_cell (all_written d (body_at d p) v) c ≡ true → k c ≡ Some (put_all v (all_written d (body_at d p) v) c)
 
 -- a run that shows the dump up to a time
 pub record IsShowing (d : Design) (h : Habit) (dump : BoundDump) (t : ℕ) (r : Run) : Type 0 where
