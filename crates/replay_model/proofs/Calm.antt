@@ -16,6 +16,7 @@ use Rattle.design_model.specs.MayMove.{CanWakeSome}
 use Rattle.design_model.specs.Shows.{BoundDump, IsListed, IsShown, IsWindow}
 use Rattle.design_model.specs.Clear.{clear}
 use Rattle.design_model.proofs.Lawful.{same_bit_is}
+use Rattle.design_model.proofs.Toggles.{window_shown_at}
 use Rattle.replay_model.proofs.AskedLaws.{AskedLaws}
 use Rattle.body_replay.specs.Contract.{sure_in}
 use Rattle.body_replay.specs.Replay.{flush}
@@ -24,7 +25,6 @@ use Rattle.replay_model.specs.Sets.{AreSets, Sets}
 use Rattle.replay_model.specs.Tables.{Tables}
 use Rattle.replay_model.specs.Step.{Closing, Replay, all_run, clocked_run, contradicts, is_dumped, is_loose, is_touched, run_all_settling, settle_start, surely_differ}
 use Rattle.replay_model.specs.Laws.{IsReplayOf, closing_at}
-use Rattle.replay_model.proofs.Allows.{window_shown_at}
 use Rattle.replay_model.proofs.Bits.{any_in}
 use Rattle.replay_model.proofs.ClockedKept.{away_from, clocked_stays}
 use Rattle.replay_model.proofs.Clocked.{at_false}

@@ -19,6 +19,7 @@ use Rattle.design_model.proofs.Assigns.{machine_lawful}
 use Rattle.design_model.proofs.Lawful.{same_bit_is}
 use Rattle.design_model.proofs.Mentions.{execute_reads}
 use Rattle.design_model.proofs.Told.{put_covered, told_by}
+use Rattle.design_model.proofs.Toggles.{window_shown_at}
 use Rattle.replay_model.proofs.AskedLaws.{AskedLaws}
 use Rattle.body_replay.specs.Contract.{all_written, sure_in}
 use Rattle.body_replay.specs.Replay.{flush}
@@ -29,7 +30,7 @@ use Rattle.replay_model.specs.Tables.{Tables}
 use Rattle.replay_model.specs.Step.{Closing, Replay, Working, acts, after_settling, all_run, certainty, clocked_run, contradicts, is_comb, is_dumped, is_loose, is_touched, opened, plain_store, run_all_clean, run_all_settling, run_all_weak, run_clean, run_settling, run_weak, sees_change, settle_start, settled_kept, surely_differ}
 use Rattle.replay_model.specs.Stands.{IsMade, made_kept}
 use Rattle.replay_model.specs.Laws.{IsReplayOf, closing_at}
-use Rattle.replay_model.proofs.Allows.{past, window_shown_at}
+use Rattle.replay_model.proofs.Allows.{past}
 use Rattle.replay_model.proofs.Bits.{any_in, in_any, none_in}
 use Rattle.replay_model.proofs.Clocked.{at_false, at_true}
 use Rattle.replay_model.proofs.ClearRounds.{inside_as, read_in, signal_dumped}

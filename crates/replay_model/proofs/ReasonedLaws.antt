@@ -10,11 +10,11 @@ use Rattle.design_model.specs.Design.{Design, In, IsClocked, IsComb, Thing, a_si
 use Rattle.design_model.specs.Machine.{machine}
 use Rattle.design_model.specs.MayMove.{IsCleanAt, MayMoveAt}
 use Rattle.event_machine.specs.MayMove.{of_input, of_target}
-use Rattle.replay_model.proofs.Allows.{window_shown_at}
 use Rattle.replay_model.proofs.Existing.{signal_has}
 use Rattle.replay_model.proofs.SettleReasons.{bound_clear, sure_at}
 use Rattle.design_model.specs.Shows.{BoundDump, IsListed, IsWindow}
 use Rattle.design_model.specs.Clear.{HasChanged, clear}
+use Rattle.design_model.proofs.Toggles.{window_shown_at}
 use Rattle.body_replay.specs.Contract.{Doubted, sure_in}
 use Rattle.body_replay.specs.Runs.{Runs}
 use Rattle.replay_model.specs.Tables.{Tables}

@@ -8,7 +8,7 @@ use Rattle.design_model.specs.declared.point.Point.{Point}
 use Rattle.design_model.specs.declared.point.Point.TheVariants.{Arc as arc_point}
 use Rattle.design_model.specs.Design.{Design, In}
 use Rattle.design_model.specs.Run.{IsRun, Run}
-use Rattle.design_model.specs.Shows.{BoundDump, IsDumpOf, IsFirst, IsListed, IsShown, IsWindow, Shows}
+use Rattle.design_model.specs.Shows.{BoundDump, IsDumpOf, IsFirst, IsListed, IsShowing, IsShown, IsWindow, Shows}
 use Rattle.design_model.specs.Points.{IsHit, IsHitAt, IsPoint, StateNames}
 use Rattle.design_model.specs.Doubt.{IsInDoubt}
 use Rattle.design_model.specs.Open.{IsReached}
@@ -21,7 +21,7 @@ use Rattle.replay_model.specs.Tables.{AreTables, Tables}
 use Rattle.replay_model.specs.Marks.{Hit, IsVerdict, Missed, Undetermined}
 use Rattle.replay_model.specs.Step.{Closing, Replay, closed, contradicts}
 use Rattle.replay_model.specs.Start.{contradicts_first, started}
-use Rattle.replay_model.specs.Stands.{AreForced, AreKnown, AreTold, IsShowing, IsSound}
+use Rattle.replay_model.specs.Stands.{AreForced, AreKnown, AreTold, IsSound}
 
 -- what is taken for granted of a replay: a lawful design, its tables, runs of its bodies and its points
 pub record IsReplayOf (d : Design) (h : Habit) (dump : BoundDump) (run : Runs) (tables : Tables) (points : List Point) : Type 0 where

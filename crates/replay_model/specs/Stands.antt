@@ -1,16 +1,15 @@
 -- What the replay stands for, once it has closed the steps of a dump up to a time.
 use Rattle.std.specs.Prelude.{◌≡◌, ◌⊎◌, ◌≤◌, ◌&&◌, ◌||◌, not, if◌then◌else◌, ℕ, Bool, true, List, Some, None}
 use Rattle.event_machine.specs.Cell.{Cell, Values, put_all}
-use Rattle.event_machine.specs.Machine.{IsWakeCell, output}
 use Rattle.event_machine.specs.Habit.{Habit}
 use Rattle.four_state.specs.declared.bit.Bit.{Bit}
 use Rattle.design_model.specs.declared.point.Point.{Point}
 use Rattle.design_model.specs.Design.{Design, In, IsComb, Thing, body_at, process_at, signal_bits}
 use Rattle.design_model.specs.Mentions.{body_assigns, has_cell}
 use Rattle.design_model.specs.Reads.{Agrees, IsTold}
-use Rattle.design_model.specs.Machine.{machine}
-use Rattle.design_model.specs.Run.{IsRun, Run, settled}
-use Rattle.design_model.specs.Shows.{BoundDump, IsWindow, ShowsUpTo}
+use Rattle.design_model.specs.Run.{Run, settled}
+use Rattle.design_model.specs.Shows.{BoundDump, IsShowing, IsWindow}
+use Rattle.design_model.specs.StepLaws.{IsLeft}
 use Rattle.design_model.specs.Points.{IsHitAt}
 use Rattle.design_model.specs.Clear.{HasChanged, IsForced, clear}
 use Rattle.design_model.specs.Open.{IsReached}
@@ -21,12 +20,6 @@ use Rattle.replay_model.specs.Tables.{Tables}
 use Rattle.replay_model.specs.Marks.{IsToldDoubt, IsToldHit}
 use Rattle.replay_model.specs.Step.{Replay, is_comb}
 
--- the targets of p are as an execution leaves them that began with the present values of p's wake cells
-pub record IsLeft (d : Design) (p : ℕ) (w : Values Bit) : Type 0 where
-  pub entry : Values Bit
-  pub wakes : (c : Cell) → IsWakeCell (machine d) p c → entry c ≡ w c
-  pub leaves : (c : Cell) → (machine d).blocking p c ≡ true → w c ≡ put_all entry (output (machine d) p entry) c
-
 -- what is known but for the targets of p: of a Comb all, of an Assign those that are unbound
 abbrev pub made_kept : Design → (ℕ → Bool) → ℕ → Kept → Kept
 made_kept d bound p k c = if body_assigns c.thing (body_at d p) && (is_comb (process_at d p) || not (bound c.thing)) then None else k c
@@ -35,11 +28,6 @@ made_kept d bound p k c = if body_assigns c.thing (body_at d p) && (is_comb (pro
 abbrev pub IsMade : Design → (ℕ → Bool) → ℕ → Kept → Type 0
 IsMade d bound p k =
     (v : Values Bit) → Agrees d (sure_in d (made_kept d bound p k)) v → IsTold d (sure_in d (made_kept d bound p k)) (body_at d p) → (c : Cell) → has_cell (all_written d (body_at d p) v) c ≡ true → k c ≡ Some (put_all v (all_written d (body_at d p) v) c)
-
--- a run that shows the dump up to a time
-pub record IsShowing (d : Design) (h : Habit) (dump : BoundDump) (t : ℕ) (r : Run) : Type 0 where
-  pub is_run : IsRun d h r
-  pub shows : ShowsUpTo d dump r t
 
 -- what is sound in the replay, after its closed steps up to time t of the dump, of a design with these points
 pub record IsSound (d : Design) (h : Habit) (dump : BoundDump) (points : List Point) (t : ℕ) (a : Replay) : Type 0 where
