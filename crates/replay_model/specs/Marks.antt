@@ -50,8 +50,13 @@ abbrev pub IsUntold : Design → Point → List Told → Type 0
 IsUntold d x [] = Unit {0}
 IsUntold d x (n ∷ ns) = (IsKeyOf d x n.key → ⊥) × IsUntold d x ns
 
+-- this doubt is the first of the point's that was told
+abbrev pub IsFirstDoubt : Design → Point → Doubted → List Told → Type 0
+IsFirstDoubt d x y ns =
+    (before : List Told) × (n : Told) × (after : List Told) × (ns ≡ before ++ n ∷ after) × IsUntold d x before × IsKeyOf d x n.key × (n.doubt ≡ Some y)
+
 -- the point's verdict by what was told: a hit above all, else the first doubt
 abbrev pub IsVerdict : Design → Point → List Told → Verdict → Type 0
 IsVerdict d x ns Hit = IsToldHit d x ns
-IsVerdict d x ns (Undetermined y) = (IsToldHit d x ns → ⊥) × ((before : List Told) × (n : Told) × (after : List Told) × (ns ≡ before ++ n ∷ after) × IsUntold d x before × IsKeyOf d x n.key × (n.doubt ≡ Some y))
+IsVerdict d x ns (Undetermined y) = (IsToldHit d x ns → ⊥) × IsFirstDoubt d x y ns
 IsVerdict d x ns Missed = IsUntold d x ns

@@ -27,7 +27,9 @@ made_kept d bound p k c = if body_assigns c.thing (body_at d p) && (is_comb (pro
 -- where all that p reads is sure, so is each bit that it writes, with its value
 abbrev pub IsMade : Design → (ℕ → Bool) → ℕ → Kept → Type 0
 IsMade d bound p k =
-    (v : Values Bit) → Agrees d (sure_in d (made_kept d bound p k)) v → IsTold d (sure_in d (made_kept d bound p k)) (body_at d p) → (c : Cell) → has_cell (all_written d (body_at d p) v) c ≡ true → k c ≡ Some (put_all v (all_written d (body_at d p) v) c)
+    (v : Values Bit) → Agrees d (sure_in d (made_kept d bound p k)) v → IsTold d (sure_in d (made_kept d bound p k)) (body_at d p) → (c : Cell)
+    → has_cell (all_written d (body_at d p) v) c ≡ true
+    → k c ≡ Some (put_all v (all_written d (body_at d p) v) c)
 
 -- what is sound in the replay, after its closed steps up to time t of the dump, of a design with these points
 pub record IsSound (d : Design) (h : Habit) (dump : BoundDump) (points : List Point) (t : ℕ) (a : Replay) : Type 0 where
@@ -38,7 +40,8 @@ pub record IsSound (d : Design) (h : Habit) (dump : BoundDump) (points : List Po
   -- a point that was told to be hit is hit in each such run
   pub hits : (x : Point) → IsToldHit d x a.notes → (r : Run) → IsShowing d h dump t r → (u : ℕ) × IsWindow dump u × (u ≤ t) × IsHitAt d dump r x u
   -- a point that is hit in such a run was told to be hit, or to be in doubt at that time
-  pub marked : (x : Point) → In x points → (r : Run) → IsShowing d h dump t r → (u : ℕ) → IsWindow dump u → u ≤ t → IsHitAt d dump r x u → IsToldHit d x a.notes ⊎ ((s : ℕ) × IsToldDoubt d x (record { time = u; thing = s }) a.notes)
+  pub marked : (x : Point) → In x points → (r : Run) → IsShowing d h dump t r → (u : ℕ) → IsWindow dump u → u ≤ t → IsHitAt d dump r x u
+      → IsToldHit d x a.notes ⊎ ((s : ℕ) × IsToldDoubt d x (record { time = u; thing = s }) a.notes)
 
 -- what is known in it: what is clear is sure
 pub record AreKnown (d : Design) (h : Habit) (dump : BoundDump) (tables : Tables) (t : ℕ) (a : Replay) : Type 0 where
