@@ -151,7 +151,7 @@ module _ (d : Design) (h : Habit) (dump : BoundDump) (run : Runs) (tables : Tabl
       let j = driver s driven (cell s 0) (signal_has d (cell s 0) (wide s below)) in
       is_assign-of (process_at d q) (is.lawful.apart j.0 q s (is_assign-from (process_at d j.0) j.1) (any_assigns (cell s 0) j.0 j.2) theirs)
 
-  -- what a map has is sure at the end, and what drives an unbound signal of it stands in the order
+  -- what a map has is sure at the end, and what drives an unbound signal of it is in the order
   record IsPlaced (K : Known) : Type 0 where
     pub sure : Within K (sure_in d final)
     pub order : (s : ℕ) (bits : List Bit) → K (a_signal s) bits → dump.bound s ≡ false → (q : ℕ) → Drives d q s → In q tables.order
@@ -179,7 +179,7 @@ module _ (d : Design) (h : Habit) (dump : BoundDump) (run : Runs) (tables : Tabl
       let known = value.all_clear b.0 b.2 foreign below in
       distinct_apart tables.order tables.last (distinct_right tables.clocked (tables.order ++ tables.last) is.tabled.once) b.1 (k.order b.0 known.0 known.1 b.3 b.1 b.6) b.4
 
-  -- the Assigns of a net that is told stand in the order
+  -- the Assigns of a net whose value is known are in the order
   net_order : (K : Known) → IsPlaced K → (s : ℕ) (bits : List Bit) → IsNetValue d K s bits → (q : ℕ) → Drives d q s → In q tables.order
   net_order K k s bits net q drives' =
       let is_a = net_driver s net.is_signal net.driven q drives'.drives in
@@ -364,10 +364,10 @@ module _ (d : Design) (h : Habit) (dump : BoundDump) (run : Runs) (tables : Tabl
   pub clear_sure : (n : ℕ) (x : Thing) (bits : List Bit) → clear_in d h dump now start n x bits → sure_in d final x bits
   clear_sure n x bits e = (rounds n).sure x bits e
 
-  -- and so is what its Assigns, told by what is clear, give a signal, bound ones too
+  -- and so is the value of a net, a bound one too, whose Assigns read only what is clear
   pub net_clear : (s : ℕ) (bits : List Bit) → IsNetValue d (clear_from d h dump now start) s bits → sure_in d final (a_signal s) bits
   net_clear s bits net = net_sure (clear_from d h dump now start) all_rounds s bits net
 
-  -- and what a Comb gives it
+  -- and the value that a Comb gives a signal
   pub comb_clear : (p s : ℕ) (bits : List Bit) → IsCombValue d dump now (clear_from d h dump now start) p s bits → sure_in d final (a_signal s) bits
   comb_clear p s bits value = comb_sure (clear_from d h dump now start) all_rounds p s bits value

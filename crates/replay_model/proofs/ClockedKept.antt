@@ -131,7 +131,7 @@ module _ (d : Design) (h : Habit) (early_law : EarlyLaw (machine d)) (dump : Bou
         false_from_ne_true _
         (λ m. let q = any_in (λ q. is_touched st q && blocking_target d (body_at d q) c) (tables.order ++ tables.last) m in never q.0 ((is.tabled.others q.0).0 (in_halves q.0 tables.order tables.last q.1)) (and_parts (is_touched st q.0) _ q.2).1)
 
-    -- where the dump does not have it, it is at the end of the step as the Clocked leave it
+    -- a bit that is not the dump's is at the end of the step as the Clocked leave it
     pub clocked_final : is_dumped d dump.bound c ≡ false → (all_run st).kept c ≡ flush (clocked_run st).kept (clocked_run st).queue c
     clocked_final away =
         kept_all d h early_law dump run tables points is t sets are a false tables.last (run_all_settling st true tables.order (settle_start st (clocked_run st))) c (λ q x f. other q ((is.tabled.others q).0 (inr x)))

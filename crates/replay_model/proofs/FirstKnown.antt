@@ -315,7 +315,7 @@ module _ (d : Design) (h : Habit) (dump : BoundDump) (run : Runs) (tables : Tabl
       clear_sure d h dump run tables points is asked t (clear_start d h dump t) (all_first d dump.bound run tables (dump.values t)).kept (λ p. false) (final_first d h dump run tables points is t agreed) made no_change (λ p y is_a m mine free n v. asked.own_unclear h dump t p y is_a m mine free (v.0, rounds_clear d h dump t (a_signal y) v.0 n v.1))
       (λ p z w window free target unwoken was. absurd (never window)) (λ p c z w window free value. absurd (never window)) k.0 x bits k.1
 
-  -- and so is what its Assigns, told by what is clear, give a signal
+  -- and so is the value of a net whose Assigns read only what is clear
   pub net_sure : (s : ℕ) (bits : List Bit) → IsNetValue d (clear d h dump t) s bits → sure_in d (all_first d dump.bound run tables (dump.values t)).kept (a_signal s) bits
   net_sure s bits net =
       net_clear d h dump run tables points is asked t (clear_start d h dump t) (all_first d dump.bound run tables (dump.values t)).kept (λ p. false) (final_first d h dump run tables points is t agreed) made no_change (λ p y is_a m mine free n v. asked.own_unclear h dump t p y is_a m mine free (v.0, rounds_clear d h dump t (a_signal y) v.0 n v.1))

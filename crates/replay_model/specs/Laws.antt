@@ -1,4 +1,4 @@
--- What the replay of a dump promises: it stands for the dump from the first step on, until it answers a contradiction,
+-- What the replay of a dump promises: what it keeps and reports is right from the first step on, until it answers a contradiction,
 -- which no run shows; and so its verdicts hold.
 use Rattle.std.specs.Prelude.{◌≡◌, ◌≢◌, ◌≤◌, ℕ, suc, true, false, List}
 use Rattle.event_machine.specs.Cell.{Cell}
@@ -30,7 +30,7 @@ pub record IsReplayOf (d : Design) (h : Habit) (dump : BoundDump) (run : Runs) (
   pub runs : AreRuns d run
   pub tabled : AreTables d dump.bound tables
   pub listed : (x : Point) → In x points → (machines : List StateNames) × IsPoint d machines x
-  pub arcs : (i : ℕ) (name : List ℕ) (s : ℕ) (from to : List ℕ) (x y : Vector) → In (arc_point i name s from to x y) points → x.bits ≢ y.bits  -- two states of a machine have different values
+  pub arcs : (i : ℕ) (name : List ℕ) (s : ℕ) (from to : List ℕ) (x y : Vector) → In (arc_point i name s from to x y) points → x.bits ≢ y.bits  -- two states of a machine differ in value
 
 -- the step at suc t, by these sets
 abbrev pub closing_at : Design → BoundDump → Runs → Tables → Sets → ℕ → Replay → Closing
@@ -109,7 +109,7 @@ RestKnownLawBy premise =
 abbrev pub RestKnownLaw : Type 0
 RestKnownLaw = RestKnownLawBy OwnLaws
 
--- Told laws: a closing step without a contradiction keeps it that what is told is reasoned.
+-- Told laws: a closing step without a contradiction keeps it that what is reported is reasoned.
 abbrev pub StepToldLawBy : (Design → Type 0) → Habit → Type 0
 StepToldLawBy premise h =
     (d : Design) (dump : BoundDump) (run : Runs) (tables : Tables) (points : List Point) → IsReplayOf d h dump run tables points → premise d
@@ -188,14 +188,14 @@ pub record AreReasonedVerdicts (d : Design) (h : Habit) (dump : BoundDump) (poin
   -- what is reached is hit
   pub reached : (t p : ℕ) (x : Point) → IsReached d h dump t p x → IsVerdict d x a.notes Hit
 
--- Verdict laws: where the replay is sound at a time after which the window has none, its verdicts are sound.
+-- Verdict laws: where the replay is sound at a time that no window time is after, its verdicts are sound.
 abbrev pub SoundVerdictLaw : Type 0
 SoundVerdictLaw =
     (d : Design) (h : Habit) (dump : BoundDump) (points : List Point) (t : ℕ) (a : Replay) → ((u : ℕ) → IsWindow dump u → u ≤ t) → IsShown dump t
     → IsSound d h dump points t a
     → AreSoundVerdicts d h dump points a
 
--- where what it tells is reasoned too, so are its verdicts
+-- where what it reports is reasoned too, so are its verdicts
 abbrev pub ReasonedVerdictLaw : Type 0
 ReasonedVerdictLaw =
     (d : Design) (h : Habit) (dump : BoundDump) (points : List Point) (t : ℕ) (a : Replay) → ((u : ℕ) → IsWindow dump u → u ≤ t) → IsShown dump t

@@ -1,4 +1,4 @@
--- What the replay stands for, once it has closed the steps of a dump up to a time.
+-- What holds of the replay once it has closed the steps of a dump up to a time.
 use Rattle.std.specs.Prelude.{◌≡◌, ◌⊎◌, ◌≤◌, ◌&&◌, ◌||◌, not, if◌then◌else◌, ℕ, Bool, true, List, Some, None}
 use Rattle.event_machine.specs.Cell.{Cell, Values, put_all}
 use Rattle.event_machine.specs.Habit.{Habit}
@@ -20,7 +20,7 @@ use Rattle.replay_model.specs.Tables.{Tables}
 use Rattle.replay_model.specs.Marks.{IsToldDoubt, IsToldHit}
 use Rattle.replay_model.specs.Step.{Replay, is_comb}
 
--- what is known but for the targets of p: of a Comb all, of an Assign those that are unbound
+-- what is known except the targets of p: of a Comb all, of an Assign those that are unbound
 abbrev pub made_kept : Design → (ℕ → Bool) → ℕ → Kept → Kept
 made_kept d bound p k c = if body_assigns c.thing (body_at d p) && (is_comb (process_at d p) || not (bound c.thing)) then None else k c
 
@@ -37,9 +37,9 @@ pub record IsSound (d : Design) (h : Habit) (dump : BoundDump) (points : List Po
   pub allows : (r : Run) → IsShowing d h dump t r → AllowsState a.kept (settled d r t)
   -- a Comb that has acted has left its targets so
   pub acted : (r : Run) → IsShowing d h dump t r → (p : ℕ) → IsComb (process_at d p) → a.acted p ≡ true → IsLeft d p (settled d r t)
-  -- a point that was told to be hit is hit in each such run
+  -- a point that was reported to be hit is hit in each such run
   pub hits : (x : Point) → IsToldHit d x a.notes → (r : Run) → IsShowing d h dump t r → (u : ℕ) × IsWindow dump u × (u ≤ t) × IsHitAt d dump r x u
-  -- a point that is hit in such a run was told to be hit, or to be in doubt at that time
+  -- a point that is hit in such a run was reported to be hit, or to be in doubt at that time
   pub marked : (x : Point) → In x points → (r : Run) → IsShowing d h dump t r → (u : ℕ) → IsWindow dump u → u ≤ t → IsHitAt d dump r x u
       → IsToldHit d x a.notes ⊎ ((s : ℕ) × IsToldDoubt d x (record { time = u; thing = s }) a.notes)
 
@@ -56,14 +56,14 @@ pub record AreKnown (d : Design) (h : Habit) (dump : BoundDump) (tables : Tables
 abbrev pub AreForced : Design → Habit → BoundDump → ℕ → Type 0
 AreForced d h dump t = (u s : ℕ) (bits : List Bit) → u ≤ t → IsForced d h dump u s bits → signal_bits d (dump.values u) s ≡ bits
 
--- what it tells is reasoned
+-- what it reports is reasoned
 pub record AreTold (d : Design) (h : Habit) (dump : BoundDump) (t : ℕ) (a : Replay) : Type 0 where
-  -- each doubt that was told is one
+  -- each doubt that was reported is one
   pub doubts : (x : Point) (y : Doubted) → IsToldDoubt d x y a.notes → IsWindow dump y.time × (y.time ≤ t) × IsInDoubt d h dump x y.time y.thing
-  -- each point that is reached was told to be hit
+  -- each point that is reached was reported to be hit
   pub reached : (u p : ℕ) (x : Point) → u ≤ t → IsReached d h dump u p x → IsToldHit d x a.notes
 
--- the replay stands for the dump up to time t
+-- all that holds of the replay up to time t of the dump
 pub record Stands (d : Design) (h : Habit) (dump : BoundDump) (tables : Tables) (points : List Point) (t : ℕ) (a : Replay) : Type 0 where
   pub sound : IsSound d h dump points t a
   pub known : AreKnown d h dump tables t a

@@ -26,7 +26,7 @@ use Rattle.replay_model.specs.Marks.{Told, all_told_by, of_point}
 pub record Replay : Type 0 where
   pub kept : Kept  -- what is known of the settled values
   pub acted : ℕ → Bool  -- the Comb has surely acted in the window
-  pub notes : List Told  -- what was told to the marks
+  pub notes : List Told  -- what was reported to the marks
 
 -- the replay within a step
 pub record Working : Type 0 where
@@ -284,7 +284,7 @@ from_bit rise = if rise then Zero else One
 abbrev pub to_bit : Bool → Bit
 to_bit rise = if rise then One else Zero
 
--- what is told of a point on a signal
+-- what is reported of a point on a signal
 abbrev pub point_notes : Closing → Point → List Told
 point_notes st (toggle_point s i rise) =
     if st.sets.moves s then tell_toggle st (toggle_point s i rise) s (toggle_cell st.design s i) (from_bit rise) (to_bit rise) else []
@@ -294,7 +294,7 @@ point_notes st (arc_point i name s from to x y) =
     if st.sets.moves s then tell_arc st (arc_point i name s from to x y) s x.bits y.bits else []
 point_notes st _ = []
 
--- what is told of all points on signals
+-- what is reported of all points on signals
 abbrev pub all_point_notes : Closing → List Point → List Told
 all_point_notes st [] = []
 all_point_notes st (x ∷ xs) = point_notes st x ++ all_point_notes st xs

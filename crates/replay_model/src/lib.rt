@@ -5,7 +5,7 @@ ghost use Rattle.event_machine.specs.Habit.{Habit};
 ghost use Rattle.replay_model.specs.Laws.{ContradictionLaw, FirstContradictionLaw, FirstForcedLaw, FirstKnownLaw, FirstSoundLaw, ReasonedVerdictLaw, RestForcedLaw, RestKnownLaw, RestSoundLaw, RestToldLaw, SoundVerdictLaw, StepForcedLaw, StepKnownLaw, StepSoundLaw, StepToldLaw};
 
 /// After the first step, after each closing step and over each time that the dump does not list, the settled values of
-/// each run that shows the dump are allowed, what was told to be hit is hit, and what is hit was told.
+/// each run that shows the dump are allowed, what was reported to be hit is hit, and what is hit was reported.
 pub fn sound_replay()
     ensures first { FirstSoundLaw }
     ensures step { (h : Habit) → StepSoundLaw h }
@@ -29,8 +29,8 @@ pub fn reasoned_first()
     ensures forced { FirstForcedLaw }
 {}
 
-/// Without a contradiction a closing step keeps it that what is clear is sure, that each doubt that was told is one, that
-/// each point that a block reaches was told to be hit, and that no forced value differs from the dump's.
+/// Without a contradiction a closing step keeps it that what is clear is sure, that each doubt that was reported is one,
+/// that each point that a block reaches was reported to be hit, and that no forced value differs from the dump's.
 pub fn reasoned_step()
     ensures known { (h : Habit) → StepKnownLaw h }
     ensures told { (h : Habit) → StepToldLaw h }
