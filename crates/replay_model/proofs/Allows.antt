@@ -1,5 +1,5 @@
 -- After a closing step the settled values are allowed, in each run that shows the dump; and a contradiction is one.
-use Rattle.std.proofs.Common.{◌≡◌, ◌⊎◌, inl, inr, ⊎_elim, ℕ, zero, suc, ◌<◌, ◌≤◌, true, false, not, ◌&&◌, List, [], ◌∷◌, ◌++◌, length, refl, sym, ap, subst, ◌∙◌, arith, Option, Some, None}
+use Rattle.std.proofs.Common.{◌≡◌, ◌⊎◌, inl, inr, ⊎_elim, ℕ, zero, suc, ◌<◌, ◌≤◌, true, false, not, ◌&&◌, List, [], ◌∷◌, ◌++◌, length, refl, sym, ap, subst, ◌∙◌, arith, Some}
 use Rattle.std.specs.Prelude.{slice_index_or}
 use Rattle.std.specs.List.{list_any}
 use Rattle.std.proofs.lemmas.Bool.{and_parts, and_from, both_ways, cases_Bool, cases_lt, ltb-true, not-true}
@@ -30,8 +30,9 @@ use Rattle.body_replay.specs.Runs.{Runs}
 use Rattle.body_replay.specs.Store.{AllowsState}
 use Rattle.replay_model.specs.Sets.{AreSets, Sets}
 use Rattle.replay_model.specs.Tables.{Tables}
-use Rattle.replay_model.specs.Step.{Closing, Replay, Working, all_run, clocked_run, contradicts, is_dumped, is_loose, is_touched, opened, run_all_clean, run_all_settling, run_all_weak, run_clean, run_weak, settle_start, updated}
+use Rattle.replay_model.specs.Step.{Closing, Replay, Working, all_run, clocked_run, contradicts, is_dumped, is_loose, is_touched, run_all_settling, settle_start, updated}
 use Rattle.replay_model.specs.Laws.{IsReplayOf, closing_at}
+use Rattle.replay_model.proofs.Acted.{clocked_acted}
 use Rattle.replay_model.proofs.Bits.{any_in, differ_apart, in_any, in_halves, in_left, in_right, none_in}
 use Rattle.replay_model.proofs.Clocked.{at_false, at_true, clocked_allowed, others_allowed}
 use Rattle.replay_model.proofs.Settling.{SettlingSound, queues_none, run_all_sound}
@@ -162,27 +163,6 @@ module _ (d : Design) (h : Habit) (dump : BoundDump) (run : Runs) (tables : Tabl
       })
       (here.settles p)
 
-  -- a run of a Clocked tells nothing of what has acted
-  clean_acted : (o : Option ℕ) (p : ℕ) (wk : Working) → (run_clean st o p wk).acted ≡ wk.acted
-  clean_acted None p wk = refl
-  clean_acted (Some s) p wk = refl
-
-  all_clean_acted : (ps : List ℕ) (wk : Working) → (run_all_clean st ps wk).acted ≡ wk.acted
-  all_clean_acted [] wk = refl
-  all_clean_acted (p ∷ ps) wk = all_clean_acted ps (run_clean st (sets.trigger p) p wk) ∙ clean_acted (sets.trigger p) p wk
-
-  weak_acted : (o n : Option ℕ) (p : ℕ) (wk : Working) → (run_weak st o n p wk).acted ≡ wk.acted
-  weak_acted (Some s) n p wk = refl
-  weak_acted None None p wk = refl
-  weak_acted None (Some x) p wk = refl
-
-  all_weak_acted : (ps : List ℕ) (wk : Working) → (run_all_weak st ps wk).acted ≡ wk.acted
-  all_weak_acted [] wk = refl
-  all_weak_acted (p ∷ ps) wk = all_weak_acted ps (run_weak st (sets.trigger p) (sets.wakes p) p wk) ∙ weak_acted (sets.trigger p) (sets.wakes p) p wk
-
-  pub clocked_acted : (clocked_run st).acted ≡ a.acted
-  clocked_acted = all_weak_acted tables.clocked (run_all_clean st tables.clocked (opened st)) ∙ all_clean_acted tables.clocked (opened st)
-
   module _ (acted : (p : ℕ) → IsComb (process_at d p) → a.acted p ≡ true → IsLeft d p (settled d r t)) where
     abbrev pub Sound : Working → Type 0
     Sound wk = SettlingSound d is.lawful h dump is.fits run is.runs tables is.tabled t sets a (settled d r t) (settled d r (suc t)) here starts (nets_at (suc t)) wk
@@ -192,7 +172,7 @@ module _ (d : Design) (h : Habit) (dump : BoundDump) (run : Runs) (tables : Tabl
         record {
           allowed = λ c. ⊎_elim (λ e. at_true (λ z. Allows z (settled d r (suc t) c)) _ _ _ e (sym (here.new c (and_parts (dump.bound c.thing) _ e).0 (ltb-true _ _ (and_parts (dump.bound c.thing) _ e).1)))) (λ e. at_false (λ z. Allows z (settled d r (suc t) c)) _ _ _ e (updated_allowed c (λ input. both_ways _ e (and_from (dump.bound c.thing) _ (is.fits.inputs c input) (and_parts (signal_at d c.thing).input _ input).1)))) (cases_Bool (is_dumped d dump.bound c));
           made = λ c plain. updated_allowed c (λ input. both_ways _ plain (and_parts (signal_at d c.thing).input _ input).0);
-          acted = λ p is_comb e. acted_still p (acted p is_comb (subst (λ f. f p ≡ true) clocked_acted e));
+          acted = λ p is_comb e. acted_still p (acted p is_comb (subst (λ f. f p ≡ true) (clocked_acted st) e));
         }
 
     pub all_sound : Sound (all_run st)

@@ -1,5 +1,5 @@
 -- After a closing step a process that did not run has still made what it may, and a Comb of which a bound signal changed has acted.
-use Rattle.std.proofs.Common.{◌≡◌, ◌≢◌, ◌⊎◌, inl, inr, ⊎_elim, ℕ, zero, suc, ◌-◌, ◌+◌, ◌<◌, ◌≤◌, Bool, true, false, not, ◌&&◌, ◌||◌, ◌==◌, List, [], ◌∷◌, ◌++◌, length, refl, sym, ap, subst, ◌∙◌, arith, Option, Some, None, if◌then◌else◌}
+use Rattle.std.proofs.Common.{◌≡◌, ◌≢◌, ◌⊎◌, inl, inr, ⊎_elim, ℕ, zero, suc, ◌-◌, ◌+◌, ◌<◌, ◌≤◌, Bool, true, false, not, ◌&&◌, ◌||◌, ◌==◌, List, [], ◌∷◌, ◌++◌, length, refl, sym, ap, subst, ◌∙◌, arith, Some, None, if◌then◌else◌}
 use Rattle.std.specs.List.{list_any, range_with_len}
 use Rattle.std.proofs.lemmas.Bool.{and_parts, and_from, and_left, both_ways, cases_Bool, cases_eq, cases_lt, eq-eqb, eqb-true, false_from_ne_true, lt-ltb, not-true, not_from_false, or_left, or_right, true_from_ne_false}
 use Rattle.event_machine.proofs.Least.{early_law}
@@ -27,9 +27,10 @@ use Rattle.body_replay.specs.Runs.{Runs}
 use Rattle.body_replay.specs.Store.{Kept}
 use Rattle.replay_model.specs.Sets.{AreSets, Sets}
 use Rattle.replay_model.specs.Tables.{Tables}
-use Rattle.replay_model.specs.Step.{Closing, Replay, Working, acts, after_settling, all_run, certainty, clocked_run, contradicts, is_comb, is_dumped, is_loose, is_touched, opened, plain_store, run_all_clean, run_all_settling, run_all_weak, run_clean, run_settling, run_weak, sees_change, settle_start, settled_kept, surely_differ}
+use Rattle.replay_model.specs.Step.{Closing, Replay, Working, acts, after_settling, all_run, certainty, clocked_run, contradicts, is_comb, is_dumped, is_loose, is_touched, plain_store, run_all_settling, run_settling, sees_change, settle_start, settled_kept, surely_differ}
 use Rattle.replay_model.specs.Stands.{IsMade, made_kept}
 use Rattle.replay_model.specs.Laws.{IsReplayOf, closing_at}
+use Rattle.replay_model.proofs.Acted.{clocked_acted}
 use Rattle.replay_model.proofs.Allows.{past}
 use Rattle.replay_model.proofs.Bits.{any_in, in_any, none_in}
 use Rattle.replay_model.proofs.Clocked.{at_false, at_true}
@@ -151,26 +152,8 @@ module _ (h : Habit) (d : Design) (dump : BoundDump) (run : Runs) (tables : Tabl
             (λ x read v. (v.0, map_same (made_kept d dump.bound p a.kept) (made_kept d dump.bound p final) (cells d x) (λ c inside. sym (kept_same x (read_in (λ q. body_mentions q (body_at d p) ≡ true) _ x (execute_reads (λ q. body_mentions q (body_at d p) ≡ true) d (body_at d p) (λ q f. f) (execution_start (sample final)) tt) read) c inside)) ∙ v.1))
             (told (sample final) (made_agrees d h (early_law (machine d)) dump run tables points is t sets are a p final))))
 
-  -- what has acted before
-  clean_acted : (o : Option ℕ) (p : ℕ) (wk : Working) → (run_clean st o p wk).acted ≡ wk.acted
-  clean_acted None p wk = refl
-  clean_acted (Some s) p wk = refl
-
-  all_clean_acted : (ps : List ℕ) (wk : Working) → (run_all_clean st ps wk).acted ≡ wk.acted
-  all_clean_acted [] wk = refl
-  all_clean_acted (p ∷ ps) wk = all_clean_acted ps (run_clean st (sets.trigger p) p wk) ∙ clean_acted (sets.trigger p) p wk
-
-  weak_acted : (o n : Option ℕ) (p : ℕ) (wk : Working) → (run_weak st o n p wk).acted ≡ wk.acted
-  weak_acted (Some s) n p wk = refl
-  weak_acted None None p wk = refl
-  weak_acted None (Some x) p wk = refl
-
-  all_weak_acted : (ps : List ℕ) (wk : Working) → (run_all_weak st ps wk).acted ≡ wk.acted
-  all_weak_acted [] wk = refl
-  all_weak_acted (p ∷ ps) wk = all_weak_acted ps (run_weak st (sets.trigger p) (sets.wakes p) p wk) ∙ weak_acted (sets.trigger p) (sets.wakes p) p wk
-
   start_acted : (settle_start st (clocked_run st)).acted ≡ a.acted
-  start_acted = all_weak_acted tables.clocked (run_all_clean st tables.clocked (opened st)) ∙ all_clean_acted tables.clocked (opened st)
+  start_acted = clocked_acted st
 
   -- a Comb that did not run has acted where it had
   pub untouched_acted : (p : ℕ) → is_touched st p ≡ false → (all_run st).acted p ≡ a.acted p

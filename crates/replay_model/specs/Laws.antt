@@ -21,7 +21,7 @@ use Rattle.replay_model.specs.Tables.{AreTables, Tables}
 use Rattle.replay_model.specs.Marks.{Hit, IsVerdict, Missed, Undetermined}
 use Rattle.replay_model.specs.Step.{Closing, Replay, closed, contradicts}
 use Rattle.replay_model.specs.Start.{contradicts_first, started}
-use Rattle.replay_model.specs.Stands.{AreForced, AreKnown, AreTold, IsSound}
+use Rattle.replay_model.specs.Stands.{AreForced, AreKnown, AreTold, IsSound, Stands}
 
 -- what is taken for granted of a replay: a lawful design, its tables, runs of its bodies and its points
 pub record IsReplayOf (d : Design) (h : Habit) (dump : BoundDump) (run : Runs) (tables : Tables) (points : List Point) : Type 0 where
@@ -155,6 +155,28 @@ StepForcedLaw h = StepForcedLawBy OwnLaws h
 abbrev pub RestForcedLaw : Type 0
 RestForcedLaw =
     (d : Design) (h : Habit) (dump : BoundDump) (t : ℕ) → (IsListed dump (suc t) → ⊥) → AreForced d h dump t → AreForced d h dump (suc t)
+
+-- Whole laws: where there was no contradiction, all this holds after the first step.
+abbrev pub FirstStandsLaw : Type 0
+FirstStandsLaw =
+    (d : Design) (h : Habit) (dump : BoundDump) (run : Runs) (tables : Tables) (points : List Point) → IsReplayOf d h dump run tables points
+    → OwnLaws d → (t : ℕ) → IsFirst dump t → IsShown dump t → ((c : Cell) → contradicts_first d dump.bound run tables (dump.values t) c ≡ false)
+    → Stands d h dump tables points t (started d dump.bound run tables (dump.values t))
+
+-- a closing step without a contradiction keeps all this
+abbrev pub StepStandsLaw : Habit → Type 0
+StepStandsLaw h =
+    (d : Design) (dump : BoundDump) (run : Runs) (tables : Tables) (points : List Point) → IsReplayOf d h dump run tables points → OwnLaws d
+    → (t : ℕ) (sets : Sets) (a : Replay) → IsWindow dump (suc t) → IsListed dump (suc t) → AreSets d h dump (suc t) sets
+    → ((c : Cell) → contradicts (closing_at d dump run tables sets t a) c ≡ false) → Stands d h dump tables points t a
+    → Stands d h dump tables points (suc t) (closed_at d dump run tables points sets t a)
+
+-- so does a time that the dump does not list
+abbrev pub RestStandsLaw : Type 0
+RestStandsLaw =
+    (d : Design) (h : Habit) (dump : BoundDump) (run : Runs) (tables : Tables) (points : List Point) → IsReplayOf d h dump run tables points
+    → OwnLaws d → (t : ℕ) (a : Replay) → IsWindow dump (suc t) → (IsListed dump (suc t) → ⊥) → Stands d h dump tables points t a
+    → Stands d h dump tables points (suc t) a
 
 -- Contradiction law: where the replay contradicts, no run shows the dump up to that time.
 abbrev pub ContradictionLaw : Habit → Type 0

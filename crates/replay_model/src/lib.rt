@@ -2,7 +2,7 @@
 #![tactic(auto)]
 
 ghost use Rattle.event_machine.specs.Habit.{Habit};
-ghost use Rattle.replay_model.specs.Laws.{ContradictionLaw, FirstContradictionLaw, FirstForcedLaw, FirstKnownLaw, FirstSoundLaw, ReasonedVerdictLaw, RestForcedLaw, RestKnownLaw, RestSoundLaw, RestToldLaw, SoundVerdictLaw, StepForcedLaw, StepKnownLaw, StepSoundLaw, StepToldLaw};
+ghost use Rattle.replay_model.specs.Laws.{ContradictionLaw, FirstContradictionLaw, FirstForcedLaw, FirstKnownLaw, FirstSoundLaw, FirstStandsLaw, ReasonedVerdictLaw, RestForcedLaw, RestKnownLaw, RestSoundLaw, RestStandsLaw, RestToldLaw, SoundVerdictLaw, StepForcedLaw, StepKnownLaw, StepSoundLaw, StepStandsLaw, StepToldLaw};
 
 /// After the first step, after each closing step and over each time that the dump does not list, the settled values of
 /// each run that shows the dump are allowed, what was reported to be hit is hit, and what is hit was reported.
@@ -42,6 +42,14 @@ pub fn reasoned_rest()
     ensures known { RestKnownLaw }
     ensures told { RestToldLaw }
     ensures forced { RestForcedLaw }
+{}
+
+/// All this together: without a contradiction it holds after the first step, after each closing step and over each time
+/// that the dump does not list.
+pub fn whole_replay()
+    ensures first { FirstStandsLaw }
+    ensures step { (h : Habit) → StepStandsLaw h }
+    ensures rest { RestStandsLaw }
 {}
 
 /// An undetermined point has its doubt, and is hit at no time at which nothing is in doubt for it; what is reached is hit.
