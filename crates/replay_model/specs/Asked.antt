@@ -21,7 +21,7 @@ HasOwnUnclear d =
     → body_assigns y (body_at d p) ≡ true → dump.bound y ≡ false → HasValue (clear d h dump t) (a_signal y)
     → ⊥
 
--- both
+-- both hold of the design
 pub record OwnLaws (d : Design) : Type 0 where
   pub own_wake : HasOwnWakes d
   pub own_unclear : HasOwnUnclear d

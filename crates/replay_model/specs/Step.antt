@@ -214,7 +214,7 @@ abbrev pub kept_target : Closing → Bool → Outcome → Working → ℕ → Ke
 kept_target st holds o w p c =
     if blocking_target st.design (body_at st.design p) c && not (is_dumped st.design st.bound c) then (if holds then o.kept c else None) else w.kept c
 
--- a Comb has surely acted, once it has run so
+-- after a run of this certainty the process has surely acted in the window
 abbrev pub acts : Closing → ℕ → Certainty → Working → Bool
 acts st p how w = w.acted p || (is_clean_way how || sees_change st p)
 
