@@ -10,7 +10,7 @@ use Rattle.design_model.specs.Clear.{IsForcedBy, IsNetValue, at_first, by_clocke
 use Rattle.body_replay.specs.Runs.{Runs}
 use Rattle.replay_model.specs.Tables.{Tables}
 use Rattle.replay_model.specs.Start.{all_first, contradicts_first}
-use Rattle.replay_model.specs.Laws.{FirstForcedLaw, FirstForcedLawBy, IsReplayOf}
+use Rattle.replay_model.specs.Laws.{FirstForcedLaw, IsReplayOf}
 use Rattle.replay_model.proofs.AskedLaws.{AskedLaws, asked_of}
 use Rattle.replay_model.proofs.ClearRounds.{bound_sure}
 use Rattle.replay_model.proofs.FirstKnown.{final_first, net_sure, not_window}
@@ -30,8 +30,5 @@ module _ (d : Design) (h : Habit) (dump : BoundDump) (run : Runs) (tables : Tabl
   forced_first u s bits le bound (by_comb p window moves value) = absurd (not_window dump.times t u first window le)
   forced_first u s bits le bound (by_clocked p c window moves value) = absurd (not_window dump.times t u first window le)
 
-pub first_forced_by : FirstForcedLawBy AskedLaws
-first_forced_by d h dump run tables points is asked t first shown agreed u s bits le forced = forced_first d h dump run tables points is asked t first agreed u s bits le forced.is_bound forced.forced
-
 pub first_forced_law : FirstForcedLaw
-first_forced_law d h dump run tables points is own = first_forced_by d h dump run tables points is (asked_of d is.lawful own)
+first_forced_law d h dump run tables points is own t first shown agreed u s bits le forced = forced_first d h dump run tables points is (asked_of d is.lawful own) t first agreed u s bits le forced.is_bound forced.forced

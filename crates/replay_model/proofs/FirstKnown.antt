@@ -27,7 +27,7 @@ use Rattle.replay_model.specs.Tables.{Drives, StandsBefore, Tables}
 use Rattle.replay_model.specs.Step.{is_comb, is_dumped}
 use Rattle.replay_model.specs.Start.{Starting, after_first, all_first, contradicts_first, first_kept, first_store, run_all_first, run_first, started}
 use Rattle.replay_model.specs.Stands.{AreKnown, IsMade, made_kept}
-use Rattle.replay_model.specs.Laws.{FirstKnownLaw, FirstKnownLawBy, IsReplayOf}
+use Rattle.replay_model.specs.Laws.{FirstKnownLaw, IsReplayOf}
 use Rattle.replay_model.proofs.Bits.{any_in, in_halves, in_left, in_right, none_in, not_differ}
 use Rattle.replay_model.proofs.ClearRounds.{clear_sure, inside_as, net_clear, read_in}
 use Rattle.replay_model.proofs.Clocked.{at_false, at_true, distinct_left, output_targets}
@@ -324,8 +324,5 @@ module _ (d : Design) (h : Habit) (dump : BoundDump) (run : Runs) (tables : Tabl
   pub known_first : AreKnown d h dump tables t (started d dump.bound run tables (dump.values t))
   known_first = record { is_clear = is_sure; has_acted = no_change; made = made }
 
-pub first_known_by : FirstKnownLawBy AskedLaws
-first_known_by d h dump run tables points is asked t first shown agreed = known_first d h dump run tables points is asked t first agreed
-
 pub first_known_law : FirstKnownLaw
-first_known_law d h dump run tables points is own = first_known_by d h dump run tables points is (asked_of d is.lawful own)
+first_known_law d h dump run tables points is own t first shown agreed = known_first d h dump run tables points is (asked_of d is.lawful own) t first agreed

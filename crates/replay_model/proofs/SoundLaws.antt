@@ -34,7 +34,7 @@ use Rattle.replay_model.specs.Tables.{Tables}
 use Rattle.replay_model.specs.Marks.{IsKeyOf, IsToldDoubt, IsToldHit, IsUntold, Told}
 use Rattle.replay_model.specs.Step.{Replay, all_point_notes, all_run, contradicts}
 use Rattle.replay_model.specs.Stands.{IsSound}
-use Rattle.replay_model.specs.Laws.{ContradictionLaw, FirstContradictionLaw, FirstSoundLaw, IsReplayOf, RestSoundLaw, SoundVerdictLaw, StepSoundLaw, StepSoundLawBy, closed_at, closing_at}
+use Rattle.replay_model.specs.Laws.{ContradictionLaw, FirstContradictionLaw, FirstSoundLaw, IsReplayOf, RestSoundLaw, SoundVerdictLaw, StepSoundLaw, closed_at, closing_at}
 use Rattle.replay_model.proofs.Allows.{all_sound, contradicts_none}
 use Rattle.replay_model.proofs.Bits.{in_halves, in_left, in_right}
 use Rattle.replay_model.proofs.BodyComplete.{body_marked}
@@ -155,9 +155,6 @@ module _ (h : Habit) (d : Design) (dump : BoundDump) (run : Runs) (tables : Tabl
         marked = λ x member r showing. marked_step r showing x member;
       }
 
-pub step_sound_by : (h : Habit) → StepSoundLawBy AskedLaws h
-step_sound_by h d dump run tables points is asked t sets a window listed are sound = step_sound h d dump run tables points is asked t sets a window listed are sound
-
 -- over a time that the dump does not list nothing happens
 module _ (d : Design) (h : Habit) (dump : BoundDump) (run : Runs) (tables : Tables) (points : List Point) (is : IsReplayOf d h dump run tables points) (t : ℕ) (window : IsWindow dump (suc t)) (unlisted : IsListed dump (suc t) → ⊥) (r : Run) (showing : IsShowing d h dump (suc t) r) where
   quiet : (settled d r (suc t) ≡ settled d r t) × ((k : StepOf r) → k.step.time ≡ suc t → k.step.events ≡ [])
@@ -236,4 +233,4 @@ sound_verdict_law d h dump points t a ends shown sound =
     showing r is_run shows = record { is_run = is_run; shows = record { starts = shows.starts; shows = λ s is_shown le. shows.shows s is_shown } }
 
 pub step_sound_law : (h : Habit) → StepSoundLaw h
-step_sound_law h d dump run tables points is own = step_sound_by h d dump run tables points is (asked_of d is.lawful own)
+step_sound_law h d dump run tables points is own t sets a window listed are sound = step_sound h d dump run tables points is (asked_of d is.lawful own) t sets a window listed are sound

@@ -15,8 +15,8 @@ use Rattle.body_replay.specs.Runs.{Runs}
 use Rattle.replay_model.specs.Sets.{AreSets, Sets}
 use Rattle.replay_model.specs.Tables.{Tables}
 use Rattle.replay_model.specs.Step.{Closing, Replay, all_run, contradicts}
-use Rattle.replay_model.specs.Stands.{AreKnown}
-use Rattle.replay_model.specs.Laws.{IsReplayOf, StepForcedLaw, StepForcedLawBy, closed_at, closing_at}
+use Rattle.replay_model.specs.Stands.{AreForced, AreKnown}
+use Rattle.replay_model.specs.Laws.{IsReplayOf, StepForcedLaw, closed_at, closing_at}
 use Rattle.replay_model.proofs.AskedLaws.{AskedLaws, asked_of}
 use Rattle.replay_model.proofs.Calm.{calm_dumped}
 use Rattle.replay_model.proofs.ClearClocked.{unwoken_sure, written_made, written_sure}
@@ -25,7 +25,7 @@ use Rattle.replay_model.proofs.FirstKnown.{not_window}
 use Rattle.replay_model.proofs.Grows.{sample, sample_agrees}
 use Rattle.replay_model.proofs.Order.{final_dumped, made_dumped}
 use Rattle.replay_model.proofs.Reasons.{map_same}
-use Rattle.replay_model.proofs.ReasonedLaws.{step_known_by}
+use Rattle.replay_model.proofs.ReasonedLaws.{step_known}
 use Rattle.replay_model.proofs.SettleReasons.{sure_at}
 use Rattle.replay_model.proofs.Settling.{in_signal}
 
@@ -37,7 +37,7 @@ module _ (h : Habit) (d : Design) (dump : BoundDump) (run : Runs) (tables : Tabl
   back = omega arith
 
   last : AreKnown d h dump tables (suc t) (closed_at d dump run tables points sets t a)
-  last = step_known_by h d dump run tables points is asked t sets a window listed are known agreed
+  last = step_known h d dump run tables points is asked t sets a window listed are known agreed
 
   -- a bound signal that is sure at the end has the dump's value
   sure_dumped : (s : ℕ) (bits : List Bit) → dump.bound s ≡ true → sure_in d (all_run st).kept (a_signal s) bits → signal_bits d (dump.values (suc t)) s ≡ bits
@@ -55,7 +55,7 @@ module _ (h : Habit) (d : Design) (dump : BoundDump) (run : Runs) (tables : Tabl
           sym (made_dumped d h (early_law (machine d)) dump run tables points is t sets are a c (agreed c) (signal_dumped d dump.bound s c bound inside) (subst (λ z. (signal_at d z).input ≡ false) (sym (in_signal d s c inside).0) plain) (sample (all_run st).made c)
           (sure_at (all_run st).made (sample (all_run st).made) (signal_cells d s) (sure ∙ ap (map Some) (sym agrees)) c inside))
 
-  pub forced_step : (s : ℕ) (bits : List Bit) → dump.bound s ≡ true → (signal_at d s).input ≡ false → IsForcedBy d h dump (suc t) s bits → signal_bits d (dump.values (suc t)) s ≡ bits
+  forced_step : (s : ℕ) (bits : List Bit) → dump.bound s ≡ true → (signal_at d s).input ≡ false → IsForcedBy d h dump (suc t) s bits → signal_bits d (dump.values (suc t)) s ≡ bits
   forced_step s bits bound plain (at_first first net) = absurd (not_window dump.times (suc t) (suc t) first window (omega arith))
   forced_step s bits bound plain (unmoved in_window calm e) =
       map_same (dump.values (suc t)) (dump.values t) (signal_cells d s) (λ c inside. sym (calm_dumped h d dump run tables points is asked t sets a window listed are known.is_clear agreed c (signal_dumped d dump.bound s c bound inside) (subst (λ z. sets.moves z ≡ false) (sym (in_signal d s c inside).0) (false_from_ne_true _ (λ m. calm ((are.moves s).0 m))))))
@@ -73,14 +73,11 @@ module _ (h : Habit) (d : Design) (dump : BoundDump) (run : Runs) (tables : Tabl
   forced_step s bits bound plain (by_clocked p c in_window moves value) =
       made_sure s bits bound plain (written_made d h (early_law (machine d)) dump run tables points is asked t window listed sets are a known.is_clear p c (a_signal s) bits (subst (λ u. IsWrittenValue d h dump (suc t) (clear d h dump u) p c (a_signal s) bits) back value))
 
-pub step_forced_by : (h : Habit) → StepForcedLawBy AskedLaws h
-step_forced_by h d dump run tables points is asked t sets a window listed are known agreed before u s bits le forced =
-    ⊎_elim now (λ ne. before u s bits (omega (arith, le, ne)) forced) (cases_eq u (suc t))
-  where
-    now : u ≡ suc t → signal_bits d (dump.values u) s ≡ bits
-    now e =
-        ap (λ z. signal_bits d (dump.values z) s) e
-        ∙ forced_step h d dump run tables points is asked t sets a window listed are known agreed s bits forced.is_bound forced.no_input (subst (λ z. IsForcedBy d h dump z s bits) e forced.forced)
+  pub forced_now : AreForced d h dump t → AreForced d h dump (suc t)
+  forced_now before u s bits le forced = ⊎_elim now (λ ne. before u s bits (omega (arith, le, ne)) forced) (cases_eq u (suc t))
+    where
+      now : u ≡ suc t → signal_bits d (dump.values u) s ≡ bits
+      now e = ap (λ z. signal_bits d (dump.values z) s) e ∙ forced_step s bits forced.is_bound forced.no_input (subst (λ z. IsForcedBy d h dump z s bits) e forced.forced)
 
 pub step_forced_law : (h : Habit) → StepForcedLaw h
-step_forced_law h d dump run tables points is own = step_forced_by h d dump run tables points is (asked_of d is.lawful own)
+step_forced_law h d dump run tables points is own t sets a window listed are known agreed before = forced_now h d dump run tables points is (asked_of d is.lawful own) t sets a window listed are known agreed before

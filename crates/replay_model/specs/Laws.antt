@@ -57,16 +57,12 @@ FirstSoundLaw =
     → IsFirst dump t → IsShown dump t
     → IsSound d h dump points t (started d dump.bound run tables (dump.values t))
 
--- a closing step keeps it sound, of a design that keeps the premise
-abbrev pub StepSoundLawBy : (Design → Type 0) → Habit → Type 0
-StepSoundLawBy premise h =
-    (d : Design) (dump : BoundDump) (run : Runs) (tables : Tables) (points : List Point) → IsReplayOf d h dump run tables points → premise d
+-- a closing step keeps it sound
+abbrev pub StepSoundLaw : Habit → Type 0
+StepSoundLaw h =
+    (d : Design) (dump : BoundDump) (run : Runs) (tables : Tables) (points : List Point) → IsReplayOf d h dump run tables points → OwnLaws d
     → (t : ℕ) (sets : Sets) (a : Replay) → IsWindow dump (suc t) → IsListed dump (suc t) → AreSets d h dump (suc t) sets → IsSound d h dump points t a
     → IsSound d h dump points (suc t) (closed_at d dump run tables points sets t a)
-
--- the same, of a design that keeps OwnLaws
-abbrev pub StepSoundLaw : Habit → Type 0
-StepSoundLaw h = StepSoundLawBy OwnLaws h
 
 -- a time that the dump does not list keeps it sound
 abbrev pub RestSoundLaw : Type 0
@@ -76,50 +72,34 @@ RestSoundLaw =
     → IsSound d h dump points (suc t) a
 
 -- Known laws: where there was no contradiction, what is clear is sure after the first step.
-abbrev pub FirstKnownLawBy : (Design → Type 0) → Type 0
-FirstKnownLawBy premise =
+abbrev pub FirstKnownLaw : Type 0
+FirstKnownLaw =
     (d : Design) (h : Habit) (dump : BoundDump) (run : Runs) (tables : Tables) (points : List Point) → IsReplayOf d h dump run tables points
-    → premise d → (t : ℕ) → IsFirst dump t → IsShown dump t → ((c : Cell) → contradicts_first d dump.bound run tables (dump.values t) c ≡ false)
+    → OwnLaws d → (t : ℕ) → IsFirst dump t → IsShown dump t → ((c : Cell) → contradicts_first d dump.bound run tables (dump.values t) c ≡ false)
     → AreKnown d h dump tables t (started d dump.bound run tables (dump.values t))
 
--- the same, of a design that keeps OwnLaws
-abbrev pub FirstKnownLaw : Type 0
-FirstKnownLaw = FirstKnownLawBy OwnLaws
-
 -- a closing step without a contradiction keeps it that what is clear is sure
-abbrev pub StepKnownLawBy : (Design → Type 0) → Habit → Type 0
-StepKnownLawBy premise h =
-    (d : Design) (dump : BoundDump) (run : Runs) (tables : Tables) (points : List Point) → IsReplayOf d h dump run tables points → premise d
+abbrev pub StepKnownLaw : Habit → Type 0
+StepKnownLaw h =
+    (d : Design) (dump : BoundDump) (run : Runs) (tables : Tables) (points : List Point) → IsReplayOf d h dump run tables points → OwnLaws d
     → (t : ℕ) (sets : Sets) (a : Replay) → IsWindow dump (suc t) → IsListed dump (suc t) → AreSets d h dump (suc t) sets
     → AreKnown d h dump tables t a → ((c : Cell) → contradicts (closing_at d dump run tables sets t a) c ≡ false)
     → AreKnown d h dump tables (suc t) (closed_at d dump run tables points sets t a)
 
--- the same, of a design that keeps OwnLaws
-abbrev pub StepKnownLaw : Habit → Type 0
-StepKnownLaw h = StepKnownLawBy OwnLaws h
-
 -- so does a time that the dump does not list
-abbrev pub RestKnownLawBy : (Design → Type 0) → Type 0
-RestKnownLawBy premise =
+abbrev pub RestKnownLaw : Type 0
+RestKnownLaw =
     (d : Design) (h : Habit) (dump : BoundDump) (run : Runs) (tables : Tables) (points : List Point) → IsReplayOf d h dump run tables points
-    → premise d → (t : ℕ) (a : Replay) → IsWindow dump (suc t) → (IsListed dump (suc t) → ⊥) → AreKnown d h dump tables t a
+    → OwnLaws d → (t : ℕ) (a : Replay) → IsWindow dump (suc t) → (IsListed dump (suc t) → ⊥) → AreKnown d h dump tables t a
     → AreKnown d h dump tables (suc t) a
 
--- the same, of a design that keeps OwnLaws
-abbrev pub RestKnownLaw : Type 0
-RestKnownLaw = RestKnownLawBy OwnLaws
-
 -- Told laws: a closing step without a contradiction keeps it that what is reported is reasoned.
-abbrev pub StepToldLawBy : (Design → Type 0) → Habit → Type 0
-StepToldLawBy premise h =
-    (d : Design) (dump : BoundDump) (run : Runs) (tables : Tables) (points : List Point) → IsReplayOf d h dump run tables points → premise d
+abbrev pub StepToldLaw : Habit → Type 0
+StepToldLaw h =
+    (d : Design) (dump : BoundDump) (run : Runs) (tables : Tables) (points : List Point) → IsReplayOf d h dump run tables points → OwnLaws d
     → (t : ℕ) (sets : Sets) (a : Replay) → IsWindow dump (suc t) → IsListed dump (suc t) → AreSets d h dump (suc t) sets
     → AreKnown d h dump tables t a → ((c : Cell) → contradicts (closing_at d dump run tables sets t a) c ≡ false) → AreTold d h dump t a
     → AreTold d h dump (suc t) (closed_at d dump run tables points sets t a)
-
--- the same, of a design that keeps OwnLaws
-abbrev pub StepToldLaw : Habit → Type 0
-StepToldLaw h = StepToldLawBy OwnLaws h
 
 -- so does a time that the dump does not list
 abbrev pub RestToldLaw : Type 0
@@ -129,27 +109,19 @@ RestToldLaw =
     → AreTold d h dump (suc t) a
 
 -- Forced laws: where there was no contradiction, no forced value differs from the dump's at the first step.
-abbrev pub FirstForcedLawBy : (Design → Type 0) → Type 0
-FirstForcedLawBy premise =
+abbrev pub FirstForcedLaw : Type 0
+FirstForcedLaw =
     (d : Design) (h : Habit) (dump : BoundDump) (run : Runs) (tables : Tables) (points : List Point) → IsReplayOf d h dump run tables points
-    → premise d → (t : ℕ) → IsFirst dump t → IsShown dump t → ((c : Cell) → contradicts_first d dump.bound run tables (dump.values t) c ≡ false)
+    → OwnLaws d → (t : ℕ) → IsFirst dump t → IsShown dump t → ((c : Cell) → contradicts_first d dump.bound run tables (dump.values t) c ≡ false)
     → AreForced d h dump t
 
--- the same, of a design that keeps OwnLaws
-abbrev pub FirstForcedLaw : Type 0
-FirstForcedLaw = FirstForcedLawBy OwnLaws
-
 -- a closing step without a contradiction keeps it that no forced value differs
-abbrev pub StepForcedLawBy : (Design → Type 0) → Habit → Type 0
-StepForcedLawBy premise h =
-    (d : Design) (dump : BoundDump) (run : Runs) (tables : Tables) (points : List Point) → IsReplayOf d h dump run tables points → premise d
+abbrev pub StepForcedLaw : Habit → Type 0
+StepForcedLaw h =
+    (d : Design) (dump : BoundDump) (run : Runs) (tables : Tables) (points : List Point) → IsReplayOf d h dump run tables points → OwnLaws d
     → (t : ℕ) (sets : Sets) (a : Replay) → IsWindow dump (suc t) → IsListed dump (suc t) → AreSets d h dump (suc t) sets
     → AreKnown d h dump tables t a → ((c : Cell) → contradicts (closing_at d dump run tables sets t a) c ≡ false) → AreForced d h dump t
     → AreForced d h dump (suc t)
-
--- the same, of a design that keeps OwnLaws
-abbrev pub StepForcedLaw : Habit → Type 0
-StepForcedLaw h = StepForcedLawBy OwnLaws h
 
 -- so does a time that the dump does not list
 abbrev pub RestForcedLaw : Type 0
