@@ -1,5 +1,5 @@
 -- After a closing step the settled values are allowed, in each run that shows the dump; and a contradiction is one.
-use Rattle.std.proofs.Common.{◌≡◌, ◌⊎◌, inl, inr, ⊎_elim, ℕ, zero, suc, ◌<◌, ◌≤◌, true, false, not, ◌&&◌, List, [], ◌∷◌, ◌++◌, length, refl, sym, ap, subst, ◌∙◌, arith, Option, Some, None}
+use Rattle.std.proofs.Common.{◌≡◌, ◌⊎◌, inl, inr, ⊎_elim, ℕ, zero, suc, ◌<◌, ◌≤◌, true, false, not, ◌&&◌, List, [], ◌∷◌, ◌++◌, length, refl, sym, ap, subst, ◌∙◌, arith, Some}
 use Rattle.std.specs.Prelude.{slice_index_or}
 use Rattle.std.specs.List.{list_any}
 use Rattle.std.proofs.lemmas.Bool.{and_parts, and_from, both_ways, cases_Bool, cases_lt, ltb-true, not-true}
@@ -15,25 +15,26 @@ use Rattle.design_model.specs.Design.{Design, In, IsAssign, IsClocked, IsComb, b
 use Rattle.design_model.specs.Mentions.{blocking_target, body_assigns}
 use Rattle.design_model.specs.Machine.{is_level, lists_edge, machine}
 use Rattle.design_model.specs.Run.{Run, settled}
-use Rattle.design_model.specs.Shows.{BoundDump, IsShown, IsShownOf, IsWindow, IsWindowOf}
+use Rattle.design_model.specs.Shows.{BoundDump, IsShowing, IsWindow}
 use Rattle.design_model.specs.MayMove.{IsSingleAt, MayMoveAt, told_at}
 use Rattle.design_model.proofs.Assigns.{machine_lawful}
 use Rattle.design_model.proofs.Lawful.{assign_or}
 use Rattle.design_model.proofs.Named.{has_cell-from}
 use Rattle.design_model.proofs.StepLaws.{StepLaws}
 use Rattle.design_model.proofs.Told.{put_covered}
+use Rattle.design_model.proofs.StepFacts.{facts_law}
+use Rattle.design_model.specs.StepLaws.{IsLeft, StepFacts}
 use Rattle.body_replay.specs.KnownBits.{Allows}
 use Rattle.body_replay.specs.Replay.{flush}
 use Rattle.body_replay.specs.Runs.{Runs}
 use Rattle.body_replay.specs.Store.{AllowsState}
 use Rattle.replay_model.specs.Sets.{AreSets, Sets}
 use Rattle.replay_model.specs.Tables.{Tables}
-use Rattle.replay_model.specs.Step.{Closing, Replay, Working, all_run, clocked_run, contradicts, is_dumped, is_loose, is_touched, opened, run_all_clean, run_all_settling, run_all_weak, run_clean, run_weak, settle_start, updated}
-use Rattle.replay_model.specs.Stands.{IsLeft, IsShowing}
+use Rattle.replay_model.specs.Step.{Closing, Replay, Working, all_run, clocked_run, contradicts, is_dumped, is_loose, is_touched, run_all_settling, settle_start, updated}
 use Rattle.replay_model.specs.Laws.{IsReplayOf, closing_at}
+use Rattle.replay_model.proofs.Acted.{clocked_acted}
 use Rattle.replay_model.proofs.Bits.{any_in, differ_apart, in_any, in_halves, in_left, in_right, none_in}
 use Rattle.replay_model.proofs.Clocked.{at_false, at_true, clocked_allowed, others_allowed}
-use Rattle.replay_model.proofs.Facts.{Facts, facts}
 use Rattle.replay_model.proofs.Settling.{SettlingSound, queues_none, run_all_sound}
 use Rattle.replay_model.proofs.Targets.{clocked_or, input_unassigned, queues_from, target_assigns}
 
@@ -58,11 +59,6 @@ by_kind (assign i t v c) h = inl refl
 by_kind (comb i wakes s) h = inr tt
 by_kind (clocked i events s) h = absurd (h tt)
 
--- a window time and the time before it are shown
-pub window_shown_at : (times : List ℕ) (t : ℕ) → IsWindowOf times (suc t) → IsShownOf times t × IsShownOf times (suc t)
-window_shown_at [] t window = absurd window
-window_shown_at (u ∷ us) t window = ((omega (arith, window.0), omega (arith, window.1)), (omega (arith, window.0), window.1))
-
 module _ (d : Design) (h : Habit) (dump : BoundDump) (run : Runs) (tables : Tables) (points : List Point) (is : IsReplayOf d h dump run tables points) (laws : StepLaws (machine d) h) (early_law : EarlyLaw (machine d)) (t : ℕ) (window : IsWindow dump (suc t)) (sets : Sets) (are : AreSets d h dump (suc t) sets) (a : Replay) (r : Run) (showing : IsShowing d h dump (suc t) r) (starts : AllowsState a.kept (settled d r t)) where
   abbrev st : Closing
   st = closing_at d dump run tables sets t a
@@ -73,11 +69,8 @@ module _ (d : Design) (h : Habit) (dump : BoundDump) (run : Runs) (tables : Tabl
   abbrev w : Values Bit
   w = settled d r (suc t)
 
-  pub shown : IsShown dump t × IsShown dump (suc t)
-  shown = window_shown_at dump.times t window
-
-  pub here : Facts d h dump t (settled d r t) (settled d r (suc t))
-  here = facts d is.lawful h laws dump is.fits r showing.is_run t (showing.shows.shows t shown.0 (omega arith)) (showing.shows.shows (suc t) shown.1 (omega arith))
+  pub here : StepFacts d h dump t (settled d r t) (settled d r (suc t))
+  here = facts_law d is.lawful h laws dump r t is.fits.signals showing window
 
   pub nets_at : (s p : ℕ) (c : Cell) → is_assign (process_at d p) ≡ true → (machine d).blocking p c ≡ true → settled d r s c ≡ put_all (settled d r s) (output (machine d) p (settled d r s)) c
   nets_at s p c assigns target = laws.net h r.begins r.start r.steps showing.is_run s p c assigns target
@@ -157,7 +150,7 @@ module _ (d : Design) (h : Habit) (dump : BoundDump) (run : Runs) (tables : Tabl
 
           stays : settled d r (suc t) c ≡ settled d r t c
           stays =
-              ⊎_elim (λ f. let p = any_in (λ p. blocking_target d (body_at d p) c) (tables.order ++ tables.last) f in calm_in p.0 p.1 p.2) (λ f. here.still c outside (none_at_all f)) (cases_Bool (list_any (λ p. blocking_target d (body_at d p) c) (tables.order ++ tables.last)))
+              ⊎_elim (λ f. let p = any_in (λ p. blocking_target d (body_at d p) c) (tables.order ++ tables.last) f in calm_in p.0 p.1 p.2) (λ f. here.unwritten c outside (none_at_all f)) (cases_Bool (list_any (λ p. blocking_target d (body_at d p) c) (tables.order ++ tables.last)))
 
   -- a Comb that had acted has still left its targets so
   acted_still : (p : ℕ) → IsLeft d p (settled d r t) → IsLeft d p (settled d r (suc t))
@@ -165,31 +158,10 @@ module _ (d : Design) (h : Habit) (dump : BoundDump) (run : Runs) (tables : Tabl
       ⊎_elim (λ l. l)
       (λ idle. record {
         entry = left.entry;
-        wakes = λ c wake. left.wakes c wake ∙ sym (idle.0 c wake.0);
-        leaves = λ c target. idle.1 c target ∙ left.leaves c target;
+        wakes = λ c wake. left.wakes c wake ∙ sym (idle.sensitive c wake.0);
+        leaves = λ c target. idle.targets c target ∙ left.leaves c target;
       })
       (here.settles p)
-
-  -- a run of a Clocked tells nothing of what has acted
-  clean_acted : (o : Option ℕ) (p : ℕ) (wk : Working) → (run_clean st o p wk).acted ≡ wk.acted
-  clean_acted None p wk = refl
-  clean_acted (Some s) p wk = refl
-
-  all_clean_acted : (ps : List ℕ) (wk : Working) → (run_all_clean st ps wk).acted ≡ wk.acted
-  all_clean_acted [] wk = refl
-  all_clean_acted (p ∷ ps) wk = all_clean_acted ps (run_clean st (sets.trigger p) p wk) ∙ clean_acted (sets.trigger p) p wk
-
-  weak_acted : (o n : Option ℕ) (p : ℕ) (wk : Working) → (run_weak st o n p wk).acted ≡ wk.acted
-  weak_acted (Some s) n p wk = refl
-  weak_acted None None p wk = refl
-  weak_acted None (Some x) p wk = refl
-
-  all_weak_acted : (ps : List ℕ) (wk : Working) → (run_all_weak st ps wk).acted ≡ wk.acted
-  all_weak_acted [] wk = refl
-  all_weak_acted (p ∷ ps) wk = all_weak_acted ps (run_weak st (sets.trigger p) (sets.wakes p) p wk) ∙ weak_acted (sets.trigger p) (sets.wakes p) p wk
-
-  pub clocked_acted : (clocked_run st).acted ≡ a.acted
-  clocked_acted = all_weak_acted tables.clocked (run_all_clean st tables.clocked (opened st)) ∙ all_clean_acted tables.clocked (opened st)
 
   module _ (acted : (p : ℕ) → IsComb (process_at d p) → a.acted p ≡ true → IsLeft d p (settled d r t)) where
     abbrev pub Sound : Working → Type 0
@@ -200,7 +172,7 @@ module _ (d : Design) (h : Habit) (dump : BoundDump) (run : Runs) (tables : Tabl
         record {
           allowed = λ c. ⊎_elim (λ e. at_true (λ z. Allows z (settled d r (suc t) c)) _ _ _ e (sym (here.new c (and_parts (dump.bound c.thing) _ e).0 (ltb-true _ _ (and_parts (dump.bound c.thing) _ e).1)))) (λ e. at_false (λ z. Allows z (settled d r (suc t) c)) _ _ _ e (updated_allowed c (λ input. both_ways _ e (and_from (dump.bound c.thing) _ (is.fits.inputs c input) (and_parts (signal_at d c.thing).input _ input).1)))) (cases_Bool (is_dumped d dump.bound c));
           made = λ c plain. updated_allowed c (λ input. both_ways _ plain (and_parts (signal_at d c.thing).input _ input).0);
-          acted = λ p is_comb e. acted_still p (acted p is_comb (subst (λ f. f p ≡ true) clocked_acted e));
+          acted = λ p is_comb e. acted_still p (acted p is_comb (subst (λ f. f p ≡ true) (clocked_acted st) e));
         }
 
     pub all_sound : Sound (all_run st)

@@ -1,7 +1,7 @@
 -- What is known of a cell: joins, and writes, which look at each cell alone.
 use Rattle.std.proofs.Common.{◌≡◌, ◌⊎◌, inl, inr, ⊎_elim, Bool, true, false, List, [], ◌∷◌, ◌++◌, refl, sym, ap, subst, ◌∙◌, Option, Some, None, if◌then◌else◌}
 use Rattle.std.specs.List.{list_any, list_all}
-use Rattle.std.proofs.lemmas.Bool.{and_parts, or_cases, or_parts, or_left, or_right, both_ways, not-true}
+use Rattle.std.proofs.lemmas.Bool.{and_parts, or_cases, or_parts, or_left, or_right, both_ways, not-false, not-true}
 use Rattle.event_machine.specs.Cell.{Cell, same_cell}
 use Rattle.four_state.specs.Vector.{same_bit}
 use Rattle.four_state.specs.declared.bit.Bit.{Bit}
@@ -49,6 +49,14 @@ pub differ_apart : (p q : Option Bit) (a b : Bit) → surely_differ p q ≡ true
 differ_apart (Some x) (Some y) a b e h k same = both_ways (same_bit x y) (not-true _ e) (subst (λ z. same_bit x z ≡ true) (h ∙ same ∙ sym k) (same_bit_self x))
 differ_apart (Some x) None a b e h k same = both_ways false refl e
 differ_apart None q a b e h k same = both_ways false refl e
+
+-- a known bit that does not surely differ from another is it
+pub not_differ : (p : Option Bit) (a b : Bit) → p ≡ Some a → surely_differ p (Some b) ≡ false → a ≡ b
+not_differ None a b e f = absurd (cc)
+not_differ (Some x) a b e f = same_some a x (sym e) ∙ same_bit_is x b (not-false _ f)
+  where
+    same_some : (a x : Bit) → Some a ≡ Some x → a ≡ x
+    same_some a x g = cc
 
 pub same_equal : (p q : Option Bit) (a b : Bit) → surely_same p q ≡ true → Allows p a → Allows q b → a ≡ b
 same_equal (Some x) (Some y) a b e h k = sym h ∙ same_bit_is x y e ∙ k

@@ -15,7 +15,7 @@ use Rattle.design_model.specs.Execution.{Visit, at_line, at_node, execution, exe
 use Rattle.design_model.specs.Machine.{is_level, machine}
 use Rattle.design_model.specs.Run.{Run, StepOf, settled}
 use Rattle.design_model.specs.Scored.{IsScored}
-use Rattle.design_model.specs.Shows.{BoundDump, IsWindow}
+use Rattle.design_model.specs.Shows.{BoundDump, IsShowing, IsWindow}
 use Rattle.design_model.specs.Points.{HitIn, IsBlock}
 use Rattle.design_model.proofs.Mentions.{AllReads, execute_reads}
 use Rattle.design_model.proofs.StepLaws.{StepLaws}
@@ -27,16 +27,15 @@ use Rattle.body_replay.specs.Runs.{HasDoubtNote, Runs, seen_of}
 use Rattle.body_replay.specs.Store.{AllowsState}
 use Rattle.replay_model.specs.Sets.{AreSets, Sets}
 use Rattle.design_model.specs.BodyLaws.{all_cells}
+use Rattle.design_model.specs.StepLaws.{IsLeft, StepFacts}
 use Rattle.replay_model.specs.Tables.{Tables}
 use Rattle.replay_model.specs.Marks.{IsKeyOf, Told, all_told_by, of_process}
 use Rattle.replay_model.specs.Step.{Closing, Replay, all_run, certainty, clocked_run, entry_kept, is_touched, opened, plain_store, run_all_clean, settled_kept, surely_same, wake_cells}
-use Rattle.replay_model.specs.Stands.{IsLeft, IsShowing}
 use Rattle.replay_model.specs.Laws.{IsReplayOf, closing_at}
 use Rattle.replay_model.proofs.Allows.{below_of, here, in_all, past}
 use Rattle.replay_model.proofs.Bits.{all_in, any_in, in_any, in_left, in_right, none_in, same_equal}
 use Rattle.replay_model.proofs.BodyMarks.{Good, clean_told, entry_allowed, last_told, order_told, settled_allowed, weak_told}
 use Rattle.replay_model.proofs.Existing.{changed_exists}
-use Rattle.replay_model.proofs.Facts.{Facts}
 use Rattle.replay_model.proofs.Hits.{OnWakes, Way, all_still, doubt_told, every_entry, every_settling, hit_told, in_not_assigned, in_visited, still, sure, unsure, unwoken_none, way_of}
 use Rattle.replay_model.proofs.Targets.{clocked_or, is_target-from, is_target-of}
 use Rattle.replay_model.specs.Step.{is_target}
@@ -51,7 +50,7 @@ module _ (d : Design) (h : Habit) (dump : BoundDump) (run : Runs) (tables : Tabl
   abbrev st : Closing
   st = closing_at d dump run tables sets t a
 
-  abbrev facts : Facts d h dump t (settled d r t) (settled d r (suc t))
+  abbrev facts : StepFacts d h dump t (settled d r t) (settled d r (suc t))
   facts = here d h dump run tables points is laws early_law t window sets are a r showing starts
 
   -- whether some process may write the cell

@@ -12,7 +12,7 @@ use Rattle.design_model.specs.Mentions.{blocking_target, body_assigns, body_ment
 use Rattle.design_model.specs.Execution.{execution}
 use Rattle.design_model.specs.Machine.{is_level, machine}
 use Rattle.design_model.specs.Run.{Run, StepOf, settled}
-use Rattle.design_model.specs.Shows.{BoundDump, IsWindow}
+use Rattle.design_model.specs.Shows.{BoundDump, IsShowing, IsWindow}
 use Rattle.design_model.specs.Points.{HitIn, IsBlock}
 use Rattle.design_model.proofs.StepLaws.{StepLaws}
 use Rattle.replay_model.proofs.AskedLaws.{AskedLaws}
@@ -23,16 +23,15 @@ use Rattle.body_replay.specs.Runs.{Runs}
 use Rattle.body_replay.specs.Store.{AllowsState, Kept}
 use Rattle.replay_model.specs.Sets.{AreSets, Sets}
 use Rattle.design_model.specs.BodyLaws.{all_cells}
+use Rattle.design_model.specs.StepLaws.{CleanEvaluation, IsLeft, StepFacts}
 use Rattle.replay_model.specs.Tables.{Tables}
 use Rattle.replay_model.specs.Marks.{IsKeyOf, Told, all_told_by, of_process}
 use Rattle.replay_model.specs.Step.{Closing, Replay, Working, all_run, certainty, clocked_run, entry_kept, has_changed, is_comb, is_touched, opened, plain_store, run_all_clean, run_all_settling, run_settling, settle_start, settled_kept, surely_differ, wake_cells}
-use Rattle.replay_model.specs.Stands.{IsLeft, IsShowing}
 use Rattle.replay_model.specs.Laws.{IsReplayOf, closing_at}
 use Rattle.replay_model.proofs.Allows.{Sound, here, nets_at, settle_starts}
 use Rattle.replay_model.proofs.Bits.{any_in, differ_apart}
 use Rattle.replay_model.proofs.Clocked.{ClockedSound, at_false, at_true, distinct_left}
 use Rattle.replay_model.proofs.Clocked as blocks
-use Rattle.replay_model.proofs.Facts.{Facts, Once}
 use Rattle.replay_model.proofs.Hits.{Way, clean_entry, level_settles, settling_entry, still, sure, told_hit, unsure, visited_hit, way_of}
 use Rattle.replay_model.proofs.Settling.{SettlingSound, in_thing, is_comb-from, level_mentioned, not_assigned-in, run_sound}
 use Rattle.replay_model.proofs.Settling as settling
@@ -43,11 +42,11 @@ module _ (d : Design) (h : Habit) (dump : BoundDump) (run : Runs) (tables : Tabl
   abbrev st : Closing
   st = closing_at d dump run tables sets t a
 
-  abbrev facts : Facts d h dump t (settled d r t) (settled d r (suc t))
+  abbrev facts : StepFacts d h dump t (settled d r t) (settled d r (suc t))
   facts = here d h dump run tables points is laws early_law t window sets are a r showing starts
 
   -- what a clean block reads allows the values on which it is evaluated
-  pub entry_allowed : (p s : ℕ) → sets.trigger p ≡ Some s → (o : Once d h dump t (settled d r t) (settled d r (suc t)) p (cell s 0)) → AllowsState (entry_kept st p s) o.entry
+  pub entry_allowed : (p s : ℕ) → sets.trigger p ≡ Some s → (o : CleanEvaluation d h dump t (settled d r t) (settled d r (suc t)) p (cell s 0)) → AllowsState (entry_kept st p s) o.entry
   entry_allowed p s e o =
       blocks.reads_entry d is.lawful h early_law dump is.fits run is.runs tables t sets are a (settled d r t) (settled d r (suc t)) facts starts (λ q. ⊥) (opened st) (record { mid = settled d r t; allowed = starts; start_or = λ c. inl refl; unqueued = λ c none k. refl; final = λ q x. absurd x }) (λ q x. absurd x) p (λ x. x) s (are.trigger p s e) o
 

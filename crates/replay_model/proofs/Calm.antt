@@ -1,5 +1,5 @@
 -- Without a contradiction what the dump has of what may not move does not change.
-use Rattle.std.proofs.Common.{◌≡◌, ◌≢◌, ◌⊎◌, inl, inr, ⊎_elim, ℕ, suc, ◌-◌, ◌<◌, Bool, true, false, not, ◌&&◌, List, [], ◌∷◌, ◌++◌, refl, sym, ap, subst, ◌∙◌, arith, Some, None, if◌then◌else◌}
+use Rattle.std.proofs.Common.{◌≡◌, ◌≢◌, ◌⊎◌, inl, inr, ⊎_elim, ℕ, suc, ◌-◌, ◌<◌, true, false, not, ◌&&◌, List, ◌++◌, refl, sym, ap, subst, ◌∙◌, arith, Some, None}
 use Rattle.std.proofs.lemmas.Bool.{and_parts, and_from, both_ways, cases_Bool, false_from_ne_true, not_from_false, lt-ltb, ltb-true}
 use Rattle.event_machine.proofs.Least.{early_law}
 use Rattle.event_machine.specs.Cell.{Cell}
@@ -16,19 +16,20 @@ use Rattle.design_model.specs.MayMove.{CanWakeSome}
 use Rattle.design_model.specs.Shows.{BoundDump, IsListed, IsShown, IsWindow}
 use Rattle.design_model.specs.Clear.{clear}
 use Rattle.design_model.proofs.Lawful.{same_bit_is}
+use Rattle.design_model.proofs.Toggles.{window_shown_at}
 use Rattle.replay_model.proofs.AskedLaws.{AskedLaws}
 use Rattle.body_replay.specs.Contract.{sure_in}
 use Rattle.body_replay.specs.Replay.{flush}
 use Rattle.body_replay.specs.Runs.{Runs}
 use Rattle.replay_model.specs.Sets.{AreSets, Sets}
 use Rattle.replay_model.specs.Tables.{Tables}
-use Rattle.replay_model.specs.Step.{Closing, Replay, Working, after_settling, all_run, certainty, clocked_run, contradicts, is_dumped, is_loose, is_touched, plain_store, run_all_settling, run_settling, settle_start, settled_kept, surely_differ}
+use Rattle.replay_model.specs.Step.{Closing, Replay, all_run, clocked_run, contradicts, is_dumped, is_loose, is_touched, run_all_settling, settle_start, surely_differ}
 use Rattle.replay_model.specs.Laws.{IsReplayOf, closing_at}
-use Rattle.replay_model.proofs.Allows.{window_shown_at}
 use Rattle.replay_model.proofs.Bits.{any_in}
 use Rattle.replay_model.proofs.ClockedKept.{away_from, clocked_stays}
 use Rattle.replay_model.proofs.Clocked.{at_false}
 use Rattle.replay_model.proofs.Existing.{signal_has}
+use Rattle.replay_model.proofs.Order.{made_all}
 use Rattle.replay_model.proofs.SettleReasons.{bound_clear, differ_from, sure_at}
 
 module _ (h : Habit) (d : Design) (dump : BoundDump) (run : Runs) (tables : Tables) (points : List Point) (is : IsReplayOf d h dump run tables points) (asked : AskedLaws d) (t : ℕ) (sets : Sets) (a : Replay) (window : IsWindow dump (suc t)) (listed : IsListed dump (suc t)) (are : AreSets d h dump (suc t) sets) (at_start : (x : Thing) (bits : List Bit) → clear d h dump t x bits → sure_in d a.kept x bits) (agreed : (c : Cell) → contradicts (closing_at d dump run tables sets t a) c ≡ false) where
@@ -48,31 +49,20 @@ module _ (h : Habit) (d : Design) (dump : BoundDump) (run : Runs) (tables : Tabl
       (are.moves c.thing).1 (of_target x.0 q c ((are.moves x.0).0 x.2) (inl ((is.tabled.watched q x.0).0 x.1)) target)
   target_moves q c target (inr wakes) = (are.moves c.thing).1 (of_target wakes.0.thing q c wakes.1.1 (inr (wakes.0, refl, wakes.1.0)) target)
 
-  -- what may not move is made as it was
-  module _ (c : Cell) (calm : sets.moves c.thing ≡ false) where
-    untouched : (q : ℕ) → is_touched st q ≡ true → blocking_target d (body_at d q) c ≡ false
-    untouched q touched = false_from_ne_true _ (λ e. both_ways _ calm (target_moves q c (inl e) (inl touched)))
+  -- what no process writes that runs is made as it was
+  pub made_start : (c : Cell) → ((q : ℕ) → IsTarget (machine d) q c → (is_touched st q ≡ true) ⊎ CanWakeSome d dump (suc t) q → ⊥) → (all_run st).made c ≡ a.kept c
+  made_start c never =
+      made_all d h (early_law (machine d)) dump run tables points is t sets are a false tables.last (run_all_settling st true tables.order (settle_start st (clocked_run st))) c (λ q x f. untouched q f)
+      ∙ made_all d h (early_law (machine d)) dump run tables points is t sets are a true tables.order (settle_start st (clocked_run st)) c (λ q x f. untouched q f)
+      ∙ at_false (λ z. z ≡ flush (clocked_run st).kept (clocked_run st).queue c) (is_loose st c) None (flush (clocked_run st).kept (clocked_run st).queue c) firm refl
+      ∙ clocked_stays d h (early_law (machine d)) dump run tables points is t sets are a c (λ q x ran. away_from d h (early_law (machine d)) dump run tables points is t sets are a c q (λ at. never q at (inr (cell ran.0 0, (are.trigger q ran.0 ran.1).can_wake))))
+      (λ q x ran. away_from d h (early_law (machine d)) dump run tables points is t sets are a c q (λ at. never q at (inr (cell ran.1.0 0, are.wakes q ran.1.0 ran.1.1))))
+    where
+      untouched : (q : ℕ) → is_touched st q ≡ true → blocking_target d (body_at d q) c ≡ false
+      untouched q touched = false_from_ne_true _ (λ e. never q (inl e) (inl touched))
 
-    one_made : (ordered : Bool) (p : ℕ) (wk : Working) → (run_settling st ordered p wk).made c ≡ wk.made c
-    one_made ordered p wk = go (is_touched st p) refl
-      where
-        go : (b : Bool) → is_touched st p ≡ b → (if b then after_settling st ordered p (certainty st wk.kept p) (run p (plain_store (settled_kept d p wk.kept)) (certainty st wk.kept p)) wk else wk).made c ≡ wk.made c
-        go true e = at_false (λ z. z ≡ wk.made c) (blocking_target d (body_at d p) c) _ (wk.made c) (untouched p e) refl
-        go false e = refl
-
-    all_made : (ordered : Bool) (ps : List ℕ) (wk : Working) → (run_all_settling st ordered ps wk).made c ≡ wk.made c
-    all_made ordered [] wk = refl
-    all_made ordered (p ∷ ps) wk = all_made ordered ps (run_settling st ordered p wk) ∙ one_made ordered p wk
-
-    pub made_start : (all_run st).made c ≡ a.kept c
-    made_start =
-        all_made false tables.last (run_all_settling st true tables.order (settle_start st (clocked_run st))) ∙ all_made true tables.order (settle_start st (clocked_run st))
-        ∙ at_false (λ z. z ≡ flush (clocked_run st).kept (clocked_run st).queue c) (is_loose st c) None (flush (clocked_run st).kept (clocked_run st).queue c) firm refl
-        ∙ clocked_stays d h (early_law (machine d)) dump run tables points is t sets are a c (λ q x ran. away_from d h (early_law (machine d)) dump run tables points is t sets are a c q (λ at. both_ways _ calm (target_moves q c at (inr (cell ran.0 0, (are.trigger q ran.0 ran.1).can_wake)))))
-        (λ q x ran. away_from d h (early_law (machine d)) dump run tables points is t sets are a c q (λ at. both_ways _ calm (target_moves q c at (inr (cell ran.1.0 0, are.wakes q ran.1.0 ran.1.1)))))
-      where
-        firm : is_loose st c ≡ false
-        firm = false_from_ne_true _ (λ m. let q = any_in (λ q. is_touched st q && blocking_target d (body_at d q) c) (tables.order ++ tables.last) m in let b = and_parts (is_touched st q.0) _ q.2 in both_ways _ (untouched q.0 b.0) b.1)
+      firm : is_loose st c ≡ false
+      firm = false_from_ne_true _ (λ m. let q = any_in (λ q. is_touched st q && blocking_target d (body_at d q) c) (tables.order ++ tables.last) m in let b = and_parts (is_touched st q.0) _ q.2 in both_ways _ (untouched q.0 b.0) b.1)
 
   -- so what the dump has of it does not change
   pub calm_dumped : (c : Cell) → is_dumped d dump.bound c ≡ true → sets.moves c.thing ≡ false → dump.values t c ≡ dump.values (suc t) c
@@ -96,4 +86,4 @@ module _ (h : Habit) (d : Design) (dump : BoundDump) (run : Runs) (tables : Tabl
 
       of_other : same_bit (dump.values t c) (dump.values (suc t) c) ≡ false → (signal_at d c.thing).input ≡ false → ⊥
       of_other e no_input =
-          both_ways _ (agreed c) (and_from (is_dumped d dump.bound c) _ has (and_from (not (signal_at d c.thing).input) _ (not_from_false _ no_input) (ap (λ z. surely_differ z (Some (dump.values (suc t) c))) (made_start c calm ∙ before) ∙ differ_from (dump.values t c) (dump.values (suc t) c) (differ e))))
+          both_ways _ (agreed c) (and_from (is_dumped d dump.bound c) _ has (and_from (not (signal_at d c.thing).input) _ (not_from_false _ no_input) (ap (λ z. surely_differ z (Some (dump.values (suc t) c))) (made_start c (λ q at woken. both_ways _ calm (target_moves q c at woken)) ∙ before) ∙ differ_from (dump.values t c) (dump.values (suc t) c) (differ e))))

@@ -29,7 +29,7 @@ use Rattle.replay_model.specs.Step.{Closing, Replay, all_run, clocked_run, entry
 use Rattle.replay_model.specs.Laws.{IsReplayOf, closing_at}
 use Rattle.replay_model.proofs.Allows.{past}
 use Rattle.replay_model.proofs.Bits.{all_in}
-use Rattle.replay_model.proofs.ClockedKept.{OwnRun, away_from, clocked_final, clocked_stays, own_left}
+use Rattle.replay_model.proofs.ClockedKept.{OwnRun, away_from, clocked_final, clocked_made, clocked_stays, own_left}
 use Rattle.replay_model.proofs.Grows.{Within, sample, sample_agrees, within_agrees, within_told}
 use Rattle.replay_model.proofs.Reasons.{entry_within, in_owner, map_same, map_sure}
 use Rattle.replay_model.proofs.SettleReasons.{sure_at}
@@ -65,13 +65,13 @@ module _ (d : Design) (h : Habit) (early_law : EarlyLaw (machine d)) (dump : Bou
           is_p : (q : ℕ) → Rattle.event_machine.specs.Machine.IsTarget (machine d) q c → q ≡ p
           is_p q at = one_assigner d is.lawful p q c.thing target.is_clocked (subst (λ z. body_assigns z (body_at d p) ≡ true) (sym (in_owner d x c inside)) target.target) (target_assigns d is.lawful q c at)
 
-  -- what a clean block so writes is sure
-  pub written_sure : (p : ℕ) (c0 : Cell) (x : Thing) (bits : List Bit) → IsUnbound dump x → IsWrittenValue d h dump (suc t) (clear d h dump t) p c0 x bits → sure_in d (all_run st).kept x bits
-  written_sure p c0 x bits free value = go (sets.trigger p) refl
+  -- what a clean block so writes the Clocked leave sure
+  written_left : (p : ℕ) (c0 : Cell) (x : Thing) (bits : List Bit) → IsWrittenValue d h dump (suc t) (clear d h dump t) p c0 x bits → sure_in d (flush (clocked_run st).kept (clocked_run st).queue) x bits
+  written_left p c0 x bits value = go (sets.trigger p) refl
     where
-      go : (o : Option ℕ) → sets.trigger p ≡ o → sure_in d (all_run st).kept x bits
+      go : (o : Option ℕ) → sets.trigger p ≡ o → sure_in d (flush (clocked_run st).kept (clocked_run st).queue) x bits
       go None e = absurd (are.no_trigger p e c0 value.is_clean)
-      go (Some s) e = map_sure (all_run st).kept (put_all (sample a.kept) (all_written d (body_at d p) v0)) (cells d x) each ∙ ap (map Some) whole
+      go (Some s) e = map_sure (flush (clocked_run st).kept (clocked_run st).queue) (put_all (sample a.kept) (all_written d (body_at d p) v0)) (cells d x) each ∙ ap (map Some) whole
         where
           v0 : Values Bit
           v0 = sample (entry_kept st p s)
@@ -119,9 +119,9 @@ module _ (d : Design) (h : Habit) (early_law : EarlyLaw (machine d)) (dump : Bou
           start_bit : HasValue (clear d h dump t) x → (c : Cell) → In c (cells d x) → a.kept c ≡ Some (sample a.kept c)
           start_bit v c inside = sure_at a.kept (sample a.kept) (cells d x) (at_start x v.0 v.1 ∙ ap (map Some) (sym (sample_agrees d a.kept x v.0 (at_start x v.0 v.1)))) c inside
 
-          each : (c : Cell) → In c (cells d x) → (all_run st).kept c ≡ Some (put_all (sample a.kept) (all_written d (body_at d p) (sample (entry_kept st p s))) c)
+          each : (c : Cell) → In c (cells d x) → flush (clocked_run st).kept (clocked_run st).queue c ≡ Some (put_all (sample a.kept) (all_written d (body_at d p) (sample (entry_kept st p s))) c)
           each c inside =
-              clocked_final d h early_law dump run tables points is t sets are a p value.writer.is_clocked c (owns c inside) (undumped x value.writer.is_thing free c inside) ∙ (left c inside).1
+              (left c inside).1
               ∙ ⊎_elim written unwritten (cases_Bool (has_cell (all_written d (body_at d p) (sample (entry_kept st p s))) c))
             where
               written : has_cell (all_written d (body_at d p) (sample (entry_kept st p s))) c ≡ true → flushed (run p (left c inside).0.store (clean (suc t))) c ≡ Some (put_all (sample a.kept) (all_written d (body_at d p) (sample (entry_kept st p s))) c)
@@ -134,3 +134,16 @@ module _ (d : Design) (h : Habit) (early_law : EarlyLaw (machine d)) (dump : Bou
                   is.runs.sure_kept p (left c inside).0.store (clean (suc t)) tt (sample (entry_kept st p s)) (agrees c inside) (told c inside) c (hidden c inside) f ∙ (left c inside).0.kept
                   ∙ ⊎_elim (λ all. absurd (both_ways _ f (all_in (λ c. list_any (λ w. same_cell w.cell c) (all_written d (body_at d p) (sample (entry_kept st p s)))) (cells d x) all c inside))) (λ v. start_bit v c inside) gives.decided
                   ∙ ap Some (sym (put_other (sample a.kept) (all_written d (body_at d p) (sample (entry_kept st p s))) c (λ w. both_ways _ f (has_cell-from (all_written d (body_at d p) (sample (entry_kept st p s))) c w))))
+
+  -- it is so made
+  pub written_made : (p : ℕ) (c0 : Cell) (x : Thing) (bits : List Bit) → IsWrittenValue d h dump (suc t) (clear d h dump t) p c0 x bits → sure_in d (all_run st).made x bits
+  written_made p c0 x bits value =
+      map_same (all_run st).made (flush (clocked_run st).kept (clocked_run st).queue) (cells d x) (λ c inside. clocked_made d h early_law dump run tables points is t sets are a p value.writer.is_clocked c (subst (λ z. body_assigns z (body_at d p) ≡ true) (sym (in_owner d x c inside)) value.writer.target))
+      ∙ written_left p c0 x bits value
+
+  -- and, unbound, sure at the end
+  pub written_sure : (p : ℕ) (c0 : Cell) (x : Thing) (bits : List Bit) → IsUnbound dump x → IsWrittenValue d h dump (suc t) (clear d h dump t) p c0 x bits → sure_in d (all_run st).kept x bits
+  written_sure p c0 x bits free value =
+      map_same (all_run st).kept (flush (clocked_run st).kept (clocked_run st).queue) (cells d x)
+      (λ c inside. clocked_final d h early_law dump run tables points is t sets are a p value.writer.is_clocked c (subst (λ z. body_assigns z (body_at d p) ≡ true) (sym (in_owner d x c inside)) value.writer.target) (undumped x value.writer.is_thing free c inside))
+      ∙ written_left p c0 x bits value

@@ -10,14 +10,14 @@ use Rattle.four_state.specs.declared.bit.Bit.{Bit}
 use Rattle.four_state.specs.declared.bit.Bit.TheVariants.{X}
 use Rattle.design_model.specs.declared.point.Point.{Point}
 use Rattle.design_model.specs.Tree.{Process, assign, clocked, comb}
-use Rattle.design_model.specs.Design.{Design, In, IsAssign, IsClocked, IsComb, Thing, a_signal, a_word, body, body_at, cell, cells, is_assign, no_process, owner, process_at, signal_at, signal_cells}
+use Rattle.design_model.specs.Design.{Design, In, IsAssign, IsClocked, IsComb, Thing, a_signal, a_word, body, body_at, cell, cells, is_assign, no_process, owner, process_at, signal_at, signal_bits, signal_cells}
 use Rattle.design_model.specs.Mentions.{any_set, blocking_target, body_assigns, body_mentions, has_cell, may_write, target_names}
 use Rattle.design_model.specs.Execution.{Visit, at_line, at_node, execution, execution_start, reads, writes_word}
 use Rattle.design_model.specs.Machine.{is_level, machine}
 use Rattle.design_model.specs.Shows.{BoundDump, IsWindow}
 use Rattle.design_model.specs.Reads.{Agrees, AllInside, HasValue, IsTold, Known}
 use Rattle.design_model.specs.MayMove.{CanWakeSome}
-use Rattle.design_model.specs.Clear.{HasChanged, IsClockedTarget, IsUnbound, IsWrittenValue, IsClearBy, IsCombValue, IsNetValue, clear_in, driven_writes, drives, is_driven, of_assigns, of_clean, of_comb, of_dump, of_unwoken}
+use Rattle.design_model.specs.Clear.{HasChanged, IsClockedTarget, IsUnbound, IsWrittenValue, IsClearBy, IsCombValue, IsNetValue, clear_from, clear_in, driven_writes, drives, is_driven, of_assigns, of_clean, of_comb, of_dump, of_unwoken}
 use Rattle.design_model.specs.Lawful.{IsLawfulDesign}
 use Rattle.design_model.proofs.Assigns.{machine_lawful}
 use Rattle.design_model.proofs.Bound.{clear_in-thing}
@@ -105,6 +105,19 @@ some_of : Bit → Option Bit → Bit
 some_of b None = b
 some_of b (Some x) = x
 
+-- the bits of a bound signal are those that the dump has
+pub signal_dumped : (d : Design) (bound : ℕ → Bool) (s : ℕ) (c : Cell) → bound s ≡ true → In c (signal_cells d s) → is_dumped d bound c ≡ true
+signal_dumped d bound s c is_bound inside =
+    and_from (bound c.thing) _ (subst (λ z. bound z ≡ true) (sym (in_signal d s c inside).0) is_bound) (lt-ltb _ _ (subst (λ z. c.place < (signal_at d z).width) (sym (in_signal d s c inside).0) (in_signal d s c inside).1))
+
+-- a bound signal that is sure has the dump's value, where what the dump has is known so
+pub bound_sure : (d : Design) (bound : ℕ → Bool) (new : Values Bit) (k : Kept) → ((c : Cell) → is_dumped d bound c ≡ true → k c ≡ Some (new c)) → (s : ℕ) (bits : List Bit) → bound s ≡ true → sure_in d k (a_signal s) bits → signal_bits d new s ≡ bits
+bound_sure d bound new k dumped s bits is_bound e = map_same new (sample k) (signal_cells d s) (λ c inside. value (k c) (new c) (dumped c (signal_dumped d bound s c is_bound inside))) ∙ sample_agrees d k (a_signal s) bits e
+  where
+    value : (o : Option Bit) (z : Bit) → o ≡ Some z → z ≡ elim o as (λ o. Bit) [ None ↦ X | Some b ↦ b ]
+    value None z e = absurd (cc)
+    value (Some b) z e = cc
+
 module _ (d : Design) (h : Habit) (dump : BoundDump) (run : Runs) (tables : Tables) (points : List Point) (is : IsReplayOf d h dump run tables points) (asked : AskedLaws d) (now : ℕ) (start : Known) (final : Kept) (acted : ℕ → Bool) (dumped : (c : Cell) → is_dumped d dump.bound c ≡ true → final c ≡ Some (dump.values now c)) (made : (p : ℕ) → In p tables.order → (IsComb (process_at d p) → acted p ≡ true) → IsMade d dump.bound p final) (has_acted : (p : ℕ) → IsComb (process_at d p) → HasChanged dump d (body_at d p) now → acted p ≡ true) (own_unclear : (p y : ℕ) → is_assign (process_at d p) ≡ true → body_mentions y (body_at d p) ≡ true → body_assigns y (body_at d p) ≡ true → dump.bound y ≡ false → (n : ℕ) → HasValue (clear_in d h dump now start n) (a_signal y) → ⊥) (unwoken : (p : ℕ) (x : Thing) (bits : List Bit) → IsWindow dump now → IsUnbound dump x → IsClockedTarget d p x → (CanWakeSome d dump now p → ⊥) → start x bits → sure_in d final x bits) (written : (p : ℕ) (c : Cell) (x : Thing) (bits : List Bit) → IsWindow dump now → IsUnbound dump x → IsWrittenValue d h dump now start p c x bits → sure_in d final x bits) where
   abbrev v0 : Values Bit
   v0 = sample final
@@ -138,46 +151,49 @@ module _ (d : Design) (h : Habit) (dump : BoundDump) (run : Runs) (tables : Tabl
       let j = driver s driven (cell s 0) (signal_has d (cell s 0) (wide s below)) in
       is_assign-of (process_at d q) (is.lawful.apart j.0 q s (is_assign-from (process_at d j.0) j.1) (any_assigns (cell s 0) j.0 j.2) theirs)
 
-  -- what is clear in a round is sure at the end
-  abbrev Sure : ℕ → Type 0
-  Sure n = Within (In_round n) (sure_in d final)
-
-  -- an unbound signal that is clear in a round is driven by processes of the order
-  abbrev Placed : ℕ → Type 0
-  Placed n = (s : ℕ) (bits : List Bit) → In_round n (a_signal s) bits → dump.bound s ≡ false → (q : ℕ) → Drives d q s → In q tables.order
+  -- what a map has is sure at the end, and what drives an unbound signal of it is in the order
+  record IsPlaced (K : Known) : Type 0 where
+    pub sure : Within K (sure_in d final)
+    pub order : (s : ℕ) (bits : List Bit) → K (a_signal s) bits → dump.bound s ≡ false → (q : ℕ) → Drives d q s → In q tables.order
+    pub words : (m i : ℕ) (bits : List Bit) → K (a_word m i) bits → length d.signals ≤ m
+    pub unclear : (p y : ℕ) → is_assign (process_at d p) ≡ true → body_mentions y (body_at d p) ≡ true → body_assigns y (body_at d p) ≡ true → dump.bound y ≡ false → HasValue K (a_signal y) → ⊥
 
   in_order : (q : ℕ) → (q < length d.processes) × (IsClocked (process_at d q) → ⊥) → (In q tables.last → ⊥) → In q tables.order
   in_order q known never = ⊎_elim (λ x. x) (λ x. absurd (never x)) ((is.tabled.others q).1 known)
 
-  agrees : (n : ℕ) → Sure n → Agrees d (In_round n) v0
-  agrees n w = within_agrees d (In_round n) (sure_in d final) w v0 (sample_agrees d final)
+  agrees : (K : Known) → IsPlaced K → Agrees d K v0
+  agrees K k = within_agrees d K (sure_in d final) k.sure v0 (sample_agrees d final)
 
-  not_last : (n : ℕ) → Sure n → Placed n → (q s : ℕ) → is_assign (process_at d q) ≡ true → IsTold d (In_round n) (body_at d q) → In q tables.last → ⊥
-  not_last n w placed q s is_a told x =
+  not_last : (K : Known) → IsPlaced K → (q : ℕ) → is_assign (process_at d q) ≡ true → IsTold d K (body_at d q) → In q tables.last → ⊥
+  not_last K k q is_a told x =
       let b = is.tabled.behind q x in
       let below = asked.settled_signals b.1 b.0 b.6.settles b.6.drives in
-      let known = inside_read (In_round n) (a_signal b.0) (execution d (body_at d q) v0).visits (told v0 (agrees n w)) (asked.mention_read q b.0 is_a (assign_level (process_at d q) b.0 is_a b.2) below v0) in
-      distinct_apart tables.order tables.last (distinct_right tables.clocked (tables.order ++ tables.last) is.tabled.once) b.1 (placed b.0 known.0 known.1 b.3 b.1 b.6) b.4
+      let known = inside_read K (a_signal b.0) (execution d (body_at d q) v0).visits (told v0 (agrees K k)) (asked.mention_read q b.0 is_a (assign_level (process_at d q) b.0 is_a b.2) below v0) in
+      distinct_apart tables.order tables.last (distinct_right tables.clocked (tables.order ++ tables.last) is.tabled.once) b.1 (k.order b.0 known.0 known.1 b.3 b.1 b.6) b.4
 
-  comb_not_last : (n : ℕ) → Placed n → (p s : ℕ) (bits : List Bit) → IsCombValue d dump now (In_round n) p s bits → In p tables.last → ⊥
-  comb_not_last n placed p s bits value x =
+  comb_not_last : (K : Known) → IsPlaced K → (p s : ℕ) (bits : List Bit) → IsCombValue d dump now K p s bits → In p tables.last → ⊥
+  comb_not_last K k p s bits value x =
       let b = is.tabled.behind p x in
       let below = asked.settled_signals b.1 b.0 b.6.settles b.6.drives in
       let foreign : body_assigns b.0 (body_at d p) ≡ false = false_from_ne_true _ (λ mine. b.5 (comb_one p b.1 b.0 value.is_comb mine b.6.drives)) in
       let known = value.all_clear b.0 b.2 foreign below in
-      distinct_apart tables.order tables.last (distinct_right tables.clocked (tables.order ++ tables.last) is.tabled.once) b.1 (placed b.0 known.0 known.1 b.3 b.1 b.6) b.4
+      distinct_apart tables.order tables.last (distinct_right tables.clocked (tables.order ++ tables.last) is.tabled.once) b.1 (k.order b.0 known.0 known.1 b.3 b.1 b.6) b.4
 
-  placed_next : (n : ℕ) → Sure n → Placed n → (s : ℕ) (bits : List Bit) → IsClearBy d h dump now start (In_round n) (a_signal s) bits → dump.bound s ≡ false → (q : ℕ) → Drives d q s → In q tables.order
-  placed_next n w placed s bits (of_dump z bits' shown bound below e) free q drives = absurd (both_ways _ free bound)
-  placed_next n w placed s bits (of_assigns z bits' unbound net) free q drives' =
+  -- the Assigns of a net whose value is known are in the order
+  net_order : (K : Known) → IsPlaced K → (s : ℕ) (bits : List Bit) → IsNetValue d K s bits → (q : ℕ) → Drives d q s → In q tables.order
+  net_order K k s bits net q drives' =
       let is_a = net_driver s net.is_signal net.driven q drives'.drives in
-      in_order q (drives'.is_process, drives'.settles) (not_last n w placed q s is_a (net.told q (and_from (is_assign (process_at d q)) _ is_a drives'.drives)))
-  placed_next n w placed s bits (of_comb p z bits' unbound value) free q drives' =
+      in_order q (drives'.is_process, drives'.settles) (not_last K k q is_a (net.told q (and_from (is_assign (process_at d q)) _ is_a drives'.drives)))
+
+  placed_next : (K : Known) → IsPlaced K → (s : ℕ) (bits : List Bit) → IsClearBy d h dump now start K (a_signal s) bits → dump.bound s ≡ false → (q : ℕ) → Drives d q s → In q tables.order
+  placed_next K k s bits (of_dump z bits' shown bound below e) free q drives = absurd (both_ways _ free bound)
+  placed_next K k s bits (of_assigns z bits' unbound net) free q drives' = net_order K k s bits net q drives'
+  placed_next K k s bits (of_comb p z bits' unbound value) free q drives' =
       let same = comb_one p q s value.is_comb value.target drives'.drives in
-      in_order q (drives'.is_process, drives'.settles) (λ x. comb_not_last n placed p s bits value (subst (λ y. In y tables.last) same x))
-  placed_next n w placed s bits (of_unwoken p z bits' window' unbound target never known) free q drives' =
+      in_order q (drives'.is_process, drives'.settles) (λ x. comb_not_last K k p s bits value (subst (λ y. In y tables.last) same x))
+  placed_next K k s bits (of_unwoken p z bits' window' unbound target never known) free q drives' =
       absurd (drives'.settles (subst (λ y. IsClocked (process_at d y)) (sym (one_assigner d is.lawful p q s target.is_clocked target.target drives'.drives)) target.is_clocked))
-  placed_next n w placed s bits (of_clean p c z bits' window' unbound value) free q drives' =
+  placed_next K k s bits (of_clean p c z bits' window' unbound value) free q drives' =
       absurd (drives'.settles (subst (λ y. IsClocked (process_at d y)) (sym (one_assigner d is.lawful p q s value.writer.is_clocked value.writer.target drives'.drives)) value.writer.is_clocked))
 
   -- what an Assign or Comb writes it writes by blocking assignments
@@ -209,14 +225,14 @@ module _ (d : Design) (h : Habit) (dump : BoundDump) (run : Runs) (tables : Tabl
   mentions_all p = execute_reads (λ q. body_mentions q (body_at d p) ≡ true) d (body_at d p) (λ q f. f) (execution_start v0) tt
 
   -- a net
-  module _ (n : ℕ) (w : Sure n) (placed : Placed n) where
-    assign_told : (p : ℕ) → is_assign (process_at d p) ≡ true → IsTold d (In_round n) (body_at d p) → IsTold d (sure_in d (made_kept d dump.bound p final)) (body_at d p)
+  module _ (K : Known) (k : IsPlaced K) where
+    assign_told : (p : ℕ) → is_assign (process_at d p) ≡ true → IsTold d K (body_at d p) → IsTold d (sure_in d (made_kept d dump.bound p final)) (body_at d p)
     assign_told p is_a told =
-        told_by d (sure_in d (made_kept d dump.bound p final)) (body_at d p) v0 (made_agrees p) (inside_as (In_round n) (sure_in d (made_kept d dump.bound p final)) (execution d (body_at d p) v0).visits has (told v0 (agrees n w)))
+        told_by d (sure_in d (made_kept d dump.bound p final)) (body_at d p) v0 (made_agrees p) (inside_as K (sure_in d (made_kept d dump.bound p final)) (execution d (body_at d p) v0).visits has (told v0 (agrees K k)))
       where
-        own : (x : Thing) (bits : List Bit) → In (reads x false) (execution d (body_at d p) v0).visits → In_round n x bits → (body_assigns (owner x) (body_at d p) && (is_comb (process_at d p) || not (dump.bound (owner x)))) ≡ false
+        own : (x : Thing) (bits : List Bit) → In (reads x false) (execution d (body_at d p) v0).visits → K x bits → (body_assigns (owner x) (body_at d p) && (is_comb (process_at d p) || not (dump.bound (owner x)))) ≡ false
         own (a_signal s) bits read known =
-            ⊎_elim (λ mine. ⊎_elim (λ bound. and_right _ _ (or_from _ _ (not_comb (process_at d p) is_a) (not_from_true _ bound))) (λ free. absurd (own_unclear p s is_a (read_in (λ q. body_mentions q (body_at d p) ≡ true) _ (a_signal s) (mentions_all p) read) mine free n (bits, known))) (cases_Bool (dump.bound s)))
+            ⊎_elim (λ mine. ⊎_elim (λ bound. and_right _ _ (or_from _ _ (not_comb (process_at d p) is_a) (not_from_true _ bound))) (λ free. absurd (k.unclear p s is_a (read_in (λ q. body_mentions q (body_at d p) ≡ true) _ (a_signal s) (mentions_all p) read) mine free (bits, known))) (cases_Bool (dump.bound s)))
             (λ other. and_left _ _ other) (cases_Bool (body_assigns s (body_at d p)))
           where
             not_comb : (x : Process) → is_assign x ≡ true → is_comb x ≡ false
@@ -225,16 +241,16 @@ module _ (d : Design) (h : Habit) (dump : BoundDump) (run : Runs) (tables : Tabl
             not_comb (clocked i events s) e = refl
         own (a_word m i) bits read known =
             and_left _ _
-            (false_from_ne_true _ (λ mine. omega (arith, asked.settled_signals p m (assign_settles (process_at d p) is_a) mine, leb-true (length d.signals) m (and_parts (nat_le (length d.signals) m) _ (clear_in-thing d h dump now start n (a_word m i) bits known).0).0)))
+            (false_from_ne_true _ (λ mine. omega (arith, asked.settled_signals p m (assign_settles (process_at d p) is_a) mine, k.words m i bits known)))
 
-        has : (x : Thing) → In (reads x false) (execution d (body_at d p) v0).visits → HasValue (In_round n) x → HasValue (sure_in d (made_kept d dump.bound p final)) x
-        has x read v = (v.0, made_same p x v.0 (own x v.0 read v.1) (w x v.0 v.1))
+        has : (x : Thing) → In (reads x false) (execution d (body_at d p) v0).visits → HasValue K x → HasValue (sure_in d (made_kept d dump.bound p final)) x
+        has x read v = (v.0, made_same p x v.0 (own x v.0 read v.1) (k.sure x v.0 v.1))
 
-    net_sure : (s : ℕ) (bits : List Bit) → dump.bound s ≡ false → IsNetValue d (In_round n) s bits → ((q : ℕ) → Drives d q s → In q tables.order) → sure_in d final (a_signal s) bits
-    net_sure s bits free net order = map_sure final v0 (signal_cells d s) each ∙ ap (map Some) whole
+    net_sure : (s : ℕ) (bits : List Bit) → IsNetValue d K s bits → sure_in d final (a_signal s) bits
+    net_sure s bits net = map_sure final v0 (signal_cells d s) each ∙ ap (map Some) whole
       where
         known : (j : ℕ) → is_assign (process_at d j) ≡ true → body_assigns s (body_at d j) ≡ true → In j tables.order
-        known j is_a mine = order j (record { is_process = below (cases_lt j (length d.processes)); settles = assign_settles (process_at d j) is_a; drives = mine })
+        known j is_a mine = net_order K k s bits net j (record { is_process = below (cases_lt j (length d.processes)); settles = assign_settles (process_at d j) is_a; drives = mine })
           where
             below : (j < length d.processes) ⊎ (length d.processes ≤ j) → j < length d.processes
             below (inl lt) = lt
@@ -243,15 +259,15 @@ module _ (d : Design) (h : Habit) (dump : BoundDump) (run : Runs) (tables : Tabl
         -- a bit that an Assign of s writes is made
         makes_it : (j : ℕ) → is_assign (process_at d j) ≡ true → body_assigns s (body_at d j) ≡ true → (c : Cell) → c.thing ≡ s → has_cell (execution d (body_at d j) v0).blocking c ≡ true → final c ≡ Some (put_all v0 (execution d (body_at d j) v0).blocking c)
         makes_it j is_a mine c on has =
-            made j (known j is_a mine) (λ k. absurd (comb_not_assign (process_at d j) k (is_assign-from (process_at d j) is_a))) v0 (made_agrees j) (assign_told j is_a (net.told j (and_from (is_assign (process_at d j)) _ is_a mine))) c (subst (λ z. dump.bound z ≡ false) (sym on) free) (has_blocking j v0 c has)
+            made j (known j is_a mine) (λ y. absurd (comb_not_assign (process_at d j) y (is_assign-from (process_at d j) is_a))) v0 (made_agrees j) (assign_told j is_a (net.told j (and_from (is_assign (process_at d j)) _ is_a mine))) c (has_blocking j v0 c has)
             ∙ ap Some (settled_writes j (assign_settles (process_at d j) is_a) v0 v0 c)
 
         each : (c : Cell) → In c (signal_cells d s) → final c ≡ Some (v0 c)
         each c inside =
             let j = driver s net.driven c inside in
             let mine = subst (λ z. body_assigns z (body_at d j.0) ≡ true) (in_signal d s c inside).0 (any_assigns c j.0 j.2) in
-            let k : IsCombinational (machine d) j.0 c = (machine_lawful d is.lawful).assigns_combinational j.0 c j.1 (blocks (process_at d j.0) j.1 j.2) in
-            is_some (final c) (put_all v0 (execution d (body_at d j.0) v0).blocking c) (makes_it j.0 j.1 mine c (in_signal d s c inside).0 (has_cell-from (execution d (body_at d j.0) v0).blocking c (k.writes v0)))
+            let combinational : IsCombinational (machine d) j.0 c = (machine_lawful d is.lawful).assigns_combinational j.0 c j.1 (blocks (process_at d j.0) j.1 j.2) in
+            is_some (final c) (put_all v0 (execution d (body_at d j.0) v0).blocking c) (makes_it j.0 j.1 mine c (in_signal d s c inside).0 (has_cell-from (execution d (body_at d j.0) v0).blocking c (combinational.writes v0)))
           where
             is_some : (o : Option Bit) (z : Bit) → o ≡ Some z → o ≡ Some (elim o as (λ o. Bit) [ None ↦ X | Some b ↦ b ])
             is_some None z e = absurd (cc)
@@ -282,53 +298,76 @@ module _ (d : Design) (h : Habit) (dump : BoundDump) (run : Runs) (tables : Tabl
             one true e f = f e c on
 
         whole : map v0 (signal_cells d s) ≡ bits
-        whole = map_same v0 (put_all v0 (driven_writes d v0 s d.processes)) (signal_cells d s) (λ c inside. sym (all_hold d.processes holds c (in_signal d s c inside).0)) ∙ net.gives v0 (agrees n w)
+        whole = map_same v0 (put_all v0 (driven_writes d v0 s d.processes)) (signal_cells d s) (λ c inside. sym (all_hold d.processes holds c (in_signal d s c inside).0)) ∙ net.gives v0 (agrees K k)
 
     -- a target of a Comb
-    comb_sure : (p s : ℕ) (bits : List Bit) → dump.bound s ≡ false → IsCombValue d dump now (In_round n) p s bits → In p tables.order → sure_in d final (a_signal s) bits
-    comb_sure p s bits free value order = map_sure final (put_all v0 (execution d (body_at d p) v0).blocking) (signal_cells d s) each ∙ ap (map Some) (value.gives v0 (agrees n w))
+    comb_sure : (p s : ℕ) (bits : List Bit) → IsCombValue d dump now K p s bits → sure_in d final (a_signal s) bits
+    comb_sure p s bits value = map_sure final (put_all v0 (execution d (body_at d p) v0).blocking) (signal_cells d s) each ∙ ap (map Some) (value.gives v0 (agrees K k))
       where
         settles : IsClocked (process_at d p) → ⊥
         settles = comb_not_clocked (process_at d p) value.is_comb
 
-        own : (x : Thing) (bits : List Bit) → In (reads x false) (execution d (body_at d p) v0).visits → In_round n x bits → body_assigns (owner x) (body_at d p) ≡ false
+        below : (p < length d.processes) ⊎ (length d.processes ≤ p) → p < length d.processes
+        below (inl lt) = lt
+        below (inr le) = absurd (both_ways false refl (subst (λ z. body_assigns s (body z) ≡ true) (Rattle.replay_model.proofs.Allows.past d.processes p le) value.target))
+
+        order : In p tables.order
+        order = in_order p (below (cases_lt p (length d.processes)), settles) (comb_not_last K k p s bits value)
+
+        own : (x : Thing) (bits : List Bit) → In (reads x false) (execution d (body_at d p) v0).visits → K x bits → body_assigns (owner x) (body_at d p) ≡ false
         own (a_signal q) bits' read known =
             false_from_ne_true _ (λ mine. inner_in q (execution d (body_at d p) v0).visits (body_inner d (body_at d p) q v0 (comb_blocks d (process_at d p) value.is_comb (is.lawful.targets p)) (value.writes_first q mine)) read)
         own (a_word m i) bits' read known =
-            false_from_ne_true _ (λ mine. omega (arith, asked.settled_signals p m (comb_not_clocked (process_at d p) value.is_comb) mine, leb-true (length d.signals) m (and_parts (nat_le (length d.signals) m) _ (clear_in-thing d h dump now start n (a_word m i) bits' known).0).0))
+            false_from_ne_true _ (λ mine. omega (arith, asked.settled_signals p m (comb_not_clocked (process_at d p) value.is_comb) mine, k.words m i bits' known))
 
         told : IsTold d (sure_in d (made_kept d dump.bound p final)) (body_at d p)
         told =
             told_by d (sure_in d (made_kept d dump.bound p final)) (body_at d p) v0 (made_agrees p)
-            (inside_as (In_round n) (sure_in d (made_kept d dump.bound p final)) (execution d (body_at d p) v0).visits (λ x read v. (v.0, made_same p x v.0 (and_left _ _ (own x v.0 read v.1)) (w x v.0 v.1))) (value.told v0 (agrees n w)))
+            (inside_as K (sure_in d (made_kept d dump.bound p final)) (execution d (body_at d p) v0).visits (λ x read v. (v.0, made_same p x v.0 (and_left _ _ (own x v.0 read v.1)) (k.sure x v.0 v.1))) (value.told v0 (agrees K k)))
 
         each : (c : Cell) → In c (signal_cells d s) → final c ≡ Some (put_all v0 (execution d (body_at d p) v0).blocking c)
         each c inside =
-            made p order (λ k. has_acted p value.is_comb value.has_changed) v0 (made_agrees p) told c (subst (λ z. dump.bound z ≡ false) (sym (in_signal d s c inside).0) free)
+            made p order (λ y. has_acted p value.is_comb value.has_changed) v0 (made_agrees p) told c
             (has_blocking p v0 c (all_in (λ c. list_any (λ w. same_cell w.cell c) (execution d (body_at d p) v0).blocking) (signal_cells d s) (body_writes d (body_at d p) s v0 (comb_blocks d (process_at d p) value.is_comb (is.lawful.targets p)) value.written_whole) c inside))
             ∙ ap Some (settled_writes p (comb_not_clocked (process_at d p) value.is_comb) v0 v0 c)
 
-    sure_next : (x : Thing) (bits : List Bit) → IsClearBy d h dump now start (In_round n) x bits → sure_in d final x bits
+    sure_next : (x : Thing) (bits : List Bit) → IsClearBy d h dump now start K x bits → sure_in d final x bits
     sure_next x bits (of_dump s bits' shown bound below e) =
-        map_sure final (dump.values now) (signal_cells d s) (λ c inside. dumped c (and_from (dump.bound c.thing) _ (subst (λ z. dump.bound z ≡ true) (sym (in_signal d s c inside).0) bound) (lt-ltb _ _ (subst (λ z. c.place < (signal_at d z).width) (sym (in_signal d s c inside).0) (in_signal d s c inside).1)))) ∙ ap (map Some) (sym e)
-    sure_next x bits (of_assigns s bits' unbound net) = net_sure s bits' unbound net (placed_next n w placed s bits' (of_assigns s bits' unbound net) unbound)
-    sure_next x bits (of_comb p s bits' unbound value) =
-        comb_sure p s bits' unbound value (in_order p (below (cases_lt p (length d.processes)), comb_not_clocked (process_at d p) value.is_comb) (comb_not_last n placed p s bits' value))
-      where
-        below : (p < length d.processes) ⊎ (length d.processes ≤ p) → p < length d.processes
-        below (inl lt) = lt
-        below (inr le) = absurd (both_ways false refl (subst (λ z. body_assigns s (body z) ≡ true) (Rattle.replay_model.proofs.Allows.past d.processes p le) value.target))
+        map_sure final (dump.values now) (signal_cells d s) (λ c inside. dumped c (signal_dumped d dump.bound s c bound inside)) ∙ ap (map Some) (sym e)
+    sure_next x bits (of_assigns s bits' unbound net) = net_sure s bits' net
+    sure_next x bits (of_comb p s bits' unbound value) = comb_sure p s bits' value
     sure_next x bits (of_unwoken p z bits' window' unbound target never known) = unwoken p z bits' window' unbound target never known
     sure_next x bits (of_clean p c z bits' window' unbound value) = written p c z bits' window' unbound value
 
-  rounds : (n : ℕ) → Sure n × Placed n
-  rounds zero = (λ x bits e. absurd e, λ s bits e. absurd e)
-  rounds (suc n) = let r = rounds n in (sure_next n r.0 r.1, placed_next n r.0 r.1)
+  rounds : (n : ℕ) → IsPlaced (In_round n)
+  rounds zero = record { sure = λ x bits e. absurd e; order = λ s bits e. absurd e; words = λ m i bits e. absurd e; unclear = λ p y is_a m mine free v. absurd v.1 }
+  rounds (suc n) =
+      let r = rounds n in
+      record {
+        sure = sure_next (In_round n) r;
+        order = placed_next (In_round n) r;
+        words = λ m i bits e. leb-true (length d.signals) m (and_parts (nat_le (length d.signals) m) _ (clear_in-thing d h dump now start (suc n) (a_word m i) bits e).0).0;
+        unclear = λ p y is_a m mine free v. own_unclear p y is_a m mine free (suc n) v;
+      }
+
+  -- all rounds
+  all_rounds : IsPlaced (clear_from d h dump now start)
+  all_rounds =
+      record {
+        sure = λ x bits e. (rounds e.0).sure x bits e.1;
+        order = λ s bits e. (rounds e.0).order s bits e.1;
+        words = λ m i bits e. (rounds e.0).words m i bits e.1;
+        unclear = λ p y is_a m mine free v. own_unclear p y is_a m mine free v.1.0 (v.0, v.1.1);
+      }
 
   -- what is clear in some round is sure
   pub clear_sure : (n : ℕ) (x : Thing) (bits : List Bit) → clear_in d h dump now start n x bits → sure_in d final x bits
-  clear_sure n x bits e = (rounds n).0 x bits e
+  clear_sure n x bits e = (rounds n).sure x bits e
 
-  -- and what drives an unbound signal that is clear in some round stands in the order
-  pub clear_placed : (n : ℕ) (s : ℕ) (bits : List Bit) → clear_in d h dump now start n (a_signal s) bits → dump.bound s ≡ false → (q : ℕ) → Drives d q s → In q tables.order
-  clear_placed n s bits e free q drives' = (rounds n).1 s bits e free q drives'
+  -- and so is the value of a net, a bound one too, whose Assigns read only what is clear
+  pub net_clear : (s : ℕ) (bits : List Bit) → IsNetValue d (clear_from d h dump now start) s bits → sure_in d final (a_signal s) bits
+  net_clear s bits net = net_sure (clear_from d h dump now start) all_rounds s bits net
+
+  -- and the value that a Comb gives a signal
+  pub comb_clear : (p s : ℕ) (bits : List Bit) → IsCombValue d dump now (clear_from d h dump now start) p s bits → sure_in d final (a_signal s) bits
+  comb_clear p s bits value = comb_sure (clear_from d h dump now start) all_rounds p s bits value

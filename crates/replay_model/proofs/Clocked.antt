@@ -21,6 +21,7 @@ use Rattle.design_model.proofs.Lawful.{edge_one}
 use Rattle.design_model.proofs.Named.{WritesCell-halves}
 use Rattle.design_model.proofs.Told.{put_append, put_same}
 use Rattle.design_model.proofs.Untouched.{put_other}
+use Rattle.design_model.specs.StepLaws.{CleanEvaluation, StepFacts}
 use Rattle.body_replay.specs.Contract.{Arises, Outcome, acts, all_written, applies, clean, flushed, same, weak}
 use Rattle.body_replay.specs.KnownBits.{Allows}
 use Rattle.body_replay.specs.Replay.{flush}
@@ -32,7 +33,6 @@ use Rattle.replay_model.specs.Tables.{AreTables, Tables}
 use Rattle.replay_model.specs.Step.{Closing, Replay, Working, after_clocked, clean_store, clocked_run, dumped, is_dumped, opened, plain_store, run_all_clean, run_all_weak, run_clean, run_weak}
 use Rattle.replay_model.specs.Laws.{closing_at}
 use Rattle.replay_model.proofs.Bits.{flush_append, flush_same, in_left, join_left, join_right}
-use Rattle.replay_model.proofs.Facts.{Facts, Once}
 use Rattle.replay_model.proofs.Targets.{blocks_assigns, blocks_not_queues, input_unassigned, not_blocking, not_queueing, one_assigner, others_early, own_not_early, queues_assigns, queues_from, single_input, target_assigns, target_or}
 
 pub at_true : {A : Type 0} (P : A → Type 0) (b : Bool) (x y : A) → b ≡ true → P x → P (if b then x else y)
@@ -76,7 +76,7 @@ pub distinct_left : (xs ys : List ℕ) → AreDistinct (xs ++ ys) → AreDistinc
 distinct_left [] ys once = tt
 distinct_left (x ∷ xs) ys once = (λ h. once.0 (in_left x xs ys h), distinct_left xs ys once.1)
 
-module _ (d : Design) (lawful : IsLawfulDesign d) (h : Habit) (early_law : EarlyLaw (machine d)) (dump : BoundDump) (fits : IsDumpOf d dump) (run : Runs) (runs : AreRuns d run) (tables : Tables) (t : ℕ) (sets : Sets) (are : AreSets d h dump (suc t) sets) (a : Replay) (u w : Values Bit) (facts : Facts d h dump t u w) (starts : AllowsState a.kept u) where
+module _ (d : Design) (lawful : IsLawfulDesign d) (h : Habit) (early_law : EarlyLaw (machine d)) (dump : BoundDump) (fits : IsDumpOf d dump) (run : Runs) (runs : AreRuns d run) (tables : Tables) (t : ℕ) (sets : Sets) (are : AreSets d h dump (suc t) sets) (a : Replay) (u w : Values Bit) (facts : StepFacts d h dump t u w) (starts : AllowsState a.kept u) where
   abbrev st : Closing
   st = closing_at d dump run tables sets t a
 
@@ -97,7 +97,7 @@ module _ (d : Design) (lawful : IsLawfulDesign d) (h : Habit) (early_law : Early
   -- a bit of what a Clocked assigns that it does not write itself
   own_stays : (p : ℕ) → IsClocked (process_at d p) → (c : Cell) → body_assigns c.thing (body_at d p) ≡ true → (IsTarget (machine d) p c → ⊥) → w c ≡ u c
   own_stays p is c mine away =
-      facts.still c (λ input. input_unassigned d lawful p c.thing (and_parts (signal_at d c.thing).input _ input).0 mine) (λ q at. away (subst (λ z. IsTarget (machine d) z c) (one_assigner d lawful p q c.thing is mine (target_assigns d lawful q c at)) at))
+      facts.unwritten c (λ input. input_unassigned d lawful p c.thing (and_parts (signal_at d c.thing).input _ input).0 mine) (λ q at. away (subst (λ z. IsTarget (machine d) z c) (one_assigner d lawful p q c.thing is mine (target_assigns d lawful q c at)) at))
 
   after : (Ran : ℕ → Type 0) (wk : Working) (p : ℕ) (o : Outcome) → ClockedSound Ran wk → (Ran p → ⊥) → IsClocked (process_at d p) → Leaves p wk o → ClockedSound (λ q. Ran q ⊎ (q ≡ p)) (after_clocked st p o wk)
   after Ran wk p o inv fresh is leaves =
@@ -137,7 +137,7 @@ module _ (d : Design) (lawful : IsLawfulDesign d) (h : Habit) (early_law : Early
       ⊎_elim (λ e. e) (λ s. absurd (fresh (subst Ran (one_assigner d lawful p s.0 c.thing is mine (target_assigns d lawful s.0 c (inl s.2))) s.1))) (inv.start_or c)
 
   -- what a clean block reads allows the values on which it is evaluated
-  module _ (Ran : ℕ → Type 0) (wk : Working) (inv : ClockedSound Ran wk) (all_clean : (q : ℕ) → Ran q → (e : Cell) × IsCleanAt d dump (suc t) q e) (p : ℕ) (fresh : Ran p → ⊥) (s : ℕ) (is_clean : IsCleanAt d dump (suc t) p (cell s 0)) (evaluated : Once d h dump t u w p (cell s 0)) where
+  module _ (Ran : ℕ → Type 0) (wk : Working) (inv : ClockedSound Ran wk) (all_clean : (q : ℕ) → Ran q → (e : Cell) × IsCleanAt d dump (suc t) q e) (p : ℕ) (fresh : Ran p → ⊥) (s : ℕ) (is_clean : IsCleanAt d dump (suc t) p (cell s 0)) (evaluated : CleanEvaluation d h dump t u w p (cell s 0)) where
     one_bit : (signal_at d s).width ≡ 1
     one_bit = (edge_one d (process_at d p) is_clean.can_wake.0.0 (cell s 0) is_clean.can_wake.0.1 (lawful.events p)).2
 
@@ -221,12 +221,12 @@ module _ (d : Design) (lawful : IsLawfulDesign d) (h : Habit) (early_law : Early
       }
     where
       vs : List (Values Bit)
-      vs = (facts.wakes p).0
+      vs = (facts.evaluated p).0
 
-      ends : (c : Cell) → body_assigns c.thing (body_at d p) ≡ true → put_all inv.mid (outputs (machine d) p (facts.wakes p).0) c ≡ w c
+      ends : (c : Cell) → body_assigns c.thing (body_at d p) ≡ true → put_all inv.mid (outputs (machine d) p (facts.evaluated p).0) c ≡ w c
       ends c mine =
-          put_same inv.mid u (outputs (machine d) p (facts.wakes p).0) c (own_before Ran wk inv p is fresh c mine)
-          ∙ ⊎_elim (λ target. sym ((facts.wakes p).1 c target)) (λ away. put_other u (outputs (machine d) p (facts.wakes p).0) c (λ x. away (outputs_targets d lawful p (facts.wakes p).0 c x)) ∙ sym (own_stays p is c mine away)) (target_or d p c)
+          put_same inv.mid u (outputs (machine d) p (facts.evaluated p).0) c (own_before Ran wk inv p is fresh c mine)
+          ∙ ⊎_elim (λ target. sym ((facts.evaluated p).1 c target)) (λ away. put_other u (outputs (machine d) p (facts.evaluated p).0) c (λ x. away (outputs_targets d lawful p (facts.evaluated p).0 c x)) ∙ sym (own_stays p is c mine away)) (target_or d p c)
 
   -- the same of a set with the same members
   renamed : (Ran Ran' : ℕ → Type 0) (wk : Working) → ((q : ℕ) → Ran q → Ran' q) → ((q : ℕ) → Ran' q → Ran q) → ClockedSound Ran wk → ClockedSound Ran' wk

@@ -20,7 +20,7 @@ use Rattle.replay_model.specs.Step.{Closing, Replay, Working, after_clocked, all
 use Rattle.replay_model.specs.Laws.{IsReplayOf, closing_at}
 use Rattle.replay_model.proofs.Bits.{any_in, flush_append, flush_same, in_halves}
 use Rattle.replay_model.proofs.Clocked.{at_false, distinct_left}
-use Rattle.replay_model.proofs.Order.{kept_all, makes}
+use Rattle.replay_model.proofs.Order.{kept_all, made_all, makes}
 use Rattle.replay_model.proofs.Targets.{one_assigner, target_assigns}
 use Rattle.replay_model.proofs.Trace.{AllClean, KeptOr, RanClean, RanWeak, Wider, one_kept, reads_entry}
 
@@ -121,20 +121,32 @@ module _ (d : Design) (h : Habit) (early_law : EarlyLaw (machine d)) (dump : Bou
       some_none : (o : Option ℕ) (s : ℕ) → o ≡ Some s → o ≡ None → ⊥
       some_none o s e f = cc
 
-  -- what a Clocked assigns and the dump does not have is left at the end of the step as the Clocked leave it
-  pub clocked_final : (p : ℕ) → IsClocked (process_at d p) → (c : Cell) → body_assigns c.thing (body_at d p) ≡ true → is_dumped d dump.bound c ≡ false → (all_run st).kept c ≡ flush (clocked_run st).kept (clocked_run st).queue c
-  clocked_final p is_clocked c mine away =
-      kept_all d h early_law dump run tables points is t sets are a false tables.last (run_all_settling st true tables.order (settle_start st (clocked_run st))) c (λ q x f. other q ((is.tabled.others q).0 (inr x)))
-      ∙ kept_all d h early_law dump run tables points is t sets are a true tables.order (settle_start st (clocked_run st)) c (λ q x f. other q ((is.tabled.others q).0 (inl x)))
-      ∙ at_false (λ z. z ≡ flush (clocked_run st).kept (clocked_run st).queue c) (is_dumped d dump.bound c) _ _ away (at_false (λ z. z ≡ flush (clocked_run st).kept (clocked_run st).queue c) (is_loose st c) None (flush (clocked_run st).kept (clocked_run st).queue c) firm refl)
-    where
-      never : (q : ℕ) → (q < length d.processes) × (IsClocked (process_at d q) → ⊥) → blocking_target d (body_at d q) c ≡ true → ⊥
-      never q known e = known.1 (subst (λ z. IsClocked (process_at d z)) (sym (one_assigner d is.lawful p q c.thing is_clocked mine (target_assigns d is.lawful q c (inl e)))) is_clocked)
+  -- what a Clocked assigns no other process writes
+  module _ (p : ℕ) (is_clocked : IsClocked (process_at d p)) (c : Cell) (mine : body_assigns c.thing (body_at d p) ≡ true) where
+    never : (q : ℕ) → (q < length d.processes) × (IsClocked (process_at d q) → ⊥) → blocking_target d (body_at d q) c ≡ true → ⊥
+    never q known e = known.1 (subst (λ z. IsClocked (process_at d z)) (sym (one_assigner d is.lawful p q c.thing is_clocked mine (target_assigns d is.lawful q c (inl e)))) is_clocked)
 
-      other : (q : ℕ) → (q < length d.processes) × (IsClocked (process_at d q) → ⊥) → makes d h early_law dump run tables points is t sets are a q c ≡ false
-      other q known = false_from_ne_true _ (λ m. never q known (and_parts (blocking_target d (body_at d q) c) _ m).0)
+    firm : is_loose st c ≡ false
+    firm =
+        false_from_ne_true _
+        (λ m. let q = any_in (λ q. is_touched st q && blocking_target d (body_at d q) c) (tables.order ++ tables.last) m in never q.0 ((is.tabled.others q.0).0 (in_halves q.0 tables.order tables.last q.1)) (and_parts (is_touched st q.0) _ q.2).1)
 
-      firm : is_loose st c ≡ false
-      firm =
-          false_from_ne_true _
-          (λ m. let q = any_in (λ q. is_touched st q && blocking_target d (body_at d q) c) (tables.order ++ tables.last) m in never q.0 ((is.tabled.others q.0).0 (in_halves q.0 tables.order tables.last q.1)) (and_parts (is_touched st q.0) _ q.2).1)
+    -- a bit that is not the dump's is at the end of the step as the Clocked leave it
+    pub clocked_final : is_dumped d dump.bound c ≡ false → (all_run st).kept c ≡ flush (clocked_run st).kept (clocked_run st).queue c
+    clocked_final away =
+        kept_all d h early_law dump run tables points is t sets are a false tables.last (run_all_settling st true tables.order (settle_start st (clocked_run st))) c (λ q x f. other q ((is.tabled.others q).0 (inr x)))
+        ∙ kept_all d h early_law dump run tables points is t sets are a true tables.order (settle_start st (clocked_run st)) c (λ q x f. other q ((is.tabled.others q).0 (inl x)))
+        ∙ at_false (λ z. z ≡ flush (clocked_run st).kept (clocked_run st).queue c) (is_dumped d dump.bound c) _ _ away (at_false (λ z. z ≡ flush (clocked_run st).kept (clocked_run st).queue c) (is_loose st c) None (flush (clocked_run st).kept (clocked_run st).queue c) firm refl)
+      where
+        other : (q : ℕ) → (q < length d.processes) × (IsClocked (process_at d q) → ⊥) → makes d h early_law dump run tables points is t sets are a q c ≡ false
+        other q known = false_from_ne_true _ (λ m. never q known (and_parts (blocking_target d (body_at d q) c) _ m).0)
+
+    -- and that is what was made of it
+    pub clocked_made : (all_run st).made c ≡ flush (clocked_run st).kept (clocked_run st).queue c
+    clocked_made =
+        made_all d h early_law dump run tables points is t sets are a false tables.last (run_all_settling st true tables.order (settle_start st (clocked_run st))) c (λ q x f. other q ((is.tabled.others q).0 (inr x)))
+        ∙ made_all d h early_law dump run tables points is t sets are a true tables.order (settle_start st (clocked_run st)) c (λ q x f. other q ((is.tabled.others q).0 (inl x)))
+        ∙ at_false (λ z. z ≡ flush (clocked_run st).kept (clocked_run st).queue c) (is_loose st c) None (flush (clocked_run st).kept (clocked_run st).queue c) firm refl
+      where
+        other : (q : ℕ) → (q < length d.processes) × (IsClocked (process_at d q) → ⊥) → blocking_target d (body_at d q) c ≡ false
+        other q known = false_from_ne_true _ (λ m. never q known m)

@@ -15,8 +15,8 @@ use Rattle.design_model.specs.Shows.{BoundDump}
 use Rattle.design_model.proofs.Named.{WritesCell-halves}
 use Rattle.design_model.proofs.Untouched.{put_other}
 use Rattle.design_model.specs.BodyLaws.{WrittenCellsLaw, all_cells, word_indexes, words_cells}
+use Rattle.design_model.specs.StepLaws.{StepFacts}
 use Rattle.replay_model.proofs.Bits.{any_in, none_in}
-use Rattle.replay_model.proofs.Facts.{Facts}
 
 same_cells : (b c : Cell) → same_cell b c ≡ true → b ≡ c
 same_cells b c e = λ i. record { thing = eqb-true b.thing c.thing (and_parts (b.thing == c.thing) _ e).0 i; place = eqb-true b.place c.place (and_parts (b.thing == c.thing) _ e).1 i }
@@ -52,7 +52,7 @@ past_signals (x ∷ xs) (suc s) le = past_signals xs s (omega (arith, le))
 pub input_number : (d : Design) (s : ℕ) → (signal_at d s).input ≡ true → s < length d.signals
 input_number d s e = ⊎_elim (λ lt. lt) (λ le. absurd (both_ways false refl (subst (λ z. z.input ≡ true) (past_signals d.signals s le) e))) (cases_lt s (length d.signals))
 
-module _ (d : Design) (written : WrittenCellsLaw d) (h : Habit) (dump : BoundDump) (t : ℕ) (u w : Values Bit) (facts : Facts d h dump t u w) where
+module _ (d : Design) (written : WrittenCellsLaw d) (h : Habit) (dump : BoundDump) (t : ℕ) (u w : Values Bit) (facts : StepFacts d h dump t u w) where
   outputs_exist : (p : ℕ) (vs : List (Values Bit)) (c : Cell) → WritesCell (outputs (machine d) p vs) c → In c (all_cells d c.thing)
   outputs_exist p [] c x = absurd x
   outputs_exist p (v ∷ vs) c x = ⊎_elim (λ a. written p v c a) (λ a. outputs_exist p vs c a) (WritesCell-halves (output (machine d) p v) (outputs (machine d) p vs) c x)
@@ -63,5 +63,5 @@ module _ (d : Design) (written : WrittenCellsLaw d) (h : Habit) (dump : BoundDum
     where
       stays : (In c (all_cells d c.thing) → ⊥) → w c ≡ u c
       stays away =
-          ⊎_elim (λ p. (facts.wakes p.0).1 c p.1 ∙ put_other u (outputs (machine d) p.0 (facts.wakes p.0).0) c (λ x. away (outputs_exist p.0 (facts.wakes p.0).0 c x)))
-          (λ none. facts.still c (λ input. away (all_has d c (input_number d c.thing (and_parts (signal_at d c.thing).input _ input).0) (ltb-true _ _ (and_parts (signal_at d c.thing).input _ input).1))) none) some
+          ⊎_elim (λ p. (facts.evaluated p.0).1 c p.1 ∙ put_other u (outputs (machine d) p.0 (facts.evaluated p.0).0) c (λ x. away (outputs_exist p.0 (facts.evaluated p.0).0 c x)))
+          (λ none. facts.unwritten c (λ input. away (all_has d c (input_number d c.thing (and_parts (signal_at d c.thing).input _ input).0) (ltb-true _ _ (and_parts (signal_at d c.thing).input _ input).1))) none) some

@@ -1,19 +1,19 @@
 -- After the first step each Assign of the order has made what it may, and what is clear is sure.
 use Rattle.std.proofs.Common.{◌≡◌, inl, inr, ⊎_elim, ℕ, zero, suc, ◌<◌, ◌≤◌, Bool, true, false, not, ◌&&◌, ◌||◌, List, [], ◌∷◌, ◌++◌, append_assoc, length, refl, sym, ap, subst, ◌∙◌, arith, Option, Some, None, if◌then◌else◌}
 use Rattle.std.specs.List.{list_any}
-use Rattle.std.proofs.lemmas.Bool.{and_parts, and_from, and_left, and_right, both_ways, cases_Bool, false_from_ne_true, lt-ltb, not-true, not_from_false, not_from_true, or_right}
+use Rattle.std.proofs.lemmas.Bool.{and_parts, and_from, and_right, both_ways, cases_Bool, false_from_ne_true, lt-ltb, not-true, not_from_false, not_from_true, or_right}
 use Rattle.event_machine.specs.Cell.{Cell, Values, join, put_all}
 use Rattle.event_machine.specs.Habit.{Habit}
 use Rattle.four_state.specs.declared.bit.Bit.{Bit}
 use Rattle.design_model.specs.declared.point.Point.{Point}
 use Rattle.design_model.specs.Tree.{Process, assign, clocked, comb}
-use Rattle.design_model.specs.Design.{AreDistinct, Design, In, IsClocked, IsComb, Thing, a_signal, body_at, cells, is_assign, owner, process_at}
+use Rattle.design_model.specs.Design.{AreDistinct, Design, In, IsClocked, IsComb, Thing, a_signal, body_at, cells, is_assign, owner, process_at, signal_at}
 use Rattle.design_model.specs.Mentions.{blocking_target, body_assigns, body_mentions, has_cell, may_write}
 use Rattle.design_model.specs.Execution.{execution, execution_start}
 use Rattle.design_model.specs.Machine.{is_level}
 use Rattle.design_model.specs.Shows.{BoundDump, IsFirst, IsFirstOf, IsWindow, IsWindowOf}
 use Rattle.design_model.specs.Reads.{Agrees, IsTold, Known}
-use Rattle.design_model.specs.Clear.{HasChanged, clear, clear_in, clear_start}
+use Rattle.design_model.specs.Clear.{HasChanged, IsNetValue, clear, clear_from, clear_in, clear_start}
 use Rattle.design_model.proofs.Assigns.{machine_lawful}
 use Rattle.design_model.proofs.Lawful.{any_gives, may_any, place_from}
 use Rattle.design_model.proofs.Mentions.{execute_reads}
@@ -25,18 +25,18 @@ use Rattle.body_replay.specs.Runs.{Runs}
 use Rattle.body_replay.specs.Store.{Kept}
 use Rattle.replay_model.specs.Tables.{Drives, StandsBefore, Tables}
 use Rattle.replay_model.specs.Step.{is_comb, is_dumped}
-use Rattle.replay_model.specs.Start.{Starting, after_first, all_first, first_kept, first_store, run_all_first, run_first, started}
+use Rattle.replay_model.specs.Start.{Starting, after_first, all_first, contradicts_first, first_kept, first_store, run_all_first, run_first, started}
 use Rattle.replay_model.specs.Stands.{AreKnown, IsMade, made_kept}
-use Rattle.replay_model.specs.Laws.{FirstKnownLaw, FirstKnownLawBy, IsReplayOf}
-use Rattle.replay_model.proofs.Bits.{any_in, in_halves, in_left, in_right, none_in}
-use Rattle.replay_model.proofs.ClearRounds.{clear_placed, clear_sure, inside_as, read_in}
+use Rattle.replay_model.specs.Laws.{FirstKnownLaw, IsReplayOf}
+use Rattle.replay_model.proofs.Bits.{any_in, in_halves, in_left, in_right, none_in, not_differ}
+use Rattle.replay_model.proofs.ClearRounds.{clear_sure, inside_as, net_clear, read_in}
 use Rattle.replay_model.proofs.Clocked.{at_false, at_true, distinct_left, output_targets}
 use Rattle.replay_model.proofs.FirstStep.{assign_not_clocked}
 use Rattle.replay_model.proofs.Grows.{sample, sample_agrees}
 use Rattle.replay_model.proofs.Order.{before_after, distinct_apart, distinct_right, stands_in}
 use Rattle.replay_model.proofs.Reasons.{in_owner, map_same, sure_bit}
 use Rattle.replay_model.proofs.Settling.{level_mentioned, queues_none}
-use Rattle.replay_model.proofs.Targets.{blocks_assigns, blocks_from, not_queueing, queues_from, target_assigns}
+use Rattle.replay_model.proofs.Targets.{blocks_assigns, blocks_from, input_unassigned, not_queueing, queues_from, target_assigns}
 
 comb_if : (x : Process) → (IsClocked x → ⊥) → is_assign x ≡ false → IsComb x
 comb_if (assign i t v c) is e = absurd (both_ways true e refl)
@@ -48,7 +48,7 @@ pub not_window : (ts : List ℕ) (t u : ℕ) → IsFirstOf ts t → IsWindowOf t
 not_window [] t u first window le = first
 not_window (x ∷ xs) t u first window le = omega (arith, first, window.0, le)
 
-module _ (d : Design) (h : Habit) (dump : BoundDump) (run : Runs) (tables : Tables) (points : List Point) (is : IsReplayOf d h dump run tables points) (t : ℕ) where
+module _ (d : Design) (h : Habit) (dump : BoundDump) (run : Runs) (tables : Tables) (points : List Point) (is : IsReplayOf d h dump run tables points) (t : ℕ) (agreed : (c : Cell) → contradicts_first d dump.bound run tables (dump.values t) c ≡ false) where
   abbrev pub starting : Starting
   starting = record { kept = first_kept d dump.bound run tables (dump.values t); made = λ c. None }
 
@@ -177,9 +177,6 @@ module _ (d : Design) (h : Habit) (dump : BoundDump) (run : Runs) (tables : Tabl
     written_target v c has =
         ⊎_elim (λ b. b) (λ b. absurd (both_ways _ (queues_none d (process_at d p) settles (is.lawful.targets p) c.thing) (queues_from d p c b))) (output_targets d is.lawful p v c (WritesCell-from (all_written d (body_at d p) v) c has))
 
-    written_makes : (v : Values Bit) (c : Cell) → dump.bound c.thing ≡ false → has_cell (all_written d (body_at d p) v) c ≡ true → makes p c ≡ true
-    written_makes v c free has = and_from (blocking_target d (body_at d p) c) _ (written_target v c has) (not_from_false _ (and_left _ _ free))
-
     final_now : (c : Cell) → ((q : ℕ) → In q (rest ++ tables.last) → is_assign (process_at d q) ≡ true → makes q c ≡ false) → final c ≡ (run_first d dump.bound run tables (dump.values t) true p wk).kept c
     final_now c other =
         kept_all false tables.last ordered_first c (λ q x f. other q (in_right q rest tables.last x) f) ∙ ap (λ z. z.kept c) (sym way.0.2)
@@ -254,18 +251,8 @@ module _ (d : Design) (h : Habit) (dump : BoundDump) (run : Runs) (tables : Tabl
         other : (q : ℕ) → In q (rest ++ tables.last) → blocking_target d (body_at d q) c ≡ false
         other q x = false_from_ne_true _ (λ e. way_once p rest wk way q x ((machine_lawful d is.lawful).one_writer p q c (inl m) (inl e)))
 
-    made_noted : IsTold d (sure_in d (made_kept d dump.bound p final)) (body_at d p) → (c : Cell) → has_cell (all_written d (body_at d p) (sample final)) c ≡ true → (all_first d dump.bound run tables (dump.values t)).made c ≡ Some (put_all (sample final) (all_written d (body_at d p) (sample final)) c)
-    made_noted told c has =
-        made_final c (written_target (sample final) c has)
-        ∙ sym (is.runs.frame_queue p (first_store d dump.bound run tables (dump.values t) wk.kept) quiet c (not_queueing d p c (queues_none d (process_at d p) settles (is.lawful.targets p) c.thing)) (run p (first_store d dump.bound run tables (dump.values t) wk.kept) quiet).kept)
-        ∙ is.runs.sure_written p (first_store d dump.bound run tables (dump.values t) wk.kept) quiet tt (sample final) met_agrees (met_told told) c refl has
-
     made_ran : IsMade d dump.bound p final
-    made_ran v agrees told c free has =
-        final_made c (written_makes v c free has)
-        ∙ sym (is.runs.frame_queue p (first_store d dump.bound run tables (dump.values t) wk.kept) quiet c (not_queueing d p c (queues_none d (process_at d p) settles (is.lawful.targets p) c.thing)) (run p (first_store d dump.bound run tables (dump.values t) wk.kept) quiet).kept)
-        ∙ is.runs.sure_written p (first_store d dump.bound run tables (dump.values t) wk.kept) quiet tt (sample final) met_agrees (met_told told) c refl (subst (λ z. has_cell z c ≡ true) (sym same) has)
-        ∙ ap Some (put_covered (sample final) v (all_written d (body_at d p) (sample final)) c (subst (λ z. has_cell z c ≡ true) (sym same) has) ∙ ap (λ z. put_all v z c) same)
+    made_ran v agrees told c has = ⊎_elim of_dump of_run (cases_Bool (is_dumped d dump.bound c))
       where
         all_inside : Rattle.design_model.specs.Reads.AllInside (sure_in d (made_kept d dump.bound p final)) (execution d (body_at d p) (sample final)).visits
         all_inside = told (sample final) (first_agrees p)
@@ -275,22 +262,44 @@ module _ (d : Design) (h : Habit) (dump : BoundDump) (run : Runs) (tables : Tabl
             ap (λ z. z ++ join (execution d (body_at d p) (sample final)).nonblocking) (told_blocking d (sure_in d (made_kept d dump.bound p final)) (body_at d p) (sample final) v (first_agrees p) agrees all_inside)
             ∙ ap (λ z. (execution d (body_at d p) v).blocking ++ join z) (told_nonblocking d (sure_in d (made_kept d dump.bound p final)) (body_at d p) (sample final) v (first_agrees p) agrees all_inside)
 
+        leaves : (run p (first_store d dump.bound run tables (dump.values t) wk.kept) quiet).kept c ≡ Some (put_all v (all_written d (body_at d p) v) c)
+        leaves =
+            sym (is.runs.frame_queue p (first_store d dump.bound run tables (dump.values t) wk.kept) quiet c (not_queueing d p c (queues_none d (process_at d p) settles (is.lawful.targets p) c.thing)) (run p (first_store d dump.bound run tables (dump.values t) wk.kept) quiet).kept)
+            ∙ is.runs.sure_written p (first_store d dump.bound run tables (dump.values t) wk.kept) quiet tt (sample final) met_agrees (met_told told) c refl (subst (λ z. has_cell z c ≡ true) (sym same) has)
+            ∙ ap Some (put_covered (sample final) v (all_written d (body_at d p) (sample final)) c (subst (λ z. has_cell z c ≡ true) (sym same) has) ∙ ap (λ z. put_all v z c) same)
+
+        target : blocking_target d (body_at d p) c ≡ true
+        target = written_target v c has
+
+        plain : (signal_at d c.thing).input ≡ false
+        plain = false_from_ne_true _ (λ input. input_unassigned d is.lawful p c.thing input (target_assigns d is.lawful p c (inl target)))
+
+        of_run : is_dumped d dump.bound c ≡ false → final c ≡ Some (put_all v (all_written d (body_at d p) v) c)
+        of_run away = final_made c (and_from (blocking_target d (body_at d p) c) _ target (not_from_false _ away)) ∙ leaves
+
+        of_dump : is_dumped d dump.bound c ≡ true → final c ≡ Some (put_all v (all_written d (body_at d p) v) c)
+        of_dump e =
+            final_first c e
+            ∙ ap Some (sym (not_differ ((all_first d dump.bound run tables (dump.values t)).made c) (put_all v (all_written d (body_at d p) v) c) (dump.values t c) (made_final c target ∙ leaves)
+            (false_from_ne_true _ (λ f. both_ways _ (agreed c) (and_from (is_dumped d dump.bound c) _ e (and_from (not (signal_at d c.thing).input) _ (not_from_false _ plain) f))))))
+
   pub made_first : (p : ℕ) → In p tables.order → is_assign (process_at d p) ≡ true → IsMade d dump.bound p final
   made_first p inside is_a = let k = find p tables.order starting way_starts inside in made_ran p is_a k.0 k.1 k.2
-
-  pub noted_first : (p : ℕ) → In p tables.order → is_assign (process_at d p) ≡ true → IsTold d (sure_in d (made_kept d dump.bound p final)) (body_at d p) → (c : Cell) → has_cell (all_written d (body_at d p) (sample final)) c ≡ true → (all_first d dump.bound run tables (dump.values t)).made c ≡ Some (put_all (sample final) (all_written d (body_at d p) (sample final)) c)
-  noted_first p inside is_a = let k = find p tables.order starting way_starts inside in made_noted p is_a k.0 k.1 k.2
 
 -- what is clear at t is so in some round, from what the rules begin with
 pub clear_rounds : (d : Design) (h : Habit) (dump : BoundDump) (t : ℕ) (x : Thing) (bits : List Bit) → clear d h dump t x bits → (n : ℕ) × clear_in d h dump t (clear_start d h dump t) n x bits
 clear_rounds d h dump zero x bits e = e
 clear_rounds d h dump (suc t) x bits e = e
 
+net_rounds : (d : Design) (h : Habit) (dump : BoundDump) (t s : ℕ) (bits : List Bit) → IsNetValue d (clear d h dump t) s bits → IsNetValue d (clear_from d h dump t (clear_start d h dump t)) s bits
+net_rounds d h dump zero s bits e = e
+net_rounds d h dump (suc t) s bits e = e
+
 rounds_clear : (d : Design) (h : Habit) (dump : BoundDump) (t : ℕ) (x : Thing) (bits : List Bit) → (n : ℕ) → clear_in d h dump t (clear_start d h dump t) n x bits → clear d h dump t x bits
 rounds_clear d h dump zero x bits n e = (n, e)
 rounds_clear d h dump (suc t) x bits n e = (n, e)
 
-module _ (d : Design) (h : Habit) (dump : BoundDump) (run : Runs) (tables : Tables) (points : List Point) (is : IsReplayOf d h dump run tables points) (asked : AskedLaws d) (t : ℕ) (first : IsFirst dump t) where
+module _ (d : Design) (h : Habit) (dump : BoundDump) (run : Runs) (tables : Tables) (points : List Point) (is : IsReplayOf d h dump run tables points) (asked : AskedLaws d) (t : ℕ) (first : IsFirst dump t) (agreed : (c : Cell) → contradicts_first d dump.bound run tables (dump.values t) c ≡ false) where
   no_change : (p : ℕ) → IsComb (process_at d p) → HasChanged dump d (body_at d p) t → false ≡ true
   no_change p c changed = absurd (not_window dump.times t changed.time first changed.in_window changed.until)
 
@@ -298,25 +307,22 @@ module _ (d : Design) (h : Habit) (dump : BoundDump) (run : Runs) (tables : Tabl
   never window = not_window dump.times t t first window (omega arith)
 
   made : (p : ℕ) → In p tables.order → (IsComb (process_at d p) → false ≡ true) → IsMade d dump.bound p (all_first d dump.bound run tables (dump.values t)).kept
-  made p inside acted = ⊎_elim (λ e. made_first d h dump run tables points is t p inside e) (λ e. absurd (both_ways false refl (acted (comb_if (process_at d p) ((is.tabled.others p).0 (inl inside)).1 e)))) (cases_Bool (is_assign (process_at d p)))
+  made p inside acted = ⊎_elim (λ e. made_first d h dump run tables points is t agreed p inside e) (λ e. absurd (both_ways false refl (acted (comb_if (process_at d p) ((is.tabled.others p).0 (inl inside)).1 e)))) (cases_Bool (is_assign (process_at d p)))
 
   pub is_sure : (x : Thing) (bits : List Bit) → clear d h dump t x bits → sure_in d (all_first d dump.bound run tables (dump.values t)).kept x bits
   is_sure x bits e =
       let k = clear_rounds d h dump t x bits e in
-      clear_sure d h dump run tables points is asked t (clear_start d h dump t) (all_first d dump.bound run tables (dump.values t)).kept (λ p. false) (final_first d h dump run tables points is t) made no_change (λ p y is_a m mine free n v. asked.own_unclear h dump t p y is_a m mine free (v.0, rounds_clear d h dump t (a_signal y) v.0 n v.1))
+      clear_sure d h dump run tables points is asked t (clear_start d h dump t) (all_first d dump.bound run tables (dump.values t)).kept (λ p. false) (final_first d h dump run tables points is t agreed) made no_change (λ p y is_a m mine free n v. asked.own_unclear h dump t p y is_a m mine free (v.0, rounds_clear d h dump t (a_signal y) v.0 n v.1))
       (λ p z w window free target unwoken was. absurd (never window)) (λ p c z w window free value. absurd (never window)) k.0 x bits k.1
 
-  pub is_placed : (s : ℕ) (bits : List Bit) → clear d h dump t (a_signal s) bits → dump.bound s ≡ false → (q : ℕ) → Drives d q s → In q tables.order
-  is_placed s bits e free q drives =
-      let k = clear_rounds d h dump t (a_signal s) bits e in
-      clear_placed d h dump run tables points is asked t (clear_start d h dump t) (all_first d dump.bound run tables (dump.values t)).kept (λ p. false) (final_first d h dump run tables points is t) made no_change (λ p y is_a m mine free n v. asked.own_unclear h dump t p y is_a m mine free (v.0, rounds_clear d h dump t (a_signal y) v.0 n v.1))
-      (λ p z w window free target unwoken was. absurd (never window)) (λ p c z w window free value. absurd (never window)) k.0 s bits k.1 free q drives
+  -- and so is the value of a net whose Assigns read only what is clear
+  pub net_sure : (s : ℕ) (bits : List Bit) → IsNetValue d (clear d h dump t) s bits → sure_in d (all_first d dump.bound run tables (dump.values t)).kept (a_signal s) bits
+  net_sure s bits net =
+      net_clear d h dump run tables points is asked t (clear_start d h dump t) (all_first d dump.bound run tables (dump.values t)).kept (λ p. false) (final_first d h dump run tables points is t agreed) made no_change (λ p y is_a m mine free n v. asked.own_unclear h dump t p y is_a m mine free (v.0, rounds_clear d h dump t (a_signal y) v.0 n v.1))
+      (λ p z w window free target unwoken was. absurd (never window)) (λ p c z w window free value. absurd (never window)) s bits (net_rounds d h dump t s bits net)
 
   pub known_first : AreKnown d h dump tables t (started d dump.bound run tables (dump.values t))
   known_first = record { is_clear = is_sure; has_acted = no_change; made = made }
 
-pub first_known_by : FirstKnownLawBy AskedLaws
-first_known_by d h dump run tables points is asked t first shown agreed = known_first d h dump run tables points is asked t first
-
 pub first_known_law : FirstKnownLaw
-first_known_law d h dump run tables points is own = first_known_by d h dump run tables points is (asked_of d is.lawful own)
+first_known_law d h dump run tables points is own t first shown agreed = known_first d h dump run tables points is (asked_of d is.lawful own) t first agreed

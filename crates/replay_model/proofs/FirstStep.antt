@@ -9,9 +9,10 @@ use Rattle.design_model.specs.Design.{Design, IsClocked, body_at, is_assign, pro
 use Rattle.design_model.specs.Mentions.{blocking_target, body_assigns}
 use Rattle.design_model.specs.Machine.{machine}
 use Rattle.design_model.specs.Run.{Run, settled}
-use Rattle.design_model.specs.Shows.{BoundDump, IsShown}
+use Rattle.design_model.specs.Shows.{BoundDump, IsShowing, IsShown}
 use Rattle.design_model.proofs.Sound.{pick_cell}
 use Rattle.design_model.proofs.StepLaws.{StepLaws}
+use Rattle.design_model.specs.StepLaws.{IsLeft}
 use Rattle.body_replay.specs.Contract.{quiet}
 use Rattle.body_replay.specs.KnownBits.{Allows}
 use Rattle.body_replay.specs.Runs.{Runs}
@@ -19,7 +20,6 @@ use Rattle.body_replay.specs.Store.{AllowsState, Kept}
 use Rattle.replay_model.specs.Tables.{Tables}
 use Rattle.replay_model.specs.Step.{is_comb, is_dumped, plain_store, settled_kept}
 use Rattle.replay_model.specs.Start.{Starting, after_first, all_first, contradicts_first, first_kept, first_store, run_all_first, run_first}
-use Rattle.replay_model.specs.Stands.{IsLeft, IsShowing}
 use Rattle.replay_model.specs.Laws.{IsReplayOf}
 use Rattle.replay_model.proofs.Bits.{differ_apart}
 use Rattle.replay_model.proofs.Clocked.{at_false, at_true}

@@ -1,6 +1,6 @@
 -- What a closing step tells of the points of bodies: a hit is one in each run that shows the dump, and a point that is hit
 -- in such a run at this time is told to be hit or in doubt.
-use Rattle.std.proofs.Common.{◌≡◌, inl, inr, ⊎_elim, ℕ, suc, Bool, true, false, List, [], ◌∷◌, ◌++◌, refl, sym, ap, subst, ◌∙◌, arith, Option, Some, None, if◌then◌else◌}
+use Rattle.std.proofs.Common.{◌≡◌, inl, inr, ⊎_elim, ℕ, suc, Bool, true, false, List, [], ◌∷◌, ◌++◌, refl, sym, ap, subst, ◌∙◌, Option, Some, None, if◌then◌else◌}
 use Rattle.std.specs.List.{list_any}
 use Rattle.std.proofs.lemmas.Bool.{both_ways}
 use Rattle.event_machine.specs.Cell.{Cell, Values}
@@ -18,11 +18,13 @@ use Rattle.design_model.specs.Execution.{Visit, at_line, at_node, execution, rea
 use Rattle.design_model.specs.Machine.{is_level, lists_edge, machine}
 use Rattle.design_model.specs.Run.{Run, StepOf, evaluations_of, settled, start_of}
 use Rattle.design_model.specs.Scored.{ChangesOver, IsScored, IsScoredOf, VisitsIn}
-use Rattle.design_model.specs.Shows.{BoundDump, IsShown, IsWindow}
+use Rattle.design_model.specs.Shows.{BoundDump, IsShowing, IsWindow}
 use Rattle.design_model.specs.MayMove.{CanWakeSome, IsCleanAt}
 use Rattle.design_model.specs.Points.{HitIn, IsBlock}
 use Rattle.design_model.proofs.Hits.{step_here}
 use Rattle.design_model.proofs.StepLaws.{StepLaws}
+use Rattle.design_model.specs.StepLaws.{CleanEvaluation, EventFacts}
+use Rattle.design_model.proofs.StepFacts.{clean_step_law, event_law}
 use Rattle.body_replay.specs.Contract.{Doubted, HasHitNote, Note, clean, perhaps, quiet, spot_at}
 use Rattle.body_replay.specs.Replay.{Spot, Visited, line, node, spot_of, word_read, word_write}
 use Rattle.body_replay.specs.Runs.{HasDoubtNote, Runs}
@@ -30,11 +32,7 @@ use Rattle.body_replay.specs.Store.{Kept}
 use Rattle.replay_model.specs.Tables.{Tables}
 use Rattle.replay_model.specs.Marks.{Told, all_told_by, of_process}
 use Rattle.replay_model.specs.Step.{Closing, certainty, certainty_from, first_unsure, has_changed, is_still, not_assigned}
-use Rattle.replay_model.specs.Stands.{IsShowing}
 use Rattle.replay_model.specs.Laws.{IsReplayOf}
-use Rattle.replay_model.proofs.Allows.{window_shown_at}
-use Rattle.replay_model.proofs.Facts.{Once, clean_moves, step_entry, step_unwoken}
-use Rattle.replay_model.proofs.Steps.{last_same, start_values, end_values, to}
 
 -- a note of a run as it is told
 pub told_hit : (p : ℕ) (ns : List Note) (n : Told) → In n (all_told_by p ns) → n.doubt ≡ None → (x : Spot) × (n.key ≡ of_process p x) × HasHitNote x ns
@@ -191,48 +189,47 @@ in_not_assigned d p (b ∷ cs) c h e = go (blocking_target d (body_at d p) b) re
     go false q (inl f) rest = inl f
     go false q (inr f) rest = inr (rest f)
 
+-- two lists that end so end in one
+last_same : {A : Type 0} (xs ys : List A) (x y : A) → xs ++ x ∷ [] ≡ ys ++ y ∷ [] → x ≡ y
+last_same {A} xs ys x y e = go xs ys e
+  where
+    last_or : A → List A → A
+    last_or z [] = z
+    last_or z (w ∷ ws) = last_or w ws
+
+    at_end : (z : A) (zs : List A) (w : A) → last_or z (zs ++ w ∷ []) ≡ w
+    at_end z [] w = refl
+    at_end z (y ∷ zs) w = at_end y zs w
+
+    go : (xs ys : List A) → xs ++ x ∷ [] ≡ ys ++ y ∷ [] → x ≡ y
+    go xs ys e = sym (at_end x xs x) ∙ ap (last_or x) e ∙ at_end x ys y
+
 module _ (d : Design) (h : Habit) (dump : BoundDump) (run : Runs) (tables : Tables) (points : List Point) (is : IsReplayOf d h dump run tables points) (laws : StepLaws (machine d) h) (t : ℕ) (window : IsWindow dump (suc t)) (r : Run) (showing : IsShowing d h dump (suc t) r) where
-  abbrev u : Values Bit
-  u = settled d r t
-
-  abbrev w : Values Bit
-  w = settled d r (suc t)
-
-  shown : IsShown dump t × IsShown dump (suc t)
-  shown = window_shown_at dump.times t window
-
-  abbrev old : Rattle.design_model.specs.Shows.SameBound d dump (settled d r t) t
-  old = showing.shows.shows t shown.0 (omega arith)
-
-  abbrev new : Rattle.design_model.specs.Shows.SameBound d dump (settled d r (suc t)) (suc t)
-  new = showing.shows.shows (suc t) shown.1 (omega arith)
+  events : (k : StepOf r) → k.step.time ≡ suc t → EventFacts d h dump r t k
+  events k at = event_law d is.lawful h laws dump r t is.fits.signals showing window k at
 
   -- a clean block has one execution that counts
-  pub clean_entry : (p : ℕ) (c : Cell) → IsCleanAt d dump (suc t) p c → (k : StepOf r) × (k.step.time ≡ suc t) × (o : Once d h dump t (settled d r t) (settled d r (suc t)) p c) × IsScored d r k p o.entry
-  clean_entry p c is_clean = ⊎_elim (λ same. absurd (clean_moves d is.lawful h laws dump is.fits r showing.is_run t old new p c is_clean same)) (λ s. in_step s.step s.at) (step_here d h r showing.is_run t)
-    where
-      in_step : (k : StepOf r) → k.step.time ≡ suc t → (k : StepOf r) × (k.step.time ≡ suc t) × (o : Once d h dump t (settled d r t) (settled d r (suc t)) p c) × IsScored d r k p o.entry
-      in_step k at =
-          let o = step_entry d is.lawful h laws dump is.fits r showing.is_run t old new (to d h r showing.is_run k t at) p c is_clean in
-          (k, at, o.0, clocked_scored (process_at d p) d r k p o.0.entry (edge_clocked (process_at d p) is_clean.can_wake.0.0 c is_clean.can_wake.0.1) (subst (In o.0.entry) (sym o.1) (inl refl)))
+  pub clean_entry : (p : ℕ) (c : Cell) → IsCleanAt d dump (suc t) p c → (k : StepOf r) × (k.step.time ≡ suc t) × (o : CleanEvaluation d h dump t (settled d r t) (settled d r (suc t)) p c) × IsScored d r k p o.entry
+  clean_entry p c is_clean =
+      let k = clean_step_law d is.lawful h laws dump r t is.fits.signals showing window p c is_clean in
+      let act = (events k.0 k.1).clean p c is_clean in
+      (k.0, k.1, act.once, clocked_scored (process_at d p) d r k.0 p act.once.entry (edge_clocked (process_at d p) is_clean.can_wake.0.0 c is_clean.can_wake.0.1) (subst (In act.once.entry) (sym act.evaluated) (inl refl)))
 
-  pub every_entry : (k : StepOf r) → k.step.time ≡ suc t → (p : ℕ) (c : Cell) → IsCleanAt d dump (suc t) p c → (v : Values Bit) → IsScored d r k p v → (o : Once d h dump t (settled d r t) (settled d r (suc t)) p c) × (v ≡ o.entry)
+  pub every_entry : (k : StepOf r) → k.step.time ≡ suc t → (p : ℕ) (c : Cell) → IsCleanAt d dump (suc t) p c → (v : Values Bit) → IsScored d r k p v → (o : CleanEvaluation d h dump t (settled d r t) (settled d r (suc t)) p c) × (v ≡ o.entry)
   every_entry k at p c is_clean v scored =
-      let o = step_entry d is.lawful h laws dump is.fits r showing.is_run t old new (to d h r showing.is_run k t at) p c is_clean in
-      (o.0, ⊎_elim (λ e. sym e) (λ x. absurd x) (subst (In v) o.1 (scored_clocked (process_at d p) d r k p v (edge_clocked (process_at d p) is_clean.can_wake.0.0 c is_clean.can_wake.0.1) scored)))
+      let act = (events k at).clean p c is_clean in
+      (act.once, ⊎_elim (λ e. sym e) (λ x. absurd x) (subst (In v) act.evaluated (scored_clocked (process_at d p) d r k p v (edge_clocked (process_at d p) is_clean.can_wake.0.0 c is_clean.can_wake.0.1) scored)))
 
   -- a Clocked that cannot wake has none
   pub unwoken_none : (k : StepOf r) → k.step.time ≡ suc t → (p : ℕ) → IsClocked (process_at d p) → (CanWakeSome d dump (suc t) p → ⊥) → (v : Values Bit) → IsScored d r k p v → ⊥
-  unwoken_none k at p is_clocked never v scored =
-      subst (In v) (step_unwoken d is.lawful h laws dump is.fits r showing.is_run t old new (to d h r showing.is_run k t at) p is_clocked never) (scored_clocked (process_at d p) d r k p v is_clocked scored)
+  unwoken_none k at p is_clocked never v scored = subst (In v) ((events k at).asleep p is_clocked never) (scored_clocked (process_at d p) d r k p v is_clocked scored)
 
   abbrev pub OnWakes : ℕ → Values Bit → Type 0
   OnWakes p v = (b : Cell) → IsWakeCell (machine d) p b → v b ≡ settled d r (suc t) b
 
   -- an Assign or Comb of which a wake cell changes has one, on settled values
   settled_at : (k : StepOf r) → k.step.time ≡ suc t → (p : ℕ) (c : Cell) → IsWakeCell (machine d) p c → (settled d r t c ≡ settled d r (suc t) c → ⊥) → EvaluatesSettled (machine d) p (start_of d r k) k.step.events
-  settled_at k at p c wake differ =
-      laws.settled h (start_of d r k) k.step.events (to d h r showing.is_run k t at).is_step p c wake (λ e. differ (sym (ap (λ f. f c) (start_values d h r showing.is_run k t at)) ∙ sym e ∙ ap (λ f. f c) (end_values d h r showing.is_run k (suc t) at)))
+  settled_at k at p c wake differ = (events k at).woken p c wake (λ e. differ (sym e))
 
   pub settling_entry : (p : ℕ) → (IsClocked (process_at d p) → ⊥) → (c : Cell) → IsWakeCell (machine d) p c → (settled d r t c ≡ settled d r (suc t) c → ⊥) → (k : StepOf r) × (k.step.time ≡ suc t) × (v : Values Bit) × IsScored d r k p v × OnWakes p v
   settling_entry p settles c wake differ = ⊎_elim (λ same. absurd (differ (sym (ap (λ f. f c) same)))) (λ s. in_step s.step s.at) (step_here d h r showing.is_run t)
@@ -240,7 +237,7 @@ module _ (d : Design) (h : Habit) (dump : BoundDump) (run : Runs) (tables : Tabl
       in_step : (k : StepOf r) → k.step.time ≡ suc t → (k : StepOf r) × (k.step.time ≡ suc t) × (v : Values Bit) × IsScored d r k p v × OnWakes p v
       in_step k at =
           let e = settled_at k at p c wake differ in
-          (k, at, e.entry, settling_scored (process_at d p) d r k p e.entry settles ((e.earlier, e.evaluated), (c, wake, λ q. differ (sym (ap (λ f. f c) (start_values d h r showing.is_run k t at)) ∙ q ∙ ap (λ f. f c) (end_values d h r showing.is_run k (suc t) at)))), λ b x. e.settled b x ∙ ap (λ f. f b) (end_values d h r showing.is_run k (suc t) at))
+          (k, at, e.entry, settling_scored (process_at d p) d r k p e.entry settles ((e.earlier, e.evaluated), (c, wake, λ q. differ (sym (ap (λ f. f c) (events k at).start) ∙ q ∙ ap (λ f. f c) (events k at).ends))), λ b x. e.settled b x ∙ ap (λ f. f b) (events k at).ends)
 
   pub every_settling : (k : StepOf r) → k.step.time ≡ suc t → (p : ℕ) → (IsClocked (process_at d p) → ⊥) → (v : Values Bit) → IsScored d r k p v → OnWakes p v × ((c : Cell) × IsWakeCell (machine d) p c × (settled d r t c ≡ settled d r (suc t) c → ⊥))
   every_settling k at p settles v scored = (on_wakes, (s.1.0, s.1.1, differ))
@@ -251,10 +248,10 @@ module _ (d : Design) (h : Habit) (dump : BoundDump) (run : Runs) (tables : Tabl
       differ : settled d r t (scored_settling (process_at d p) d r k p v settles scored).1.0 ≡ settled d r (suc t) (scored_settling (process_at d p) d r k p v settles scored).1.0 → ⊥
       differ e =
           let c = (scored_settling (process_at d p) d r k p v settles scored).1.0 in
-          (scored_settling (process_at d p) d r k p v settles scored).1.2 (ap (λ f. f c) (start_values d h r showing.is_run k t at) ∙ e ∙ sym (ap (λ f. f c) (end_values d h r showing.is_run k (suc t) at)))
+          (scored_settling (process_at d p) d r k p v settles scored).1.2 (ap (λ f. f c) (events k at).start ∙ e ∙ sym (ap (λ f. f c) (events k at).ends))
 
       on_wakes : OnWakes p v
       on_wakes b x =
           let z = scored_settling (process_at d p) d r k p v settles scored in
           let e = settled_at k at p z.1.0 z.1.1 differ in
-          ap (λ f. f b) (last_same z.0.0 e.earlier v e.entry (sym z.0.1 ∙ e.evaluated)) ∙ e.settled b x ∙ ap (λ f. f b) (end_values d h r showing.is_run k (suc t) at)
+          ap (λ f. f b) (last_same z.0.0 e.earlier v e.entry (sym z.0.1 ∙ e.evaluated)) ∙ e.settled b x ∙ ap (λ f. f b) (events k at).ends

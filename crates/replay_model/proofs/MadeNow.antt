@@ -1,7 +1,7 @@
 -- After a closing step each process of the order has made what it may from what is known.
 use Rattle.std.proofs.Common.{◌≡◌, inl, inr, ⊎_elim, ℕ, suc, Bool, true, false, not, ◌&&◌, ◌||◌, ◌==◌, List, [], ◌∷◌, ◌++◌, refl, sym, ap, subst, ◌∙◌, Option, Some, None, if◌then◌else◌}
 use Rattle.std.specs.List.{list_any}
-use Rattle.std.proofs.lemmas.Bool.{and_parts, and_from, and_left, both_ways, cases_Bool, eq-eqb, eqb-true, false_from_ne_true, not-true, not_from_false, or_left, or_right}
+use Rattle.std.proofs.lemmas.Bool.{and_parts, and_from, both_ways, cases_Bool, eq-eqb, eqb-true, false_from_ne_true, not-true, not_from_false, or_left, or_right}
 use Rattle.event_machine.specs.Cell.{Cell, Values, join, put_all}
 use Rattle.event_machine.specs.Habit.{Habit}
 use Rattle.event_machine.specs.Laws.{EarlyLaw}
@@ -23,17 +23,17 @@ use Rattle.body_replay.specs.Runs.{Runs}
 use Rattle.body_replay.specs.Store.{Kept}
 use Rattle.replay_model.specs.Sets.{AreSets, Sets}
 use Rattle.replay_model.specs.Tables.{Tables}
-use Rattle.replay_model.specs.Step.{Closing, Replay, Working, acts, after_settling, all_run, certainty, clocked_run, is_comb, is_dumped, is_loose, is_touched, plain_store, run_all_settling, run_settling, settle_start, settled_kept}
+use Rattle.replay_model.specs.Step.{Closing, Replay, Working, acts, after_settling, all_run, certainty, clocked_run, contradicts, is_comb, is_dumped, is_loose, is_touched, plain_store, run_all_settling, run_settling, settle_start, settled_kept}
 use Rattle.replay_model.specs.Stands.{IsMade, made_kept}
 use Rattle.replay_model.specs.Laws.{IsReplayOf, closing_at}
 use Rattle.replay_model.proofs.Bits.{any_in, in_any, in_halves, in_left, in_right, none_in}
 use Rattle.replay_model.proofs.Clocked.{at_false, at_true, distinct_left, output_targets}
 use Rattle.replay_model.proofs.ClearRounds.{inside_as, read_in}
 use Rattle.replay_model.proofs.Grows.{sample, sample_agrees}
-use Rattle.replay_model.proofs.Order.{OnWay, distinct_apart, distinct_right, final_dumped, kept_all, kept_one, makes, once_all, order_dumped, order_meets, way_next, way_starts}
+use Rattle.replay_model.proofs.Order.{OnWay, distinct_apart, distinct_right, final_dumped, kept_all, kept_one, made_all, made_dumped, makes, once_all, order_dumped, order_meets, way_next, way_starts}
 use Rattle.replay_model.proofs.Reasons.{in_owner, map_same, sure_bit}
 use Rattle.replay_model.proofs.Settling.{level_mentioned, queues_none, strong}
-use Rattle.replay_model.proofs.Targets.{blocks_assigns, blocks_from, not_queueing, queues_from}
+use Rattle.replay_model.proofs.Targets.{blocks_assigns, blocks_from, input_unassigned, not_queueing, queues_from, target_assigns}
 
 module _ (d : Design) (h : Habit) (early_law : EarlyLaw (machine d)) (dump : BoundDump) (run : Runs) (tables : Tables) (points : List Point) (is : IsReplayOf d h dump run tables points) (t : ℕ) (sets : Sets) (are : AreSets d h dump (suc t) sets) (a : Replay) where
   abbrev st : Closing
@@ -112,12 +112,14 @@ module _ (d : Design) (h : Habit) (early_law : EarlyLaw (machine d)) (dump : Bou
       ap (λ z. z ++ join (execution d (body_at d p) u).nonblocking) (told_blocking d K (body_at d p) u v au av (told u au)) ∙ ap (λ z. (execution d (body_at d p) v).blocking ++ join z) (told_nonblocking d K (body_at d p) u v au av (told u au))
 
   module _ (p : ℕ) (settles : IsClocked (process_at d p) → ⊥) where
-    -- what it writes of an unbound thing it makes
-    pub written_makes : (v : Values Bit) (c : Cell) → dump.bound c.thing ≡ false → has_cell (all_written d (body_at d p) v) c ≡ true → Makes p c
-    written_makes v c free has =
-        and_from (blocking_target d (body_at d p) c) _
-        (⊎_elim (λ b. b) (λ b. absurd (both_ways _ (queues_none d (process_at d p) settles (is.lawful.targets p) c.thing) (queues_from d p c b))) (output_targets d is.lawful p v c (WritesCell-from (all_written d (body_at d p) v) c has)))
-        (not_from_false _ (and_left _ _ free))
+    -- what it writes is a target of its
+    pub written_target : (v : Values Bit) (c : Cell) → has_cell (all_written d (body_at d p) v) c ≡ true → blocking_target d (body_at d p) c ≡ true
+    written_target v c has =
+        ⊎_elim (λ b. b) (λ b. absurd (both_ways _ (queues_none d (process_at d p) settles (is.lawful.targets p) c.thing) (queues_from d p c b))) (output_targets d is.lawful p v c (WritesCell-from (all_written d (body_at d p) v) c has))
+
+    -- and no input
+    pub target_plain : (c : Cell) → blocking_target d (body_at d p) c ≡ true → (signal_at d c.thing).input ≡ false
+    target_plain c target = false_from_ne_true _ (λ input. input_unassigned d is.lawful p c.thing input (target_assigns d is.lawful p c (inl target)))
 
     -- where it has run
     module _ (rest : List ℕ) (wk : Working) (way : Way (p ∷ rest) wk) (touched : is_touched st p ≡ true) (acted : is_comb (process_at d p) ≡ true → (all_run st).acted p ≡ true) where
@@ -202,12 +204,18 @@ module _ (d : Design) (h : Habit) (early_law : EarlyLaw (machine d)) (dump : Bou
                   ⊎_elim (λ g. order_dumped d h early_law dump run tables points is t sets are a (p ∷ rest) wk way.0 c g ∙ sym (final_dumped d h early_law dump run tables points is t sets are a c g))
                   (λ g. absurd (both_ways _ free (and_from (body_assigns c.thing (body_at d p)) _ (blocks_assigns c.thing (body_at d p) (blocks_from d p c f)) (or_right (is_comb (process_at d p)) _ (not_from_false _ (Rattle.replay_model.proofs.Order.makes_unbound d h early_law dump run tables points is t sets are a p c (and_from (blocking_target d (body_at d p) c) _ f (not_from_false _ g)))))))) (cases_Bool (is_dumped d dump.bound c))
 
-      pub made_touched : IsMade d dump.bound p final
-      made_touched v agrees told c free has =
-          final_made c (written_makes v c free has)
-          ∙ sym (is.runs.frame_queue p (plain_store (settled_kept d p wk.kept)) (certainty st wk.kept p) c (not_queueing d p c (queues_none d (process_at d p) settles (is.lawful.targets p) c.thing)) (run p (plain_store (settled_kept d p wk.kept)) (certainty st wk.kept p)).kept)
-          ∙ is.runs.sure_written p (plain_store (settled_kept d p wk.kept)) (certainty st wk.kept p) (strong st wk.kept p) (sample final) met_agrees met_told c refl (subst (λ z. has_cell z c ≡ true) (sym same) has)
-          ∙ ap Some (put_covered (sample final) v (all_written d (body_at d p) (sample final)) c (subst (λ z. has_cell z c ≡ true) (sym same) has) ∙ ap (λ z. put_all v z c) same)
+      -- what it made of a bit stays noted
+      made_final : (c : Cell) → blocking_target d (body_at d p) c ≡ true → (all_run st).made c ≡ (run p (plain_store (settled_kept d p wk.kept)) (certainty st wk.kept p)).kept c
+      made_final c m =
+          made_all d h early_law dump run tables points is t sets are a false tables.last (run_all_settling st true tables.order (settle_start st (clocked_run st))) c (λ q x f. other q (in_right q rest tables.last x)) ∙ ap (λ z. z.made c) (sym way.0.2)
+          ∙ made_all d h early_law dump run tables points is t sets are a true rest (run_settling st true p wk) c (λ q x f. other q (in_left q rest tables.last x)) ∙ ap (λ z. z.made c) run_is
+          ∙ at_true (λ z. z ≡ (run p (plain_store (settled_kept d p wk.kept)) (certainty st wk.kept p)).kept c) (blocking_target d (body_at d p) c) _ (wk.made c) m (at_true (λ z. z ≡ (run p (plain_store (settled_kept d p wk.kept)) (certainty st wk.kept p)).kept c) (not (is_comb (process_at d p)) || acts st p (certainty st wk.kept p) wk) _ None holds refl)
+        where
+          other : (q : ℕ) → In q (rest ++ tables.last) → blocking_target d (body_at d q) c ≡ false
+          other q x = false_from_ne_true _ (λ e. way_once p rest wk way q x ((machine_lawful d is.lawful).one_writer p q c (inl m) (inl e)))
+
+      pub made_touched : ((c : Cell) → contradicts st c ≡ false) → IsMade d dump.bound p final
+      made_touched agreed v agrees told c has = ⊎_elim of_dump of_run (cases_Bool (is_dumped d dump.bound c))
         where
           same : all_written d (body_at d p) (sample final) ≡ all_written d (body_at d p) v
           same = same_all (sure_in d (made_kept d dump.bound p final)) p (sample final) v (made_agrees p final) agrees told
@@ -217,3 +225,20 @@ module _ (d : Design) (h : Habit) (early_law : EarlyLaw (machine d)) (dump : Bou
               told_by d (sure_in d (settled_kept d p wk.kept)) (body_at d p) (sample final) met_agrees
               (inside_as (sure_in d (made_kept d dump.bound p final)) (sure_in d (settled_kept d p wk.kept)) (execution d (body_at d p) (sample final)).visits
               (λ x read v. (v.0, met_sure x v.0 (read_in (λ q. body_mentions q (body_at d p) ≡ true) _ x (execute_reads (λ q. body_mentions q (body_at d p) ≡ true) d (body_at d p) (λ q f. f) (execution_start (sample final)) tt) read) v.1)) (told (sample final) (made_agrees p final)))
+
+          leaves : (run p (plain_store (settled_kept d p wk.kept)) (certainty st wk.kept p)).kept c ≡ Some (put_all v (all_written d (body_at d p) v) c)
+          leaves =
+              sym (is.runs.frame_queue p (plain_store (settled_kept d p wk.kept)) (certainty st wk.kept p) c (not_queueing d p c (queues_none d (process_at d p) settles (is.lawful.targets p) c.thing)) (run p (plain_store (settled_kept d p wk.kept)) (certainty st wk.kept p)).kept)
+              ∙ is.runs.sure_written p (plain_store (settled_kept d p wk.kept)) (certainty st wk.kept p) (strong st wk.kept p) (sample final) met_agrees met_told c refl (subst (λ z. has_cell z c ≡ true) (sym same) has)
+              ∙ ap Some (put_covered (sample final) v (all_written d (body_at d p) (sample final)) c (subst (λ z. has_cell z c ≡ true) (sym same) has) ∙ ap (λ z. put_all v z c) same)
+
+          target : blocking_target d (body_at d p) c ≡ true
+          target = written_target v c has
+
+          of_run : is_dumped d dump.bound c ≡ false → final c ≡ Some (put_all v (all_written d (body_at d p) v) c)
+          of_run away = final_made c (and_from (blocking_target d (body_at d p) c) _ target (not_from_false _ away)) ∙ leaves
+
+          of_dump : is_dumped d dump.bound c ≡ true → final c ≡ Some (put_all v (all_written d (body_at d p) v) c)
+          of_dump e =
+              final_dumped d h early_law dump run tables points is t sets are a c e
+              ∙ ap Some (sym (made_dumped d h early_law dump run tables points is t sets are a c (agreed c) e (target_plain c target) (put_all v (all_written d (body_at d p) v) c) (made_final c target ∙ leaves)))

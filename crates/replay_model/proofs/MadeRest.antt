@@ -1,5 +1,5 @@
 -- After a closing step a process that did not run has still made what it may, and a Comb of which a bound signal changed has acted.
-use Rattle.std.proofs.Common.{◌≡◌, ◌≢◌, ◌⊎◌, inl, inr, ⊎_elim, ℕ, zero, suc, ◌-◌, ◌+◌, ◌<◌, ◌≤◌, Bool, true, false, not, ◌&&◌, ◌||◌, ◌==◌, List, [], ◌∷◌, ◌++◌, length, refl, sym, ap, subst, ◌∙◌, arith, Option, Some, None, if◌then◌else◌}
+use Rattle.std.proofs.Common.{◌≡◌, ◌≢◌, ◌⊎◌, inl, inr, ⊎_elim, ℕ, zero, suc, ◌-◌, ◌+◌, ◌<◌, ◌≤◌, Bool, true, false, not, ◌&&◌, ◌||◌, ◌==◌, List, [], ◌∷◌, ◌++◌, length, refl, sym, ap, subst, ◌∙◌, arith, Some, None, if◌then◌else◌}
 use Rattle.std.specs.List.{list_any, range_with_len}
 use Rattle.std.proofs.lemmas.Bool.{and_parts, and_from, and_left, both_ways, cases_Bool, cases_eq, cases_lt, eq-eqb, eqb-true, false_from_ne_true, lt-ltb, not-true, not_from_false, or_left, or_right, true_from_ne_false}
 use Rattle.event_machine.proofs.Least.{early_law}
@@ -19,6 +19,7 @@ use Rattle.design_model.proofs.Assigns.{machine_lawful}
 use Rattle.design_model.proofs.Lawful.{same_bit_is}
 use Rattle.design_model.proofs.Mentions.{execute_reads}
 use Rattle.design_model.proofs.Told.{put_covered, told_by}
+use Rattle.design_model.proofs.Toggles.{window_shown_at}
 use Rattle.replay_model.proofs.AskedLaws.{AskedLaws}
 use Rattle.body_replay.specs.Contract.{all_written, sure_in}
 use Rattle.body_replay.specs.Replay.{flush}
@@ -26,20 +27,21 @@ use Rattle.body_replay.specs.Runs.{Runs}
 use Rattle.body_replay.specs.Store.{Kept}
 use Rattle.replay_model.specs.Sets.{AreSets, Sets}
 use Rattle.replay_model.specs.Tables.{Tables}
-use Rattle.replay_model.specs.Step.{Closing, Replay, Working, acts, after_settling, all_run, certainty, clocked_run, contradicts, is_comb, is_dumped, is_loose, is_touched, opened, plain_store, run_all_clean, run_all_settling, run_all_weak, run_clean, run_settling, run_weak, sees_change, settle_start, settled_kept, surely_differ}
+use Rattle.replay_model.specs.Step.{Closing, Replay, Working, acts, after_settling, all_run, certainty, clocked_run, contradicts, is_comb, is_dumped, is_loose, is_touched, plain_store, run_all_settling, run_settling, sees_change, settle_start, settled_kept, surely_differ}
 use Rattle.replay_model.specs.Stands.{IsMade, made_kept}
 use Rattle.replay_model.specs.Laws.{IsReplayOf, closing_at}
-use Rattle.replay_model.proofs.Allows.{past, window_shown_at}
+use Rattle.replay_model.proofs.Acted.{clocked_acted}
+use Rattle.replay_model.proofs.Allows.{past}
 use Rattle.replay_model.proofs.Bits.{any_in, in_any, none_in}
 use Rattle.replay_model.proofs.Clocked.{at_false, at_true}
-use Rattle.replay_model.proofs.ClearRounds.{inside_as, read_in}
+use Rattle.replay_model.proofs.ClearRounds.{inside_as, read_in, signal_dumped}
 use Rattle.replay_model.proofs.ClockedKept.{away_from, clocked_stays}
 use Rattle.replay_model.proofs.Existing.{signal_has}
 use Rattle.replay_model.proofs.Grows.{sample}
-use Rattle.replay_model.proofs.MadeNow.{acted_all, made_agrees, same_all, written_makes}
-use Rattle.replay_model.proofs.Order.{final_dumped, kept_all, makes}
+use Rattle.replay_model.proofs.MadeNow.{acted_all, made_agrees, same_all, target_plain, written_target}
+use Rattle.replay_model.proofs.Order.{final_dumped, kept_all, made_dumped, makes}
 use Rattle.replay_model.proofs.Reasons.{in_owner, map_same}
-use Rattle.replay_model.proofs.Calm.{calm_dumped, target_moves}
+use Rattle.replay_model.proofs.Calm.{calm_dumped, made_start, target_moves}
 use Rattle.replay_model.proofs.SettleReasons.{bound_clear, sure_at}
 use Rattle.replay_model.proofs.Settling.{in_signal, level_mentioned, same_visits, same_writes}
 
@@ -91,11 +93,21 @@ module _ (h : Habit) (d : Design) (dump : BoundDump) (run : Runs) (tables : Tabl
     mention_same : (c : Cell) → body_mentions c.thing (body_at d p) ≡ true → final c ≡ a.kept c
     mention_same c m = calm_same c (calm_level c.thing (level_mentioned (process_at d p) c.thing settles m))
 
-    target_same : (c : Cell) → blocking_target d (body_at d p) c ≡ true → dump.bound c.thing ≡ false → final c ≡ a.kept c
-    target_same c target free =
-        undumped_same c (and_left _ _ free)
-        (λ q at woken. let e = (machine_lawful d is.lawful).one_writer q p c at (inl target) in
-        ⊎_elim (λ f. both_ways _ untouched (subst (λ z. is_touched st z ≡ true) e f)) (λ f. settles (Rattle.replay_model.proofs.Hits.edge_clocked (process_at d p) f.1.0.0 f.0 (subst (λ z. (machine d).edge z f.1.0.0 f.0 ≡ true) e f.1.0.1))) woken)
+    -- no other process that runs writes a target of its
+    never : (c : Cell) → blocking_target d (body_at d p) c ≡ true → (q : ℕ) → IsTarget (machine d) q c → (is_touched st q ≡ true) ⊎ Rattle.design_model.specs.MayMove.CanWakeSome d dump (suc t) q → ⊥
+    never c target q at woken =
+        let e = (machine_lawful d is.lawful).one_writer q p c at (inl target) in
+        ⊎_elim (λ f. both_ways _ untouched (subst (λ z. is_touched st z ≡ true) e f)) (λ f. settles (Rattle.replay_model.proofs.Hits.edge_clocked (process_at d p) f.1.0.0 f.0 (subst (λ z. (machine d).edge z f.1.0.0 f.0 ≡ true) e f.1.0.1))) woken
+
+    target_same : (c : Cell) → blocking_target d (body_at d p) c ≡ true → final c ≡ a.kept c
+    target_same c target = ⊎_elim of_dump (λ away. undumped_same c away (never c target)) (cases_Bool (is_dumped d dump.bound c))
+      where
+        of_dump : is_dumped d dump.bound c ≡ true → final c ≡ a.kept c
+        of_dump has =
+            final_dumped d h (early_law (machine d)) dump run tables points is t sets are a c has
+            ∙ ap Some (sym (made_dumped d h (early_law (machine d)) dump run tables points is t sets are a c (agreed c) has (target_plain d h (early_law (machine d)) dump run tables points is t sets are a p settles c target) (dump.values t c)
+            (made_start h d dump run tables points is asked t sets a window listed are at_start agreed c (never c target) ∙ start_dumped c has)))
+            ∙ sym (start_dumped c has)
 
     abbrev mixed : Values Bit
     mixed c = if body_mentions c.thing (body_at d p) then sample final c else sample a.kept c
@@ -120,12 +132,12 @@ module _ (h : Habit) (d : Design) (dump : BoundDump) (run : Runs) (tables : Tabl
             ∙ made_agrees d h (early_law (machine d)) dump run tables points is t sets are a p a.kept x bits e
 
     pub made_untouched : IsMade d dump.bound p a.kept → IsMade d dump.bound p final
-    made_untouched was v agrees told c free has =
-        target_same c target free ∙ was mixed mixed_agrees mixed_told c free (subst (λ z. has_cell z c ≡ true) (sym all_same) has)
+    made_untouched was v agrees told c has =
+        target_same c target ∙ was mixed mixed_agrees mixed_told c (subst (λ z. has_cell z c ≡ true) (sym all_same) has)
         ∙ ap Some (put_covered mixed v (all_written d (body_at d p) mixed) c (subst (λ z. has_cell z c ≡ true) (sym all_same) has) ∙ ap (λ z. put_all v z c) all_same)
       where
         target : blocking_target d (body_at d p) c ≡ true
-        target = (and_parts (blocking_target d (body_at d p) c) _ (written_makes d h (early_law (machine d)) dump run tables points is t sets are a p settles v c free has)).0
+        target = written_target d h (early_law (machine d)) dump run tables points is t sets are a p settles v c has
 
         all_same : all_written d (body_at d p) mixed ≡ all_written d (body_at d p) v
         all_same =
@@ -140,26 +152,8 @@ module _ (h : Habit) (d : Design) (dump : BoundDump) (run : Runs) (tables : Tabl
             (λ x read v. (v.0, map_same (made_kept d dump.bound p a.kept) (made_kept d dump.bound p final) (cells d x) (λ c inside. sym (kept_same x (read_in (λ q. body_mentions q (body_at d p) ≡ true) _ x (execute_reads (λ q. body_mentions q (body_at d p) ≡ true) d (body_at d p) (λ q f. f) (execution_start (sample final)) tt) read) c inside)) ∙ v.1))
             (told (sample final) (made_agrees d h (early_law (machine d)) dump run tables points is t sets are a p final))))
 
-  -- what has acted before
-  clean_acted : (o : Option ℕ) (p : ℕ) (wk : Working) → (run_clean st o p wk).acted ≡ wk.acted
-  clean_acted None p wk = refl
-  clean_acted (Some s) p wk = refl
-
-  all_clean_acted : (ps : List ℕ) (wk : Working) → (run_all_clean st ps wk).acted ≡ wk.acted
-  all_clean_acted [] wk = refl
-  all_clean_acted (p ∷ ps) wk = all_clean_acted ps (run_clean st (sets.trigger p) p wk) ∙ clean_acted (sets.trigger p) p wk
-
-  weak_acted : (o n : Option ℕ) (p : ℕ) (wk : Working) → (run_weak st o n p wk).acted ≡ wk.acted
-  weak_acted (Some s) n p wk = refl
-  weak_acted None None p wk = refl
-  weak_acted None (Some x) p wk = refl
-
-  all_weak_acted : (ps : List ℕ) (wk : Working) → (run_all_weak st ps wk).acted ≡ wk.acted
-  all_weak_acted [] wk = refl
-  all_weak_acted (p ∷ ps) wk = all_weak_acted ps (run_weak st (sets.trigger p) (sets.wakes p) p wk) ∙ weak_acted (sets.trigger p) (sets.wakes p) p wk
-
   start_acted : (settle_start st (clocked_run st)).acted ≡ a.acted
-  start_acted = all_weak_acted tables.clocked (run_all_clean st tables.clocked (opened st)) ∙ all_clean_acted tables.clocked (opened st)
+  start_acted = clocked_acted st
 
   -- a Comb that did not run has acted where it had
   pub untouched_acted : (p : ℕ) → is_touched st p ≡ false → (all_run st).acted p ≡ a.acted p
@@ -207,7 +201,7 @@ module _ (h : Habit) (d : Design) (dump : BoundDump) (run : Runs) (tables : Tabl
       below (inr le) = absurd (both_ways false refl (subst (λ z. body_mentions s (Rattle.design_model.specs.Design.body z) ≡ true) (past d.processes p le) mention))
 
       dumped_cell : (c : Cell) → In c (signal_cells d s) → is_dumped d dump.bound c ≡ true
-      dumped_cell c inside = and_from (dump.bound c.thing) _ (subst (λ z. dump.bound z ≡ true) (sym (in_signal d s c inside).0) bound) (lt-ltb _ _ (subst (λ z. c.place < (signal_at d z).width) (sym (in_signal d s c inside).0) (in_signal d s c inside).1))
+      dumped_cell c inside = signal_dumped d dump.bound s c bound inside
 
       inner : list_any (λ c. surely_differ (a.kept c) (Some (dump.values (suc t) c))) (signal_cells d s) ≡ true
       inner =

@@ -6,7 +6,8 @@ use Rattle.event_machine.specs.Cell.{Cell}
 use Rattle.event_machine.specs.Habit.{Habit}
 use Rattle.event_machine.specs.Laws.{EarlyLaw}
 use Rattle.design_model.specs.declared.point.Point.{Point}
-use Rattle.design_model.specs.Design.{AreDistinct, Design, In, IsClocked, body_at, process_at}
+use Rattle.four_state.specs.declared.bit.Bit.{Bit}
+use Rattle.design_model.specs.Design.{AreDistinct, Design, In, IsClocked, body_at, process_at, signal_at}
 use Rattle.design_model.specs.Mentions.{blocking_target, may_write}
 use Rattle.design_model.specs.Machine.{is_level, machine}
 use Rattle.design_model.specs.Shows.{BoundDump}
@@ -18,9 +19,9 @@ use Rattle.body_replay.specs.Runs.{Runs}
 use Rattle.body_replay.specs.Store.{Kept}
 use Rattle.replay_model.specs.Sets.{AreSets, Sets}
 use Rattle.replay_model.specs.Tables.{Drives, StandsBefore, Tables}
-use Rattle.replay_model.specs.Step.{Closing, Replay, Working, after_settling, all_run, certainty, clocked_run, is_dumped, is_loose, is_touched, plain_store, run_all_settling, run_settling, settle_start, settled_kept}
+use Rattle.replay_model.specs.Step.{Closing, Replay, Working, after_settling, all_run, certainty, clocked_run, contradicts, is_dumped, is_loose, is_touched, plain_store, run_all_settling, run_settling, settle_start, settled_kept}
 use Rattle.replay_model.specs.Laws.{IsReplayOf, closing_at}
-use Rattle.replay_model.proofs.Bits.{any_in, in_any, in_right, none_in}
+use Rattle.replay_model.proofs.Bits.{any_in, in_any, in_right, none_in, not_differ}
 use Rattle.replay_model.proofs.Clocked.{at_false, at_true, distinct_left}
 use Rattle.replay_model.proofs.Targets.{target_assigns}
 use Rattle.replay_model.proofs.Trace.{SettleRun, Traced, settle_all, settle_keeps}
@@ -64,6 +65,23 @@ module _ (d : Design) (h : Habit) (early_law : EarlyLaw (machine d)) (dump : Bou
   pub kept_all : (ordered : Bool) (ps : List ℕ) (wk : Working) (c : Cell) → ((q : ℕ) → In q ps → is_touched st q ≡ true → makes q c ≡ false) → (run_all_settling st ordered ps wk).kept c ≡ wk.kept c
   kept_all ordered [] wk c other = refl
   kept_all ordered (p ∷ ps) wk c other = kept_all ordered ps (run_settling st ordered p wk) c (λ q x. other q (inr x)) ∙ kept_one ordered p wk c (other p (inl refl))
+
+  pub made_one : (ordered : Bool) (p : ℕ) (wk : Working) (c : Cell) → (is_touched st p ≡ true → blocking_target d (body_at d p) c ≡ false) → (run_settling st ordered p wk).made c ≡ wk.made c
+  made_one ordered p wk c other = go (is_touched st p) refl
+    where
+      go : (b : Bool) → is_touched st p ≡ b → (if b then after_settling st ordered p (certainty st wk.kept p) (run p (plain_store (settled_kept d p wk.kept)) (certainty st wk.kept p)) wk else wk).made c ≡ wk.made c
+      go true e = at_false (λ z. z ≡ wk.made c) (blocking_target d (body_at d p) c) _ (wk.made c) (other e) refl
+      go false e = refl
+
+  pub made_all : (ordered : Bool) (ps : List ℕ) (wk : Working) (c : Cell) → ((q : ℕ) → In q ps → is_touched st q ≡ true → blocking_target d (body_at d q) c ≡ false) → (run_all_settling st ordered ps wk).made c ≡ wk.made c
+  made_all ordered [] wk c other = refl
+  made_all ordered (p ∷ ps) wk c other = made_all ordered ps (run_settling st ordered p wk) c (λ q x. other q (inr x)) ∙ made_one ordered p wk c (other p (inl refl))
+
+  -- without a contradiction what was surely made of a bit that the dump has is the dump's
+  pub made_dumped : (c : Cell) → contradicts st c ≡ false → is_dumped d dump.bound c ≡ true → (signal_at d c.thing).input ≡ false → (x : Bit) → (all_run st).made c ≡ Some x → x ≡ dump.values (suc t) c
+  made_dumped c agreed has plain x e =
+      not_differ ((all_run st).made c) x (dump.values (suc t) c) e
+      (false_from_ne_true _ (λ f. both_ways _ agreed (and_from (is_dumped d dump.bound c) _ has (and_from (not (signal_at d c.thing).input) _ (not_from_false _ plain) f))))
 
   -- what a process makes is of an unbound thing
   pub makes_unbound : (q : ℕ) (c : Cell) → makes q c ≡ true → dump.bound c.thing ≡ false

@@ -10,19 +10,20 @@ use Rattle.design_model.specs.Design.{Design, In, IsClocked, IsComb, Thing, a_si
 use Rattle.design_model.specs.Machine.{machine}
 use Rattle.design_model.specs.MayMove.{IsCleanAt, MayMoveAt}
 use Rattle.event_machine.specs.MayMove.{of_input, of_target}
-use Rattle.replay_model.proofs.Allows.{window_shown_at}
 use Rattle.replay_model.proofs.Existing.{signal_has}
 use Rattle.replay_model.proofs.SettleReasons.{bound_clear, sure_at}
 use Rattle.design_model.specs.Shows.{BoundDump, IsListed, IsWindow}
 use Rattle.design_model.specs.Clear.{HasChanged, clear}
+use Rattle.design_model.proofs.Toggles.{window_shown_at}
 use Rattle.body_replay.specs.Contract.{Doubted, sure_in}
 use Rattle.body_replay.specs.Runs.{Runs}
 use Rattle.replay_model.specs.Tables.{Tables}
 use Rattle.replay_model.specs.Marks.{IsToldDoubt, IsToldHit, Told}
 use Rattle.replay_model.specs.Step.{Replay, all_run, contradicts, is_comb, is_dumped, is_touched}
-use Rattle.replay_model.specs.Stands.{IsMade}
+use Rattle.replay_model.specs.Sets.{AreSets, Sets}
+use Rattle.replay_model.specs.Stands.{AreKnown, AreTold, IsMade}
 use Rattle.replay_model.proofs.AskedLaws.{AskedLaws, asked_of}
-use Rattle.replay_model.specs.Laws.{IsReplayOf, ReasonedVerdictLaw, RestKnownLaw, RestKnownLawBy, RestToldLaw, StepKnownLaw, StepKnownLawBy, StepToldLaw, StepToldLawBy, closed_at, closing_at}
+use Rattle.replay_model.specs.Laws.{IsReplayOf, ReasonedVerdictLaw, RestForcedLaw, RestKnownLaw, RestToldLaw, StepKnownLaw, StepToldLaw, closed_at, closing_at}
 use Rattle.replay_model.proofs.Bits.{in_left}
 use Rattle.replay_model.proofs.Calm.{calm_dumped}
 use Rattle.replay_model.proofs.ClearClocked.{unwoken_sure, written_sure}
@@ -34,8 +35,13 @@ use Rattle.replay_model.proofs.Settling.{is_comb-from}
 use Rattle.replay_model.proofs.Tells.{doubt_step, kept_told, reached_step}
 use Rattle.replay_model.proofs.Trace.{hit_in, in_hit}
 
-pub step_known_by : (h : Habit) → StepKnownLawBy AskedLaws h
-step_known_by h d dump run tables points is asked t sets a window listed are known agreed =
+pub step_known :
+    (h : Habit)
+    → (d : Design) (dump : BoundDump) (run : Runs) (tables : Tables) (points : List Point) → IsReplayOf d h dump run tables points → AskedLaws d
+    → (t : ℕ) (sets : Sets) (a : Replay) → IsWindow dump (suc t) → IsListed dump (suc t) → AreSets d h dump (suc t) sets
+    → AreKnown d h dump tables t a → ((c : Cell) → contradicts (closing_at d dump run tables sets t a) c ≡ false)
+    → AreKnown d h dump tables (suc t) (closed_at d dump run tables points sets t a)
+step_known h d dump run tables points is asked t sets a window listed are known agreed =
     record {
       is_clear = λ x bits e. clear_sure d h dump run tables points is asked (suc t) (clear d h dump t) (all_run (closing_at d dump run tables sets t a)).kept (all_run (closing_at d dump run tables sets t a)).acted (final_dumped d h (early_law (machine d)) dump run tables points is t sets are a) made_now acted_now (λ p y is_a m mine free n v. asked.own_unclear h dump (suc t) p y is_a m mine free (v.0, (n, v.1)))
           (λ p z w in_window free target never k. unwoken_sure d h (early_law (machine d)) dump run tables points is asked t window listed sets are a known.is_clear p z w free target never k)
@@ -56,14 +62,19 @@ step_known_by h d dump run tables points is asked t sets a window listed are kno
         ran : is_touched (closing_at d dump run tables sets t a) p ≡ true → IsMade d dump.bound p (all_run (closing_at d dump run tables sets t a)).kept
         ran touched =
             let k = find d h (early_law (machine d)) dump run tables points is t sets are a p tables.order (Rattle.replay_model.specs.Step.settle_start (closing_at d dump run tables sets t a) (Rattle.replay_model.specs.Step.clocked_run (closing_at d dump run tables sets t a))) (starts d h (early_law (machine d)) dump run tables points is t sets are a) inside in
-            made_touched d h (early_law (machine d)) dump run tables points is t sets are a p settles k.0 k.1 k.2 touched (λ c. acted (is_comb-from (process_at d p) c))
+            made_touched d h (early_law (machine d)) dump run tables points is t sets are a p settles k.0 k.1 k.2 touched (λ c. acted (is_comb-from (process_at d p) c)) agreed
 
         rested : is_touched (closing_at d dump run tables sets t a) p ≡ false → IsMade d dump.bound p (all_run (closing_at d dump run tables sets t a)).kept
         rested untouched =
             made_untouched h d dump run tables points is asked t sets a window listed are known.is_clear agreed p settles untouched (known.made p inside (λ c. sym (untouched_acted h d dump run tables points is asked t sets a window listed are known.is_clear agreed p untouched) ∙ acted c))
 
-pub step_told_by : (h : Habit) → StepToldLawBy AskedLaws h
-step_told_by h d dump run tables points is asked t sets a window listed are known agreed told =
+step_told :
+    (h : Habit)
+    → (d : Design) (dump : BoundDump) (run : Runs) (tables : Tables) (points : List Point) → IsReplayOf d h dump run tables points → AskedLaws d
+    → (t : ℕ) (sets : Sets) (a : Replay) → IsWindow dump (suc t) → IsListed dump (suc t) → AreSets d h dump (suc t) sets
+    → AreKnown d h dump tables t a → ((c : Cell) → contradicts (closing_at d dump run tables sets t a) c ≡ false) → AreTold d h dump t a
+    → AreTold d h dump (suc t) (closed_at d dump run tables points sets t a)
+step_told h d dump run tables points is asked t sets a window listed are known agreed told =
     record {
       doubts = λ x y now. ⊎_elim (λ old. let k = told.doubts x y old in (k.0, omega (arith, k.1), k.2)) (λ n. (subst (IsWindow dump) (sym n.0) window, omega (arith, n.0), subst (λ u. Rattle.design_model.specs.Doubt.IsInDoubt d h dump x u y.thing) (sym n.0) n.1))
           (doubt_step d h (early_law (machine d)) dump run tables points is asked t window listed sets are a known.is_clear at_end x y now);
@@ -72,7 +83,7 @@ step_told_by h d dump run tables points is asked t sets a window listed are know
     }
   where
     at_end : (x : Thing) (bits : List Bit) → clear d h dump (suc t) x bits → sure_in d (all_run (closing_at d dump run tables sets t a)).kept x bits
-    at_end = (step_known_by h d dump run tables points is asked t sets a window listed are known agreed).is_clear
+    at_end = (step_known h d dump run tables points is asked t sets a window listed are known agreed).is_clear
 
     keep : (x : Point) → IsToldHit d x a.notes → IsToldHit d x (closed_at d dump run tables points sets t a).notes
     keep x old =
@@ -109,8 +120,11 @@ rest_told_law d h dump run tables points is t a window unlisted told =
     none p x reached =
         ⊎_elim (λ k. none_clean d h dump run tables points is t window unlisted p k.0 k.1) (λ k. k.1.3 (ap (λ f. f k.1.0) (no_change d h dump run tables points is t window unlisted))) reached.2
 
-pub rest_known_by : RestKnownLawBy AskedLaws
-rest_known_by d h dump run tables points is asked t a window unlisted known =
+rest_known :
+    (d : Design) (h : Habit) (dump : BoundDump) (run : Runs) (tables : Tables) (points : List Point) → IsReplayOf d h dump run tables points
+    → AskedLaws d → (t : ℕ) (a : Replay) → IsWindow dump (suc t) → (IsListed dump (suc t) → ⊥) → AreKnown d h dump tables t a
+    → AreKnown d h dump tables (suc t) a
+rest_known d h dump run tables points is asked t a window unlisted known =
     record {
       is_clear = λ x bits e. clear_sure d h dump run tables points is asked (suc t) (clear d h dump t) a.kept a.acted dumped known.made acted (λ p y is_a m mine free n v. asked.own_unclear h dump (suc t) p y is_a m mine free (v.0, (n, v.1))) (λ p z w in_window free target never k. known.is_clear z w k)
           (λ p c z w in_window free value. absurd (none_clean d h dump run tables points is t window unlisted p c value.is_clean)) e.0 x bits e.1;
@@ -135,6 +149,9 @@ rest_known_by d h dump run tables points is asked t a window unlisted known =
             known.has_acted p c
             (record { by = changed.by; time = changed.time; mentioned = changed.mentioned; is_bound = changed.is_bound; until = earlier ne changed.until; in_window = changed.in_window; changed = changed.changed })
 
+pub rest_forced_law : RestForcedLaw
+rest_forced_law d h dump t unlisted before u s bits le forced = ⊎_elim (λ e. absurd (unlisted (subst (IsListed dump) e forced.is_listed))) (λ ne. before u s bits (omega (arith, le, ne)) forced) (cases_eq u (suc t))
+
 -- the reasoned verdicts
 pub reasoned_verdict_law : ReasonedVerdictLaw
 reasoned_verdict_law d h dump points t a ends shown sound told_all =
@@ -153,10 +170,10 @@ reasoned_verdict_law d h dump points t a ends shown sound told_all =
     first_doubt x y v = Rattle.replay_model.proofs.Trace.in_doubt d x y a.notes v.1.1 (subst (In v.1.1) (sym v.1.3) (in_middle v.1.0 v.1.1 v.1.2)) v.1.5 v.1.6
 
 pub step_known_law : (h : Habit) → StepKnownLaw h
-step_known_law h d dump run tables points is own = step_known_by h d dump run tables points is (asked_of d is.lawful own)
+step_known_law h d dump run tables points is own = step_known h d dump run tables points is (asked_of d is.lawful own)
 
 pub step_told_law : (h : Habit) → StepToldLaw h
-step_told_law h d dump run tables points is own = step_told_by h d dump run tables points is (asked_of d is.lawful own)
+step_told_law h d dump run tables points is own = step_told h d dump run tables points is (asked_of d is.lawful own)
 
 pub rest_known_law : RestKnownLaw
-rest_known_law d h dump run tables points is own = rest_known_by d h dump run tables points is (asked_of d is.lawful own)
+rest_known_law d h dump run tables points is own = rest_known d h dump run tables points is (asked_of d is.lawful own)

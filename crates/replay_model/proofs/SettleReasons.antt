@@ -29,10 +29,10 @@ use Rattle.body_replay.specs.Runs.{HasDoubtNote, Runs}
 use Rattle.body_replay.specs.Store.{Kept}
 use Rattle.replay_model.specs.Sets.{AreSets, Sets}
 use Rattle.design_model.specs.BodyLaws.{all_cells, word_indexes, words_cells}
+use Rattle.design_model.proofs.Toggles.{window_shown_at}
 use Rattle.replay_model.specs.Tables.{Tables}
 use Rattle.replay_model.specs.Step.{Closing, Replay, all_run, certainty, first_unsure, has_changed, is_comb, is_dumped, is_still, plain_store, settled_kept, surely_differ, surely_same, wake_cells}
 use Rattle.replay_model.specs.Laws.{IsReplayOf, closing_at}
-use Rattle.replay_model.proofs.Allows.{window_shown_at}
 use Rattle.replay_model.proofs.Bits.{any_in, in_any, in_halves, none_in}
 use Rattle.replay_model.proofs.Clocked.{at_false, at_true}
 use Rattle.replay_model.proofs.Existing.{all_has, signal_has}

@@ -25,13 +25,12 @@ use Rattle.body_replay.specs.Runs.{AreRuns, Runs}
 use Rattle.body_replay.specs.Store.{AllowsState, Kept}
 use Rattle.replay_model.specs.Sets.{Sets}
 use Rattle.design_model.specs.BodyLaws.{all_cells, word_indexes, words_cells}
+use Rattle.design_model.specs.StepLaws.{IsLeft, StepFacts}
 use Rattle.replay_model.specs.Tables.{AreTables, Tables}
 use Rattle.replay_model.specs.Step.{Closing, Replay, Working, after_settling, acts, certainty, certainty_from, first_unsure, has_changed, is_clean_way, is_comb, is_dumped, is_touched, not_assigned, plain_store, run_all_settling, run_settling, sees_change, settled_kept, surely_differ, wake_cells}
-use Rattle.replay_model.specs.Stands.{IsLeft}
 use Rattle.replay_model.specs.Laws.{closing_at}
 use Rattle.replay_model.proofs.Bits.{any_in, differ_apart, in_halves}
 use Rattle.replay_model.proofs.Clocked.{at_false, at_true}
-use Rattle.replay_model.proofs.Facts.{Facts}
 use Rattle.replay_model.proofs.Targets.{blocks_assigns, blocks_from, not_queueing}
 
 -- the values of what a body mentions
@@ -180,7 +179,7 @@ clean_way st k p e = go (list_any (has_changed st k p) (st.tables.watched p)) e
     go true f = refl
     go false f = unsure (first_unsure st k p (st.tables.watched p)) f
 
-module _ (d : Design) (lawful : IsLawfulDesign d) (h : Habit) (dump : BoundDump) (fits : IsDumpOf d dump) (run : Runs) (runs : AreRuns d run) (tables : Tables) (tabled : AreTables d dump.bound tables) (t : ℕ) (sets : Sets) (a : Replay) (u w : Values Bit) (facts : Facts d h dump t u w) (starts : AllowsState a.kept u) (nets : (p : ℕ) (c : Cell) → is_assign (process_at d p) ≡ true → (machine d).blocking p c ≡ true → w c ≡ put_all w (output (machine d) p w) c) where
+module _ (d : Design) (lawful : IsLawfulDesign d) (h : Habit) (dump : BoundDump) (fits : IsDumpOf d dump) (run : Runs) (runs : AreRuns d run) (tables : Tables) (tabled : AreTables d dump.bound tables) (t : ℕ) (sets : Sets) (a : Replay) (u w : Values Bit) (facts : StepFacts d h dump t u w) (starts : AllowsState a.kept u) (nets : (p : ℕ) (c : Cell) → is_assign (process_at d p) ≡ true → (machine d).blocking p c ≡ true → w c ≡ put_all w (output (machine d) p w) c) where
   abbrev pub st : Closing
   st = closing_at d dump run tables sets t a
 
@@ -192,7 +191,7 @@ module _ (d : Design) (lawful : IsLawfulDesign d) (h : Habit) (dump : BoundDump)
 
   -- where a wake cell differs at the start and the end, the process has acted
   pub left_by_change : (p : ℕ) (c : Cell) → is_level (process_at d p) c.thing ≡ true → (u c ≡ w c → ⊥) → IsLeft d p w
-  left_by_change p c level differ = ⊎_elim (λ l. l) (λ idle. absurd (differ (sym (idle.0 c level)))) (facts.settles p)
+  left_by_change p c level differ = ⊎_elim (λ l. l) (λ idle. absurd (differ (sym (idle.sensitive c level)))) (facts.settles p)
 
   pub acts_left : (p : ℕ) → IsComb (process_at d p) → (wk : Working) → SettlingSound wk → acts st p (certainty st wk.kept p) wk ≡ true → IsLeft d p w
   acts_left p is wk inv e = ⊎_elim (inv.acted p is) (λ f. ⊎_elim by_change by_signal (or_cases (is_clean_way (certainty st wk.kept p)) _ f)) (or_cases (wk.acted p) _ e)

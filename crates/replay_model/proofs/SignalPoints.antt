@@ -13,12 +13,14 @@ use Rattle.design_model.specs.declared.point.Point.TheVariants.{Line as line_poi
 use Rattle.design_model.specs.Design.{Design, In, IsComb, cell, process_at, signal_at, signal_bits, signal_cells}
 use Rattle.design_model.specs.Machine.{machine}
 use Rattle.design_model.specs.Run.{Run, StepOf, settled}
-use Rattle.design_model.specs.Shows.{BoundDump, IsListed, IsWindow}
+use Rattle.design_model.specs.Shows.{BoundDump, IsListed, IsShowing, IsWindow}
 use Rattle.design_model.specs.Value.{offset}
 use Rattle.design_model.specs.Assignment.{signal_range}
 use Rattle.design_model.specs.Points.{HitIn, IsHitAt, indexed_cell, toggle_cell}
 use Rattle.design_model.proofs.Hits.{step_here}
 use Rattle.design_model.proofs.StepLaws.{StepLaws}
+use Rattle.design_model.specs.StepLaws.{IsLeft, StepFacts}
+use Rattle.design_model.proofs.Toggles.{end_values, start_values}
 use Rattle.body_replay.specs.Contract.{Doubted, spot_at}
 use Rattle.body_replay.specs.KnownBits.{Allows}
 use Rattle.body_replay.specs.Replay.{Spot, line, node, word_read, word_write}
@@ -28,13 +30,10 @@ use Rattle.replay_model.specs.Sets.{AreSets, Sets}
 use Rattle.replay_model.specs.Tables.{Tables}
 use Rattle.replay_model.specs.Marks.{Told, of_point}
 use Rattle.replay_model.specs.Step.{Closing, Replay, all_point_notes, all_run, are_surely, known_bits, may_be, point_notes, surely_differ, surely_same, tell, tell_toggle}
-use Rattle.replay_model.specs.Stands.{IsLeft, IsShowing}
 use Rattle.replay_model.specs.Laws.{IsReplayOf, closing_at}
 use Rattle.replay_model.proofs.Allows.{all_sound, here}
 use Rattle.replay_model.proofs.Bits.{differ_apart, in_halves, in_left, in_right, same_equal}
-use Rattle.replay_model.proofs.Facts.{Facts}
 use Rattle.replay_model.proofs.Settling.{in_signal}
-use Rattle.replay_model.proofs.Steps.{end_values, start_values}
 
 -- what is told of one point
 pub in_point_notes : (st : Closing) (xs : List Point) (n : Told) → In n (all_point_notes st xs) → (x : Point) × In x xs × In n (point_notes st x)
@@ -117,7 +116,7 @@ module _ (d : Design) (h : Habit) (dump : BoundDump) (run : Runs) (tables : Tabl
   abbrev st : Closing
   st = closing_at d dump run tables sets t a
 
-  abbrev facts : Facts d h dump t (settled d r t) (settled d r (suc t))
+  abbrev facts : StepFacts d h dump t (settled d r t) (settled d r (suc t))
   facts = here d h dump run tables points is laws early_law t window sets are a r showing starts
 
   ends : AllowsState (all_run st).kept (settled d r (suc t))

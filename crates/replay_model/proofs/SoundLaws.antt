@@ -1,9 +1,8 @@
 -- The replay is sound: after the first step, after each closing step and over each time that the dump does not list; a
 -- contradiction is one; and so hit is hit and missed is never hit.
-use Rattle.std.proofs.Common.{◌≡◌, ◌⊎◌, inl, inr, ⊎_elim, ℕ, suc, ◌-◌, ◌≤◌, true, false, List, [], ◌∷◌, ◌++◌, refl, sym, ap, subst, ◌∙◌, arith, Some, None}
+use Rattle.std.proofs.Common.{◌≡◌, ◌⊎◌, inl, inr, ⊎_elim, ℕ, suc, ◌≤◌, true, false, List, [], ◌∷◌, ◌++◌, refl, sym, ap, subst, ◌∙◌, arith, Some, None}
 use Rattle.std.proofs.lemmas.Bool.{both_ways, cases_eq}
 use Rattle.event_machine.proofs.Least.{early_law}
-use Rattle.event_machine.proofs.Rest.{no_event_law}
 use Rattle.event_machine.specs.Cell.{Values}
 use Rattle.event_machine.specs.Event.{end_state}
 use Rattle.event_machine.specs.Machine.{IsLawful}
@@ -17,14 +16,14 @@ use Rattle.design_model.specs.declared.point.Point.TheVariants.{Line as line_poi
 use Rattle.design_model.specs.Design.{Design, In, IsComb, process_at, signal_at}
 use Rattle.design_model.specs.Execution.{Visit}
 use Rattle.design_model.specs.Machine.{machine}
-use Rattle.design_model.specs.MayMove.{told_at}
 use Rattle.design_model.specs.Run.{IsRun, Run, StepOf, end_of, evaluations_of, settled, start_of}
 use Rattle.design_model.specs.Scored.{IsScoredOf, VisitsIn}
-use Rattle.design_model.specs.Shows.{BoundDump, IsFirstOf, IsListed, IsShown, IsWindow, IsWindowOf, Shows}
+use Rattle.design_model.specs.Shows.{BoundDump, IsFirstOf, IsListed, IsShowing, IsWindow, IsWindowOf, Shows}
 use Rattle.design_model.specs.Points.{HitAt, HitIn, IsHit, IsHitAt}
 use Rattle.design_model.proofs.Assigns.{machine_lawful}
-use Rattle.design_model.proofs.Hits.{StepHere, step_here}
 use Rattle.design_model.proofs.StepLaws.{StepLaws, step_laws}
+use Rattle.design_model.specs.StepLaws.{IsLeft}
+use Rattle.design_model.proofs.StepFacts.{unlisted_law}
 use Rattle.replay_model.proofs.AskedLaws.{AskedLaws, asked_of}
 use Rattle.body_replay.specs.Contract.{spot_at}
 use Rattle.body_replay.specs.Replay.{Spot, line, node, word_read, word_write}
@@ -34,15 +33,14 @@ use Rattle.replay_model.specs.Sets.{AreSets, Sets}
 use Rattle.replay_model.specs.Tables.{Tables}
 use Rattle.replay_model.specs.Marks.{IsKeyOf, IsToldDoubt, IsToldHit, IsUntold, Told}
 use Rattle.replay_model.specs.Step.{Replay, all_point_notes, all_run, contradicts}
-use Rattle.replay_model.specs.Stands.{IsLeft, IsShowing, IsSound}
-use Rattle.replay_model.specs.Laws.{ContradictionLaw, FirstContradictionLaw, FirstSoundLaw, IsReplayOf, RestSoundLaw, SoundVerdictLaw, StepSoundLaw, StepSoundLawBy, closed_at, closing_at}
-use Rattle.replay_model.proofs.Allows.{all_sound, contradicts_none, window_shown_at}
+use Rattle.replay_model.specs.Stands.{IsSound}
+use Rattle.replay_model.specs.Laws.{ContradictionLaw, FirstContradictionLaw, FirstSoundLaw, IsReplayOf, RestSoundLaw, SoundVerdictLaw, StepSoundLaw, closed_at, closing_at}
+use Rattle.replay_model.proofs.Allows.{all_sound, contradicts_none}
 use Rattle.replay_model.proofs.Bits.{in_halves, in_left, in_right}
 use Rattle.replay_model.proofs.BodyComplete.{body_marked}
 use Rattle.replay_model.proofs.BodyMarks.{body_hit, old_kept}
 use Rattle.replay_model.proofs.FirstStep.{first_contradicts_none, first_sound}
 use Rattle.replay_model.proofs.SignalPoints.{PointNow, in_point_notes, note_key, point_hit, point_marked, point_notes_in}
-use Rattle.replay_model.proofs.Steps.{end_values, start_values, to}
 use Rattle.replay_model.proofs.Trace.{doubt_in, hit_in, in_doubt, in_hit}
 
 abbrev the_laws : (d : Design) → IsLawful (machine d) → (h : Habit) → StepLaws (machine d) h
@@ -157,30 +155,16 @@ module _ (h : Habit) (d : Design) (dump : BoundDump) (run : Runs) (tables : Tabl
         marked = λ x member r showing. marked_step r showing x member;
       }
 
-pub step_sound_by : (h : Habit) → StepSoundLawBy AskedLaws h
-step_sound_by h d dump run tables points is asked t sets a window listed are sound = step_sound h d dump run tables points is asked t sets a window listed are sound
-
 -- over a time that the dump does not list nothing happens
 module _ (d : Design) (h : Habit) (dump : BoundDump) (run : Runs) (tables : Tables) (points : List Point) (is : IsReplayOf d h dump run tables points) (t : ℕ) (window : IsWindow dump (suc t)) (unlisted : IsListed dump (suc t) → ⊥) (r : Run) (showing : IsShowing d h dump (suc t) r) where
-  shown : IsShown dump t × IsShown dump (suc t)
-  shown = window_shown_at dump.times t window
-
-  back : suc t - 1 ≡ t
-  back = omega arith
-
-  quiet_step : (k : StepOf r) → k.step.time ≡ suc t → k.step.events ≡ []
-  quiet_step k at =
-      no_event_law (machine d) (machine_lawful d is.lawful) h (told_at dump (suc t))
-      (Rattle.replay_model.proofs.Facts.told_step d is.lawful h (step_laws (machine d) (machine_lawful d is.lawful) h) dump is.fits r showing.is_run t (showing.shows.shows t shown.0 (omega arith)) (showing.shows.shows (suc t) shown.1 (omega arith)) (to d h r showing.is_run k t at))
-      (λ c input. (is.fits.inputs c input, ap (λ y. dump.values y c) back ∙ ap (λ f. f c) (sym (is.fits.stays t unlisted))))
+  quiet : (settled d r (suc t) ≡ settled d r t) × ((k : StepOf r) → k.step.time ≡ suc t → k.step.events ≡ [])
+  quiet = unlisted_law d is.lawful h (step_laws (machine d) (machine_lawful d is.lawful) h) dump r t is.fits showing window unlisted
 
   pub same_settled : settled d r (suc t) ≡ settled d r t
-  same_settled = ⊎_elim (λ e. e) in_step (step_here d h r showing.is_run t)
-    where
-      in_step : StepHere d h r t → settled d r (suc t) ≡ settled d r t
-      in_step s =
-          let e : s.step.step.events ≡ [] = quiet_step s.step s.at in
-          sym (end_values d h r showing.is_run s.step (suc t) s.at) ∙ ap (λ es. (end_state (machine d) (start_of d r s.step) es).values) e ∙ start_values d h r showing.is_run s.step t s.at
+  same_settled = quiet.0
+
+  quiet_step : (k : StepOf r) → k.step.time ≡ suc t → k.step.events ≡ []
+  quiet_step = quiet.1
 
   same_ends : (k : StepOf r) → k.step.time ≡ suc t → (start_of d r k).values ≡ (end_of d r k).values
   same_ends k at = ap (λ es. (end_state (machine d) (start_of d r k) es).values) (sym (quiet_step k at))
@@ -249,4 +233,4 @@ sound_verdict_law d h dump points t a ends shown sound =
     showing r is_run shows = record { is_run = is_run; shows = record { starts = shows.starts; shows = λ s is_shown le. shows.shows s is_shown } }
 
 pub step_sound_law : (h : Habit) → StepSoundLaw h
-step_sound_law h d dump run tables points is own = step_sound_by h d dump run tables points is (asked_of d is.lawful own)
+step_sound_law h d dump run tables points is own t sets a window listed are sound = step_sound h d dump run tables points is (asked_of d is.lawful own) t sets a window listed are sound

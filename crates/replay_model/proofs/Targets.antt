@@ -19,8 +19,8 @@ use Rattle.design_model.specs.Early.{IsEarlyAt}
 use Rattle.design_model.specs.Lawful.{IsLawfulDesign}
 use Rattle.design_model.proofs.Assigns.{machine_lawful}
 use Rattle.design_model.proofs.Lawful.{any_weaker, assign_or, assigns_any, names_from}
+use Rattle.design_model.proofs.Sound.{no_level}
 use Rattle.replay_model.specs.Step.{is_target}
-use Rattle.replay_model.proofs.Facts.{no_level}
 
 -- a process is a Clocked or not
 pub clocked_or : (x : Process) → IsClocked x ⊎ (IsClocked x → ⊥)

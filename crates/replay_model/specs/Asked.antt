@@ -17,9 +17,11 @@ HasOwnWakes d =
 -- An unbound signal that an Assign both drives and mentions is never clear. So it is where some state agrees with what is clear.
 abbrev pub HasOwnUnclear : Design → Type 0
 HasOwnUnclear d =
-    (h : Habit) (dump : BoundDump) (t p y : ℕ) → is_assign (process_at d p) ≡ true → body_mentions y (body_at d p) ≡ true → body_assigns y (body_at d p) ≡ true → dump.bound y ≡ false → HasValue (clear d h dump t) (a_signal y) → ⊥
+    (h : Habit) (dump : BoundDump) (t p y : ℕ) → is_assign (process_at d p) ≡ true → body_mentions y (body_at d p) ≡ true
+    → body_assigns y (body_at d p) ≡ true → dump.bound y ≡ false → HasValue (clear d h dump t) (a_signal y)
+    → ⊥
 
--- both
+-- both hold of the design
 pub record OwnLaws (d : Design) : Type 0 where
   pub own_wake : HasOwnWakes d
   pub own_unclear : HasOwnUnclear d

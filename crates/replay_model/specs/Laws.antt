@@ -1,4 +1,4 @@
--- What the replay of a dump promises: it stands for the dump from the first step on, until it answers a contradiction,
+-- What the replay of a dump promises: what it keeps and reports is right from the first step on, until it answers a contradiction,
 -- which no run shows; and so its verdicts hold.
 use Rattle.std.specs.Prelude.{◌≡◌, ◌≢◌, ◌≤◌, ℕ, suc, true, false, List}
 use Rattle.event_machine.specs.Cell.{Cell}
@@ -8,7 +8,7 @@ use Rattle.design_model.specs.declared.point.Point.{Point}
 use Rattle.design_model.specs.declared.point.Point.TheVariants.{Arc as arc_point}
 use Rattle.design_model.specs.Design.{Design, In}
 use Rattle.design_model.specs.Run.{IsRun, Run}
-use Rattle.design_model.specs.Shows.{BoundDump, IsDumpOf, IsFirst, IsListed, IsShown, IsWindow, Shows}
+use Rattle.design_model.specs.Shows.{BoundDump, IsDumpOf, IsFirst, IsListed, IsShowing, IsShown, IsWindow, Shows}
 use Rattle.design_model.specs.Points.{IsHit, IsHitAt, IsPoint, StateNames}
 use Rattle.design_model.specs.Doubt.{IsInDoubt}
 use Rattle.design_model.specs.Open.{IsReached}
@@ -21,7 +21,7 @@ use Rattle.replay_model.specs.Tables.{AreTables, Tables}
 use Rattle.replay_model.specs.Marks.{Hit, IsVerdict, Missed, Undetermined}
 use Rattle.replay_model.specs.Step.{Closing, Replay, closed, contradicts}
 use Rattle.replay_model.specs.Start.{contradicts_first, started}
-use Rattle.replay_model.specs.Stands.{AreForced, AreKnown, AreTold, IsShowing, IsSound}
+use Rattle.replay_model.specs.Stands.{AreForced, AreKnown, AreTold, IsSound, Stands}
 
 -- what is taken for granted of a replay: a lawful design, its tables, runs of its bodies and its points
 pub record IsReplayOf (d : Design) (h : Habit) (dump : BoundDump) (run : Runs) (tables : Tables) (points : List Point) : Type 0 where
@@ -30,7 +30,7 @@ pub record IsReplayOf (d : Design) (h : Habit) (dump : BoundDump) (run : Runs) (
   pub runs : AreRuns d run
   pub tabled : AreTables d dump.bound tables
   pub listed : (x : Point) → In x points → (machines : List StateNames) × IsPoint d machines x
-  pub arcs : (i : ℕ) (name : List ℕ) (s : ℕ) (from to : List ℕ) (x y : Vector) → In (arc_point i name s from to x y) points → x.bits ≢ y.bits  -- two states of a machine have different values
+  pub arcs : (i : ℕ) (name : List ℕ) (s : ℕ) (from to : List ℕ) (x y : Vector) → In (arc_point i name s from to x y) points → x.bits ≢ y.bits  -- two states of a machine differ in value
 
 -- the step at suc t, by these sets
 abbrev pub closing_at : Design → BoundDump → Runs → Tables → Sets → ℕ → Replay → Closing
@@ -50,98 +50,148 @@ closing_at d dump run tables sets t a =
 abbrev pub closed_at : Design → BoundDump → Runs → Tables → List Point → Sets → ℕ → Replay → Replay
 closed_at d dump run tables points sets t a = closed (closing_at d dump run tables sets t a) points
 
--- Sound laws: the replay is sound after its first step, and each closing step, and each time that the dump does not list, keep it so.
+-- Sound laws: the replay is sound after its first step.
 abbrev pub FirstSoundLaw : Type 0
 FirstSoundLaw =
-    (d : Design) (h : Habit) (dump : BoundDump) (run : Runs) (tables : Tables) (points : List Point) → IsReplayOf d h dump run tables points → (t : ℕ) → IsFirst dump t → IsShown dump t → IsSound d h dump points t (started d dump.bound run tables (dump.values t))
+    (d : Design) (h : Habit) (dump : BoundDump) (run : Runs) (tables : Tables) (points : List Point) → IsReplayOf d h dump run tables points → (t : ℕ)
+    → IsFirst dump t → IsShown dump t
+    → IsSound d h dump points t (started d dump.bound run tables (dump.values t))
 
-abbrev pub StepSoundLawBy : (Design → Type 0) → Habit → Type 0
-StepSoundLawBy premise h =
-    (d : Design) (dump : BoundDump) (run : Runs) (tables : Tables) (points : List Point) → IsReplayOf d h dump run tables points → premise d → (t : ℕ) (sets : Sets) (a : Replay) → IsWindow dump (suc t) → IsListed dump (suc t) → AreSets d h dump (suc t) sets → IsSound d h dump points t a → IsSound d h dump points (suc t) (closed_at d dump run tables points sets t a)
-
+-- a closing step keeps it sound
 abbrev pub StepSoundLaw : Habit → Type 0
-StepSoundLaw h = StepSoundLawBy OwnLaws h
+StepSoundLaw h =
+    (d : Design) (dump : BoundDump) (run : Runs) (tables : Tables) (points : List Point) → IsReplayOf d h dump run tables points → OwnLaws d
+    → (t : ℕ) (sets : Sets) (a : Replay) → IsWindow dump (suc t) → IsListed dump (suc t) → AreSets d h dump (suc t) sets → IsSound d h dump points t a
+    → IsSound d h dump points (suc t) (closed_at d dump run tables points sets t a)
 
+-- a time that the dump does not list keeps it sound
 abbrev pub RestSoundLaw : Type 0
 RestSoundLaw =
-    (d : Design) (h : Habit) (dump : BoundDump) (run : Runs) (tables : Tables) (points : List Point) → IsReplayOf d h dump run tables points → (t : ℕ) (a : Replay) → IsWindow dump (suc t) → (IsListed dump (suc t) → ⊥) → IsSound d h dump points t a → IsSound d h dump points (suc t) a
+    (d : Design) (h : Habit) (dump : BoundDump) (run : Runs) (tables : Tables) (points : List Point) → IsReplayOf d h dump run tables points
+    → (t : ℕ) (a : Replay) → IsWindow dump (suc t) → (IsListed dump (suc t) → ⊥) → IsSound d h dump points t a
+    → IsSound d h dump points (suc t) a
 
--- Known laws: where there was no contradiction, what is clear is sure.
-abbrev pub FirstKnownLawBy : (Design → Type 0) → Type 0
-FirstKnownLawBy premise =
-    (d : Design) (h : Habit) (dump : BoundDump) (run : Runs) (tables : Tables) (points : List Point) → IsReplayOf d h dump run tables points → premise d → (t : ℕ) → IsFirst dump t → IsShown dump t → ((c : Cell) → contradicts_first d dump.bound run tables (dump.values t) c ≡ false) → AreKnown d h dump tables t (started d dump.bound run tables (dump.values t))
-
+-- Known laws: where there was no contradiction, what is clear is sure after the first step.
 abbrev pub FirstKnownLaw : Type 0
-FirstKnownLaw = FirstKnownLawBy OwnLaws
+FirstKnownLaw =
+    (d : Design) (h : Habit) (dump : BoundDump) (run : Runs) (tables : Tables) (points : List Point) → IsReplayOf d h dump run tables points
+    → OwnLaws d → (t : ℕ) → IsFirst dump t → IsShown dump t → ((c : Cell) → contradicts_first d dump.bound run tables (dump.values t) c ≡ false)
+    → AreKnown d h dump tables t (started d dump.bound run tables (dump.values t))
 
-abbrev pub StepKnownLawBy : (Design → Type 0) → Habit → Type 0
-StepKnownLawBy premise h =
-    (d : Design) (dump : BoundDump) (run : Runs) (tables : Tables) (points : List Point) → IsReplayOf d h dump run tables points → premise d → (t : ℕ) (sets : Sets) (a : Replay) → IsWindow dump (suc t) → IsListed dump (suc t) → AreSets d h dump (suc t) sets → AreKnown d h dump tables t a → ((c : Cell) → contradicts (closing_at d dump run tables sets t a) c ≡ false) → AreKnown d h dump tables (suc t) (closed_at d dump run tables points sets t a)
-
+-- a closing step without a contradiction keeps it that what is clear is sure
 abbrev pub StepKnownLaw : Habit → Type 0
-StepKnownLaw h = StepKnownLawBy OwnLaws h
+StepKnownLaw h =
+    (d : Design) (dump : BoundDump) (run : Runs) (tables : Tables) (points : List Point) → IsReplayOf d h dump run tables points → OwnLaws d
+    → (t : ℕ) (sets : Sets) (a : Replay) → IsWindow dump (suc t) → IsListed dump (suc t) → AreSets d h dump (suc t) sets
+    → AreKnown d h dump tables t a → ((c : Cell) → contradicts (closing_at d dump run tables sets t a) c ≡ false)
+    → AreKnown d h dump tables (suc t) (closed_at d dump run tables points sets t a)
 
-abbrev pub RestKnownLawBy : (Design → Type 0) → Type 0
-RestKnownLawBy premise =
-    (d : Design) (h : Habit) (dump : BoundDump) (run : Runs) (tables : Tables) (points : List Point) → IsReplayOf d h dump run tables points → premise d → (t : ℕ) (a : Replay) → IsWindow dump (suc t) → (IsListed dump (suc t) → ⊥) → AreKnown d h dump tables t a → AreKnown d h dump tables (suc t) a
-
+-- so does a time that the dump does not list
 abbrev pub RestKnownLaw : Type 0
-RestKnownLaw = RestKnownLawBy OwnLaws
+RestKnownLaw =
+    (d : Design) (h : Habit) (dump : BoundDump) (run : Runs) (tables : Tables) (points : List Point) → IsReplayOf d h dump run tables points
+    → OwnLaws d → (t : ℕ) (a : Replay) → IsWindow dump (suc t) → (IsListed dump (suc t) → ⊥) → AreKnown d h dump tables t a
+    → AreKnown d h dump tables (suc t) a
 
--- Told laws: what is told is reasoned.
-abbrev pub StepToldLawBy : (Design → Type 0) → Habit → Type 0
-StepToldLawBy premise h =
-    (d : Design) (dump : BoundDump) (run : Runs) (tables : Tables) (points : List Point) → IsReplayOf d h dump run tables points → premise d → (t : ℕ) (sets : Sets) (a : Replay) → IsWindow dump (suc t) → IsListed dump (suc t) → AreSets d h dump (suc t) sets → AreKnown d h dump tables t a → ((c : Cell) → contradicts (closing_at d dump run tables sets t a) c ≡ false) → AreTold d h dump t a → AreTold d h dump (suc t) (closed_at d dump run tables points sets t a)
-
+-- Told laws: a closing step without a contradiction keeps it that what is reported is reasoned.
 abbrev pub StepToldLaw : Habit → Type 0
-StepToldLaw h = StepToldLawBy OwnLaws h
+StepToldLaw h =
+    (d : Design) (dump : BoundDump) (run : Runs) (tables : Tables) (points : List Point) → IsReplayOf d h dump run tables points → OwnLaws d
+    → (t : ℕ) (sets : Sets) (a : Replay) → IsWindow dump (suc t) → IsListed dump (suc t) → AreSets d h dump (suc t) sets
+    → AreKnown d h dump tables t a → ((c : Cell) → contradicts (closing_at d dump run tables sets t a) c ≡ false) → AreTold d h dump t a
+    → AreTold d h dump (suc t) (closed_at d dump run tables points sets t a)
 
+-- so does a time that the dump does not list
 abbrev pub RestToldLaw : Type 0
 RestToldLaw =
-    (d : Design) (h : Habit) (dump : BoundDump) (run : Runs) (tables : Tables) (points : List Point) → IsReplayOf d h dump run tables points → (t : ℕ) (a : Replay) → IsWindow dump (suc t) → (IsListed dump (suc t) → ⊥) → AreTold d h dump t a → AreTold d h dump (suc t) a
+    (d : Design) (h : Habit) (dump : BoundDump) (run : Runs) (tables : Tables) (points : List Point) → IsReplayOf d h dump run tables points
+    → (t : ℕ) (a : Replay) → IsWindow dump (suc t) → (IsListed dump (suc t) → ⊥) → AreTold d h dump t a
+    → AreTold d h dump (suc t) a
 
--- Forced laws: where there was no contradiction no forced value differs.
-abbrev pub FirstForcedLawBy : (Design → Type 0) → Type 0
-FirstForcedLawBy premise =
-    (d : Design) (h : Habit) (dump : BoundDump) (run : Runs) (tables : Tables) (points : List Point) → IsReplayOf d h dump run tables points → premise d → (t : ℕ) → IsFirst dump t → IsShown dump t → ((c : Cell) → contradicts_first d dump.bound run tables (dump.values t) c ≡ false) → AreForced d h dump t
-
+-- Forced laws: where there was no contradiction, no forced value differs from the dump's at the first step.
 abbrev pub FirstForcedLaw : Type 0
-FirstForcedLaw = FirstForcedLawBy OwnLaws
+FirstForcedLaw =
+    (d : Design) (h : Habit) (dump : BoundDump) (run : Runs) (tables : Tables) (points : List Point) → IsReplayOf d h dump run tables points
+    → OwnLaws d → (t : ℕ) → IsFirst dump t → IsShown dump t → ((c : Cell) → contradicts_first d dump.bound run tables (dump.values t) c ≡ false)
+    → AreForced d h dump t
 
-abbrev pub StepForcedLawBy : (Design → Type 0) → Habit → Type 0
-StepForcedLawBy premise h =
-    (d : Design) (dump : BoundDump) (run : Runs) (tables : Tables) (points : List Point) → IsReplayOf d h dump run tables points → premise d → (t : ℕ) (sets : Sets) (a : Replay) → IsWindow dump (suc t) → IsListed dump (suc t) → AreSets d h dump (suc t) sets → AreKnown d h dump tables t a → ((c : Cell) → contradicts (closing_at d dump run tables sets t a) c ≡ false) → AreForced d h dump t → AreForced d h dump (suc t)
-
+-- a closing step without a contradiction keeps it that no forced value differs
 abbrev pub StepForcedLaw : Habit → Type 0
-StepForcedLaw h = StepForcedLawBy OwnLaws h
+StepForcedLaw h =
+    (d : Design) (dump : BoundDump) (run : Runs) (tables : Tables) (points : List Point) → IsReplayOf d h dump run tables points → OwnLaws d
+    → (t : ℕ) (sets : Sets) (a : Replay) → IsWindow dump (suc t) → IsListed dump (suc t) → AreSets d h dump (suc t) sets
+    → AreKnown d h dump tables t a → ((c : Cell) → contradicts (closing_at d dump run tables sets t a) c ≡ false) → AreForced d h dump t
+    → AreForced d h dump (suc t)
+
+-- so does a time that the dump does not list
+abbrev pub RestForcedLaw : Type 0
+RestForcedLaw =
+    (d : Design) (h : Habit) (dump : BoundDump) (t : ℕ) → (IsListed dump (suc t) → ⊥) → AreForced d h dump t → AreForced d h dump (suc t)
+
+-- Whole laws: where there was no contradiction, all this holds after the first step.
+abbrev pub FirstStandsLaw : Type 0
+FirstStandsLaw =
+    (d : Design) (h : Habit) (dump : BoundDump) (run : Runs) (tables : Tables) (points : List Point) → IsReplayOf d h dump run tables points
+    → OwnLaws d → (t : ℕ) → IsFirst dump t → IsShown dump t → ((c : Cell) → contradicts_first d dump.bound run tables (dump.values t) c ≡ false)
+    → Stands d h dump tables points t (started d dump.bound run tables (dump.values t))
+
+-- a closing step without a contradiction keeps all this
+abbrev pub StepStandsLaw : Habit → Type 0
+StepStandsLaw h =
+    (d : Design) (dump : BoundDump) (run : Runs) (tables : Tables) (points : List Point) → IsReplayOf d h dump run tables points → OwnLaws d
+    → (t : ℕ) (sets : Sets) (a : Replay) → IsWindow dump (suc t) → IsListed dump (suc t) → AreSets d h dump (suc t) sets
+    → ((c : Cell) → contradicts (closing_at d dump run tables sets t a) c ≡ false) → Stands d h dump tables points t a
+    → Stands d h dump tables points (suc t) (closed_at d dump run tables points sets t a)
+
+-- so does a time that the dump does not list
+abbrev pub RestStandsLaw : Type 0
+RestStandsLaw =
+    (d : Design) (h : Habit) (dump : BoundDump) (run : Runs) (tables : Tables) (points : List Point) → IsReplayOf d h dump run tables points
+    → OwnLaws d → (t : ℕ) (a : Replay) → IsWindow dump (suc t) → (IsListed dump (suc t) → ⊥) → Stands d h dump tables points t a
+    → Stands d h dump tables points (suc t) a
 
 -- Contradiction law: where the replay contradicts, no run shows the dump up to that time.
 abbrev pub ContradictionLaw : Habit → Type 0
 ContradictionLaw h =
-    (d : Design) (dump : BoundDump) (run : Runs) (tables : Tables) (points : List Point) → IsReplayOf d h dump run tables points → (t : ℕ) (sets : Sets) (a : Replay) (c : Cell) → IsWindow dump (suc t) → AreSets d h dump (suc t) sets → IsSound d h dump points t a → contradicts (closing_at d dump run tables sets t a) c ≡ true → (r : Run) → IsShowing d h dump (suc t) r → ⊥
+    (d : Design) (dump : BoundDump) (run : Runs) (tables : Tables) (points : List Point) → IsReplayOf d h dump run tables points
+    → (t : ℕ) (sets : Sets) (a : Replay) (c : Cell) → IsWindow dump (suc t) → AreSets d h dump (suc t) sets → IsSound d h dump points t a
+    → contradicts (closing_at d dump run tables sets t a) c ≡ true → (r : Run) → IsShowing d h dump (suc t) r
+    → ⊥
 
+-- where it contradicts at its first step, no run shows the dump up to that time
 abbrev pub FirstContradictionLaw : Type 0
 FirstContradictionLaw =
-    (d : Design) (h : Habit) (dump : BoundDump) (run : Runs) (tables : Tables) (points : List Point) → IsReplayOf d h dump run tables points → (t : ℕ) (c : Cell) → IsFirst dump t → IsShown dump t → contradicts_first d dump.bound run tables (dump.values t) c ≡ true → (r : Run) → IsShowing d h dump t r → ⊥
+    (d : Design) (h : Habit) (dump : BoundDump) (run : Runs) (tables : Tables) (points : List Point) → IsReplayOf d h dump run tables points
+    → (t : ℕ) (c : Cell) → IsFirst dump t → IsShown dump t → contradicts_first d dump.bound run tables (dump.values t) c ≡ true → (r : Run)
+    → IsShowing d h dump t r
+    → ⊥
 
--- what the verdicts are worth, once the replay stands at the end of the window
+-- what the verdicts hit and missed say of the runs that show the dump
 pub record AreSoundVerdicts (d : Design) (h : Habit) (dump : BoundDump) (points : List Point) (a : Replay) : Type 0 where
   -- hit is hit, and missed is never hit, in every run that shows the dump
   pub hit : (x : Point) → IsVerdict d x a.notes Hit → (r : Run) → IsRun d h r → Shows d dump r → IsHit d dump r x
   pub missed : (x : Point) → In x points → IsVerdict d x a.notes Missed → (r : Run) → IsRun d h r → Shows d dump r → IsHit d dump r x → ⊥
 
+-- what the doubts of verdicts say
 pub record AreReasonedVerdicts (d : Design) (h : Habit) (dump : BoundDump) (points : List Point) (a : Replay) : Type 0 where
   -- an undetermined point has its doubt, and is hit in no such run at a time at which nothing is in doubt for it
   pub doubted : (x : Point) (y : Doubted) → IsVerdict d x a.notes (Undetermined y) → IsWindow dump y.time × IsInDoubt d h dump x y.time y.thing
-  pub decided : (x : Point) (y : Doubted) → In x points → IsVerdict d x a.notes (Undetermined y) → (r : Run) → IsRun d h r → Shows d dump r → (t : ℕ) → IsWindow dump t → ((s : ℕ) → IsInDoubt d h dump x t s → ⊥) → IsHitAt d dump r x t → ⊥
+  pub decided : (x : Point) (y : Doubted) → In x points → IsVerdict d x a.notes (Undetermined y) → (r : Run) → IsRun d h r → Shows d dump r → (t : ℕ)
+      → IsWindow dump t → ((s : ℕ) → IsInDoubt d h dump x t s → ⊥) → IsHitAt d dump r x t
+      → ⊥
   -- what is reached is hit
   pub reached : (t p : ℕ) (x : Point) → IsReached d h dump t p x → IsVerdict d x a.notes Hit
 
--- Verdict laws: where the replay stands at a time after which the window has none, its verdicts hold.
+-- Verdict laws: where the replay is sound at a time that no window time is after, its verdicts are sound.
 abbrev pub SoundVerdictLaw : Type 0
 SoundVerdictLaw =
-    (d : Design) (h : Habit) (dump : BoundDump) (points : List Point) (t : ℕ) (a : Replay) → ((u : ℕ) → IsWindow dump u → u ≤ t) → IsShown dump t → IsSound d h dump points t a → AreSoundVerdicts d h dump points a
+    (d : Design) (h : Habit) (dump : BoundDump) (points : List Point) (t : ℕ) (a : Replay) → ((u : ℕ) → IsWindow dump u → u ≤ t) → IsShown dump t
+    → IsSound d h dump points t a
+    → AreSoundVerdicts d h dump points a
 
+-- where what it reports is reasoned too, so are its verdicts
 abbrev pub ReasonedVerdictLaw : Type 0
 ReasonedVerdictLaw =
-    (d : Design) (h : Habit) (dump : BoundDump) (points : List Point) (t : ℕ) (a : Replay) → ((u : ℕ) → IsWindow dump u → u ≤ t) → IsShown dump t → IsSound d h dump points t a → AreTold d h dump t a → AreReasonedVerdicts d h dump points a
+    (d : Design) (h : Habit) (dump : BoundDump) (points : List Point) (t : ℕ) (a : Replay) → ((u : ℕ) → IsWindow dump u → u ≤ t) → IsShown dump t
+    → IsSound d h dump points t a → AreTold d h dump t a
+    → AreReasonedVerdicts d h dump points a

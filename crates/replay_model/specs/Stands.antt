@@ -1,16 +1,15 @@
--- What the replay stands for, once it has closed the steps of a dump up to a time.
-use Rattle.std.specs.Prelude.{◌≡◌, ◌⊎◌, ◌≤◌, ◌&&◌, ◌||◌, not, if◌then◌else◌, ℕ, Bool, true, false, List, Some, None}
+-- What holds of the replay once it has closed the steps of a dump up to a time.
+use Rattle.std.specs.Prelude.{◌≡◌, ◌⊎◌, ◌≤◌, ◌&&◌, ◌||◌, not, if◌then◌else◌, ℕ, Bool, true, List, Some, None}
 use Rattle.event_machine.specs.Cell.{Cell, Values, put_all}
-use Rattle.event_machine.specs.Machine.{IsWakeCell, output}
 use Rattle.event_machine.specs.Habit.{Habit}
 use Rattle.four_state.specs.declared.bit.Bit.{Bit}
 use Rattle.design_model.specs.declared.point.Point.{Point}
 use Rattle.design_model.specs.Design.{Design, In, IsComb, Thing, body_at, process_at, signal_bits}
 use Rattle.design_model.specs.Mentions.{body_assigns, has_cell}
 use Rattle.design_model.specs.Reads.{Agrees, IsTold}
-use Rattle.design_model.specs.Machine.{machine}
-use Rattle.design_model.specs.Run.{IsRun, Run, settled}
-use Rattle.design_model.specs.Shows.{BoundDump, IsWindow, ShowsUpTo}
+use Rattle.design_model.specs.Run.{Run, settled}
+use Rattle.design_model.specs.Shows.{BoundDump, IsShowing, IsWindow}
+use Rattle.design_model.specs.StepLaws.{IsLeft}
 use Rattle.design_model.specs.Points.{IsHitAt}
 use Rattle.design_model.specs.Clear.{HasChanged, IsForced, clear}
 use Rattle.design_model.specs.Open.{IsReached}
@@ -21,25 +20,16 @@ use Rattle.replay_model.specs.Tables.{Tables}
 use Rattle.replay_model.specs.Marks.{IsToldDoubt, IsToldHit}
 use Rattle.replay_model.specs.Step.{Replay, is_comb}
 
--- the targets of p are as an execution leaves them that began with the present values of p's wake cells
-pub record IsLeft (d : Design) (p : ℕ) (w : Values Bit) : Type 0 where
-  pub entry : Values Bit
-  pub wakes : (c : Cell) → IsWakeCell (machine d) p c → entry c ≡ w c
-  pub leaves : (c : Cell) → (machine d).blocking p c ≡ true → w c ≡ put_all entry (output (machine d) p entry) c
-
--- what is known but for the targets of p: of a Comb all, of an Assign those that are unbound
+-- what is known except the targets of p: of a Comb all, of an Assign those that are unbound
 abbrev pub made_kept : Design → (ℕ → Bool) → ℕ → Kept → Kept
 made_kept d bound p k c = if body_assigns c.thing (body_at d p) && (is_comb (process_at d p) || not (bound c.thing)) then None else k c
 
--- where all that p reads is sure, so is each unbound bit that it writes, with its value
+-- where all that p reads is sure, so is each bit that it writes, with its value
 abbrev pub IsMade : Design → (ℕ → Bool) → ℕ → Kept → Type 0
 IsMade d bound p k =
-    (v : Values Bit) → Agrees d (sure_in d (made_kept d bound p k)) v → IsTold d (sure_in d (made_kept d bound p k)) (body_at d p) → (c : Cell) → bound c.thing ≡ false → has_cell (all_written d (body_at d p) v) c ≡ true → k c ≡ Some (put_all v (all_written d (body_at d p) v) c)
-
--- a run that shows the dump up to a time
-pub record IsShowing (d : Design) (h : Habit) (dump : BoundDump) (t : ℕ) (r : Run) : Type 0 where
-  pub is_run : IsRun d h r
-  pub shows : ShowsUpTo d dump r t
+    (v : Values Bit) → Agrees d (sure_in d (made_kept d bound p k)) v → IsTold d (sure_in d (made_kept d bound p k)) (body_at d p) → (c : Cell)
+    → has_cell (all_written d (body_at d p) v) c ≡ true
+    → k c ≡ Some (put_all v (all_written d (body_at d p) v) c)
 
 -- what is sound in the replay, after its closed steps up to time t of the dump, of a design with these points
 pub record IsSound (d : Design) (h : Habit) (dump : BoundDump) (points : List Point) (t : ℕ) (a : Replay) : Type 0 where
@@ -47,10 +37,11 @@ pub record IsSound (d : Design) (h : Habit) (dump : BoundDump) (points : List Po
   pub allows : (r : Run) → IsShowing d h dump t r → AllowsState a.kept (settled d r t)
   -- a Comb that has acted has left its targets so
   pub acted : (r : Run) → IsShowing d h dump t r → (p : ℕ) → IsComb (process_at d p) → a.acted p ≡ true → IsLeft d p (settled d r t)
-  -- a point that was told to be hit is hit in each such run
+  -- a point that was reported to be hit is hit in each such run
   pub hits : (x : Point) → IsToldHit d x a.notes → (r : Run) → IsShowing d h dump t r → (u : ℕ) × IsWindow dump u × (u ≤ t) × IsHitAt d dump r x u
-  -- a point that is hit in such a run was told to be hit, or to be in doubt at that time
-  pub marked : (x : Point) → In x points → (r : Run) → IsShowing d h dump t r → (u : ℕ) → IsWindow dump u → u ≤ t → IsHitAt d dump r x u → IsToldHit d x a.notes ⊎ ((s : ℕ) × IsToldDoubt d x (record { time = u; thing = s }) a.notes)
+  -- a point that is hit in such a run was reported to be hit, or to be in doubt at that time
+  pub marked : (x : Point) → In x points → (r : Run) → IsShowing d h dump t r → (u : ℕ) → IsWindow dump u → u ≤ t → IsHitAt d dump r x u
+      → IsToldHit d x a.notes ⊎ ((s : ℕ) × IsToldDoubt d x (record { time = u; thing = s }) a.notes)
 
 -- what is known in it: what is clear is sure
 pub record AreKnown (d : Design) (h : Habit) (dump : BoundDump) (tables : Tables) (t : ℕ) (a : Replay) : Type 0 where
@@ -65,14 +56,14 @@ pub record AreKnown (d : Design) (h : Habit) (dump : BoundDump) (tables : Tables
 abbrev pub AreForced : Design → Habit → BoundDump → ℕ → Type 0
 AreForced d h dump t = (u s : ℕ) (bits : List Bit) → u ≤ t → IsForced d h dump u s bits → signal_bits d (dump.values u) s ≡ bits
 
--- what it tells is reasoned
+-- what it reports is reasoned
 pub record AreTold (d : Design) (h : Habit) (dump : BoundDump) (t : ℕ) (a : Replay) : Type 0 where
-  -- each doubt that was told is one
+  -- each doubt that was reported is one
   pub doubts : (x : Point) (y : Doubted) → IsToldDoubt d x y a.notes → IsWindow dump y.time × (y.time ≤ t) × IsInDoubt d h dump x y.time y.thing
-  -- each point that is reached was told to be hit
+  -- each point that is reached was reported to be hit
   pub reached : (u p : ℕ) (x : Point) → u ≤ t → IsReached d h dump u p x → IsToldHit d x a.notes
 
--- the replay stands for the dump up to time t
+-- all that holds of the replay up to time t of the dump
 pub record Stands (d : Design) (h : Habit) (dump : BoundDump) (tables : Tables) (points : List Point) (t : ℕ) (a : Replay) : Type 0 where
   pub sound : IsSound d h dump points t a
   pub known : AreKnown d h dump tables t a

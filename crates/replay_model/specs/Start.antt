@@ -12,14 +12,15 @@ use Rattle.replay_model.specs.Step.{Replay, is_dumped, surely_differ}
 
 -- the replay within the first step
 pub record Starting : Type 0 where
-  pub kept : Kept
-  pub made : Kept
+  pub kept : Kept  -- what is known of the values
+  pub made : Kept  -- what Assigns made of each cell, before the dump's value took its place
 
 module _ (d : Design) (bound : ℕ → Bool) (run : Runs) (tables : Tables) (new : Values Bit) where
   -- what the dump says
   abbrev pub first_kept : Kept
   first_kept c = if is_dumped d bound c then Some (new c) else None
 
+  -- a store in which nothing is hidden
   abbrev pub first_store : Kept → StoreView
   first_store k = record { kept = k; hidden = λ x. false; shown = k }
 
@@ -31,6 +32,7 @@ module _ (d : Design) (bound : ℕ → Bool) (run : Runs) (tables : Tables) (new
         made = λ c. if blocking_target d (body_at d p) c then o.kept c else w.made c;
       }
 
+  -- an Assign runs, whether anything moves or not
   abbrev pub run_first : Bool → ℕ → Starting → Starting
   run_first ordered p w =
       if is_assign (process_at d p) then after_first ordered p (run p (first_store w.kept) quiet) w else w
@@ -40,6 +42,7 @@ module _ (d : Design) (bound : ℕ → Bool) (run : Runs) (tables : Tables) (new
   run_all_first ordered [] w = w
   run_all_first ordered (p ∷ ps) w = run_all_first ordered ps (run_first ordered p w)
 
+  -- after all Assigns
   abbrev pub all_first : Starting
   all_first = run_all_first false tables.last (run_all_first true tables.order (record { kept = first_kept; made = λ c. None }))
 

@@ -26,7 +26,7 @@ use Rattle.replay_model.specs.Marks.{Told, all_told_by, of_point}
 pub record Replay : Type 0 where
   pub kept : Kept  -- what is known of the settled values
   pub acted : ℕ → Bool  -- the Comb has surely acted in the window
-  pub notes : List Told  -- what was told to the marks
+  pub notes : List Told  -- what was reported to the marks
 
 -- the replay within a step
 pub record Working : Type 0 where
@@ -191,27 +191,34 @@ abbrev pub first_unsure : Closing → Kept → ℕ → List ℕ → Option ℕ
 first_unsure st k p [] = None
 first_unsure st k p (x ∷ xs) = if is_still st k p x then first_unsure st k p xs else Some x
 
--- how sure it is that an Assign or Comb acts, on settled values
+-- how sure it is, by the first thing that is not surely unchanged
 abbrev pub certainty_from : Closing → Option ℕ → Certainty
 certainty_from st None = quiet
 certainty_from st (Some thing) = perhaps st.time thing
 
+-- how sure it is that an Assign or Comb acts, on settled values
 abbrev pub certainty : Closing → Kept → ℕ → Certainty
 certainty st k p = if list_any (has_changed st k p) (st.tables.watched p) then clean st.time else certainty_from st (first_unsure st k p (st.tables.watched p))
+
+-- what the dump says of a signal has changed over the step
+abbrev pub dump_changes : Closing → ℕ → Bool
+dump_changes st s = list_any (λ c. surely_differ (st.start.kept c) (Some (st.new c))) (signal_cells st.design s)
 
 -- a bound signal that the process mentions has changed over the step
 abbrev pub sees_change : Closing → ℕ → Bool
 sees_change st p =
-    list_any (λ s. st.bound s && (body_mentions s (body_at st.design p) && list_any (λ c. surely_differ (st.start.kept c) (Some (st.new c))) (signal_cells st.design s))) (range_with_len 0 (length st.design.signals))
+    list_any (λ s. st.bound s && (body_mentions s (body_at st.design p) && dump_changes st s)) (range_with_len 0 (length st.design.signals))
 
 -- what a run of an Assign or Comb makes of its targets is kept where it holds; the dump's values stay
 abbrev pub kept_target : Closing → Bool → Outcome → Working → ℕ → Kept
 kept_target st holds o w p c =
     if blocking_target st.design (body_at st.design p) c && not (is_dumped st.design st.bound c) then (if holds then o.kept c else None) else w.kept c
 
+-- after a run of this certainty the process has surely acted in the window
 abbrev pub acts : Closing → ℕ → Certainty → Working → Bool
 acts st p how w = w.acted p || (is_clean_way how || sees_change st p)
 
+-- the replay after a run of an Assign or Comb
 abbrev pub after_settling : Closing → Bool → ℕ → Certainty → Outcome → Working → Working
 after_settling st ordered p how o w =
     record {
@@ -253,22 +260,41 @@ abbrev pub tell : Closing → Point → ℕ → Bool → Bool → List Told
 tell st x s sure possible =
     if sure then record { key = of_point x; doubt = None } ∷ [] else (if possible then record { key = of_point x; doubt = Some (record { time = st.time; thing = s }) } ∷ [] else [])
 
+-- a known bit may be this
+abbrev pub bit_may_be : Option Bit → Bit → Bool
+bit_may_be o b = not (surely_differ o (Some b))
+
 -- whether a bit surely goes, or may go, from one value to another
 abbrev pub tell_toggle : Closing → Point → ℕ → Cell → Bit → Bit → List Told
 tell_toggle st x s c a b =
-    tell st x s (surely_same (st.start.kept c) (Some a) && surely_same ((all_run st).kept c) (Some b)) (not (surely_differ (st.start.kept c) (Some a)) && not (surely_differ ((all_run st).kept c) (Some b)))
+    tell st x s (surely_same (st.start.kept c) (Some a) && surely_same ((all_run st).kept c) (Some b)) (bit_may_be (st.start.kept c) a && bit_may_be ((all_run st).kept c) b)
 
--- what is told of a point on a signal
+-- whether a signal surely goes, or may go, from some bits to others
+abbrev pub tell_arc : Closing → Point → ℕ → List Bit → List Bit → List Told
+tell_arc st x s from to =
+    let before = known_bits st.design st.start.kept s in
+    let after = known_bits st.design (all_run st).kept s in
+    tell st x s (are_surely before from && are_surely after to) (may_be before from && may_be after to)
+
+-- the value from which a bit rises, or falls
+abbrev pub from_bit : Bool → Bit
+from_bit rise = if rise then Zero else One
+
+-- the value to which it rises, or falls
+abbrev pub to_bit : Bool → Bit
+to_bit rise = if rise then One else Zero
+
+-- what is reported of a point on a signal
 abbrev pub point_notes : Closing → Point → List Told
 point_notes st (toggle_point s i rise) =
-    if st.sets.moves s then (if rise then tell_toggle st (toggle_point s i rise) s (toggle_cell st.design s i) Zero One else tell_toggle st (toggle_point s i rise) s (toggle_cell st.design s i) One Zero) else []
+    if st.sets.moves s then tell_toggle st (toggle_point s i rise) s (toggle_cell st.design s i) (from_bit rise) (to_bit rise) else []
 point_notes st (state_point i name s state x) =
     tell st (state_point i name s state x) s (are_surely (known_bits st.design (all_run st).kept s) x.bits) (may_be (known_bits st.design (all_run st).kept s) x.bits)
 point_notes st (arc_point i name s from to x y) =
-    if st.sets.moves s then tell st (arc_point i name s from to x y) s (are_surely (known_bits st.design st.start.kept s) x.bits && are_surely (known_bits st.design (all_run st).kept s) y.bits) (may_be (known_bits st.design st.start.kept s) x.bits && may_be (known_bits st.design (all_run st).kept s) y.bits) else []
+    if st.sets.moves s then tell_arc st (arc_point i name s from to x y) s x.bits y.bits else []
 point_notes st _ = []
 
--- what is told of all points on signals
+-- what is reported of all points on signals
 abbrev pub all_point_notes : Closing → List Point → List Told
 all_point_notes st [] = []
 all_point_notes st (x ∷ xs) = point_notes st x ++ all_point_notes st xs

@@ -2,10 +2,10 @@
 #![tactic(auto)]
 
 ghost use Rattle.event_machine.specs.Habit.{Habit};
-ghost use Rattle.replay_model.specs.Laws.{ContradictionLaw, FirstContradictionLaw, FirstForcedLaw, FirstKnownLaw, FirstSoundLaw, ReasonedVerdictLaw, RestKnownLaw, RestSoundLaw, RestToldLaw, SoundVerdictLaw, StepKnownLaw, StepSoundLaw, StepToldLaw};
+ghost use Rattle.replay_model.specs.Laws.{ContradictionLaw, FirstContradictionLaw, FirstForcedLaw, FirstKnownLaw, FirstSoundLaw, FirstStandsLaw, ReasonedVerdictLaw, RestForcedLaw, RestKnownLaw, RestSoundLaw, RestStandsLaw, RestToldLaw, SoundVerdictLaw, StepForcedLaw, StepKnownLaw, StepSoundLaw, StepStandsLaw, StepToldLaw};
 
 /// After the first step, after each closing step and over each time that the dump does not list, the settled values of
-/// each run that shows the dump are allowed, what was told to be hit is hit, and what is hit was told.
+/// each run that shows the dump are allowed, what was reported to be hit is hit, and what is hit was reported.
 pub fn sound_replay()
     ensures first { FirstSoundLaw }
     ensures step { (h : Habit) → StepSoundLaw h }
@@ -29,17 +29,27 @@ pub fn reasoned_first()
     ensures forced { FirstForcedLaw }
 {}
 
-/// Without a contradiction a closing step keeps it that what is clear is sure, that each doubt that was told is one, and
-/// that each point that a block reaches was told to be hit.
+/// Without a contradiction a closing step keeps it that what is clear is sure, that each doubt that was reported is one,
+/// that each point that a block reaches was reported to be hit, and that no forced value differs from the dump's.
 pub fn reasoned_step()
     ensures known { (h : Habit) → StepKnownLaw h }
     ensures told { (h : Habit) → StepToldLaw h }
+    ensures forced { (h : Habit) → StepForcedLaw h }
 {}
 
 /// So does a time that the dump does not list.
 pub fn reasoned_rest()
     ensures known { RestKnownLaw }
     ensures told { RestToldLaw }
+    ensures forced { RestForcedLaw }
+{}
+
+/// All this together: without a contradiction it holds after the first step, after each closing step and over each time
+/// that the dump does not list.
+pub fn whole_replay()
+    ensures first { FirstStandsLaw }
+    ensures step { (h : Habit) → StepStandsLaw h }
+    ensures rest { RestStandsLaw }
 {}
 
 /// An undetermined point has its doubt, and is hit at no time at which nothing is in doubt for it; what is reached is hit.
