@@ -81,5 +81,10 @@ fn path_of_a_signal(rt: HostRuntime) {
 
 #[test]
 fn path_of_a_memory(rt: HostRuntime) {
-    assert!(rt; matches!(has_path(rt.alloc(), 1, "top.count.words".as_bytes()), Ok(true)));
+    assert!(rt;
+        matches!(
+            has_path(rt.alloc(), 1, "top.count.words".as_bytes()),
+            Ok(true)
+        )
+    );
 }
