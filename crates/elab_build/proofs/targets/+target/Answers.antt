@@ -45,7 +45,7 @@ pub target-alone-requires-clause-sound : goal.target-alone-requires-clause-sound
 target-alone-requires-clause-sound t c =
     let e = c.args.expr.now in
     let g = binding_of c.args.scope.now in
-    let sound = subst (λ x. IsSoundTarget g x) (bit_view e c.in-Bit.of c.in-Bit.index c.in-Bit.is) c.requires.sound in
+    let sound = subst (λ x. IsSoundTarget g x) (bit_view e c.in-Bit.of c.in-Bit.index (sym c.deref.ensures ∙ c.in-Bit.is)) c.requires.sound in
     (target_bit g e.place (expr_view c.in-Bit.of) (expr_view c.in-Bit.index) c.requires.clear sound).0
 
 pub target-shape_of-width-requires-in-Part : goal.target-shape_of-width-requires-in-Part
@@ -56,7 +56,7 @@ target-alone-requires-in-Part-clause-sound t c =
     let e = c.args.expr.now in
     let g = binding_of c.args.scope.now in
     let p = c.in-Part in
-    let sound = subst (λ x. IsSoundTarget g x) (part_view e p.of p.high p.low p.bracket p.is) c.requires.sound in
+    let sound = subst (λ x. IsSoundTarget g x) (part_view e p.of p.high p.low p.bracket (sym c.deref.ensures ∙ p.is)) c.requires.sound in
     (target_part g e.place (expr_view p.of) (expr_view p.high) (expr_view p.low) p.bracket c.requires.clear sound).1.0
 
 pub concat_target-targets-requires : goal.concat_target-targets-requires
@@ -70,7 +70,7 @@ target-returns-else-is_memory_name-clause-built t c =
     let n = c.args.nodes.now in
     let of = expr_view c.in-Bit.of in
     let index = expr_view c.in-Bit.index in
-    let view = bit_view e c.in-Bit.of c.in-Bit.index c.in-Bit.is in
+    let view = bit_view e c.in-Bit.of c.in-Bit.index (sym c.deref.ensures ∙ c.in-Bit.is) in
     let sound = subst (λ x. IsSoundTarget g x) view c.requires.sound in
     let none = (target_bit g e.place of index c.requires.clear sound).1 in
     let number = c.thing_number-thing.ensures in
@@ -82,7 +82,7 @@ pub target-returns-else-is_memory_name-clause-counted : goal.target-returns-else
 target-returns-else-is_memory_name-clause-counted t c =
     let e = c.args.expr.now in
     let g = binding_of c.args.scope.now in
-    let view = bit_view e c.in-Bit.of c.in-Bit.index c.in-Bit.is in
+    let view = bit_view e c.in-Bit.of c.in-Bit.index (sym c.deref.ensures ∙ c.in-Bit.is) in
     let sound = subst (λ x. IsSoundTarget g x) view c.requires.sound in
     let none = (target_bit g e.place (expr_view c.in-Bit.of) (expr_view c.in-Bit.index) c.requires.clear sound).1 in
     let all = ap (nodes g) view in
@@ -97,7 +97,7 @@ target-returns-in_ok-low-in-Part-clause-built t c =
     let of = expr_view p.of in
     let high = expr_view p.high in
     let low = expr_view p.low in
-    let view = part_view e p.of p.high p.low p.bracket p.is in
+    let view = part_view e p.of p.high p.low p.bracket (sym c.deref.ensures ∙ p.is) in
     let sound = subst (λ x. IsSoundTarget g x) view c.requires.sound in
     let none = (target_part g e.place of high low p.bracket c.requires.clear sound).1.1 in
     let number = c.thing_number-signal.ensures in
@@ -110,7 +110,7 @@ target-returns-in_ok-low-in-Part-clause-counted t c =
     let e = c.args.expr.now in
     let g = binding_of c.args.scope.now in
     let p = c.in-Part in
-    let view = part_view e p.of p.high p.low p.bracket p.is in
+    let view = part_view e p.of p.high p.low p.bracket (sym c.deref.ensures ∙ p.is) in
     let sound = subst (λ x. IsSoundTarget g x) view c.requires.sound in
     let none = (target_part g e.place (expr_view p.of) (expr_view p.high) (expr_view p.low) p.bracket c.requires.clear sound).1.1 in
     let all = ap (nodes g) view in

@@ -21,43 +21,43 @@ use Rattle.elab_checks.proofs.expressions.+check.Goals.{check_bound-then-not-sou
 
 pub check-returns-in-Bit-clause-met : goal.check-returns-in-Bit-clause-met
 check-returns-in-Bit-clause-met t c =
-    c.check_bit.ensures.met ∙ sym (ap (λ e. after_faults c.args.tally.now (faults (binding_of c.args.scope.now) e)) (bit_view c.args.expr.now c.in-Bit.of c.in-Bit.index c.in-Bit.is))
+    c.check_bit.ensures.met ∙ sym (ap (λ e. after_faults c.args.tally.now (faults (binding_of c.args.scope.now) e)) (bit_view c.args.expr.now c.in-Bit.of c.in-Bit.index (sym c.deref.ensures ∙ c.in-Bit.is)))
 
 pub check-returns-in-Bit-clause-sound : goal.check-returns-in-Bit-clause-sound
 check-returns-in-Bit-clause-sound t c =
-    c.check_bit.ensures.sound ∙ sym (ap (λ e. none (faults (binding_of c.args.scope.now) e)) (bit_view c.args.expr.now c.in-Bit.of c.in-Bit.index c.in-Bit.is))
+    c.check_bit.ensures.sound ∙ sym (ap (λ e. none (faults (binding_of c.args.scope.now) e)) (bit_view c.args.expr.now c.in-Bit.of c.in-Bit.index (sym c.deref.ensures ∙ c.in-Bit.is)))
 
 pub check-returns-in-Part-clause-met : goal.check-returns-in-Part-clause-met
 check-returns-in-Part-clause-met t c =
-    c.check_part.ensures.met ∙ sym (ap (λ e. after_faults c.args.tally.now (faults (binding_of c.args.scope.now) e)) (part_view c.args.expr.now c.in-Part.of c.in-Part.high c.in-Part.low c.in-Part.bracket c.in-Part.is))
+    c.check_part.ensures.met ∙ sym (ap (λ e. after_faults c.args.tally.now (faults (binding_of c.args.scope.now) e)) (part_view c.args.expr.now c.in-Part.of c.in-Part.high c.in-Part.low c.in-Part.bracket (sym c.deref.ensures ∙ c.in-Part.is)))
 
 pub check-returns-in-Part-clause-sound : goal.check-returns-in-Part-clause-sound
 check-returns-in-Part-clause-sound t c =
-    c.check_part.ensures.sound ∙ sym (ap (λ e. none (faults (binding_of c.args.scope.now) e)) (part_view c.args.expr.now c.in-Part.of c.in-Part.high c.in-Part.low c.in-Part.bracket c.in-Part.is))
+    c.check_part.ensures.sound ∙ sym (ap (λ e. none (faults (binding_of c.args.scope.now) e)) (part_view c.args.expr.now c.in-Part.of c.in-Part.high c.in-Part.low c.in-Part.bracket (sym c.deref.ensures ∙ c.in-Part.is)))
 
 pub check-returns-in-Slide-clause-met : goal.check-returns-in-Slide-clause-met
 check-returns-in-Slide-clause-met t c =
-    c.check_slide.ensures.met ∙ sym (ap (λ e. after_faults c.args.tally.now (faults (binding_of c.args.scope.now) e)) (slide_view c.args.expr.now c.in-Slide.of c.in-Slide.base c.in-Slide.width c.in-Slide.up c.in-Slide.bracket c.in-Slide.is))
+    c.check_slide.ensures.met ∙ sym (ap (λ e. after_faults c.args.tally.now (faults (binding_of c.args.scope.now) e)) (slide_view c.args.expr.now c.in-Slide.of c.in-Slide.base c.in-Slide.width c.in-Slide.up c.in-Slide.bracket (sym c.deref.ensures ∙ c.in-Slide.is)))
 
 pub check-returns-in-Slide-clause-sound : goal.check-returns-in-Slide-clause-sound
 check-returns-in-Slide-clause-sound t c =
-    c.check_slide.ensures.sound ∙ sym (ap (λ e. none (faults (binding_of c.args.scope.now) e)) (slide_view c.args.expr.now c.in-Slide.of c.in-Slide.base c.in-Slide.width c.in-Slide.up c.in-Slide.bracket c.in-Slide.is))
+    c.check_slide.ensures.sound ∙ sym (ap (λ e. none (faults (binding_of c.args.scope.now) e)) (slide_view c.args.expr.now c.in-Slide.of c.in-Slide.base c.in-Slide.width c.in-Slide.up c.in-Slide.bracket (sym c.deref.ensures ∙ c.in-Slide.is)))
 
 pub check-returns-in-Binary-clause-met : goal.check-returns-in-Binary-clause-met
 check-returns-in-Binary-clause-met t c =
-    met_then c.args.tally.now c.check.new.tally c.check-in-Binary.new.tally (faults (binding_of c.args.scope.now) (expr_view c.in-Binary.a)) (faults (binding_of c.args.scope.now) (expr_view c.in-Binary.b)) c.check.ensures.met c.check-in-Binary.ensures.met ∙ sym (ap (λ e. after_faults c.args.tally.now (faults (binding_of c.args.scope.now) e)) (binary_view c.args.expr.now c.in-Binary.field-0 c.in-Binary.a c.in-Binary.b c.in-Binary.is))
+    met_then c.args.tally.now c.check.new.tally c.check-in-Binary.new.tally (faults (binding_of c.args.scope.now) (expr_view c.in-Binary.a)) (faults (binding_of c.args.scope.now) (expr_view c.in-Binary.b)) c.check.ensures.met c.check-in-Binary.ensures.met ∙ sym (ap (λ e. after_faults c.args.tally.now (faults (binding_of c.args.scope.now) e)) (binary_view c.args.expr.now c.in-Binary.field-0 c.in-Binary.a c.in-Binary.b (sym c.deref.ensures ∙ c.in-Binary.is)))
 
 pub check-returns-in-Choice-clause-met : goal.check-returns-in-Choice-clause-met
 check-returns-in-Choice-clause-met t c =
-    met_then c.args.tally.now c.check-in-Choice-2.new.tally c.check-in-Choice-3.new.tally ((faults (binding_of c.args.scope.now) (expr_view c.in-Choice.test)) ++ (faults (binding_of c.args.scope.now) (expr_view c.in-Choice.yes))) (faults (binding_of c.args.scope.now) (expr_view c.in-Choice.no)) (met_then c.args.tally.now c.check-in-Choice.new.tally c.check-in-Choice-2.new.tally (faults (binding_of c.args.scope.now) (expr_view c.in-Choice.test)) (faults (binding_of c.args.scope.now) (expr_view c.in-Choice.yes)) c.check-in-Choice.ensures.met c.check-in-Choice-2.ensures.met) c.check-in-Choice-3.ensures.met ∙ sym (ap (λ e. after_faults c.args.tally.now (faults (binding_of c.args.scope.now) e)) (choice_view c.args.expr.now c.in-Choice.test c.in-Choice.yes c.in-Choice.no c.in-Choice.is))
+    met_then c.args.tally.now c.check-in-Choice-2.new.tally c.check-in-Choice-3.new.tally ((faults (binding_of c.args.scope.now) (expr_view c.in-Choice.test)) ++ (faults (binding_of c.args.scope.now) (expr_view c.in-Choice.yes))) (faults (binding_of c.args.scope.now) (expr_view c.in-Choice.no)) (met_then c.args.tally.now c.check-in-Choice.new.tally c.check-in-Choice-2.new.tally (faults (binding_of c.args.scope.now) (expr_view c.in-Choice.test)) (faults (binding_of c.args.scope.now) (expr_view c.in-Choice.yes)) c.check-in-Choice.ensures.met c.check-in-Choice-2.ensures.met) c.check-in-Choice-3.ensures.met ∙ sym (ap (λ e. after_faults c.args.tally.now (faults (binding_of c.args.scope.now) e)) (choice_view c.args.expr.now c.in-Choice.test c.in-Choice.yes c.in-Choice.no (sym c.deref.ensures ∙ c.in-Choice.is)))
 
 pub check-returns-in-Binary-clause-sound : goal.check-returns-in-Binary-clause-sound
 check-returns-in-Binary-clause-sound t c =
-    none_then_both c.check.result c.check-in-Binary.result (faults (binding_of c.args.scope.now) (expr_view c.in-Binary.a)) (faults (binding_of c.args.scope.now) (expr_view c.in-Binary.b)) c.check.ensures.sound c.check-in-Binary.ensures.sound ∙ sym (ap (λ e. none (faults (binding_of c.args.scope.now) e)) (binary_view c.args.expr.now c.in-Binary.field-0 c.in-Binary.a c.in-Binary.b c.in-Binary.is))
+    none_then_both c.check.result c.check-in-Binary.result (faults (binding_of c.args.scope.now) (expr_view c.in-Binary.a)) (faults (binding_of c.args.scope.now) (expr_view c.in-Binary.b)) c.check.ensures.sound c.check-in-Binary.ensures.sound ∙ sym (ap (λ e. none (faults (binding_of c.args.scope.now) e)) (binary_view c.args.expr.now c.in-Binary.field-0 c.in-Binary.a c.in-Binary.b (sym c.deref.ensures ∙ c.in-Binary.is)))
 
 pub check-returns-in-Choice-clause-sound : goal.check-returns-in-Choice-clause-sound
 check-returns-in-Choice-clause-sound t c =
-    none_then_both _ c.check-in-Choice-3.result ((faults (binding_of c.args.scope.now) (expr_view c.in-Choice.test)) ++ (faults (binding_of c.args.scope.now) (expr_view c.in-Choice.yes))) (faults (binding_of c.args.scope.now) (expr_view c.in-Choice.no)) (none_then_both c.check-in-Choice.result c.check-in-Choice-2.result (faults (binding_of c.args.scope.now) (expr_view c.in-Choice.test)) (faults (binding_of c.args.scope.now) (expr_view c.in-Choice.yes)) c.check-in-Choice.ensures.sound c.check-in-Choice-2.ensures.sound) c.check-in-Choice-3.ensures.sound ∙ sym (ap (λ e. none (faults (binding_of c.args.scope.now) e)) (choice_view c.args.expr.now c.in-Choice.test c.in-Choice.yes c.in-Choice.no c.in-Choice.is))
+    none_then_both _ c.check-in-Choice-3.result ((faults (binding_of c.args.scope.now) (expr_view c.in-Choice.test)) ++ (faults (binding_of c.args.scope.now) (expr_view c.in-Choice.yes))) (faults (binding_of c.args.scope.now) (expr_view c.in-Choice.no)) (none_then_both c.check-in-Choice.result c.check-in-Choice-2.result (faults (binding_of c.args.scope.now) (expr_view c.in-Choice.test)) (faults (binding_of c.args.scope.now) (expr_view c.in-Choice.yes)) c.check-in-Choice.ensures.sound c.check-in-Choice-2.ensures.sound) c.check-in-Choice-3.ensures.sound ∙ sym (ap (λ e. none (faults (binding_of c.args.scope.now) e)) (choice_view c.args.expr.now c.in-Choice.test c.in-Choice.yes c.in-Choice.no (sym c.deref.ensures ∙ c.in-Choice.is)))
 
 pub check_all-loop-expr-preserved : goal.check_all-loop-expr-preserved
 check_all-loop-expr-preserved t c =
@@ -76,7 +76,7 @@ check-returns-in-Concat-clause-met t c =
     let place = c.args.expr.now.place in
     let es = exprs_of (exprs_view c.in-Concat.parts.items) in
     let joined = spec.joined_faults (none (all_faults g es) && not (names_faulty g (concatenation place es))) (parts_of (names g) es).width place in
-    met_then c.args.tally.now c.check_all-known.new.tally c.check_joined.new.tally (all_faults g es) joined (rw c.deref-in-Concat.ensures.value at c.check_all-known.ensures.met) (rw c.deref-in-Concat-2.ensures.value at c.check_joined.ensures.met) ∙ sym (ap (λ e. after_faults c.args.tally.now (faults g e)) (concatenation_view c.args.expr.now c.in-Concat.parts c.in-Concat.is))
+    met_then c.args.tally.now c.check_all-known.new.tally c.check_joined.new.tally (all_faults g es) joined (rw c.deref-in-Concat.ensures.value at c.check_all-known.ensures.met) (rw c.deref-in-Concat-2.ensures.value at c.check_joined.ensures.met) ∙ sym (ap (λ e. after_faults c.args.tally.now (faults g e)) (concatenation_view c.args.expr.now c.in-Concat.parts (sym c.deref.ensures ∙ c.in-Concat.is)))
 
 pub check-returns-in-Concat-clause-sound : goal.check-returns-in-Concat-clause-sound
 check-returns-in-Concat-clause-sound t c =
@@ -84,7 +84,7 @@ check-returns-in-Concat-clause-sound t c =
     let place = c.args.expr.now.place in
     let es = exprs_of (exprs_view c.in-Concat.parts.items) in
     let joined = spec.joined_faults (none (all_faults g es) && not (names_faulty g (concatenation place es))) (parts_of (names g) es).width place in
-    none_then_both c.check_all-known.result c.check_joined.result (all_faults g es) joined (rw c.deref-in-Concat.ensures.value at c.check_all-known.ensures.sound) (rw c.deref-in-Concat-2.ensures.value at c.check_joined.ensures.sound) ∙ sym (ap (λ e. none (faults g e)) (concatenation_view c.args.expr.now c.in-Concat.parts c.in-Concat.is))
+    none_then_both c.check_all-known.result c.check_joined.result (all_faults g es) joined (rw c.deref-in-Concat.ensures.value at c.check_all-known.ensures.sound) (rw c.deref-in-Concat-2.ensures.value at c.check_joined.ensures.sound) ∙ sym (ap (λ e. none (faults g e)) (concatenation_view c.args.expr.now c.in-Concat.parts (sym c.deref.ensures ∙ c.in-Concat.is)))
 
 pub check-returns-in-Repeat-clause-met : goal.check-returns-in-Repeat-clause-met
 check-returns-in-Repeat-clause-met t c =
@@ -94,7 +94,7 @@ check-returns-in-Repeat-clause-met t c =
     let es = exprs_of (exprs_view c.in-Repeat.parts.items) in
     let counts = number_faults g n (faults g n) in
     let copies = if is_sound_number g n (faults g n) then spec.count_faults g place n (none (all_faults g es) && not (names_faulty g (concatenation place es))) (parts_of (names g) es).width else [] in
-    met_three c.args.tally.now c.check_all-known-in-Repeat.new.tally c.check_number-sound.new.tally c.check_count.new.tally (all_faults g es) counts copies (rw c.deref-in-Repeat.ensures.value at c.check_all-known-in-Repeat.ensures.met) c.check_number-sound.ensures.met (rw c.deref-in-Repeat-2.ensures.value at c.check_count.ensures.met) ∙ sym (ap (λ e. after_faults c.args.tally.now (faults g e)) (repeat_view c.args.expr.now c.in-Repeat.count c.in-Repeat.parts c.in-Repeat.is))
+    met_three c.args.tally.now c.check_all-known-in-Repeat.new.tally c.check_number-sound.new.tally c.check_count.new.tally (all_faults g es) counts copies (rw c.deref-in-Repeat.ensures.value at c.check_all-known-in-Repeat.ensures.met) c.check_number-sound.ensures.met (rw c.deref-in-Repeat-2.ensures.value at c.check_count.ensures.met) ∙ sym (ap (λ e. after_faults c.args.tally.now (faults g e)) (repeat_view c.args.expr.now c.in-Repeat.count c.in-Repeat.parts (sym c.deref.ensures ∙ c.in-Repeat.is)))
 
 pub check-returns-in-Repeat-clause-sound : goal.check-returns-in-Repeat-clause-sound
 check-returns-in-Repeat-clause-sound t c =
@@ -104,7 +104,7 @@ check-returns-in-Repeat-clause-sound t c =
     let es = exprs_of (exprs_view c.in-Repeat.parts.items) in
     let counts = number_faults g n (faults g n) in
     let copies = if is_sound_number g n (faults g n) then spec.count_faults g place n (none (all_faults g es) && not (names_faulty g (concatenation place es))) (parts_of (names g) es).width else [] in
-    none_three c.check_all-known-in-Repeat.result c.check_number-sound.result c.check_count.result (all_faults g es) counts copies (rw c.deref-in-Repeat.ensures.value at c.check_all-known-in-Repeat.ensures.sound) c.check_number-sound.ensures.sound (rw c.deref-in-Repeat-2.ensures.value at c.check_count.ensures.sound) ∙ sym (ap (λ e. none (faults g e)) (repeat_view c.args.expr.now c.in-Repeat.count c.in-Repeat.parts c.in-Repeat.is))
+    none_three c.check_all-known-in-Repeat.result c.check_number-sound.result c.check_count.result (all_faults g es) counts copies (rw c.deref-in-Repeat.ensures.value at c.check_all-known-in-Repeat.ensures.sound) c.check_number-sound.ensures.sound (rw c.deref-in-Repeat-2.ensures.value at c.check_count.ensures.sound) ∙ sym (ap (λ e. none (faults g e)) (repeat_view c.args.expr.now c.in-Repeat.count c.in-Repeat.parts (sym c.deref.ensures ∙ c.in-Repeat.is)))
 
 pub check-check_count-requires-clause-count : goal.check-check_count-requires-clause-count
 check-check_count-requires-clause-count t c =

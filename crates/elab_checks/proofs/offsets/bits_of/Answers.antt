@@ -16,7 +16,7 @@ use Rattle.elab_checks.proofs.offsets.bits_of.Goals as goal
 pub bit-requires-clause-sound : goal.bit-requires-clause-sound
 bit-requires-clause-sound c =
     let g = binding_of c.args.scope.now in
-    let view = bit_view c.args.expr.now c.in-Bit.of c.in-Bit.index c.in-Bit.is in
+    let view = bit_view c.args.expr.now c.in-Bit.of c.in-Bit.index (sym c.deref.ensures ∙ c.in-Bit.is) in
     let base = sym (ap (λ e. look_up g (base_name e).name) view) ∙ c.requires.base in
     let sound = sym (ap (λ e. none (faults g e)) view) ∙ c.requires.sound in
     let bit = sound_bit g c.args.signal c.args.expr.now.place (expr_view c.in-Bit.of) (expr_view c.in-Bit.index) base sound in
@@ -26,7 +26,7 @@ pub bit-requires-clause-inside : goal.bit-requires-clause-inside
 bit-requires-clause-inside c =
     let g = binding_of c.args.scope.now in
     let r = range_or c.args.signal.range in
-    let view = bit_view c.args.expr.now c.in-Bit.of c.in-Bit.index c.in-Bit.is in
+    let view = bit_view c.args.expr.now c.in-Bit.of c.in-Bit.index (sym c.deref.ensures ∙ c.in-Bit.is) in
     let base = sym (ap (λ e. look_up g (base_name e).name) view) ∙ c.requires.base in
     let sound = sym (ap (λ e. none (faults g e)) view) ∙ c.requires.sound in
     let bit = sound_bit g c.args.signal c.args.expr.now.place (expr_view c.in-Bit.of) (expr_view c.in-Bit.index) base sound in
@@ -35,7 +35,7 @@ bit-requires-clause-inside c =
 pub part-requires-clause-constant : goal.part-requires-clause-constant
 part-requires-clause-constant c =
     let g = binding_of c.args.scope.now in
-    let view = part_view c.args.expr.now c.in-Part.of c.in-Part.high c.in-Part.low c.in-Part.bracket c.in-Part.is in
+    let view = part_view c.args.expr.now c.in-Part.of c.in-Part.high c.in-Part.low c.in-Part.bracket (sym c.deref.ensures ∙ c.in-Part.is) in
     let base = sym (ap (λ e. look_up g (base_name e).name) view) ∙ c.requires.base in
     let sound = sym (ap (λ e. none (faults g e)) view) ∙ c.requires.sound in
     let known = sym (ap (names_faulty g) view) ∙ c.requires.known in
@@ -45,7 +45,7 @@ part-requires-clause-constant c =
 pub part-requires-clause-sound : goal.part-requires-clause-sound
 part-requires-clause-sound c =
     let g = binding_of c.args.scope.now in
-    let view = part_view c.args.expr.now c.in-Part.of c.in-Part.high c.in-Part.low c.in-Part.bracket c.in-Part.is in
+    let view = part_view c.args.expr.now c.in-Part.of c.in-Part.high c.in-Part.low c.in-Part.bracket (sym c.deref.ensures ∙ c.in-Part.is) in
     let base = sym (ap (λ e. look_up g (base_name e).name) view) ∙ c.requires.base in
     let sound = sym (ap (λ e. none (faults g e)) view) ∙ c.requires.sound in
     let known = sym (ap (names_faulty g) view) ∙ c.requires.known in
@@ -55,7 +55,7 @@ part-requires-clause-sound c =
 pub part-requires-clause-number : goal.part-requires-clause-number
 part-requires-clause-number c =
     let g = binding_of c.args.scope.now in
-    let view = part_view c.args.expr.now c.in-Part.of c.in-Part.high c.in-Part.low c.in-Part.bracket c.in-Part.is in
+    let view = part_view c.args.expr.now c.in-Part.of c.in-Part.high c.in-Part.low c.in-Part.bracket (sym c.deref.ensures ∙ c.in-Part.is) in
     let base = sym (ap (λ e. look_up g (base_name e).name) view) ∙ c.requires.base in
     let sound = sym (ap (λ e. none (faults g e)) view) ∙ c.requires.sound in
     let known = sym (ap (names_faulty g) view) ∙ c.requires.known in
@@ -65,7 +65,7 @@ part-requires-clause-number c =
 pub part-requires-clause-first : goal.part-requires-clause-first
 part-requires-clause-first c =
     let g = binding_of c.args.scope.now in
-    let view = part_view c.args.expr.now c.in-Part.of c.in-Part.high c.in-Part.low c.in-Part.bracket c.in-Part.is in
+    let view = part_view c.args.expr.now c.in-Part.of c.in-Part.high c.in-Part.low c.in-Part.bracket (sym c.deref.ensures ∙ c.in-Part.is) in
     let base = sym (ap (λ e. look_up g (base_name e).name) view) ∙ c.requires.base in
     let sound = sym (ap (λ e. none (faults g e)) view) ∙ c.requires.sound in
     let known = sym (ap (names_faulty g) view) ∙ c.requires.known in
@@ -75,7 +75,7 @@ part-requires-clause-first c =
 pub part-requires-clause-inside : goal.part-requires-clause-inside
 part-requires-clause-inside c =
     let g = binding_of c.args.scope.now in
-    let view = part_view c.args.expr.now c.in-Part.of c.in-Part.high c.in-Part.low c.in-Part.bracket c.in-Part.is in
+    let view = part_view c.args.expr.now c.in-Part.of c.in-Part.high c.in-Part.low c.in-Part.bracket (sym c.deref.ensures ∙ c.in-Part.is) in
     let base = sym (ap (λ e. look_up g (base_name e).name) view) ∙ c.requires.base in
     let sound = sym (ap (λ e. none (faults g e)) view) ∙ c.requires.sound in
     let known = sym (ap (names_faulty g) view) ∙ c.requires.known in
@@ -87,7 +87,7 @@ part-requires-clause-inside c =
 pub slide-requires-clause-base : goal.slide-requires-clause-base
 slide-requires-clause-base c =
     let g = binding_of c.args.scope.now in
-    let view = slide_view c.args.expr.now c.in-Slide.of c.in-Slide.base c.in-Slide.width c.in-Slide.up c.in-Slide.bracket c.in-Slide.is in
+    let view = slide_view c.args.expr.now c.in-Slide.of c.in-Slide.base c.in-Slide.width c.in-Slide.up c.in-Slide.bracket (sym c.deref.ensures ∙ c.in-Slide.is) in
     let base = sym (ap (λ e. look_up g (base_name e).name) view) ∙ c.requires.base in
     let sound = sym (ap (λ e. none (faults g e)) view) ∙ c.requires.sound in
     let known = sym (ap (names_faulty g) view) ∙ c.requires.known in
@@ -97,7 +97,7 @@ slide-requires-clause-base c =
 pub slide-requires-clause-constant : goal.slide-requires-clause-constant
 slide-requires-clause-constant c =
     let g = binding_of c.args.scope.now in
-    let view = slide_view c.args.expr.now c.in-Slide.of c.in-Slide.base c.in-Slide.width c.in-Slide.up c.in-Slide.bracket c.in-Slide.is in
+    let view = slide_view c.args.expr.now c.in-Slide.of c.in-Slide.base c.in-Slide.width c.in-Slide.up c.in-Slide.bracket (sym c.deref.ensures ∙ c.in-Slide.is) in
     let base = sym (ap (λ e. look_up g (base_name e).name) view) ∙ c.requires.base in
     let sound = sym (ap (λ e. none (faults g e)) view) ∙ c.requires.sound in
     let known = sym (ap (names_faulty g) view) ∙ c.requires.known in
@@ -107,7 +107,7 @@ slide-requires-clause-constant c =
 pub slide-requires-clause-width : goal.slide-requires-clause-width
 slide-requires-clause-width c =
     let g = binding_of c.args.scope.now in
-    let view = slide_view c.args.expr.now c.in-Slide.of c.in-Slide.base c.in-Slide.width c.in-Slide.up c.in-Slide.bracket c.in-Slide.is in
+    let view = slide_view c.args.expr.now c.in-Slide.of c.in-Slide.base c.in-Slide.width c.in-Slide.up c.in-Slide.bracket (sym c.deref.ensures ∙ c.in-Slide.is) in
     let base = sym (ap (λ e. look_up g (base_name e).name) view) ∙ c.requires.base in
     let sound = sym (ap (λ e. none (faults g e)) view) ∙ c.requires.sound in
     let known = sym (ap (names_faulty g) view) ∙ c.requires.known in
@@ -117,7 +117,7 @@ slide-requires-clause-width c =
 pub slide-requires-clause-some : goal.slide-requires-clause-some
 slide-requires-clause-some c =
     let g = binding_of c.args.scope.now in
-    let view = slide_view c.args.expr.now c.in-Slide.of c.in-Slide.base c.in-Slide.width c.in-Slide.up c.in-Slide.bracket c.in-Slide.is in
+    let view = slide_view c.args.expr.now c.in-Slide.of c.in-Slide.base c.in-Slide.width c.in-Slide.up c.in-Slide.bracket (sym c.deref.ensures ∙ c.in-Slide.is) in
     let base = sym (ap (λ e. look_up g (base_name e).name) view) ∙ c.requires.base in
     let sound = sym (ap (λ e. none (faults g e)) view) ∙ c.requires.sound in
     let known = sym (ap (names_faulty g) view) ∙ c.requires.known in
@@ -127,7 +127,7 @@ slide-requires-clause-some c =
 pub slide-requires-clause-inside : goal.slide-requires-clause-inside
 slide-requires-clause-inside c =
     let g = binding_of c.args.scope.now in
-    let view = slide_view c.args.expr.now c.in-Slide.of c.in-Slide.base c.in-Slide.width c.in-Slide.up c.in-Slide.bracket c.in-Slide.is in
+    let view = slide_view c.args.expr.now c.in-Slide.of c.in-Slide.base c.in-Slide.width c.in-Slide.up c.in-Slide.bracket (sym c.deref.ensures ∙ c.in-Slide.is) in
     let base = sym (ap (λ e. look_up g (base_name e).name) view) ∙ c.requires.base in
     let sound = sym (ap (λ e. none (faults g e)) view) ∙ c.requires.sound in
     let known = sym (ap (names_faulty g) view) ∙ c.requires.known in

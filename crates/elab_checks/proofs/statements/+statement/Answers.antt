@@ -36,7 +36,7 @@ check_statement-returns-in-Some-clause-met t c =
     let front = met_statement s.place ∷ met_faults fs in
     let tested : c.check.new.tally ≡ after_all c.args.tally.now front = c.check.ensures.met ∙ ap (λ u. after_faults u fs) c.statement.ensures in
     let first : c.check_statement.new.tally ≡ after_all c.args.tally.now (front ++ yes) = all_then c.args.tally.now c.check.new.tally c.check_statement.new.tally front yes tested c.in_ok-check_statement-in-If.ensures.met in
-    let view = if_else_view s c.in-If.test c.in-If.yes c.in-Some.no (c.in-If.is ∙ ap (form.If c.in-If.test c.in-If.yes) c.in-Some.is) in
+    let view = if_else_view s c.in-If.test c.in-If.yes c.in-Some.no ((sym c.deref.ensures ∙ c.in-If.is) ∙ ap (form.If c.in-If.test c.in-If.yes) c.in-Some.is) in
     let last = rw c.in_ok-check_statement-in-If.ensures.kept at c.check_statement-in-Some.ensures.met in
     let whole : after_all c.check_statement.new.tally other ≡ after_all c.args.tally.now (met g c.args.mode c.args.process (statement_view s)) =
     ap (λ u. after_all u other) first ∙ sym (after_all-append c.args.tally.now (front ++ yes) other) ∙ ap (λ ms. after_all c.args.tally.now ((front ++ yes) ++ ms)) (sym (append-nil other)) ∙ ap (λ x. after_all c.args.tally.now (met g c.args.mode c.args.process x)) (sym view) in
@@ -51,7 +51,7 @@ check_statement-returns-in-None-clause-met t c =
     let front = met_statement s.place ∷ met_faults fs in
     let tested : c.check.new.tally ≡ after_all c.args.tally.now front = c.check.ensures.met ∙ ap (λ u. after_faults u fs) c.statement.ensures in
     let first : c.check_statement.new.tally ≡ after_all c.args.tally.now (front ++ yes) = all_then c.args.tally.now c.check.new.tally c.check_statement.new.tally front yes tested c.in_ok-check_statement-in-If.ensures.met in
-    let view = if_view s c.in-If.test c.in-If.yes (c.in-If.is ∙ ap (form.If c.in-If.test c.in-If.yes) c.in-None.is) in
+    let view = if_view s c.in-If.test c.in-If.yes ((sym c.deref.ensures ∙ c.in-If.is) ∙ ap (form.If c.in-If.test c.in-If.yes) c.in-None.is) in
     first ∙ ap (after_all c.args.tally.now) (sym (append-nil (front ++ yes))) ∙ ap (λ x. after_all c.args.tally.now (met g c.args.mode c.args.process x)) (sym view)
 
 pub check_statement-returns-in-Case-clause-met : goal.check_statement-returns-in-Case-clause-met
@@ -62,7 +62,7 @@ check_statement-returns-in-Case-clause-met t c =
     let arms = items_met g c.args.mode c.args.process (arms_of (arms_view c.in-Case.arms.items)) in
     let front = met_statement s.place ∷ met_faults fs in
     let tested : c.check-in-Case.new.tally ≡ after_all c.args.tally.now front = c.check-in-Case.ensures.met ∙ ap (λ u. after_faults u fs) c.statement.ensures in
-    let view = case_view s c.in-Case.kind c.in-Case.on c.in-Case.arms c.in-Case.is in
+    let view = case_view s c.in-Case.kind c.in-Case.on c.in-Case.arms (sym c.deref.ensures ∙ c.in-Case.is) in
     let last = rw c.deref-in-Case.ensures.value at c.check_arms.ensures.met in
     let whole : after_all c.check-in-Case.new.tally arms ≡ after_all c.args.tally.now (met g c.args.mode c.args.process (statement_view s)) =
     ap (λ u. after_all u arms) tested ∙ sym (after_all-append c.args.tally.now front arms) ∙ ap (λ x. after_all c.args.tally.now (met g c.args.mode c.args.process x)) (sym view) in

@@ -31,10 +31,10 @@ check_target-returns-else-not-check_all_targets-clause-met t c =
     let es = exprs_of (exprs_view c.in-Concat.parts.items) in
     let all = all_target_faults g c.args.mode es in
     let size = joined_size_faults (known_width g es) c.args.expr.now.place in
-    let met = rw c.deref.ensures.value at c.check_all_targets.ensures.met in
-    let sound : none all ≡ true = sym (rw c.deref.ensures.value at c.check_all_targets.ensures.sound) ∙ c.if-not-check_all_targets.false in
-    let width = rw c.deref-in-Concat.ensures.value at c.widths.ensures in
-    let whole = joined g c.args.mode c.args.expr.now c.in-Concat.parts c.in-Concat.is sound in
+    let met = rw c.deref-in-Concat.ensures.value at c.check_all_targets.ensures.met in
+    let sound : none all ≡ true = sym (rw c.deref-in-Concat.ensures.value at c.check_all_targets.ensures.sound) ∙ c.if-not-check_all_targets.false in
+    let width = rw c.deref-in-Concat-2.ensures.value at c.widths.ensures in
+    let whole = joined g c.args.mode c.args.expr.now c.in-Concat.parts (sym c.deref.ensures ∙ c.in-Concat.is) sound in
     c.check_joined.ensures.met ∙ ap (λ w. after_faults c.check_all_targets.new.tally (joined_size_faults w c.args.expr.now.place)) width ∙ ap (λ s. after_faults s size) met ∙ sym (after_faults-append c.args.tally.now all size) ∙ ap (after_faults c.args.tally.now) (sym whole)
 
 pub check_target-returns-else-not-check_all_targets-clause-sound : goal.check_target-returns-else-not-check_all_targets-clause-sound
@@ -43,9 +43,9 @@ check_target-returns-else-not-check_all_targets-clause-sound t c =
     let es = exprs_of (exprs_view c.in-Concat.parts.items) in
     let all = all_target_faults g c.args.mode es in
     let size = joined_size_faults (known_width g es) c.args.expr.now.place in
-    let sound : none all ≡ true = sym (rw c.deref.ensures.value at c.check_all_targets.ensures.sound) ∙ c.if-not-check_all_targets.false in
-    let width = rw c.deref-in-Concat.ensures.value at c.widths.ensures in
-    let whole = joined g c.args.mode c.args.expr.now c.in-Concat.parts c.in-Concat.is sound in
+    let sound : none all ≡ true = sym (rw c.deref-in-Concat.ensures.value at c.check_all_targets.ensures.sound) ∙ c.if-not-check_all_targets.false in
+    let width = rw c.deref-in-Concat-2.ensures.value at c.widths.ensures in
+    let whole = joined g c.args.mode c.args.expr.now c.in-Concat.parts (sym c.deref.ensures ∙ c.in-Concat.is) sound in
     c.check_joined.ensures.sound ∙ ap (λ w. none (joined_size_faults w c.args.expr.now.place)) width ∙ sym (ap none whole ∙ none_append all size ∙ ap (λ b. b && none size) sound)
 
 pub check_all_targets-loop-expr-preserved : goal.check_all_targets-loop-expr-preserved

@@ -15,7 +15,7 @@ loop-part-init t c =
     let f = writing_of g c.args.writer.blocking c.args.writer.continuous c.args.writer.process in
     let before = map writing_view c.args.all.now.items in
     let parts = c.in-Concat.parts.items in
-    let view = concatenation_view c.args.expr.now c.in-Concat.parts c.in-Concat.is in
+    let view = concatenation_view c.args.expr.now c.in-Concat.parts (sym c.deref.ensures ∙ c.in-Concat.is) in
     let items = c.deref-part-items.ensures.value in
     record {
       written = ap (λ xs. before ++ map f (all_leaves (exprs_of (exprs_view xs)))) items ∙ sym (ap (λ e. before ++ map f (leaves e)) view);

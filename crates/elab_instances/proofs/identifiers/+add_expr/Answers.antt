@@ -12,7 +12,7 @@ pub add_expr-returns-in_ok-add_expr-in-Repeat : goal.add_expr-returns-in_ok-add_
 add_expr-returns-in_ok-add_expr-in-Repeat t c =
     let one = c.in_ok-add_expr-in-Repeat.ensures in
     let others = rw c.deref-in-Repeat.ensures.value at c.add_exprs-in-Repeat.ensures in
-    names_then c.add_exprs-in-Repeat.result (has c.args.names.now) (has c.add_expr.new.names) (has c.add_exprs-in-Repeat.new.names) (identifiers (expr_view c.in-Repeat.count)) (all_identifiers (exprs_of (exprs_view c.in-Repeat.parts.items))) _ (ap identifiers (repeat_view c.args.expr.now c.in-Repeat.count c.in-Repeat.parts c.in-Repeat.is)) one others
+    names_then c.add_exprs-in-Repeat.result (has c.args.names.now) (has c.add_expr.new.names) (has c.add_exprs-in-Repeat.new.names) (identifiers (expr_view c.in-Repeat.count)) (all_identifiers (exprs_of (exprs_view c.in-Repeat.parts.items))) _ (ap identifiers (repeat_view c.args.expr.now c.in-Repeat.count c.in-Repeat.parts (sym c.deref.ensures ∙ c.in-Repeat.is))) one others
 
 pub add_exprs-loop-expr-preserved : goal.add_exprs-loop-expr-preserved
 add_exprs-loop-expr-preserved t c =

@@ -18,7 +18,7 @@ add_statement-returns-in-Some t c =
     let second = c.in_ok-add_statement-in-If.ensures in
     let third = c.add_statement-in-Some.ensures in
     let front = names_both (has c.args.names.now) (has c.add_expr.new.names) (has c.add_statement.new.names) test then c.in_ok-add_expr-in-If.ensures second in
-    let is = c.in-If.is ∙ ap (λ o. form.If c.in-If.test c.in-If.yes o) c.in-Some.is in
+    let is = (sym c.deref.ensures ∙ c.in-If.is) ∙ ap (λ o. form.If c.in-If.test c.in-If.yes o) c.in-Some.is in
     names_then c.add_statement-in-Some.result (has c.args.names.now) (has c.add_statement.new.names) (has c.add_statement-in-Some.new.names) (test ++ then) other _ (ap body_identifiers (if_else_view c.args.statement.now c.in-If.test c.in-If.yes c.in-Some.no is) ∙ ap (λ ns. test ++ then ++ ns) (append-nil other)) front third
 
 pub add_statement-returns-in-None : goal.add_statement-returns-in-None
@@ -26,20 +26,20 @@ add_statement-returns-in-None t c =
     let test = identifiers (expr_view c.in-If.test) in
     let then = body_identifiers (statement_view c.in-If.yes) in
     let second = c.in_ok-add_statement-in-If.ensures in
-    let is = c.in-If.is ∙ ap (λ o. form.If c.in-If.test c.in-If.yes o) c.in-None.is in
+    let is = (sym c.deref.ensures ∙ c.in-If.is) ∙ ap (λ o. form.If c.in-If.test c.in-If.yes o) c.in-None.is in
     names_both (has c.args.names.now) (has c.add_expr.new.names) (has c.add_statement.new.names) test then c.in_ok-add_expr-in-If.ensures second
     ∙ ap (λ ns. with_names ns (has c.args.names.now)) (sym (ap body_identifiers (if_view c.args.statement.now c.in-If.test c.in-If.yes is) ∙ append-nil (test ++ then)))
 
 pub add_statement-returns-in_ok-add_expr-in-Case : goal.add_statement-returns-in_ok-add_expr-in-Case
 add_statement-returns-in_ok-add_expr-in-Case t c =
     let others = rw c.deref-in-Case.ensures.value at c.add_arms.ensures in
-    names_then c.add_arms.result (has c.args.names.now) (has c.add_expr-in-Case.new.names) (has c.add_arms.new.names) (identifiers (expr_view c.in-Case.on)) (items_identifiers (arms_of (arms_view c.in-Case.arms.items))) _ (ap body_identifiers (case_view c.args.statement.now c.in-Case.kind c.in-Case.on c.in-Case.arms c.in-Case.is)) c.in_ok-add_expr-in-Case.ensures others
+    names_then c.add_arms.result (has c.args.names.now) (has c.add_expr-in-Case.new.names) (has c.add_arms.new.names) (identifiers (expr_view c.in-Case.on)) (items_identifiers (arms_of (arms_view c.in-Case.arms.items))) _ (ap body_identifiers (case_view c.args.statement.now c.in-Case.kind c.in-Case.on c.in-Case.arms (sym c.deref.ensures ∙ c.in-Case.is))) c.in_ok-add_expr-in-Case.ensures others
 
 pub add_statement-returns-in_ok-add_header-in-For : goal.add_statement-returns-in_ok-add_header-in-For
 add_statement-returns-in_ok-add_header-in-For t c =
     let h = c.in-For.header in
     let body = rw (← body_view h) at c.add_statement-in-For.ensures in
-    names_then c.add_statement-in-For.result (has c.args.names.now) (has c.add_header.new.names) (has c.add_statement-in-For.new.names) (header_identifiers (loop_view h).0) (body_identifiers (loop_view h).1) _ (ap body_identifiers (for_view c.args.statement.now h c.in-For.is)) c.in_ok-add_header-in-For.ensures body
+    names_then c.add_statement-in-For.result (has c.args.names.now) (has c.add_header.new.names) (has c.add_statement-in-For.new.names) (header_identifiers (loop_view h).0) (body_identifiers (loop_view h).1) _ (ap body_identifiers (for_view c.args.statement.now h (sym c.deref.ensures ∙ c.in-For.is))) c.in_ok-add_header-in-For.ensures body
 
 pub add_statements-loop-statement-preserved : goal.add_statements-loop-statement-preserved
 add_statements-loop-statement-preserved t c =

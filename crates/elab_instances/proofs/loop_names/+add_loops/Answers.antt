@@ -15,7 +15,7 @@ add_loops-returns-in-Some t c =
     let other = loop_names (statement_view c.in-Some.no) in
     let first = c.in_ok-add_loops-in-If.ensures in
     let second = c.add_loops-in-Some.ensures in
-    let is = c.in-If.is ∙ ap (λ o. form.If c.in-If.test c.in-If.yes o) c.in-Some.is in
+    let is = (sym c.deref.ensures ∙ c.in-If.is) ∙ ap (λ o. form.If c.in-If.test c.in-If.yes o) c.in-Some.is in
     names_then c.add_loops-in-Some.result (has c.args.names.now) (has c.add_loops.new.names) (has c.add_loops-in-Some.new.names) then other _ (ap loop_names (if_else_view c.args.statement.now c.in-If.test c.in-If.yes c.in-Some.no is) ∙ ap (λ ns. then ++ ns) (append-nil other)) first second
 
 pub add_all_loops-loop-statement-preserved : goal.add_all_loops-loop-statement-preserved

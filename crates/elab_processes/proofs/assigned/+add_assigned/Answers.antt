@@ -31,7 +31,7 @@ add_assigned-returns-in-Some-clause-assigned t c =
     let yes = assigned g (statement_view c.in-If.yes) in
     let other = assigned g (statement_view c.in-Some.no) in
     let first = c.in_ok-add_assigned-in-If.ensures.assigned in
-    let view = if_else_view s c.in-If.test c.in-If.yes c.in-Some.no (c.in-If.is ∙ ap (form.If c.in-If.test c.in-If.yes) c.in-Some.is) in
+    let view = if_else_view s c.in-If.test c.in-If.yes c.in-Some.no ((sym c.deref.ensures ∙ c.in-If.is) ∙ ap (form.If c.in-If.test c.in-If.yes) c.in-Some.is) in
     let one = c.add_assigned.new.known in
     let f = binding_of c.add_assigned.new.scope in
     let last = ap (λ f. has (listed_signals f (assigned f (statement_view c.in-Some.no)) ++ one)) c.in_ok-add_assigned-in-If.ensures.kept in
@@ -46,13 +46,13 @@ add_assigned-returns-in-None-clause-assigned t c =
     let s = c.args.statement.now in
     let yes = assigned g (statement_view c.in-If.yes) in
     let first = c.in_ok-add_assigned-in-If.ensures.assigned in
-    let view = if_view s c.in-If.test c.in-If.yes (c.in-If.is ∙ ap (form.If c.in-If.test c.in-If.yes) c.in-None.is) in
+    let view = if_view s c.in-If.test c.in-If.yes ((sym c.deref.ensures ∙ c.in-If.is) ∙ ap (form.If c.in-If.test c.in-If.yes) c.in-None.is) in
     first ∙ ap (λ xs. has (listed_signals g xs ++ k)) (sym (append-nil yes)) ∙ ap (λ x. has (listed_signals g (assigned g x) ++ k)) (sym view)
 
 pub add_assigned-returns-in-For-clause-assigned : goal.add_assigned-returns-in-For-clause-assigned
 add_assigned-returns-in-For-clause-assigned t c =
     let g = binding_of c.args.scope.now in
-    let view = for_view c.args.statement.now c.in-For.header c.in-For.is in
+    let view = for_view c.args.statement.now c.in-For.header (sym c.deref.ensures ∙ c.in-For.is) in
     ok_along c.add_turns.result (has c.add_turns.new.known) _ _ (ap (λ x. has (listed_signals g (assigned g x) ++ c.args.known.now)) (sym view)) c.add_turns.ensures.assigned
 
 pub add_all_assigned-loop-statement-preserved : goal.add_all_assigned-loop-statement-preserved

@@ -34,7 +34,7 @@ check_reads-returns-in-Some-clause-met t c =
     let yes = reads g (statement_view c.in-If.yes) in
     let other = reads g (statement_view c.in-Some.no) in
     let first = lacking_then g k u c.check_names.new.tally c.check_reads.new.tally test yes c.check_names.ensures c.in_ok-check_reads-in-If.ensures.met in
-    let view = if_else_view s c.in-If.test c.in-If.yes c.in-Some.no (c.in-If.is ∙ ap (form.If c.in-If.test c.in-If.yes) c.in-Some.is) in
+    let view = if_else_view s c.in-If.test c.in-If.yes c.in-Some.no ((sym c.deref.ensures ∙ c.in-If.is) ∙ ap (form.If c.in-If.test c.in-If.yes) c.in-Some.is) in
     let told = after_faults c.check_reads.new.tally (lacking g k other) in
     let last = ap (λ f. after_faults c.check_reads.new.tally (lacking f k (reads f (statement_view c.in-Some.no)))) c.in_ok-check_reads-in-If.ensures.kept in
     let whole : told ≡ after_faults u (lacking g k (reads g (statement_view s))) =
@@ -50,7 +50,7 @@ check_reads-returns-in-None-clause-met t c =
     let test = identifiers (expr_view c.in-If.test) in
     let yes = reads g (statement_view c.in-If.yes) in
     let first = lacking_then g k u c.check_names.new.tally c.check_reads.new.tally test yes c.check_names.ensures c.in_ok-check_reads-in-If.ensures.met in
-    let view = if_view s c.in-If.test c.in-If.yes (c.in-If.is ∙ ap (form.If c.in-If.test c.in-If.yes) c.in-None.is) in
+    let view = if_view s c.in-If.test c.in-If.yes ((sym c.deref.ensures ∙ c.in-If.is) ∙ ap (form.If c.in-If.test c.in-If.yes) c.in-None.is) in
     first ∙ ap (λ xs. after_faults u (lacking g k xs)) (sym (append-nil (test ++ yes))) ∙ ap (λ x. after_faults u (lacking g k (reads g x))) (sym view)
 
 pub check_reads-returns-in-Case-clause-met : goal.check_reads-returns-in-Case-clause-met
@@ -61,7 +61,7 @@ check_reads-returns-in-Case-clause-met t c =
     let s = c.args.statement.now in
     let on = identifiers (expr_view c.in-Case.on) in
     let arms = items_reads g (arms_of (arms_view c.in-Case.arms.items)) in
-    let view = case_view s c.in-Case.kind c.in-Case.on c.in-Case.arms c.in-Case.is in
+    let view = case_view s c.in-Case.kind c.in-Case.on c.in-Case.arms (sym c.deref.ensures ∙ c.in-Case.is) in
     let last = rw c.deref-in-Case.ensures.value at c.check_arms.ensures.met in
     let told = after_faults c.check_names-in-Case.new.tally (lacking g k arms) in
     let whole : told ≡ after_faults u (lacking g k (reads g (statement_view s))) = lacking_then g k u c.check_names-in-Case.new.tally told on arms c.check_names-in-Case.ensures refl ∙ ap (λ x. after_faults u (lacking g k (reads g x))) (sym view) in
@@ -73,7 +73,7 @@ check_reads-returns-in-Set-clause-met t c =
     let k = c.args.known.now in
     let u = c.args.tally.now in
     let s = c.args.statement.now in
-    let view = set_view s c.in-Set.target c.in-Set.blocking c.in-Set.value c.in-Set.is in
+    let view = set_view s c.in-Set.target c.in-Set.blocking c.in-Set.value (sym c.deref.ensures ∙ c.in-Set.is) in
     lacking_then g k u c.check_target_names.new.tally c.check_names-in-Set.new.tally (target_reads (expr_view c.in-Set.target)) (identifiers (expr_view c.in-Set.value)) c.check_target_names.ensures c.check_names-in-Set.ensures ∙ ap (λ x. after_faults u (lacking g k (reads g x))) (sym view)
 
 pub check_all_reads-loop-statement-preserved : goal.check_all_reads-loop-statement-preserved

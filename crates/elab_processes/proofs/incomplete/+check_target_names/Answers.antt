@@ -20,7 +20,7 @@ check_target_names-returns-in-Bit t c =
     let index = identifiers (expr_view c.in-Bit.index) in
     let first = c.check_target_names.ensures in
     let last = c.check_names.ensures in
-    lacking_then g k u c.check_target_names.new.tally c.check_names.new.tally of index first last ∙ sym (ap (λ e. after_faults u (lacking g k (target_reads e))) (bit_view c.args.expr.now c.in-Bit.of c.in-Bit.index c.in-Bit.is))
+    lacking_then g k u c.check_target_names.new.tally c.check_names.new.tally of index first last ∙ sym (ap (λ e. after_faults u (lacking g k (target_reads e))) (bit_view c.args.expr.now c.in-Bit.of c.in-Bit.index (sym c.deref.ensures ∙ c.in-Bit.is)))
 
 pub check_target_names-returns-in-Part : goal.check_target_names-returns-in-Part
 check_target_names-returns-in-Part t c =
@@ -32,7 +32,7 @@ check_target_names-returns-in-Part t c =
     let ys = identifiers (expr_view c.in-Part.low) in
     let first = c.check_target_names-in-Part.ensures in
     let last = c.check_two.ensures in
-    lacking_then g k u c.check_target_names-in-Part.new.tally c.check_two.new.tally of (xs ++ ys) first last ∙ ap (λ ns. after_faults u (lacking g k ns)) (sym (append_assoc of xs ys)) ∙ sym (ap (λ e. after_faults u (lacking g k (target_reads e))) (part_view c.args.expr.now c.in-Part.of c.in-Part.high c.in-Part.low c.in-Part.bracket c.in-Part.is))
+    lacking_then g k u c.check_target_names-in-Part.new.tally c.check_two.new.tally of (xs ++ ys) first last ∙ ap (λ ns. after_faults u (lacking g k ns)) (sym (append_assoc of xs ys)) ∙ sym (ap (λ e. after_faults u (lacking g k (target_reads e))) (part_view c.args.expr.now c.in-Part.of c.in-Part.high c.in-Part.low c.in-Part.bracket (sym c.deref.ensures ∙ c.in-Part.is)))
 
 pub check_target_names-returns-in-Slide : goal.check_target_names-returns-in-Slide
 check_target_names-returns-in-Slide t c =
@@ -44,7 +44,7 @@ check_target_names-returns-in-Slide t c =
     let ys = identifiers (expr_view c.in-Slide.width) in
     let first = c.check_target_names-in-Slide.ensures in
     let last = c.check_two-in-Slide.ensures in
-    lacking_then g k u c.check_target_names-in-Slide.new.tally c.check_two-in-Slide.new.tally of (xs ++ ys) first last ∙ ap (λ ns. after_faults u (lacking g k ns)) (sym (append_assoc of xs ys)) ∙ sym (ap (λ e. after_faults u (lacking g k (target_reads e))) (slide_view c.args.expr.now c.in-Slide.of c.in-Slide.base c.in-Slide.width c.in-Slide.up c.in-Slide.bracket c.in-Slide.is))
+    lacking_then g k u c.check_target_names-in-Slide.new.tally c.check_two-in-Slide.new.tally of (xs ++ ys) first last ∙ ap (λ ns. after_faults u (lacking g k ns)) (sym (append_assoc of xs ys)) ∙ sym (ap (λ e. after_faults u (lacking g k (target_reads e))) (slide_view c.args.expr.now c.in-Slide.of c.in-Slide.base c.in-Slide.width c.in-Slide.up c.in-Slide.bracket (sym c.deref.ensures ∙ c.in-Slide.is)))
 
 pub check_all_target_names-loop-expr-preserved : goal.check_all_target_names-loop-expr-preserved
 check_all_target_names-loop-expr-preserved t c =
