@@ -6,6 +6,8 @@ ghost use Rattle.flat_design.specs.Processes as spec;
 
 use cov_host::NoMemory;
 use design_model::{Form, Term};
+use elab_build::Around;
+use elab_const::Shape;
 use std::alloc::Global;
 
 /// The same terms without counted nodes.
@@ -25,51 +27,55 @@ fn all_uncounted(alloc: Global, terms: &[Term]) -> Result<Vec<Term>, NoMemory>
 pub(crate) fn uncounted(alloc: Global, term: &Term) -> Result<Term, NoMemory>
     ensures { IfOk result (λ copy. term_view copy ≡ spec.uncounted (term_view term.now)) }
 {
-    let form = match &*term.form {
-        Form::Number(value) => Form::Number(*value),
-        Form::Signal(signal) => Form::Signal(*signal),
-        Form::Word { memory, index } => Form::Word {
-            memory: *memory,
-            index: uncounted(alloc, index)?,
-        },
-        Form::Bit { of, index } => Form::Bit {
-            of: uncounted(alloc, of)?,
-            index: uncounted(alloc, index)?,
-        },
-        Form::Part { of, high, low } => Form::Part {
-            of: uncounted(alloc, of)?,
-            high: uncounted(alloc, high)?,
-            low: uncounted(alloc, low)?,
-        },
+    let around = around(term);
+    match &*term.form {
+        Form::Number(value) => around.number(alloc, *value),
+        Form::Signal(signal) => around.signal(alloc, *signal),
+        Form::Word { memory, index } => around.word(alloc, *memory, uncounted(alloc, index)?),
+        Form::Bit { of, index } => {
+            around.bit(alloc, uncounted(alloc, of)?, uncounted(alloc, index)?)
+        }
+        Form::Part { of, high, low } => {
+            let of = uncounted(alloc, of)?;
+            around.part(alloc, of, uncounted(alloc, high)?, uncounted(alloc, low)?)
+        }
         Form::Slide {
             of,
             base,
             width,
             up,
-        } => Form::Slide {
-            of: uncounted(alloc, of)?,
-            base: uncounted(alloc, base)?,
-            width: uncounted(alloc, width)?,
-            up: *up,
-        },
-        Form::Unary(op, a) => Form::Unary(*op, uncounted(alloc, a)?),
-        Form::Binary(op, a, b) => Form::Binary(*op, uncounted(alloc, a)?, uncounted(alloc, b)?),
-        Form::Choice { test, yes, no } => Form::Choice {
-            test: uncounted(alloc, test)?,
-            yes: uncounted(alloc, yes)?,
-            no: uncounted(alloc, no)?,
-        },
-        Form::Concat(parts) => Form::Concat(all_uncounted(alloc, parts)?),
-        Form::Repeat(count, parts) => {
-            Form::Repeat(uncounted(alloc, count)?, all_uncounted(alloc, parts)?)
+        } => {
+            let of = uncounted(alloc, of)?;
+            let base = uncounted(alloc, base)?;
+            around.slide(alloc, of, base, uncounted(alloc, width)?, *up)
         }
-        Form::Sign(signed, a) => Form::Sign(*signed, uncounted(alloc, a)?),
-    };
-    Ok(Term {
+        Form::Unary(op, a) => around.unary(alloc, None, *op, uncounted(alloc, a)?),
+        Form::Binary(op, a, b) => {
+            let a = uncounted(alloc, a)?;
+            around.binary(alloc, None, *op, a, uncounted(alloc, b)?)
+        }
+        Form::Choice { test, yes, no } => {
+            let test = uncounted(alloc, test)?;
+            around.choice(alloc, test, uncounted(alloc, yes)?, uncounted(alloc, no)?)
+        }
+        Form::Concat(parts) => around.concat(alloc, all_uncounted(alloc, parts)?),
+        Form::Repeat(count, parts) => {
+            let count = uncounted(alloc, count)?;
+            around.repeat(alloc, count, all_uncounted(alloc, parts)?)
+        }
+        Form::Sign(signed, a) => around.sign(alloc, *signed, uncounted(alloc, a)?),
+    }
+}
+
+/// Where a term is written, and its width and sign.
+fn around(term: &Term) -> Around
+    ensures { result ≡ record { place = term.now.place; shape = record { width = term.now.width; signed = term.now.signed } } }
+{
+    Around {
         place: term.place,
-        width: term.width,
-        signed: term.signed,
-        node: None,
-        form: Box::new(alloc, form)?,
-    })
+        shape: Shape {
+            width: term.width,
+            signed: term.signed,
+        },
+    }
 }

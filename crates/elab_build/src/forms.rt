@@ -11,11 +11,11 @@ use elab_const::Shape;
 use four_state::{Binary, Four, Unary};
 use std::alloc::Global;
 
-/// Where a term stands, and the width and sign that its context gives it.
+/// Where a term is written, and the width and sign that its context gives it: what all forms of terms have in common.
 #[derive(Clone, Copy)]
-pub(crate) struct Around {
-    pub(crate) place: Place,
-    pub(crate) shape: Shape,
+pub struct Around {
+    pub place: Place,
+    pub shape: Shape,
 }
 
 impl Around {
@@ -34,48 +34,42 @@ impl Around {
     }
 
     /// A number.
-    pub(crate) fn number(self, alloc: Global, value: Four) -> Result<Term, NoMemory>
+    pub fn number(self, alloc: Global, value: Four) -> Result<Term, NoMemory>
         ensures { IfOk result (λ x. term_view x ≡ t.number (head_as self.place self.shape None) value) }
     {
         self.counted(alloc, None, Form::Number(value))
     }
 
     /// A signal.
-    pub(crate) fn signal(self, alloc: Global, signal: u32) -> Result<Term, NoMemory>
+    pub fn signal(self, alloc: Global, signal: u32) -> Result<Term, NoMemory>
         ensures { IfOk result (λ x. term_view x ≡ t.signal (head_as self.place self.shape None) signal) }
     {
         self.counted(alloc, None, Form::Signal(signal))
     }
 
     /// A word of a memory.
-    pub(crate) fn word(self, alloc: Global, memory: u32, index: Term) -> Result<Term, NoMemory>
+    pub fn word(self, alloc: Global, memory: u32, index: Term) -> Result<Term, NoMemory>
         ensures { IfOk result (λ x. term_view x ≡ t.word (head_as self.place self.shape None) memory (term_view index)) }
     {
         self.counted(alloc, None, Form::Word { memory, index })
     }
 
     /// `of[index]`.
-    pub(crate) fn bit(self, alloc: Global, of: Term, index: Term) -> Result<Term, NoMemory>
+    pub fn bit(self, alloc: Global, of: Term, index: Term) -> Result<Term, NoMemory>
         ensures { IfOk result (λ x. term_view x ≡ t.bit (head_as self.place self.shape None) (term_view of) (term_view index)) }
     {
         self.counted(alloc, None, Form::Bit { of, index })
     }
 
     /// `of[high:low]`.
-    pub(crate) fn part(
-        self,
-        alloc: Global,
-        of: Term,
-        high: Term,
-        low: Term,
-    ) -> Result<Term, NoMemory>
+    pub fn part(self, alloc: Global, of: Term, high: Term, low: Term) -> Result<Term, NoMemory>
         ensures { IfOk result (λ x. term_view x ≡ t.part (head_as self.place self.shape None) (term_view of) (term_view high) (term_view low)) }
     {
         self.counted(alloc, None, Form::Part { of, high, low })
     }
 
     /// `of[base +: width]`, or where `up` is false `of[base -: width]`.
-    pub(crate) fn slide(
+    pub fn slide(
         self,
         alloc: Global,
         of: Term,
@@ -95,7 +89,7 @@ impl Around {
     }
 
     /// An operator with one operand, and its number as a counted node.
-    pub(crate) fn unary(
+    pub fn unary(
         self,
         alloc: Global,
         node: Option<u32>,
@@ -108,7 +102,7 @@ impl Around {
     }
 
     /// An operator with two operands, and its number as a counted node.
-    pub(crate) fn binary(
+    pub fn binary(
         self,
         alloc: Global,
         node: Option<u32>,
@@ -122,39 +116,28 @@ impl Around {
     }
 
     /// `test ? yes : no`.
-    pub(crate) fn choice(
-        self,
-        alloc: Global,
-        test: Term,
-        yes: Term,
-        no: Term,
-    ) -> Result<Term, NoMemory>
+    pub fn choice(self, alloc: Global, test: Term, yes: Term, no: Term) -> Result<Term, NoMemory>
         ensures { IfOk result (λ x. term_view x ≡ t.choice (head_as self.place self.shape None) (term_view test) (term_view yes) (term_view no)) }
     {
         self.counted(alloc, None, Form::Choice { test, yes, no })
     }
 
     /// A concatenation.
-    pub(crate) fn concat(self, alloc: Global, parts: Vec<Term>) -> Result<Term, NoMemory>
+    pub fn concat(self, alloc: Global, parts: Vec<Term>) -> Result<Term, NoMemory>
         ensures { IfOk result (λ x. term_view x ≡ t.concat (head_as self.place self.shape None) (terms_of (map term_view parts.items))) }
     {
         self.counted(alloc, None, Form::Concat(parts))
     }
 
     /// A concatenation that is repeated.
-    pub(crate) fn repeat(
-        self,
-        alloc: Global,
-        count: Term,
-        parts: Vec<Term>,
-    ) -> Result<Term, NoMemory>
+    pub fn repeat(self, alloc: Global, count: Term, parts: Vec<Term>) -> Result<Term, NoMemory>
         ensures { IfOk result (λ x. term_view x ≡ t.repeat (head_as self.place self.shape None) (term_view count) (terms_of (map term_view parts.items))) }
     {
         self.counted(alloc, None, Form::Repeat(count, parts))
     }
 
     /// `$signed`, or where the flag is false `$unsigned`.
-    pub(crate) fn sign(self, alloc: Global, signed: bool, operand: Term) -> Result<Term, NoMemory>
+    pub fn sign(self, alloc: Global, signed: bool, operand: Term) -> Result<Term, NoMemory>
         ensures { IfOk result (λ x. term_view x ≡ t.sign (head_as self.place self.shape None) signed (term_view operand)) }
     {
         self.counted(alloc, None, Form::Sign(signed, operand))

@@ -12,6 +12,7 @@ mod terms;
 
 pub use counted::take;
 pub use counting::{pass_condition_nodes, pass_nodes};
+pub use forms::Around;
 pub use shapes::shape_of;
 pub use targets::target;
 pub use terms::{alone, condition_term, right_side, term};

@@ -1,4 +1,4 @@
-use Rattle.std.proofs.Common.{◌+◌, ◌++◌, ap, drop, refl}
+use Rattle.std.proofs.Common.{sym, ◌∙◌, ◌+◌, ◌++◌, ap, drop, refl}
 use Rattle.verilog_tree.proofs.ExprViews.{repeat_view}
 use Rattle.elab_checks.proofs.ExpressionLemmas.{next_is}
 use Rattle.flat_design.specs.Identifiers.{all_identifiers, identifiers}

@@ -1,4 +1,4 @@
-use Rattle.std.proofs.Common.{◌≡◌, ◌+◌, ◌++◌, Some, append-nil, drop, ap, ◌∙◌}
+use Rattle.std.proofs.Common.{◌≡◌, sym, ◌+◌, ◌++◌, Some, append-nil, drop, ap, ◌∙◌}
 use Rattle.flat_design.specs.Identifiers.{items_loop_names, loop_names, loops_names}
 use Rattle.verilog_tree.specs.Tree.{arms_of, statements_of}
 use Rattle.verilog_tree.specs.View.{arms_view, statement_view, statements_view}
