@@ -34,12 +34,13 @@ returns c =
     let counted = c.in_ok-opened.ensures.counted first (counted_before w c.counts.result c.counts.ensures.counts c.counts.ensures.signals c.counts.ensures.words c.requires.few) still in
     let inside : IsInside i first c.in_ok-inside.inside.value = subst (λ j. IsInside j first c.in_ok-inside.inside.value) same c.in_ok-inside.ensures in
     let kept = c.in_ok-instance.ensures.tally in
+    let memory = ap (λ x. x.next.memory) c.deref-3.ensures ∙ ap (λ n. n.memory) inside.next in
     entered_with w _ i _
     (kept ∙ c.in_ok-opened.ensures.met)
     (ap (λ u. u.ended) kept ∙ still)
-    (ap (λ n. n.memory) inside.next)
+    memory
     (λ d some clean. let o = c.in_ok-instance.ensures.draft d some (subst IsClean kept clean) in (o.0, o.1, o.2 ∙ ap (λ j. opened_design j (design_view o.0)) added, o.3))
     refl refl
     (c.into_declared.ensures ∙ ap (λ o. declared (instantiation_view o.given.now).overrides (instantiation_view o.given.now).of_module) c.into_inner.ensures ∙ ap (λ j. declared j.overrides j.of_module) given)
     (c.into_scope.ensures ∙ ap (λ s. binding_of s.scope) c.into_inner-2.ensures ∙ inside.scope ∙ ap (λ k. scope_of i k.signals w.memories) c.counts.ensures.counts)
-    (omega (arith, counted.2, ap (λ n. n.memory) inside.next, ap (λ u. u.counts.words) kept))
+    (omega (arith, counted.2, memory, ap (λ u. u.counts.words) kept))
