@@ -22,22 +22,19 @@ const FAULTS: &[(&str, ConstKind, u32)] = &[
     ("a + c", ConstKind::NotConstant, 5),
 ];
 
-/// An unsigned signal of so many bits.
-fn signal(width: u8) -> Entry {
-    Entry::Signal {
-        high: (width as u32).saturating_sub(1),
-        low: 0,
-        ranged: width > 1,
-        width,
-        signed: false,
-    }
-}
-
 /// A scope in which `a` has 128 bits and `b` one.
 pub(crate) fn signals(alloc: Global) -> Result<Scope, NoMemory> {
     let mut scope = Scope::new(alloc);
-    let _ = scope.insert("a", signal(128))?;
-    let _ = scope.insert("b", signal(1))?;
+    for (name, width) in [("a", 128), ("b", 1)] {
+        let entry = Entry::Signal {
+            high: width as u32 - 1,
+            low: 0,
+            ranged: width > 1,
+            width,
+            signed: false,
+        };
+        let _ = scope.insert(name, entry)?;
+    }
     Ok(scope)
 }
 

@@ -8,7 +8,7 @@ use std::alloc::Global;
 use verilog_tree::{Module, StatementForm};
 
 /// Loops, and the values of their variable in order.
-const LOOPS: &[(&str, &[u128])] = &[
+const LOOPS: &[(&str, &[u32])] = &[
     ("for (i = 0; i < 3; i = i + 1)", &[0, 1, 2]),
     ("for (i = 2; i >= 0; i = i - 1)", &[2, 1, 0]),
     ("for (i = 0; i < 0; i = i + 1)", &[]),
@@ -46,14 +46,21 @@ fn turns_of(alloc: Global, text: &str) -> Option<Result<Turns, ConstFault>> {
     }
 }
 
-/// Whether the values are these numbers, of 32 bits and with a sign.
-fn are_numbers(values: &[Four], numbers: &[u128]) -> bool {
-    values.len() == numbers.len()
-        && values.iter().zip(numbers.iter()).all(|(value, number)| *value
-            == Four::make(32, true, *number, 0))
+/// A number of 32 bits with a sign.
+fn signed_number(number: u32) -> Four {
+    Four::make(32, true, number as u128, 0)
 }
 
-fn has_turns(alloc: Global, text: &str, numbers: &[u128]) -> bool {
+/// Whether the values are these numbers, of 32 bits and with a sign.
+fn are_numbers(values: &[Four], numbers: &[u32]) -> bool {
+    values.len() == numbers.len()
+        && values
+            .iter()
+            .zip(numbers.iter())
+            .all(|(value, number)| *value == signed_number(*number))
+}
+
+fn has_turns(alloc: Global, text: &str, numbers: &[u32]) -> bool {
     match turns_of(alloc, text) {
         Some(Ok(turns)) => are_numbers(turns.as_slice(), numbers),
         _ => false,
