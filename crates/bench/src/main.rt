@@ -1,15 +1,11 @@
-//! Measures a part of the program: `bench operators ROUNDS`, `bench lexer FILE`, or `bench database FILE`. It prints the
-//! speed, or the fault of what it read.
+//! Measures a part of the program that has no command of its own: `bench operators ROUNDS`.
 #![tactic(auto)]
 
-mod database;
-mod lexer;
 mod operators;
-mod plain;
 
 use anyhow::Result;
 use std::env;
-use std::rt::{Clock, Files};
+use std::rt::Clock;
 
 fn main(rt: HostRuntime) -> Result<()> {
     let mut words = env::args(&rt)?;
@@ -20,16 +16,14 @@ fn main(rt: HostRuntime) -> Result<()> {
 }
 
 /// Measures one part.
-fn measure(rt: &(impl AllocGlobal + Clock + Files + Print), part: &str, word: &str) -> Result<()> {
+fn measure(rt: &(impl Clock + Print), part: &str, word: &str) -> Result<()> {
     match part {
         "operators" => operators::measure(rt, word.parse().unwrap_or(0)),
-        "lexer" => lexer::measure(rt, word),
-        "database" => database::measure(rt, word),
         _ => usage(rt),
     }
 }
 
 fn usage(rt: &impl Print) -> Result<()> {
-    println!(rt; "usage: bench operators ROUNDS | lexer FILE | database FILE")?;
+    println!(rt; "usage: bench operators ROUNDS")?;
     Ok(())
 }
