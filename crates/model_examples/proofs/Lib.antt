@@ -11,3 +11,15 @@ pub mod ArmsOpen
 pub mod SwapForced
 pub mod ReverseOpen
 pub mod ClosingOpen
+pub mod OneStep
+pub mod OneSet
+pub mod DividedDoubt
+pub mod DividedRun
+pub mod SyncedDoubt
+pub mod PulseDoubt
+pub mod ProductOpen
+pub mod HoldBitDoubt
+pub mod SettlingClear
+pub mod UnreadClear
+pub mod UnreadDoubt
+pub mod RangesRead
