@@ -1,5 +1,5 @@
 -- What is clear contradicts itself at no time: by rounds, and in time.
-use Rattle.std.proofs.Common.{◌≡◌, ◌⊎◌, inl, inr, ⊎_elim, ℕ, zero, suc, ◌+◌, ◌<◌, ◌≤◌, true, false, List, length, max, refl, sym, subst, ◌∙◌, arith}
+use Rattle.std.proofs.Common.{◌≡◌, ⊎_elim, ℕ, zero, suc, ◌+◌, ◌<◌, ◌≤◌, List, length, max, refl, sym, subst, ◌∙◌, arith}
 use Rattle.std.proofs.lemmas.Bool.{cases_lt}
 use Rattle.event_machine.specs.Cell.{Values}
 use Rattle.event_machine.specs.Habit.{Habit}
@@ -24,8 +24,8 @@ module _ (d : Design) (lawful : IsLawfulDesign d) (h : Habit) (dump : BoundDump)
   round_agrees (suc n) done =
       round_agrees n
       (λ v av.
-          combine d (clear_in d h dump t start (suc n)) (served d lawful h dump t start u au things n v av) u (length d.signals + length d.memories)
-          (λ w all. done w (λ x bits k. all (owner x) (owner_below d x (clear_in-thing d h dump t start (suc n) x bits k)) x bits refl k)))
+      combine d (clear_in d h dump t start (suc n)) (served d lawful h dump t start u au things n v av) u (length d.signals + length d.memories)
+      (λ w all. done w (λ x bits k. all (owner x) (owner_below d x (clear_in-thing d h dump t start (suc n) x bits k)) x bits refl k)))
 
   up : (n m : ℕ) → n ≤ m → (x : Thing) (bits : List Bit) → clear_in d h dump t start n x bits → clear_in d h dump t start m x bits
   up zero m le x bits k = absurd k
@@ -53,8 +53,8 @@ module _ (d : Design) (lawful : IsLawfulDesign d) (h : Habit) (dump : BoundDump)
   some_are o done =
       some_by (a_signal o)
       (λ a f.
-          some_round (suc (max (memory_at d o).first (memory_at d o).last)) (λ n i. IsBy n (a_word o i)) (λ b c i le g. by_up b c (a_word o i) le g) (λ i. some_by (a_word o i))
-          (λ b g. done (a + b) (by_up a (a + b) (a_signal o) (omega arith) f, λ i below. by_up b (a + b) (a_word o i) (omega arith) (g i below))))
+      some_round (suc (max (memory_at d o).first (memory_at d o).last)) (λ n i. IsBy n (a_word o i)) (λ b c i le g. by_up b c (a_word o i) le g) (λ i. some_by (a_word o i))
+      (λ b g. done (a + b) (by_up a (a + b) (a_signal o) (omega arith) f, λ i below. by_up b (a + b) (a_word o i) (omega arith) (g i below))))
 
   are_up : (a b o : ℕ) → a ≤ b → AreBy a o → AreBy b o
   are_up a b o le f = (by_up a b (a_signal o) le f.0, λ i below. by_up a b (a_word o i) le (f.1 i below))

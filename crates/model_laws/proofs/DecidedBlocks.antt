@@ -1,19 +1,15 @@
 -- A point of an Assign or Comb for which nothing is in doubt is hit in each run that shows the dump, or in none, also where a memory wakes it.
-use Rattle.std.proofs.Common.{◌≡◌, ◌≢◌, ◌⊎◌, inl, inr, ⊎_elim, ℕ, zero, suc, ◌<◌, ◌≤◌, ◌-◌, Bool, true, false, List, [], ◌∷◌, ◌++◌, length, nat_le, refl, sym, ap, subst, ◌∙◌, arith, if◌then◌else◌}
-use Rattle.std.specs.Prelude.{slice_index_or}
-use Rattle.std.specs.List.{list_all}
+use Rattle.std.proofs.Common.{◌≡◌, ◌≢◌, ◌⊎◌, inl, inr, ⊎_elim, ℕ, suc, ◌<◌, ◌≤◌, ◌-◌, Bool, true, false, List, [], ◌∷◌, ◌++◌, length, nat_le, refl, sym, ap, subst, ◌∙◌, arith, if◌then◌else◌}
 use Rattle.std.proofs.lemmas.Bool.{and_parts, both_ways, cases_Bool, cases_lt, false_from_ne_true, leb-true}
-use Rattle.std.proofs.lemmas.List.{get_or_past}
-use Rattle.event_machine.specs.Cell.{Cell, Values, Write, WritesCell, put_all}
+use Rattle.event_machine.specs.Cell.{Cell, Values, Write, WritesCell}
 use Rattle.event_machine.specs.Machine.{IsTarget, IsWakeCell, output}
 use Rattle.event_machine.specs.Habit.{Habit}
 use Rattle.event_machine.specs.Laws.{EvaluatesSettled}
 use Rattle.event_machine.specs.Step.{outputs}
 use Rattle.four_state.specs.Vector.{same_bit}
 use Rattle.four_state.specs.declared.bit.Bit.{Bit}
-use Rattle.design_model.specs.declared.design.Signal.{Signal}
 use Rattle.design_model.specs.Tree.{Process, assign, clocked, comb}
-use Rattle.design_model.specs.Design.{Design, In, IsClocked, IsComb, IsThing, Thing, a_signal, a_word, body_at, cell, cells, is_assign, is_memory, no_signal, owner, process_at, signal_at, thing_bits, word_cells}
+use Rattle.design_model.specs.Design.{Design, In, IsClocked, IsComb, IsThing, Thing, a_signal, a_word, body_at, cell, cells, is_assign, owner, process_at, signal_at, thing_bits}
 use Rattle.design_model.specs.Mentions.{body_assigns, body_mentions}
 use Rattle.design_model.specs.Execution.{Visit, execution, execution_start, reads}
 use Rattle.design_model.specs.Paths.{reads_signal_before_writing}
@@ -22,10 +18,11 @@ use Rattle.design_model.specs.Machine.{machine}
 use Rattle.design_model.specs.Run.{IsRun, Run, StepOf, evaluations_of, settled, start_of}
 use Rattle.design_model.specs.Shows.{BoundDump, IsDumpOf, IsShown, IsWindow, Shows, ShowsUpTo}
 use Rattle.design_model.specs.Scored.{ChangesOver, IsScoredOf, VisitsIn}
-use Rattle.design_model.specs.Points.{IsBlock, Point}
+use Rattle.design_model.specs.Points.{IsBlock}
+use Rattle.design_model.specs.declared.point.Point.{Point}
 use Rattle.design_model.specs.MayMove.{MayMoveAt}
 use Rattle.design_model.specs.Clear.{clear, clear_before}
-use Rattle.design_model.specs.Open.{IsNotClocked, IsOpenFor, IsVisitOf, IsWakeBit, KnownAtEnd}
+use Rattle.design_model.specs.Open.{IsOpenFor, IsVisitOf, IsWakeBit, KnownAtEnd}
 use Rattle.design_model.specs.Doubt.{BlockDoubt, IsInDoubt, IsUnclear, MayWakeUnlisted, of_block, own_target, unclear_signal, unclear_word}
 use Rattle.design_model.specs.Lawful.{IsLawfulDesign}
 use Rattle.design_model.specs.StepLaws.{StepFacts}

@@ -1,15 +1,13 @@
 -- The decided law for each point.
-use Rattle.std.proofs.Common.{◌≡◌, ◌⊎◌, inl, inr, ⊎_elim, ℕ, zero, suc}
+use Rattle.std.proofs.Common.{◌⊎◌, inl, inr, ⊎_elim, zero, suc}
 use Rattle.event_machine.specs.Habit.{Habit}
 use Rattle.design_model.specs.Tree.{Process, assign, clocked, comb}
 use Rattle.design_model.specs.Design.{Design, IsClocked, process_at}
 use Rattle.design_model.specs.Machine.{machine}
-use Rattle.design_model.specs.Run.{IsRun, Run, StepOf}
-use Rattle.design_model.specs.Scored.{VisitsIn}
-use Rattle.design_model.specs.Points.{Point}
+use Rattle.design_model.specs.declared.point.Point.{Point}
 use Rattle.design_model.specs.Lawful.{IsLawfulDesign}
 use Rattle.design_model.specs.DecidedLaw.{IsBlockPoint, IsDecided}
-use Rattle.design_model.proofs.BlockVisits.{HitVisit, hit_visit, visit_hit}
+use Rattle.design_model.proofs.BlockVisits.{hit_visit, visit_hit}
 use Rattle.design_model.proofs.DecidedClocked.{decided_block, no_time_hit}
 use Rattle.design_model.proofs.DecidedSignals.{signal_decided_law}
 use Rattle.design_model.proofs.StepLaws.{StepLaws}

@@ -1,15 +1,13 @@
 -- A signal of which an Assign has no wake bit does not matter to it, and a lawful design in which an Assign has none of a signal that it drives and mentions.
-use Rattle.std.proofs.Common.{◌≡◌, ◌≢◌, ⊎_elim, inl, inr, ℕ, zero, suc, ◌<◌, ◌≤◌, ◌==◌, ◌&&◌, Bool, true, false, length, refl, sym, ap, subst, ◌∙◌, arith, lit≤, if◌then◌else◌}
+use Rattle.std.proofs.Common.{◌≡◌, ℕ, zero, suc, ◌<◌, ◌≤◌, ◌==◌, ◌&&◌, Bool, true, false, length, refl, sym, subst, ◌∙◌, arith, lit≤, if◌then◌else◌}
 use Rattle.std.specs.Prelude.{nat_lt}
 use Rattle.std.specs.List.{list_all}
-use Rattle.std.proofs.lemmas.Bool.{and_parts, and_right, both_ways, eqb-true, false≢true, lt-ltb, ltb-true}
-use Rattle.std.proofs.lemmas.Bool.Decides.{nat_tests}
-use Rattle.event_machine.specs.Cell.{Cell, Values}
+use Rattle.std.proofs.lemmas.Bool.{and_right, eqb-true, false≢true, lt-ltb, ltb-true}
+use Rattle.event_machine.specs.Cell.{Cell}
 use Rattle.event_machine.specs.Machine.{IsWakeCell}
-use Rattle.four_state.specs.declared.bit.Bit.{Bit}
-use Rattle.design_model.specs.Tree.{Target, Term, all_of}
-use Rattle.design_model.specs.Design.{Design, In, IsAssign, IsComb, body_at, cell, is_assign, is_number, path_of, process_at, signal_at}
-use Rattle.design_model.specs.Mentions.{any_set, body_assigns, body_blocks, body_queues, may_write}
+use Rattle.design_model.specs.Tree.{all_of}
+use Rattle.design_model.specs.Design.{Design, In, IsAssign, IsComb, body_at, cell, is_number, path_of, process_at, signal_at}
+use Rattle.design_model.specs.Mentions.{any_set, body_assigns, body_queues, may_write}
 use Rattle.design_model.specs.Execution.{execution, execution_start}
 use Rattle.design_model.specs.Numbered.{LineAt, NodeAt, lines_of, nodes_of}
 use Rattle.design_model.specs.Machine.{events_of, machine}
@@ -21,7 +19,7 @@ use Rattle.design_model.specs.BodyLaws.{all_cells}
 use Rattle.design_model.proofs.AssignLaws.{assign_visits_law}
 use Rattle.design_model.proofs.ReadThings.{execute_things}
 use Rattle.design_model.proofs.Told.{execution_same}
-use Rattle.model_laws.specs.Own.{HasOwnWakes, IgnoredLaw, IsPickingExample, picking}
+use Rattle.model_laws.specs.Own.{IgnoredLaw, IsPickingExample, picking}
 use Rattle.model_laws.proofs.Cells.{has, in_has, on_design, outer_on, signal_place}
 
 -- ---- ignored signals

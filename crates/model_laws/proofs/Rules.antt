@@ -1,20 +1,19 @@
 -- Each rule of what is clear gives the things of a signal or memory values that one state has.
-use Rattle.std.proofs.Common.{◌≡◌, ◌≢◌, ◌⊎◌, inl, inr, ⊎_elim, ℕ, zero, suc, ◌+◌, ◌<◌, ◌≤◌, ◌==◌, ◌&&◌, Bool, true, false, List, [], ◌∷◌, length, map, refl, sym, ap, subst, ◌∙◌, arith}
-use Rattle.std.specs.Prelude.{nat_le, nat_lt, slice_index_or}
+use Rattle.std.proofs.Common.{◌≡◌, ◌≢◌, ◌⊎◌, inl, inr, ⊎_elim, ℕ, zero, suc, ◌<◌, ◌≤◌, ◌&&◌, Bool, true, false, List, [], ◌∷◌, length, map, refl, sym, ap, subst, ◌∙◌, arith}
+use Rattle.std.specs.Prelude.{nat_le, slice_index_or}
 use Rattle.std.specs.List.{list_all, list_any, range_with_len}
 use Rattle.std.proofs.lemmas.Bool.{and_parts, both_ways, cases_Bool, cases_lt, false≢true, leb-true, or_cases}
 use Rattle.event_machine.specs.Cell.{Cell, Values, put_all}
 use Rattle.event_machine.specs.Habit.{Habit}
 use Rattle.four_state.specs.declared.bit.Bit.{Bit}
 use Rattle.design_model.specs.Tree.{Process, assign, clocked, comb}
-use Rattle.design_model.specs.Design.{Design, In, IsAssign, IsClocked, IsComb, IsThing, Thing, a_signal, a_word, body, body_at, cell, is_assign, no_process, owner, process_at, signal_at, thing_bits}
+use Rattle.design_model.specs.Design.{Design, IsAssign, IsClocked, IsComb, IsThing, Thing, a_signal, a_word, body, body_at, cell, is_assign, no_process, owner, process_at, signal_at, thing_bits}
 use Rattle.design_model.specs.Mentions.{any_set, body_assigns, may_write, target_names}
 use Rattle.design_model.specs.Execution.{execution}
 use Rattle.design_model.specs.Reads.{Agrees, Known}
-use Rattle.design_model.specs.Machine.{events_of}
 use Rattle.design_model.specs.Shows.{BoundDump}
 use Rattle.design_model.specs.MayMove.{CanWakeAt, IsCleanAt}
-use Rattle.design_model.specs.Clear.{EntryFrom, IsClearBy, IsNetValue, all_writes, clear_in, driven_writes, is_driven, of_assigns, of_clean, of_comb, of_dump, of_unwoken}
+use Rattle.design_model.specs.Clear.{EntryFrom, IsNetValue, all_writes, clear_in, driven_writes, is_driven, of_assigns, of_clean, of_comb, of_dump, of_unwoken}
 use Rattle.design_model.specs.Lawful.{IsLawfulDesign}
 use Rattle.design_model.proofs.AssignLaws.{has_bit}
 use Rattle.design_model.proofs.Assigns.{is_assign_from}
@@ -58,6 +57,10 @@ module _ (d : Design) (lawful : IsLawfulDesign d) where
   abbrev IsWriter : ℕ → ℕ → Type 0
   IsWriter o p = (IsAssign (process_at d p) → ⊥) × (body_assigns o (body_at d p) ≡ true)
 
+  -- an Assign may write the cell
+  abbrev is_driven_cell : Cell → Bool
+  is_driven_cell c = list_any (λ q. is_assign q && any_set (λ b y t. may_write d y c) (body q)) d.processes
+
   -- a driven signal has a driver
   driver_of : (s : ℕ) → s < length d.signals → is_driven d s ≡ true → (p : ℕ) × IsDriver s p
   driver_of s less driven =
@@ -65,12 +68,9 @@ module _ (d : Design) (lawful : IsLawfulDesign d) where
       let both = and_parts (is_assign (process_at d found.0)) (any_set (λ b y t. may_write d y (cell s 0)) (body_at d found.0)) found.1 in
       (found.0, (is_assign_from (process_at d found.0) both.0, any_weaker (λ b y t. may_write d y (cell s 0)) (λ b y t. target_names s y) (λ b y t e. names_from d y (cell s 0) e) (body_at d found.0) both.1))
     where
-      abbrev Driven : Cell → Bool
-      Driven c = list_any (λ q. is_assign q && any_set (λ b y t. may_write d y c) (body q)) d.processes
-
-      first : (w : ℕ) → 1 ≤ w → list_all Driven (map (cell s) (range_with_len 0 w)) ≡ true → Driven (cell s 0) ≡ true
+      first : (w : ℕ) → 1 ≤ w → list_all is_driven_cell (map (cell s) (range_with_len 0 w)) ≡ true → is_driven_cell (cell s 0) ≡ true
       first zero one h = absurd (omega (arith, one))
-      first (suc w) one h = (and_parts (Driven (cell s 0)) _ h).0
+      first (suc w) one h = (and_parts (is_driven_cell (cell s 0)) _ h).0
 
   module _ (h : Habit) (dump : BoundDump) (t : ℕ) (start : Known) (u : Values Bit) (au : Agrees d start u) (things : (x : Thing) (bits : List Bit) → start x bits → IsThing d x) (n : ℕ) (v : Values Bit) (av : Agrees d (clear_in d h dump t start n) v) where
     abbrev K : Known

@@ -1,12 +1,12 @@
 -- States that agree with a map, made of states for the things of one signal or memory each.
-use Rattle.std.proofs.Common.{◌≡◌, ◌≢◌, ◌⊎◌, inl, inr, ⊎_elim, ℕ, zero, suc, ◌+◌, ◌<◌, ◌≤◌, ◌==◌, Bool, true, false, List, [], ◌∷◌, length, refl, sym, ap, ap₂, subst, ◌∙◌, arith, eq-eqb, if◌then◌else◌, max}
-use Rattle.std.specs.Prelude.{nat_le, nat_lt}
+use Rattle.std.proofs.Common.{◌≡◌, ◌⊎◌, inl, inr, ⊎_elim, ℕ, zero, suc, ◌+◌, ◌<◌, ◌≤◌, ◌==◌, Bool, true, false, List, [], ◌∷◌, length, refl, sym, ap, ap₂, subst, ◌∙◌, arith, eq-eqb, if◌then◌else◌}
+use Rattle.std.specs.Prelude.{nat_le}
 use Rattle.std.proofs.lemmas.Bool.{and_parts, both_ways, cases_Bool, cases_lt, eqb-true, ltb-true}
 use Rattle.event_machine.specs.Cell.{Cell, Values}
 use Rattle.four_state.specs.Vector.{same_bit}
 use Rattle.four_state.specs.declared.bit.Bit.{Bit}
-use Rattle.design_model.specs.Design.{Design, IsThing, Thing, a_signal, a_word, memory_at, owner, thing_bits}
-use Rattle.design_model.specs.Reads.{Agrees, Known}
+use Rattle.design_model.specs.Design.{Design, IsThing, Thing, a_signal, a_word, owner, thing_bits}
+use Rattle.design_model.specs.Reads.{Known}
 use Rattle.design_model.proofs.Lawful.{same_bit_is, same_bit_self}
 use Rattle.design_model.proofs.Sound.{cells_eq}
 
@@ -84,14 +84,14 @@ some_round zero P up each done = done 0 (λ k below. absurd (omega (arith, below
 some_round (suc n) P up each done =
     some_round n P up each
     (λ a all.
-        each n
-        (λ b last.
-            done (a + b)
-            (λ k below.
-                ⊎_elim
-                (λ less. up a (a + b) k (omega arith) (all k less))
-                (λ over. subst (P (a + b)) (same k below over) (up b (a + b) n (omega arith) last))
-                (cases_lt k n))))
+    each n
+    (λ b last.
+    done (a + b)
+    (λ k below.
+    ⊎_elim
+    (λ less. up a (a + b) k (omega arith) (all k less))
+    (λ over. subst (P (a + b)) (same k below over) (up b (a + b) n (omega arith) last))
+    (cases_lt k n))))
   where
     same : (k : ℕ) → k < suc n → n ≤ k → n ≡ k
     same k below over = omega (arith, below, over)

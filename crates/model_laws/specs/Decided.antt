@@ -2,7 +2,7 @@
 use Rattle.std.specs.Prelude.{◌⊎◌}
 use Rattle.event_machine.specs.Habit.{Habit}
 use Rattle.design_model.specs.Design.{Design}
-use Rattle.design_model.specs.Points.{Point}
+use Rattle.design_model.specs.declared.point.Point.{Point}
 use Rattle.design_model.specs.DecidedLaw.{IsBlockPoint, IsDecided, IsSignalPoint}
 
 -- Decided law: at a window time at which nothing is in doubt for a point, two runs that show the dump do not differ in whether it is hit.
