@@ -1,5 +1,5 @@
 -- By the first round h is no trigger; in the next it is.
-use Rattle.std.proofs.Common.{◌≡◌, ◌≢◌, ⊎_elim, refl, sym, ap, subst, inl, inr, ℕ, zero, suc, ◌<◌, true, false, List, [], ◌∷◌, arith, suc-ne-zero, lit<, lit≤, Option, Some, None}
+use Rattle.std.proofs.Common.{◌≡◌, ◌≢◌, refl, sym, ap, subst, inl, inr, ℕ, zero, suc, ◌<◌, true, false, List, [], ◌∷◌, arith, suc-ne-zero, lit<, lit≤, Some, None}
 use Rattle.std.specs.Prelude.{nat_le, nat_lt}
 use Rattle.std.proofs.lemmas.Bool.{and_parts, false≢true, leb-true, ltb-true}
 use Rattle.event_machine.specs.Cell.{Cell, Values}
@@ -12,7 +12,6 @@ use Rattle.four_state.specs.Vector.{extend, truth}
 use Rattle.four_state.specs.declared.bit.Bit.{Bit}
 use Rattle.four_state.specs.declared.bit.Bit.TheVariants.{One, Zero}
 use Rattle.four_state.specs.declared.operator.Unary.TheVariants.{BitwiseNot}
-use Rattle.four_state.specs.declared.truth.Truth.{Truth}
 use Rattle.four_state.specs.declared.truth.Truth.TheVariants.{False, True}
 use Rattle.design_model.specs.Tree.{Term, signal}
 use Rattle.design_model.specs.Design.{In, IsThing, Thing, a_signal, a_word, body_at, cell, signal_bits}

@@ -1,5 +1,5 @@
 -- A run of the divided clock that shows the dump, and the example.
-use Rattle.std.proofs.Common.{◌≡◌, ◌≢◌, take, refl, inl, inr, ℕ, zero, suc, ◌==◌, true, false, [], ◌∷◌, List, lit<}
+use Rattle.std.proofs.Common.{◌≡◌, ◌≢◌, take, refl, inl, inr, ℕ, zero, suc, true, false, [], ◌∷◌, List, lit<, arith}
 use Rattle.std.proofs.lemmas.Bool.{false≢true}
 use Rattle.event_machine.proofs.Habits.{free_habit_law}  -- #keep
 use Rattle.event_machine.specs.Cell.{Values, Write, put}
@@ -15,6 +15,7 @@ use Rattle.design_model.specs.Run.{IsRun}
 use Rattle.design_model.specs.Shows.{Shows}
 use Rattle.model_examples.specs.Divided.{IsDividedExample, divided, divided_dump, divided_events, divided_run, divided_start, divided_values}
 use Rattle.model_examples.proofs.DividedDoubt.{doubt_h, false_closed, is_clean, is_not_clean, line_sure_q, single_h, sure_true}
+use Rattle.model_examples.proofs.DividedRounds.{last_rounds}
 use Rattle.model_examples.proofs.OneStep.{never_woken, shows_step}
 
 Zero≢One : Zero ≢ One
@@ -90,6 +91,8 @@ divided_example =
     record {
       run = is_run;
       shows = does_show;
+      first_rounds = λ t. refl;
+      last_rounds = last_rounds;
       not_clean = is_not_clean;
       doubt = doubt_h;
       single = single_h;

@@ -14,6 +14,7 @@ pub mod ClosingOpen
 pub mod OneStep
 pub mod OneSet
 pub mod DividedDoubt
+pub mod DividedRounds
 pub mod DividedRun
 pub mod SyncedDoubt
 pub mod PulseDoubt
@@ -23,3 +24,4 @@ pub mod SettlingClear
 pub mod UnreadClear
 pub mod UnreadDoubt
 pub mod RangesRead
+pub mod InnerReads

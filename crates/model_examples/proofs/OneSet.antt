@@ -1,5 +1,5 @@
 -- Bodies of one assignment, and blocks of one rising edge.
-use Rattle.std.proofs.Common.{◌≡◌, ⊎_elim, sym, subst, inl, inr, ℕ, ◌==◌, ◌&&◌, Bool, true, false, List, [], ◌∷◌, refl, Some}
+use Rattle.std.proofs.Common.{◌≡◌, ⊎_elim, sym, subst, inl, inr, ℕ, ◌==◌, ◌&&◌, Bool, true, false, [], ◌∷◌, refl, Some}
 use Rattle.std.specs.List.{list_any}
 use Rattle.std.proofs.lemmas.Bool.{and_parts, eqb-true, false≢true, or_cases}
 use Rattle.cov_host.specs.declared.place.Place.{Place}

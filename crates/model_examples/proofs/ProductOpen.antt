@@ -1,5 +1,5 @@
 -- The run in which y pulses, and what is open on settled values.
-use Rattle.std.proofs.Common.{◌≡◌, ◌≢◌, ⊎_elim, refl, sym, ap, subst, inl, inr, ℕ, zero, suc, ◌<◌, true, false, [], ◌∷◌, List, arith, lit<, lit≤, Some, None}
+use Rattle.std.proofs.Common.{◌≡◌, ◌≢◌, refl, sym, ap, subst, inl, inr, ℕ, zero, suc, ◌<◌, true, false, [], ◌∷◌, List, arith, lit<, lit≤, Some, None}
 use Rattle.std.specs.Prelude.{nat_le, nat_lt}
 use Rattle.std.proofs.lemmas.Bool.{and_parts, eqb-true, false≢true, leb-true, ltb-true}
 use Rattle.event_machine.proofs.Habits.{free_habit_law}  -- #keep
@@ -140,6 +140,7 @@ pub product_example : IsProductExample
 product_example =
     record {
       run = is_run;
+      showing = record { is_run = is_run; shows = record { starts = refl; shows = λ t now le. does_show.shows t now } };
       shows = does_show;
       visited_before = inr (inr (inr (inl refl)));
       reached = ((lit< tt, lit< tt), refl, inr ((λ c. c), (cell 0 0, (lit< tt, lit< tt, (refl, refl)), refl, Zero≢One), inr is_sure));

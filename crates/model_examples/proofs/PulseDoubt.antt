@@ -1,9 +1,9 @@
 -- A signal that one execution writes twice is single in no round.
-use Rattle.std.proofs.Common.{◌≡◌, ◌≢◌, ◌⊎◌, ⊎_elim, take, refl, sym, ap, subst, ◌∙◌, inl, inr, ℕ, zero, suc, true, false, Bool, List, [], ◌∷◌, lit<, if◌then◌else◌}
+use Rattle.std.proofs.Common.{◌≡◌, ◌≢◌, ⊎_elim, take, refl, subst, inl, inr, ℕ, zero, suc, true, false, Bool, List, [], ◌∷◌, lit<, arith, if◌then◌else◌}
 use Rattle.std.specs.Prelude.{nat_le}
-use Rattle.std.proofs.lemmas.Bool.{cases_Bool, false≢true}
+use Rattle.std.proofs.lemmas.Bool.{false≢true}
 use Rattle.event_machine.proofs.Habits.{free_habit_law}  -- #keep
-use Rattle.event_machine.specs.Cell.{Cell, Values, Write, put}
+use Rattle.event_machine.specs.Cell.{Values, Write, put}
 use Rattle.event_machine.specs.Machine.{IsTarget, Posedge, is_sensitive, wakes}
 use Rattle.event_machine.specs.Event.{Event, end_state, mark}
 use Rattle.event_machine.specs.Habit.{Free}
@@ -13,7 +13,7 @@ use Rattle.event_machine.specs.Step.{IsStep}
 use Rattle.four_state.specs.declared.bit.Bit.{Bit}
 use Rattle.four_state.specs.declared.bit.Bit.TheVariants.{One, Zero}
 use Rattle.design_model.specs.Design.{In, body_at, cell, signal_bits}
-use Rattle.design_model.specs.Machine.{is_input_cell, machine}
+use Rattle.design_model.specs.Machine.{machine}
 use Rattle.design_model.specs.Paths.{Path, paths, reaches}
 use Rattle.design_model.specs.declared.point.Point.{Point}
 use Rattle.design_model.specs.Run.{IsRun}

@@ -14,13 +14,13 @@ use Rattle.four_state.specs.declared.bit.Bit.TheVariants.{One, X, Zero}
 use Rattle.four_state.specs.declared.truth.Truth.TheVariants.{False, True}
 use Rattle.design_model.specs.Tree.{Term, binary, signal}
 use Rattle.four_state.specs.declared.operator.Binary.TheVariants.{BitwiseAnd}
-use Rattle.design_model.specs.Design.{In, IsThing, Thing, a_signal, a_word, body_at, cell, is_memory, process_at, signal_bits, thing_bits}
+use Rattle.design_model.specs.Design.{In, IsThing, Thing, a_signal, a_word, body_at, cell, process_at, signal_bits}
 use Rattle.design_model.specs.Value.{head, value}
 use Rattle.design_model.specs.Mentions.{body_blocks, mentions}
 use Rattle.design_model.specs.declared.point.NodeCase.TheVariants.{BothTrue, RightFalse}
 use Rattle.design_model.specs.Execution.{cases, execution}
 use Rattle.design_model.specs.Paths.{Path, paths, reaches, reads_signal_before_writing}
-use Rattle.design_model.specs.Reads.{Agrees, AllInside, HasValue, Known, nothing_known}
+use Rattle.design_model.specs.Reads.{Agrees, AllInside, HasValue, Known}
 use Rattle.design_model.specs.Machine.{is_input_cell, is_level, machine}
 use Rattle.design_model.specs.MayMove.{IsCleanAt, IsSingleAt, told_at}
 use Rattle.design_model.specs.Early.{IsEarlyAt}
@@ -106,19 +106,19 @@ gate_gives : bits_after pipe (pipe_values Zero One Zero X Zero) (execution pipe 
 unfolding put
 gate_gives = refl
 
-mutual
-  agrees_9 : (n : ℕ) → Agrees pipe (clear_in pipe Free settling_dump 9 (clear pipe Free settling_dump 8) n) (pipe_values Zero One Zero X Zero)
-  agrees_9 n (a_signal zero) bits k = sym (in_bound pipe Free settling_dump 9 start_9 n 0 bits k refl)
-  agrees_9 n (a_signal (suc zero)) bits k = sym (in_bound pipe Free settling_dump 9 start_9 n 1 bits k refl)
-  agrees_9 n (a_signal (suc (suc zero))) bits k = sym (in_bound pipe Free settling_dump 9 start_9 n 2 bits k refl)
-  agrees_9 n (a_signal (suc (suc (suc zero)))) bits k = sym (in_bound pipe Free settling_dump 9 start_9 n 3 bits k refl)
-  agrees_9 n (a_signal (suc (suc (suc (suc zero))))) bits k = sym (y_is n bits k)
-  agrees_9 n (a_signal (suc (suc (suc (suc (suc s)))))) bits k = absurd (omega (arith, clear_in-thing pipe Free settling_dump 9 start_9 n (a_signal (suc (suc (suc (suc (suc s)))))) bits k))
-  agrees_9 n (a_word m i) bits k = absurd (no_words m i (clear_in-thing pipe Free settling_dump 9 start_9 n (a_word m i) bits k))
+agrees_9 : (n : ℕ) → Agrees pipe (clear_in pipe Free settling_dump 9 (clear pipe Free settling_dump 8) n) (pipe_values Zero One Zero X Zero)
+agrees_9 zero x bits k = absurd k
+agrees_9 (suc n) (a_signal zero) bits k = sym (in_bound pipe Free settling_dump 9 start_9 (suc n) 0 bits k refl)
+agrees_9 (suc n) (a_signal (suc zero)) bits k = sym (in_bound pipe Free settling_dump 9 start_9 (suc n) 1 bits k refl)
+agrees_9 (suc n) (a_signal (suc (suc zero))) bits k = sym (in_bound pipe Free settling_dump 9 start_9 (suc n) 2 bits k refl)
+agrees_9 (suc n) (a_signal (suc (suc (suc zero)))) bits k = sym (in_bound pipe Free settling_dump 9 start_9 (suc n) 3 bits k refl)
+agrees_9 (suc n) (a_signal (suc (suc (suc (suc zero))))) bits k =
+    by_rule (λ w. Zero ∷ [] ≡ w) 9 start_9 (clear_in pipe Free settling_dump 9 start_9 n) (λ w h. sym gate_gives ∙ h.gives (pipe_values Zero One Zero X Zero) (agrees_9 n)) (a_signal 4) bits k refl
+agrees_9 (suc n) (a_signal (suc (suc (suc (suc (suc s)))))) bits k = absurd (omega (arith, clear_in-thing pipe Free settling_dump 9 start_9 (suc n) (a_signal (suc (suc (suc (suc (suc s)))))) bits k))
+agrees_9 (suc n) (a_word m i) bits k = absurd (no_words m i (clear_in-thing pipe Free settling_dump 9 start_9 (suc n) (a_word m i) bits k))
 
-  y_is : (n : ℕ) (bits : List Bit) → clear_in pipe Free settling_dump 9 (clear pipe Free settling_dump 8) n (a_signal 4) bits → bits ≡ Zero ∷ []
-  y_is zero bits k = absurd k
-  y_is (suc n) bits k = by_rule (λ w. w ≡ Zero ∷ []) 9 start_9 (clear_in pipe Free settling_dump 9 start_9 n) (λ w h. sym (h.gives (pipe_values Zero One Zero X Zero) (agrees_9 n)) ∙ gate_gives) (a_signal 4) bits k refl
+y_is : (n : ℕ) (bits : List Bit) → clear_in pipe Free settling_dump 9 (clear pipe Free settling_dump 8) n (a_signal 4) bits → bits ≡ Zero ∷ []
+y_is n bits k = sym (agrees_9 n (a_signal 4) bits k)
 
 abbrev clear_1 : Known
 clear_1 = clear_in pipe Free settling_dump 9 start_9 1

@@ -1,35 +1,26 @@
 -- Which words of the memory are never clear, and what the block knows when it reads one.
-use Rattle.std.proofs.Common.{◌≡◌, ◌≢◌, ◌⊎◌, refl, sym, ap, subst, ◌∙◌, ℕ, zero, suc, ◌<◌, ◌≤◌, ◌+◌, ◌-◌, ◌*◌, ◌==◌, Bool, true, false, List, [], ◌∷◌, ◌++◌, inl, inr, ⊎_elim, arith, suc-ne-zero, lit<, lit≤, Option, Some, None}
+use Rattle.std.proofs.Common.{◌≡◌, ◌≢◌, ◌⊎◌, refl, sym, ap, subst, ◌∙◌, ℕ, zero, suc, ◌<◌, ◌≤◌, ◌-◌, ◌==◌, true, false, List, [], ◌∷◌, inl, inr, ⊎_elim, arith, suc-ne-zero, lit<, lit≤}
 use Rattle.std.specs.Prelude.{nat_le, nat_lt}
-use Rattle.std.specs.List.{list_any}
-use Rattle.std.proofs.lemmas.Bool.{and_parts, cases_lt, eqb-true, false≢true, le-leb, leb-true, lt-leb, lt-ltb, ltb-true, or_cases}
-use Rattle.event_machine.specs.Cell.{Cell, Values, Write, join, put}
+use Rattle.std.proofs.lemmas.Bool.{and_parts, cases_lt, false≢true, le-leb, leb-true, lt-leb, lt-ltb, ltb-true}
+use Rattle.event_machine.specs.Cell.{Cell}
 use Rattle.event_machine.specs.Machine.{Edge, Negedge, Posedge}
 use Rattle.event_machine.specs.Habit.{Free, Habit}
 use Rattle.event_machine.specs.MayMove.{MayMove}
 use Rattle.event_machine.specs.Early.{IsEarly}
-use Rattle.four_state.specs.Vector.{extend, truth}
 use Rattle.four_state.specs.declared.bit.Bit.{Bit}
 use Rattle.four_state.specs.declared.bit.Bit.TheVariants.{One, X, Z, Zero}
-use Rattle.design_model.specs.Tree.{Term, signal, word}
-use Rattle.design_model.specs.Design.{In, IsThing, Thing, a_signal, a_word, body_at, cell, cells, is_memory, signal_bits, thing_bits}
-use Rattle.design_model.specs.Value.{value}
-use Rattle.design_model.specs.Execution.{cases, covers, execution, reads}
-use Rattle.design_model.specs.Paths.{Path, PathStep, paths, reaches}
-use Rattle.design_model.specs.Reads.{Agrees, AllInside, HasValue, Known}
+use Rattle.design_model.specs.Design.{Thing, a_signal, a_word, body_at, cell, cells, is_memory, thing_bits}
+use Rattle.design_model.specs.Execution.{covers, execution}
+use Rattle.design_model.specs.Reads.{Agrees, HasValue, Known}
 use Rattle.design_model.specs.Machine.{is_edge, is_input_cell, machine}
 use Rattle.design_model.specs.MayMove.{CanWakeSome, IsCleanAt, told_at}
 use Rattle.design_model.specs.Early.{IsEarlyAt}
-use Rattle.design_model.specs.Clear.{EntryFrom, IsClearBy, IsClockedTarget, IsWrittenValue, LeavesValue, all_writes, clear, clear_before, clear_in, of_assigns, of_clean, of_comb, of_dump, of_unwoken}
-use Rattle.design_model.specs.Open.{FollowsAll, HasAction, IsFixed, IsOpen, IsOpenPath, IsSurelyOpen, KnownOnEntry, is_true}
-use Rattle.design_model.specs.Doubt.{IsInDoubt, of_block, unclear_at_start}
-use Rattle.design_model.specs.ExampleParts.{counted, wide}
+use Rattle.design_model.specs.Clear.{EntryFrom, IsClearBy, IsWrittenValue, LeavesValue, all_writes, clear, clear_before, clear_in, of_assigns, of_clean, of_comb, of_dump, of_unwoken}
+use Rattle.design_model.specs.Open.{KnownOnEntry}
 use Rattle.design_model.specs.Ram.{ram}
 use Rattle.design_model.proofs.Bound.{clear-thing, clear_bound}
-use Rattle.design_model.proofs.Told.{told_blocking, told_nonblocking}
-use Rattle.model_examples.specs.Unread.{line_one, line_test, line_write, words_dump, words_values}
+use Rattle.model_examples.specs.Unread.{words_dump, words_values}
 use Rattle.model_examples.proofs.OneSet.{one_rise}
-use Rattle.model_examples.proofs.PathSteps.{is_reaching, node_inside, reaching_found}
 
 Zero≢One : Zero ≢ One
 Zero≢One = grind arith
@@ -176,13 +167,13 @@ module _ (wa ra : List Bit) where
   pub agrees_5 : Agrees ram (EntryFrom ram Free (words_dump wa ra) 5 (clear ram Free (words_dump wa ra) 4) 0 (cell 0 0)) (words_values One One wa ra Zero [])
   agrees_5 (a_signal zero) bits (inl new) = sym new.1
   agrees_5 (a_signal zero) bits (inr old) = absurd (old.0 refl)
-  agrees_5 (a_signal (suc zero)) bits k = sym (clear_bound ram Free (words_dump wa ra) 4 1 bits (old_of 5 _ _ bits k (signal_ne 0)) refl)
-  agrees_5 (a_signal (suc (suc zero))) bits k = sym (clear_bound ram Free (words_dump wa ra) 4 2 bits (old_of 5 _ _ bits k (signal_ne 1)) refl)
-  agrees_5 (a_signal (suc (suc (suc zero)))) bits k = sym (clear_bound ram Free (words_dump wa ra) 4 3 bits (old_of 5 _ _ bits k (signal_ne 2)) refl)
-  agrees_5 (a_signal (suc (suc (suc (suc zero))))) bits k = sym (clear_bound ram Free (words_dump wa ra) 4 4 bits (old_of 5 _ _ bits k (signal_ne 3)) refl)
-  agrees_5 (a_signal (suc (suc (suc (suc (suc zero)))))) bits k = sym (clear_bound ram Free (words_dump wa ra) 4 5 bits (old_of 5 _ _ bits k (signal_ne 4)) refl)
-  agrees_5 (a_signal (suc (suc (suc (suc (suc (suc s))))))) bits k = absurd (omega (arith, clear-thing ram Free (words_dump wa ra) 4 (a_signal (suc (suc (suc (suc (suc (suc s))))))) bits (old_of 5 _ _ bits k (signal_ne (suc (suc (suc (suc (suc s)))))))))
-  agrees_5 (a_word m i) bits k = absurd (words_before 4 m i bits (lit< tt) (old_of 5 _ (a_word m i) bits k (λ e. no_word 0 m i (sym e))))
+  agrees_5 (a_signal (suc zero)) bits k = sym (clear_bound ram Free (words_dump wa ra) 4 1 bits (old_of 5 (clear ram Free (words_dump wa ra) 4) _ bits k (signal_ne 0)) refl)
+  agrees_5 (a_signal (suc (suc zero))) bits k = sym (clear_bound ram Free (words_dump wa ra) 4 2 bits (old_of 5 (clear ram Free (words_dump wa ra) 4) _ bits k (signal_ne 1)) refl)
+  agrees_5 (a_signal (suc (suc (suc zero)))) bits k = sym (clear_bound ram Free (words_dump wa ra) 4 3 bits (old_of 5 (clear ram Free (words_dump wa ra) 4) _ bits k (signal_ne 2)) refl)
+  agrees_5 (a_signal (suc (suc (suc (suc zero))))) bits k = sym (clear_bound ram Free (words_dump wa ra) 4 4 bits (old_of 5 (clear ram Free (words_dump wa ra) 4) _ bits k (signal_ne 3)) refl)
+  agrees_5 (a_signal (suc (suc (suc (suc (suc zero)))))) bits k = sym (clear_bound ram Free (words_dump wa ra) 4 5 bits (old_of 5 (clear ram Free (words_dump wa ra) 4) _ bits k (signal_ne 4)) refl)
+  agrees_5 (a_signal (suc (suc (suc (suc (suc (suc s))))))) bits k = absurd (omega (arith, clear-thing ram Free (words_dump wa ra) 4 (a_signal (suc (suc (suc (suc (suc (suc s))))))) bits (old_of 5 (clear ram Free (words_dump wa ra) 4) _ bits k (signal_ne (suc (suc (suc (suc (suc s)))))))))
+  agrees_5 (a_word m i) bits k = absurd (words_before 4 m i bits (lit< tt) (old_of 5 (clear ram Free (words_dump wa ra) 4) (a_word m i) bits k (λ e. no_word 0 m i (sym e))))
 
   pub knows_5 : Agrees ram (KnownOnEntry ram Free (words_dump wa ra) 5 0) (words_values One One wa ra Zero [])
   knows_5 x bits k = agrees_5 x bits (subst (λ e. EntryFrom ram Free (words_dump wa ra) 5 (clear ram Free (words_dump wa ra) 4) 0 e x bits) (only 5 k.0 k.1) k.2)
@@ -193,6 +184,9 @@ module _ (wa ra : List Bit) where
 
   pub has_15 : (s : ℕ) → s < 5 → HasValue (KnownOnEntry ram Free (words_dump wa ra) 15 0) (a_signal (suc s))
   has_15 s h = (_, (cell 0 0, clean_15, inr (signal_ne s, none_early_15 Free (suc s), (1, of_dump (suc s) _ (lit≤ tt, lit< tt) (lt-ltb (suc s) 6 (omega arith)) (omega arith) refl))))
+
+  pub knows_we : KnownOnEntry ram Free (words_dump wa ra) 15 0 (a_signal 1) (Zero ∷ [])
+  knows_we = (cell 0 0, clean_15, inr (signal_ne 0, none_early_15 Free 1, (1, of_dump 1 (Zero ∷ []) (lit≤ tt, lit< tt) refl (lit< tt) refl)))
 
   -- a written word has the value that the execution at 5 leaves
   left_5 : (p : ℕ) (c : Cell) (i : ℕ) (bits : List Bit) → IsWrittenValue ram Free (words_dump wa ra) 5 (clear ram Free (words_dump wa ra) 4) p c (a_word 6 i) bits → LeavesValue ram (clear ram Free (words_dump wa ra) 4) (words_values One One wa ra Zero []) (all_writes (execution ram (body_at ram 0) (words_values One One wa ra Zero []))) (a_word 6 i) bits
@@ -221,14 +215,14 @@ module _ (wa ra : List Bit) where
       go : (x : Thing) (bits : List Bit) → EntryFrom ram Free (words_dump wa ra) 15 (clear ram Free (words_dump wa ra) 14) 0 (cell 0 0) x bits → thing_bits ram (words_values One Zero wa ra Zero words) x ≡ bits
       go (a_signal zero) bits (inl new) = sym new.1
       go (a_signal zero) bits (inr old) = absurd (old.0 refl)
-      go (a_signal (suc zero)) bits k = sym (clear_bound ram Free (words_dump wa ra) 14 1 bits (old_of 15 _ _ bits k (signal_ne 0)) refl)
-      go (a_signal (suc (suc zero))) bits k = sym (clear_bound ram Free (words_dump wa ra) 14 2 bits (old_of 15 _ _ bits k (signal_ne 1)) refl)
-      go (a_signal (suc (suc (suc zero)))) bits k = sym (clear_bound ram Free (words_dump wa ra) 14 3 bits (old_of 15 _ _ bits k (signal_ne 2)) refl)
-      go (a_signal (suc (suc (suc (suc zero))))) bits k = sym (clear_bound ram Free (words_dump wa ra) 14 4 bits (old_of 15 _ _ bits k (signal_ne 3)) refl)
-      go (a_signal (suc (suc (suc (suc (suc zero)))))) bits k = sym (clear_bound ram Free (words_dump wa ra) 14 5 bits (old_of 15 _ _ bits k (signal_ne 4)) refl)
-      go (a_signal (suc (suc (suc (suc (suc (suc s))))))) bits k = absurd (omega (arith, clear-thing ram Free (words_dump wa ra) 14 (a_signal (suc (suc (suc (suc (suc (suc s))))))) bits (old_of 15 _ _ bits k (signal_ne (suc (suc (suc (suc (suc s)))))))))
+      go (a_signal (suc zero)) bits k = sym (clear_bound ram Free (words_dump wa ra) 14 1 bits (old_of 15 (clear ram Free (words_dump wa ra) 14) _ bits k (signal_ne 0)) refl)
+      go (a_signal (suc (suc zero))) bits k = sym (clear_bound ram Free (words_dump wa ra) 14 2 bits (old_of 15 (clear ram Free (words_dump wa ra) 14) _ bits k (signal_ne 1)) refl)
+      go (a_signal (suc (suc (suc zero)))) bits k = sym (clear_bound ram Free (words_dump wa ra) 14 3 bits (old_of 15 (clear ram Free (words_dump wa ra) 14) _ bits k (signal_ne 2)) refl)
+      go (a_signal (suc (suc (suc (suc zero))))) bits k = sym (clear_bound ram Free (words_dump wa ra) 14 4 bits (old_of 15 (clear ram Free (words_dump wa ra) 14) _ bits k (signal_ne 3)) refl)
+      go (a_signal (suc (suc (suc (suc (suc zero)))))) bits k = sym (clear_bound ram Free (words_dump wa ra) 14 5 bits (old_of 15 (clear ram Free (words_dump wa ra) 14) _ bits k (signal_ne 4)) refl)
+      go (a_signal (suc (suc (suc (suc (suc (suc s))))))) bits k = absurd (omega (arith, clear-thing ram Free (words_dump wa ra) 14 (a_signal (suc (suc (suc (suc (suc (suc s))))))) bits (old_of 15 (clear ram Free (words_dump wa ra) 14) _ bits k (signal_ne (suc (suc (suc (suc (suc s)))))))))
       go (a_word m i) bits k =
-          let old = old_of 15 _ (a_word m i) bits k (λ e. no_word 0 m i (sym e)) in
+          let old = old_of 15 (clear ram Free (words_dump wa ra) 14) (a_word m i) bits k (λ e. no_word 0 m i (sym e)) in
           word_fits m i bits (memory_6 m (clear-thing ram Free (words_dump wa ra) 14 (a_word m i) bits old).0) old
 
   -- a word that was not clear is not known

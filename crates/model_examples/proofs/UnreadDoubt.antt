@@ -1,28 +1,27 @@
 -- What is open, and in doubt, where the word that is read was not written.
-use Rattle.std.proofs.Common.{◌≡◌, ◌≢◌, ⊎_elim, refl, sym, ap, subst, ◌∙◌, ℕ, zero, suc, ◌≤◌, true, false, List, [], ◌∷◌, inl, inr, arith, lit<, lit≤, Some, None}
+use Rattle.std.proofs.Common.{◌≡◌, ◌≢◌, refl, sym, ap, subst, ◌∙◌, ℕ, zero, suc, ◌≤◌, true, false, List, [], ◌∷◌, inl, inr, arith, lit<, lit≤, Some, None}
 use Rattle.std.specs.List.{list_any}
 use Rattle.std.proofs.lemmas.Bool.{false≢true}
-use Rattle.event_machine.specs.Cell.{Cell, Values, Write, put}
+use Rattle.event_machine.specs.Cell.{Values, Write, put}
 use Rattle.event_machine.specs.Habit.{Free}
 use Rattle.four_state.specs.Vector.{extend, truth}
 use Rattle.four_state.specs.declared.bit.Bit.{Bit}
 use Rattle.four_state.specs.declared.bit.Bit.TheVariants.{One, X, Zero}
 use Rattle.design_model.specs.Tree.{Head, Term, signal, word}
-use Rattle.design_model.specs.Design.{In, a_word, body_at, cell, thing_bits}
+use Rattle.design_model.specs.Design.{In, a_signal, a_word, body_at, cell, thing_bits}
 use Rattle.design_model.specs.Value.{value}
 use Rattle.design_model.specs.Execution.{at_line, cases, execution, reads}
 use Rattle.design_model.specs.Paths.{Path, PathStep, paths, reaches}
 use Rattle.design_model.specs.Reads.{Agrees, HasValue, Known, UpToOutside}
-use Rattle.design_model.specs.MayMove.{IsCleanAt}
 use Rattle.design_model.specs.declared.point.Point.TheVariants.{Word as word_point}
-use Rattle.design_model.specs.Clear.{LeavesValue, all_writes, bits_after, clear}
-use Rattle.design_model.specs.Open.{ActionReads, ActionWrites, FollowsAll, HasAction, IsFixed, IsOpen, IsOpenPath, IsSurelyOpen, KnownOnEntry, NamesWord, action_terms, is_true}
+use Rattle.design_model.specs.Clear.{all_writes, clear}
+use Rattle.design_model.specs.Open.{ActionReads, ActionWrites, FollowsAll, HasAction, IsFixed, IsOpen, IsOpenPath, IsSurelyOpen, KnownOnEntry, NamesWord, is_true}
 use Rattle.design_model.specs.Doubt.{IsInDoubt, of_block, unclear_at_start}
 use Rattle.design_model.specs.ExampleParts.{counted, wide}
 use Rattle.design_model.specs.Ram.{ram}
 use Rattle.model_examples.specs.Unread.{IsOtherWordExample, IsUnknownWordExample, line_one, line_test, line_write, other_dump, unknown_dump, words_dump, words_values}
 use Rattle.model_examples.proofs.PathSteps.{is_reaching, node_inside, reaching_found}
-use Rattle.model_examples.proofs.UnreadClear.{agrees_5, clean_15, clean_5, has_15, has_5, knows_15, knows_5, no_word, none_early_15, unwritten, word_at_14, word_unknown, words_before}
+use Rattle.model_examples.proofs.UnreadClear.{clean_15, clean_5, has_15, has_5, knows_15, knows_we, knows_5, no_word, none_early_15, unwritten, word_at_14, word_unknown, words_before}
 
 none_some : (n : ℕ) → None ≢ Some n
 none_some n = grind arith
@@ -53,14 +52,14 @@ WritesBy j [] = Unit {0}
 WritesBy j (x ∷ xs) = ((i : Term) → ActionWrites 6 x.action i → j ≡ i) × WritesBy j xs
 
 read_by : (j : Term) (path : Path) → ReadsBy j path → (x : PathStep) → In x path → (i : Term) → ActionReads 6 x.action i → j ≡ i
-read_by j [] all x h i reads = absurd h
-read_by j (y ∷ ys) all x (inl e) i reads = all.0 i (subst (λ z. ActionReads 6 z.action i) (sym e) reads)
-read_by j (y ∷ ys) all x (inr h) i reads = read_by j ys all.1 x h i reads
+read_by j [] all x h i does = absurd h
+read_by j (y ∷ ys) all x (inl e) i does = all.0 i (subst (λ z. ActionReads 6 z.action i) (sym e) does)
+read_by j (y ∷ ys) all x (inr h) i does = read_by j ys all.1 x h i does
 
 written_by : (j : Term) (path : Path) → WritesBy j path → (x : PathStep) → In x path → (i : Term) → ActionWrites 6 x.action i → j ≡ i
-written_by j [] all x h i writes = absurd h
-written_by j (y ∷ ys) all x (inl e) i writes = all.0 i (subst (λ z. ActionWrites 6 z.action i) (sym e) writes)
-written_by j (y ∷ ys) all x (inr h) i writes = written_by j ys all.1 x h i writes
+written_by j [] all x h i does = absurd h
+written_by j (y ∷ ys) all x (inl e) i does = all.0 i (subst (λ z. ActionWrites 6 z.action i) (sym e) does)
+written_by j (y ∷ ys) all x (inr h) i does = written_by j ys all.1 x h i does
 
 module _ (wa ra : List Bit) where
   abbrev K : Known
@@ -75,7 +74,7 @@ module _ (wa ra : List Bit) where
     fixed_we = record { told = λ v a. (has_15 wa ra 0 (lit< tt), node_inside K (Some 1) (cases ram v (signal (counted 1) 1))); unwritten = λ x m. refl }
 
     we_is : (v : Values Bit) → Agrees ram (KnownOnEntry ram Free (words_dump wa ra) 15 0) v → is_true (truth (value ram v (signal (counted 1) 1))) ≡ false
-    we_is v av = ap (λ bs. is_true (truth (extend 1 false bs))) (av _ _ (has_15 wa ra 0 (lit< tt)).1)
+    we_is v av = ap (λ bs. is_true (truth (extend 1 false bs))) (av (a_signal 1) (Zero ∷ []) (knows_we wa ra))
 
     -- the path of the write is closed
     closed : FollowsAll ram K (body_at ram 0) (path_of 0) → ⊥
@@ -104,7 +103,7 @@ module _ (wa ra : List Bit) where
 
     -- where the test of the word is not fixed, the line after it is open
     pub open_one : (IsFixed ram (KnownOnEntry ram Free (words_dump wa ra) 15 0) (body_at ram 0) (word (counted 2) 6 (signal wide 3)) → ⊥) → IsOpen ram (KnownOnEntry ram Free (words_dump wa ra) 15 0) (body_at ram 0) line_one
-    open_one not_fixed = (path_of 1, record { is_path = inr (inl refl); follows = (tt, ((λ f v av. we_is v av), (tt, ((λ f. absurd (not_fixed f)), (tt, (tt, tt)))))) }, (1 ∷ 0 ∷ [], (_, inr (inr (inr (inr (inl refl)))), refl, refl)))
+    open_one not_fixed = (path_of 1, record { is_path = inr (inl refl); follows = (tt, ((λ f v av. we_is v av), (tt, ((λ f. absurd (not_fixed f)), (tt, (tt, tt)))))) }, (0 ∷ 1 ∷ [], (_, inr (inr (inr (inr (inl refl)))), refl, refl)))
 
     -- so m is in doubt for it, if the word that is read was not clear
     pub word_doubt : (i : ℕ) → i ≤ 3 → (HasValue (clear ram Free (words_dump wa ra) 14) (a_word 6 i) → ⊥) → UpToOutside (KnownOnEntry ram Free (words_dump wa ra) 15 0) (reads (a_word 6 i) false) (execution ram (body_at ram 0) (words_values One Zero wa ra Zero words)).visits → IsOpen ram (KnownOnEntry ram Free (words_dump wa ra) 15 0) (body_at ram 0) line_one → IsInDoubt ram Free (words_dump wa ra) line_one 15 6

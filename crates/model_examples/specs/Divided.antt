@@ -19,7 +19,7 @@ use Rattle.design_model.specs.declared.point.Point.{Point}
 use Rattle.design_model.specs.declared.point.Point.TheVariants.{Line as line_point, Logic as logic_point}
 use Rattle.design_model.specs.Run.{IsRun, Run}
 use Rattle.design_model.specs.Shows.{BoundDump, Shows}
-use Rattle.design_model.specs.MayMove.{IsCleanAt, IsSingleAt}
+use Rattle.design_model.specs.MayMove.{AreFirstRounds, AreLastRounds, IsCleanAt, IsSingleAt}
 use Rattle.design_model.specs.Open.{IsNotClean, IsOpen, IsReached, IsSurelyOpen, KnownOnEntry}
 use Rattle.design_model.specs.Doubt.{IsInDoubt}
 use Rattle.design_model.specs.ExampleParts.{at, counted, one_bit, one_instance, plain}
@@ -75,11 +75,13 @@ line_q = line_point 1 2 (at 45) Assign
 abbrev pub inverter : NodeCase → Point
 inverter x = logic_point 0 1 (at 0) (codes "~") x
 
--- Judged by the first round h is no trigger, so the block of q is not clean, and h is in doubt for its line. In the next round
+-- The rounds end with the second. Judged by the first round h is no trigger, so the block of q is not clean, and h is in doubt for its line. In the next round
 -- h is single: its block is clean and reaches the line. The block of h knows h, so the case 0 of ~h is not open, and the case 1 is surely open.
 pub record IsDividedExample : Type 0 where
   pub run : IsRun divided Free divided_run
   pub shows : (n : ℕ) → Shows divided (divided_dump n) divided_run
+  pub first_rounds : AreFirstRounds (divided_dump 0)
+  pub last_rounds : AreLastRounds divided (divided_dump 1)
   pub not_clean : IsNotClean divided (divided_dump 0) 5 1
   pub doubt : IsInDoubt divided Free (divided_dump 0) line_q 5 2
   pub single : IsSingleAt divided (divided_dump 1) 5 (cell 2 0)

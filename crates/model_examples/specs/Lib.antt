@@ -16,3 +16,4 @@ pub mod HoldBit
 pub mod Settling
 pub mod Unread
 pub mod Ranges
+pub mod Inner

@@ -16,7 +16,7 @@ use Rattle.design_model.specs.declared.point.NodeCase.TheVariants.{BothTrue, Rig
 use Rattle.design_model.specs.declared.point.Point.{Point}
 use Rattle.design_model.specs.declared.point.Point.TheVariants.{Logic as logic_point}
 use Rattle.design_model.specs.Run.{IsRun, Run}
-use Rattle.design_model.specs.Shows.{BoundDump, Shows}
+use Rattle.design_model.specs.Shows.{BoundDump, IsShowing, Shows}
 use Rattle.design_model.specs.Open.{IsOpen, IsReached, IsSurelyOpen, KnownAtEnd}
 use Rattle.design_model.specs.ExampleParts.{at, counted, one_bit, one_instance, plain}
 
@@ -71,6 +71,7 @@ case_of x = logic_point 0 1 (at 0) (codes "&") x
 -- is surely open and reached, and the case of two true operands is not open.
 pub record IsProductExample : Type 0 where
   pub run : IsRun product Free product_run
+  pub showing : IsShowing product Free product_dump 5 product_run
   pub shows : Shows product product_dump product_run
   pub visited_before : In (at_node 1 BothTrue) (execution product (body_at product 0) (product_values One One Zero)).visits
   pub reached : IsReached product Free product_dump 5 0 (case_of RightFalse)

@@ -1,5 +1,5 @@
 -- Selects on rising ranges and partly outside ones (IEEE 1364-2001, 4.2.1): f is signal 0 with the range [3:0], r is 1 with the range [0:3].
-use Rattle.std.specs.Prelude.{◌≡◌, ◌∷◌, if◌then◌else◌, ℕ, Bool, true, false, List, [], None, slice_index_or, codes}
+use Rattle.std.specs.Prelude.{◌≡◌, ◌∷◌, ℕ, Bool, true, false, List, [], None, slice_index_or, codes}
 use Rattle.event_machine.specs.Cell.{Values, Write}
 use Rattle.four_state.specs.declared.bit.Bit.{Bit}
 use Rattle.four_state.specs.declared.bit.Bit.TheVariants.{One, X, Zero}

@@ -1,7 +1,7 @@
 -- The register that the dump lacks, where both inputs of its gate move in one step: clk is signal 0, a is 1, b is 2, q is 3, y is 4.
 --   always @* y = a & b;
 --   always @(posedge clk) if (y) q <= 1; else q <= 0;
-use Rattle.std.specs.Prelude.{◌∷◌, if◌then◌else◌, ℕ, [], nat_le, nat_lt, codes}
+use Rattle.std.specs.Prelude.{◌∷◌, if◌then◌else◌, ℕ, false, [], nat_le, nat_lt, codes}
 use Rattle.event_machine.specs.Habit.{Free, Habit}
 use Rattle.four_state.specs.declared.bit.Bit.TheVariants.{One, X, Zero}
 use Rattle.design_model.specs.Design.{a_signal, body_at, cell}

@@ -1,7 +1,7 @@
 -- The memory of which another word than the one written is read, and of which none is written, as the index is not known:
 -- clk is signal 0, we 1, wa 2, ra 3, d 4, q 5, and m is memory 6 with the words 0 to 3.
 --   always @(posedge clk) if (we) m[wa] <= d; else if (m[ra]) q <= 1; else q <= 0;
-use Rattle.std.specs.Prelude.{◌≡◌, ◌∷◌, if◌then◌else◌, ℕ, List, [], nat_le, nat_lt, slice_index_or, true, false}
+use Rattle.std.specs.Prelude.{◌∷◌, if◌then◌else◌, ℕ, List, [], nat_le, nat_lt, slice_index_or, true, false}
 use Rattle.event_machine.specs.Cell.{Values}
 use Rattle.event_machine.specs.Habit.{Free, Habit}
 use Rattle.four_state.specs.declared.bit.Bit.{Bit}

@@ -20,6 +20,7 @@ ghost use Rattle.model_examples.specs.HoldBit.{IsHoldBitExample};
 ghost use Rattle.model_examples.specs.Settling.{IsSettlingExample};
 ghost use Rattle.model_examples.specs.Unread.{IsOtherWordExample, IsUnknownWordExample};
 ghost use Rattle.model_examples.specs.Ranges.{IsRangesExample};
+ghost use Rattle.model_examples.specs.Inner.{IsInnerExample};
 
 /// A register whose clock rises and whose reset falls at one time: its block is not clean, so each point is open and in
 /// doubt, and none is reached.
@@ -122,4 +123,10 @@ pub fn unknown_word()
 /// Selects on rising ranges and partly outside ones, read and written.
 pub fn selected_bits()
     ensures { IsRangesExample }
+{}
+
+/// A combinational block that reads a variable which it has written before: that read is inner, and what the block does
+/// depends on its input alone.
+pub fn inner_read()
+    ensures { IsInnerExample }
 {}
