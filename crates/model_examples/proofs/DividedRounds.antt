@@ -1,11 +1,11 @@
 -- At each time the rounds of the divided clock end with the second, in which h is single.
-use Rattle.std.proofs.Common.{◌≡◌, ⊎_elim, refl, sym, subst, ◌∙◌, ◌&&◌, inl, inr, ℕ, zero, suc, ◌<◌, ◌-◌, ◌==◌, ◌↔◌, true, false, arith}
+use Rattle.std.proofs.Common.{◌≡◌, ⊎_elim, refl, sym, subst, ◌∙◌, ◌&&◌, inl, inr, ℕ, zero, suc, ◌<◌, ◌-◌, ◌==◌, true, false, arith}
 use Rattle.std.specs.Prelude.{nat_lt}
 use Rattle.std.proofs.lemmas.Bool.{and_parts, cases_Bool, eqb-true, false≢true, ltb-true}
 use Rattle.event_machine.specs.Cell.{Cell}
 use Rattle.event_machine.specs.Machine.{Edge, IsTarget, Negedge, Posedge}
 use Rattle.event_machine.specs.MayMove.{CanWake, IsClean, MayMove}
-use Rattle.event_machine.specs.Single.{IsSameNext, IsSingle, IsWrittenOnce}
+use Rattle.event_machine.specs.Single.{IsSameNext, IsSingle}
 use Rattle.four_state.specs.declared.bit.Bit.{Bit}
 use Rattle.design_model.specs.Design.{cell}
 use Rattle.design_model.specs.Machine.{is_edge, is_event_signal, machine}

@@ -1,5 +1,5 @@
 -- What the block reads, from a alone.
-use Rattle.std.proofs.Common.{◌≡◌, ⊎_elim, refl, sym, ap, subst, inl, inr, ◌==◌, Bool, true, false, List, [], ◌∷◌}
+use Rattle.std.proofs.Common.{◌≡◌, ⊎_elim, refl, sym, ap, subst, inl, inr, ◌==◌, Bool, false, [], ◌∷◌}
 use Rattle.std.proofs.lemmas.Bool.{false≢true}
 use Rattle.event_machine.specs.Cell.{Cell, Values, put}
 use Rattle.event_machine.specs.Machine.{IsWakeCell}

@@ -1,12 +1,12 @@
 -- A signal of which an Assign has no wake bit does not matter to it, and a lawful design in which an Assign has none of a signal that it drives and mentions.
-use Rattle.std.proofs.Common.{◌≡◌, ℕ, zero, suc, ◌<◌, ◌≤◌, ◌==◌, ◌&&◌, Bool, true, false, length, refl, sym, subst, ◌∙◌, arith, lit≤, if◌then◌else◌}
+use Rattle.std.proofs.Common.{◌≡◌, ◌⊎◌, ⊎_elim, inl, inr, ℕ, zero, suc, ◌<◌, ◌≤◌, ◌==◌, ◌&&◌, Bool, true, false, length, refl, sym, subst, ◌∙◌, arith, lit≤, if◌then◌else◌}
 use Rattle.std.specs.Prelude.{nat_lt}
 use Rattle.std.specs.List.{list_all}
-use Rattle.std.proofs.lemmas.Bool.{and_right, eqb-true, false≢true, lt-ltb, ltb-true}
+use Rattle.std.proofs.lemmas.Bool.{and_right, both_ways, cases_Bool, cases_lt, eqb-true, false≢true, lt-ltb, ltb-true}
 use Rattle.event_machine.specs.Cell.{Cell}
 use Rattle.event_machine.specs.Machine.{IsWakeCell}
-use Rattle.design_model.specs.Tree.{all_of}
-use Rattle.design_model.specs.Design.{Design, In, IsAssign, IsComb, body_at, cell, is_number, path_of, process_at, signal_at}
+use Rattle.design_model.specs.Tree.{Process, all_of, assign, clocked, comb}
+use Rattle.design_model.specs.Design.{Design, In, IsAssign, IsClocked, IsComb, body_at, cell, is_assign, is_number, path_of, process_at, signal_at}
 use Rattle.design_model.specs.Mentions.{any_set, body_assigns, body_queues, may_write}
 use Rattle.design_model.specs.Execution.{execution, execution_start}
 use Rattle.design_model.specs.Numbered.{LineAt, NodeAt, lines_of, nodes_of}
@@ -17,15 +17,18 @@ use Rattle.design_model.specs.WellFormed.{is_well_formed_body}
 use Rattle.design_model.specs.Lawful.{IsLawfulDesign, may_read, target_once, wakes_of}
 use Rattle.design_model.specs.BodyLaws.{all_cells}
 use Rattle.design_model.proofs.AssignLaws.{assign_visits_law}
+use Rattle.design_model.proofs.SettledHits.{settling_level}
 use Rattle.design_model.proofs.ReadThings.{execute_things}
 use Rattle.design_model.proofs.Told.{execution_same}
-use Rattle.model_laws.specs.Own.{IgnoredLaw, IsPickingExample, picking}
+use Rattle.model_laws.specs.Own.{IsIgnored, IsPickingExample, WakeOrIgnoredLaw, picking}
 use Rattle.model_laws.proofs.Cells.{has, in_has, on_design, outer_on, signal_place}
 
 -- ---- ignored signals
 
-pub ignored_law : (d : Design) → IsLawfulDesign d → IgnoredLaw d
-ignored_law d lawful p y is_a less no_bit u v same = assign_visits_law d lawful p is_a u (on_design d v u) on_wakes ∙ sym (execution_same d v (on_design d v u) (body_at d p) (outer_on d v u (execution d (body_at d p) v).visits (execute_things d (body_at d p) (lawful.bodies p) (execution_start v) tt))).visits
+ignored : (d : Design) → IsLawfulDesign d → (p y : ℕ) → is_assign (process_at d p) ≡ true → y < length d.signals → ((k : ℕ) → IsWakeBit d p (cell y k) → ⊥) → IsIgnored d p y
+ignored d lawful p y is_a less no_bit u v same =
+    assign_visits_law d lawful p is_a u (on_design d v u) on_wakes
+    ∙ sym (execution_same d v (on_design d v u) (body_at d p) (outer_on d v u (execution d (body_at d p) v).visits (execute_things d (body_at d p) (lawful.bodies p) (execution_start v) tt))).visits
   where
     on_wakes : (c : Cell) → IsWakeCell (machine d) p c → u c ≡ on_design d v u c
     on_wakes c wake = go (has (all_cells d c.thing) c) refl
@@ -38,6 +41,29 @@ ignored_law d lawful p y is_a less no_bit u v same = assign_visits_law d lawful 
         go : (b : Bool) → has (all_cells d c.thing) c ≡ b → u c ≡ (if b then v c else u c)
         go true here = same c (own (in_has (all_cells d c.thing) c here))
         go false here = refl
+
+-- some of the first n fails the test, or all pass it
+find_false : (f : ℕ → Bool) (n : ℕ) → ((k : ℕ) × (k < n) × (f k ≡ false)) ⊎ ((k : ℕ) → k < n → f k ≡ true)
+find_false f zero = inr (λ k below. absurd (omega (arith, below)))
+find_false f (suc n) = ⊎_elim (λ a. inl (a.0, omega (arith, a.1), a.2)) (λ all. ⊎_elim (λ last. inr (λ k below. go all last k below)) (λ none. inl (n, omega arith, none)) (cases_Bool (f n))) (find_false f n)
+  where
+    go : ((k : ℕ) → k < n → f k ≡ true) → f n ≡ true → (k : ℕ) → k < suc n → f k ≡ true
+    go all last k below = ⊎_elim (all k) (λ over. subst (λ z. f z ≡ true) (same k below over) last) (cases_lt k n)
+      where
+        same : (k : ℕ) → k < suc n → n ≤ k → n ≡ k
+        same k below over = omega (arith, below, over)
+
+pub wake_or_ignored_law : (d : Design) → IsLawfulDesign d → WakeOrIgnoredLaw d
+wake_or_ignored_law d lawful p y is_a mentioned less =
+    ⊎_elim
+    (λ a. inl (a.0, (less, a.1, (settling_level (process_at d p) y (not_clocked (process_at d p) is_a) mentioned, a.2))))
+    (λ all. inr (ignored d lawful p y is_a less (λ k is. both_ways _ is.2.1 (all k is.1))))
+    (find_false (λ k. (machine d).blocking p (cell y k)) (signal_at d y).width)
+  where
+    not_clocked : (q : Process) → is_assign q ≡ true → IsClocked q → ⊥
+    not_clocked (assign i x t counted) a k = k
+    not_clocked (comb i wakes s) a k = false≢true a
+    not_clocked (clocked i events s) a k = false≢true a
 
 -- ---- the design
 

@@ -1,5 +1,5 @@
 -- Signals that an Assign both drives and mentions: when it has a wake bit of them, and what holds where it has none.
-use Rattle.std.specs.Prelude.{◌≡◌, ◌≢◌, ◌∷◌, ◌<◌, ℕ, true, false, [], length, codes}
+use Rattle.std.specs.Prelude.{◌≡◌, ◌≢◌, ◌⊎◌, ◌∷◌, ◌<◌, ℕ, true, false, [], length, codes}
 use Rattle.event_machine.specs.Cell.{Cell, Values}
 use Rattle.four_state.specs.declared.bit.Bit.{Bit}
 use Rattle.four_state.specs.declared.bit.Bit.TheVariants.{X, Zero}
@@ -17,11 +17,14 @@ abbrev pub HasOwnWakes : Design → Type 0
 HasOwnWakes d =
     (p y : ℕ) → is_assign (process_at d p) ≡ true → body_mentions y (body_at d p) ≡ true → body_assigns y (body_at d p) ≡ true → (k : ℕ) × IsWakeBit d p (cell y k)
 
--- Ignored signals: what an Assign visits does not depend on a signal of which it has no wake bit.
-abbrev pub IgnoredLaw : Design → Type 0
-IgnoredLaw d =
-    (p y : ℕ) → is_assign (process_at d p) ≡ true → y < length d.signals → ((k : ℕ) → IsWakeBit d p (cell y k) → ⊥)
-    → (u v : Values Bit) → ((c : Cell) → c.thing ≢ y → u c ≡ v c) → (execution d (body_at d p) u).visits ≡ (execution d (body_at d p) v).visits
+-- what process p visits does not depend on signal y
+abbrev pub IsIgnored : Design → ℕ → ℕ → Type 0
+IsIgnored d p y = (u v : Values Bit) → ((c : Cell) → c.thing ≢ y → u c ≡ v c) → (execution d (body_at d p) u).visits ≡ (execution d (body_at d p) v).visits
+
+-- Own wake bits or none that matter: of a signal that an Assign mentions it has a wake bit, or what it visits does not depend on the signal.
+abbrev pub WakeOrIgnoredLaw : Design → Type 0
+WakeOrIgnoredLaw d =
+    (p y : ℕ) → is_assign (process_at d p) ≡ true → body_mentions y (body_at d p) ≡ true → y < length d.signals → ((k : ℕ) × IsWakeBit d p (cell y k)) ⊎ IsIgnored d p y
 
 -- y[1'bx], where y is signal 0 with the range [1:0]
 abbrev pub no_bit : Term

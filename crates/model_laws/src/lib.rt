@@ -7,7 +7,7 @@ ghost use Rattle.design_model.specs.Design.{Design as DesignTree};
 ghost use Rattle.design_model.specs.Lawful.{IsLawfulDesign};
 ghost use Rattle.model_laws.specs.Decided.{DecidedLaw};
 ghost use Rattle.model_laws.specs.Consistent.{ConsistentLaw, HasOwnUnclear, OneValueLaw};
-ghost use Rattle.model_laws.specs.Own.{IgnoredLaw, IsPickingExample};
+ghost use Rattle.model_laws.specs.Own.{IsPickingExample, WakeOrIgnoredLaw};
 
 /// At a window time at which nothing is in doubt for a point, two runs that show the dump do not differ in whether it is
 /// hit: of a signal, of Clocked blocks, and of Assigns and Combs, also of such as a memory wakes.
@@ -23,9 +23,10 @@ pub fn consistent_law()
     ensures own_unclear { (d : DesignTree) → IsLawfulDesign d → HasOwnUnclear d }
 {}
 
-/// What an Assign visits does not depend on a signal of which it has no wake bit. There can be such a signal among those
-/// that it both drives and mentions: one that it selects by a constant index with an x, which selects no bit.
+/// Of a signal that an Assign mentions it has a wake bit, or what it visits does not depend on the signal. So it may be of
+/// one that it drives whole and selects by a constant index with an x, which selects no bit: an Assign of a lawful design
+/// need not have a wake bit of each signal that it both drives and mentions.
 pub fn own_wake_law()
-    ensures ignored { (d : DesignTree) → IsLawfulDesign d → IgnoredLaw d }
+    ensures wakes { (d : DesignTree) → IsLawfulDesign d → WakeOrIgnoredLaw d }
     ensures without { IsPickingExample }
 {}
