@@ -23,7 +23,7 @@ use Rattle.design_model.specs.Open.{FollowsAll, HasAction, IsFixed, IsOpen, IsSu
 use Rattle.design_model.specs.Doubt.{IsInDoubt, early, of_block}
 use Rattle.design_model.specs.ExampleParts.{counted}
 use Rattle.design_model.proofs.Bound.{clear_bound}
-use Rattle.model_examples.specs.HoldBit.{IsHoldBitExample, IsOldOrNew, hold_bit, hold_bit_dump, hold_bit_values, line_last, line_one, line_zero}
+use Rattle.model_examples.specs.HoldBit.{IsOldOrNew, hold_bit, hold_bit_dump, hold_bit_values, line_last, line_one, line_zero}
 use Rattle.model_examples.proofs.Entry.{on_entry}
 use Rattle.model_examples.proofs.OneSet.{one_rise}
 use Rattle.model_examples.proofs.PathSteps.{is_reaching, node_inside, reaching_found}
@@ -35,7 +35,7 @@ abbrev thing_of : Thing → ℕ
 thing_of (a_signal s) = s
 thing_of (a_word m i) = m
 
-is_clean : IsCleanAt hold_bit hold_bit_dump 5 0 (cell 0 0)
+pub is_clean : IsCleanAt hold_bit hold_bit_dump 5 0 (cell 0 0)
 is_clean =
     record {
       clocked = λ x. refl;
@@ -68,7 +68,7 @@ edge_zero : (p : ℕ) (e : Edge) (c : Cell) → (machine hold_bit).edge p e c �
 edge_zero zero e c h = ap (λ y. y.thing) (one_rise 0 e c h)
 edge_zero (suc p) e c h = absurd (false≢true h)
 
-only_a : (x : ℕ) → IsEarlyAt hold_bit Free hold_bit_dump 5 0 (cell 0 0) x → x ≡ 2
+pub only_a : (x : ℕ) → IsEarlyAt hold_bit Free hold_bit_dump 5 0 (cell 0 0) x → x ≡ 2
 only_a x (IsEarly.of_input c moving free other) = moving_a c.thing c.place moving.0 moving.1 other
 only_a x (IsEarly.of_trigger p c may_wake other blocks away) = absurd (no_blocking p c blocks)
 only_a x (IsEarly.of_blocking y p c is may_wake other blocks away) = absurd (no_blocking p c blocks)
@@ -121,7 +121,7 @@ path_at n [] = []
 path_at zero (p ∷ ps) = p
 path_at (suc n) (p ∷ ps) = path_at n ps
 
-is_not_open : IsOpen hold_bit (KnownOnEntry hold_bit Free hold_bit_dump 5 0) (body_at hold_bit 0) line_zero → ⊥
+pub is_not_open : IsOpen hold_bit (KnownOnEntry hold_bit Free hold_bit_dump 5 0) (body_at hold_bit 0) line_zero → ⊥
 is_not_open h = go h.1.is_path
   where
     none : (k : ℕ) → path_at k (paths [] (body_at hold_bit 0)) ≡ h.0 → list_any (λ y. is_reaching 4 y.action) (path_at k (paths [] (body_at hold_bit 0))) ≡ false → ⊥
@@ -136,7 +136,7 @@ is_not_open h = go h.1.is_path
     go (inr (inr (inl e))) = none 2 e refl
     go (inr (inr (inr n))) = n
 
-is_surely_open : IsSurelyOpen hold_bit (KnownOnEntry hold_bit Free hold_bit_dump 5 0) (body_at hold_bit 0) line_last
+pub is_surely_open : IsSurelyOpen hold_bit (KnownOnEntry hold_bit Free hold_bit_dump 5 0) (body_at hold_bit 0) line_last
 is_surely_open = (1 ∷ [], λ path o. go path o.is_path)
   where
     go : (path : Path) → In path (paths [] (body_at hold_bit 0)) → HasAction (λ x. x ≡ reaches 5) (1 ∷ []) path
@@ -148,26 +148,15 @@ is_surely_open = (1 ∷ [], λ path o. go path o.is_path)
 open_one : IsOpen hold_bit (KnownOnEntry hold_bit Free hold_bit_dump 5 0) (body_at hold_bit 0) line_one
 open_one = (_, record { is_path = inl refl; follows = (tt, ((λ fixed. absurd (unknown (fixed.told (hold_bit_values One old_a Zero) (agrees old_a)).0)), (tt, (tt, (tt, (tt, tt)))))) }, (_, (_, inr (inr (inl refl)), refl, refl)))
 
-doubt_a : IsInDoubt hold_bit Free hold_bit_dump line_one 5 2
+pub doubt_a : IsInDoubt hold_bit Free hold_bit_dump line_one 5 2
 doubt_a =
     of_block 0 (lit< tt, lit< tt) refl (inl ((cell 0 0, is_clean.can_wake), inr open_one))
     (early (record { thing = a_signal 2; trigger = cell 0 0; of_owner = refl; is_clean = is_clean; is_read = inl (hold_bit_values One old_a Zero, agrees old_a, inr (tt, inl refl)); is_early = a_early }))
 
 -- old or new, bit 1 is 1
-high_one : (v : Values Bit) → IsOldOrNew v (cell 2 1) → v (cell 2 1) ≡ One
+pub high_one : (v : Values Bit) → IsOldOrNew v (cell 2 1) → v (cell 2 1) ≡ One
 high_one v (inl e) = e
 high_one v (inr e) = e
 
-visits_two : (v : Values Bit) → v (cell 2 1) ≡ One → In (at_line 2) (execution hold_bit (body_at hold_bit 0) v).visits
+pub visits_two : (v : Values Bit) → v (cell 2 1) ≡ One → In (at_line 2) (execution hold_bit (body_at hold_bit 0) v).visits
 visits_two v e = rw e (inr (inr (inr (inl refl))))
-
-pub hold_bit_example : IsHoldBitExample
-hold_bit_example =
-    record {
-      clean = is_clean;
-      early = only_a;
-      doubt = doubt_a;
-      not_open = is_not_open;
-      surely_open = is_surely_open;
-      visited = λ v old_or_new. visits_two v (high_one v (old_or_new 1));
-    }

@@ -8,6 +8,7 @@ pub mod HoldRun
 pub mod RomDoubt
 pub mod RaceDoubt
 pub mod ArmsOpen
+pub mod SwapContradicted
 pub mod SwapForced
 pub mod ReverseOpen
 pub mod ClosingOpen
@@ -20,6 +21,8 @@ pub mod SyncedDoubt
 pub mod PulseDoubt
 pub mod ProductOpen
 pub mod HoldBitDoubt
+pub mod RisingNumbers
+pub mod HoldBitHit
 pub mod SettlingClear
 pub mod UnreadClear
 pub mod UnreadDoubt

@@ -7,12 +7,14 @@ use Rattle.four_state.specs.declared.bit.Bit.{Bit}
 use Rattle.four_state.specs.declared.bit.Bit.TheVariants.{One, X, Zero}
 use Rattle.four_state.specs.declared.edge.Edge.TheVariants.{Pos}
 use Rattle.design_model.specs.Tree.{Term, a_stmt, all_of, bit, block, branch, clocked, no_stmts, set, signal}
-use Rattle.design_model.specs.Design.{Design, In, body_at, cell}
-use Rattle.design_model.specs.Execution.{at_line, execution}
+use Rattle.design_model.specs.Design.{Design, body_at, cell}
 use Rattle.design_model.specs.declared.point.LineWord.TheVariants.{Assign}
 use Rattle.design_model.specs.declared.point.Point.{Point}
 use Rattle.design_model.specs.declared.point.Point.TheVariants.{Line as line_point}
-use Rattle.design_model.specs.Shows.{BoundDump}
+use Rattle.design_model.specs.Shows.{BoundDump, Shows}
+use Rattle.design_model.specs.Run.{IsRun, Run}
+use Rattle.design_model.specs.Points.{IsHit}
+use Rattle.design_model.specs.Lawful.{IsLawfulDesign}
 use Rattle.design_model.specs.MayMove.{IsCleanAt}
 use Rattle.design_model.specs.Early.{IsEarlyAt}
 use Rattle.design_model.specs.Open.{IsOpen, IsSurelyOpen, KnownOnEntry}
@@ -69,11 +71,12 @@ abbrev pub line_last : Point
 line_last = line_point 0 5 (at 39) Assign
 
 -- a changes in its low bit, so it is early, and in doubt for line 2. As en is 0 line 4 is not open, and line 5 is surely open.
--- But bit 1 is 1 whether it is old or new, so each execution in which each bit of a is old or new visits line 2.
+-- But bit 1 is 1 whether the block has it old or new, so line 2 is hit in every run that shows the dump.
 pub record IsHoldBitExample : Type 0 where
+  pub lawful : IsLawfulDesign hold_bit
   pub clean : IsCleanAt hold_bit hold_bit_dump 5 0 (cell 0 0)
   pub early : (x : ℕ) → IsEarlyAt hold_bit Free hold_bit_dump 5 0 (cell 0 0) x → x ≡ 2
   pub doubt : IsInDoubt hold_bit Free hold_bit_dump line_one 5 2
   pub not_open : IsOpen hold_bit (KnownOnEntry hold_bit Free hold_bit_dump 5 0) (body_at hold_bit 0) line_zero → ⊥
   pub surely_open : IsSurelyOpen hold_bit (KnownOnEntry hold_bit Free hold_bit_dump 5 0) (body_at hold_bit 0) line_last
-  pub visited : (v : Values Bit) → ((k : ℕ) → IsOldOrNew v (cell 2 k)) → In (at_line 2) (execution hold_bit (body_at hold_bit 0) v).visits
+  pub hit : (r : Run) → IsRun hold_bit Free r → Shows hold_bit hold_bit_dump r → IsHit hold_bit hold_bit_dump r line_one

@@ -1,4 +1,4 @@
-use Rattle.model_examples.proofs.HoldBitDoubt.{hold_bit_example}
+use Rattle.model_examples.proofs.HoldBitHit.{hold_bit_example}
 use Rattle.model_examples.proofs.tested_bit.Goals as goal
 
 pub returns : goal.returns
