@@ -1,5 +1,5 @@
 -- By the first round h is no trigger; in the next it is.
-use Rattle.std.proofs.Common.{◌≡◌, ◌≢◌, refl, sym, ap, subst, inl, inr, ℕ, zero, suc, ◌<◌, true, false, List, [], ◌∷◌, arith, suc-ne-zero, lit<, lit≤, Some, None}
+use Rattle.std.proofs.Common.{◌≡◌, ◌≢◌, refl, sym, ap, subst, inl, inr, ℕ, zero, suc, ◌<◌, true, false, List, [], ◌∷◌, arith, suc-ne-zero, lit<, lit≤, Some}
 use Rattle.std.specs.Prelude.{nat_le, nat_lt}
 use Rattle.std.proofs.lemmas.Bool.{and_parts, false≢true, leb-true, ltb-true}
 use Rattle.event_machine.specs.Cell.{Cell, Values}
@@ -12,9 +12,9 @@ use Rattle.four_state.specs.Vector.{extend, truth}
 use Rattle.four_state.specs.declared.bit.Bit.{Bit}
 use Rattle.four_state.specs.declared.bit.Bit.TheVariants.{One, Zero}
 use Rattle.four_state.specs.declared.operator.Unary.TheVariants.{BitwiseNot}
-use Rattle.four_state.specs.declared.truth.Truth.TheVariants.{False, True}
+use Rattle.four_state.specs.declared.truth.Truth.TheVariants.{True}
 use Rattle.design_model.specs.Tree.{Term, signal}
-use Rattle.design_model.specs.Design.{In, IsThing, Thing, a_signal, a_word, body_at, cell, signal_bits}
+use Rattle.design_model.specs.Design.{In, IsThing, a_signal, a_word, body_at, cell, signal_bits}
 use Rattle.design_model.specs.Value.{head, value}
 use Rattle.design_model.specs.declared.point.NodeCase.TheVariants.{ValueFalse, ValueTrue}
 use Rattle.design_model.specs.Execution.{cases}
@@ -30,20 +30,8 @@ use Rattle.design_model.proofs.Bound.{clear_bound}
 use Rattle.model_examples.specs.Divided.{divided, divided_dump, divided_values, inverted, inverter, line_q}
 use Rattle.model_examples.proofs.Entry.{on_entry}
 use Rattle.model_examples.proofs.OneSet.{line_sure, node_met, node_sure, one_rise}
+use Rattle.model_examples.proofs.Parts.{False≢True, Zero≢One, none_some, thing_of}
 use Rattle.model_examples.proofs.PathSteps.{node_inside}
-
-Zero≢One : Zero ≢ One
-Zero≢One = grind arith
-
-False≢True : False ≢ True
-False≢True = grind arith
-
-none_some : (n : ℕ) → None ≢ Some n
-none_some n = grind arith
-
-abbrev thing_of : Thing → ℕ
-thing_of (a_signal s) = s
-thing_of (a_word m i) = m
 
 -- clk moves, and so may h
 clk_moves : (n : ℕ) → MayMoveAt divided (divided_dump n) 5 0

@@ -1,5 +1,5 @@
 -- A run of the divided clock that shows the dump, and the example.
-use Rattle.std.proofs.Common.{◌≡◌, ◌≢◌, take, refl, inl, inr, ℕ, zero, suc, true, false, [], ◌∷◌, List, lit<, arith}
+use Rattle.std.proofs.Common.{◌≡◌, take, refl, inl, inr, ℕ, zero, suc, true, false, [], ◌∷◌, List, lit<}
 use Rattle.std.proofs.lemmas.Bool.{false≢true}
 use Rattle.event_machine.proofs.Habits.{free_habit_law}  -- #keep
 use Rattle.event_machine.specs.Cell.{Values, Write, put}
@@ -17,12 +17,7 @@ use Rattle.model_examples.specs.Divided.{IsDividedExample, divided, divided_dump
 use Rattle.model_examples.proofs.DividedDoubt.{doubt_h, false_closed, is_clean, is_not_clean, line_sure_q, single_h, sure_true}
 use Rattle.model_examples.proofs.DividedRounds.{last_rounds}
 use Rattle.model_examples.proofs.OneStep.{never_woken, shows_step}
-
-Zero≢One : Zero ≢ One
-Zero≢One = grind arith
-
-not_empty : {A : Type 0} (x : A) (xs : List A) → x ∷ xs ≢ []
-not_empty x xs = grind arith
+use Rattle.model_examples.proofs.Parts.{Zero≢One, not_empty}
 
 -- there is no third process
 deaf : (p : ℕ) (v : Values Bit) (ws : List (Write Bit)) → wakes (machine divided) (suc (suc p)) v ws ≡ false

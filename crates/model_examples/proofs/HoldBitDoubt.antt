@@ -11,7 +11,7 @@ use Rattle.event_machine.specs.Early.{IsEarly}
 use Rattle.four_state.specs.declared.bit.Bit.{Bit}
 use Rattle.four_state.specs.declared.bit.Bit.TheVariants.{One, Zero}
 use Rattle.design_model.specs.Tree.{signal}
-use Rattle.design_model.specs.Design.{In, IsThing, Thing, a_signal, a_word, body_at, cell, signal_bits}
+use Rattle.design_model.specs.Design.{In, IsThing, a_signal, a_word, body_at, cell, signal_bits}
 use Rattle.design_model.specs.Execution.{at_line, cases, execution}
 use Rattle.design_model.specs.Reads.{Agrees, HasValue, Known}
 use Rattle.design_model.specs.Machine.{is_input_cell, machine}
@@ -26,14 +26,8 @@ use Rattle.design_model.proofs.Bound.{clear_bound}
 use Rattle.model_examples.specs.HoldBit.{IsOldOrNew, hold_bit, hold_bit_dump, hold_bit_values, line_last, line_one, line_zero}
 use Rattle.model_examples.proofs.Entry.{on_entry}
 use Rattle.model_examples.proofs.OneSet.{one_rise}
+use Rattle.model_examples.proofs.Parts.{Zero≢One, path_at, thing_of}
 use Rattle.model_examples.proofs.PathSteps.{is_reaching, node_inside, reaching_found}
-
-Zero≢One : Zero ≢ One
-Zero≢One = grind arith
-
-abbrev thing_of : Thing → ℕ
-thing_of (a_signal s) = s
-thing_of (a_word m i) = m
 
 pub is_clean : IsCleanAt hold_bit hold_bit_dump 5 0 (cell 0 0)
 is_clean =
@@ -115,11 +109,6 @@ has_en = (Zero ∷ [], (cell 0 0, is_clean, inr ((λ e. suc-ne-zero 0 (ap thing_
 
 fixed_en : IsFixed hold_bit (KnownOnEntry hold_bit Free hold_bit_dump 5 0) (body_at hold_bit 0) (signal (counted 2) 1)
 fixed_en = record { told = λ v a. (has_en, node_inside K (Some 2) (cases hold_bit v (signal (counted 2) 1))); unwritten = λ x m. refl }
-
-abbrev path_at : ℕ → List Path → Path
-path_at n [] = []
-path_at zero (p ∷ ps) = p
-path_at (suc n) (p ∷ ps) = path_at n ps
 
 pub is_not_open : IsOpen hold_bit (KnownOnEntry hold_bit Free hold_bit_dump 5 0) (body_at hold_bit 0) line_zero → ⊥
 is_not_open h = go h.1.is_path

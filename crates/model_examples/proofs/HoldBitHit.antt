@@ -1,10 +1,10 @@
 -- The design is lawful, and in every run that shows the dump line 2 is hit: the bit that it tests is 1, old or new.
-use Rattle.std.proofs.Common.{◌<◌, ◌≤◌, ◌&&◌, length, ◌≡◌, inl, inr, ⊎_elim, refl, sym, ap, subst, ◌∙◌, ℕ, zero, suc, ◌==◌, true, false, lit<, lit≤, arith}
+use Rattle.std.proofs.Common.{◌<◌, ◌≤◌, ◌&&◌, length, ◌≡◌, inl, ⊎_elim, refl, sym, subst, ◌∙◌, ℕ, zero, suc, ◌==◌, true, false, lit<, lit≤, arith}
 use Rattle.std.proofs.lemmas.Bool.{ltb-true, false≢true}
-use Rattle.std.specs.Prelude.{nat_lt, slice_index_or}
+use Rattle.std.specs.Prelude.{nat_lt}
 use Rattle.std.specs.List.{list_all}
 use Rattle.event_machine.specs.Habit.{Free}
-use Rattle.design_model.specs.Design.{In, IsAssign, IsComb, Named, body_at, cell, is_number, path_of, process_at, signal_at}
+use Rattle.design_model.specs.Design.{In, IsAssign, IsComb, body_at, cell, is_number, path_of, process_at, signal_at}
 use Rattle.design_model.specs.Mentions.{body_assigns, body_blocks, body_queues}
 use Rattle.design_model.specs.Numbered.{LineAt, NodeAt, lines_of, nodes_of}
 use Rattle.design_model.specs.Machine.{events_of, machine}
@@ -20,7 +20,7 @@ use Rattle.design_model.proofs.StepFacts.{clean_step_law, event_law}
 use Rattle.design_model.proofs.StepLaws.{StepLaws, step_laws}
 use Rattle.model_examples.specs.HoldBit.{IsHoldBitExample, hold_bit, hold_bit_dump, line_one}
 use Rattle.model_examples.proofs.HoldBitDoubt.{doubt_a, high_one, is_clean, is_not_open, is_surely_open, only_a, visits_two}
-use Rattle.model_examples.proofs.RisingNumbers.{same_number}
+use Rattle.model_examples.proofs.LawfulParts.{other_name, same_number}
 
 no_assign : (p : ℕ) → IsAssign (process_at hold_bit p) → ⊥
 no_assign zero h = h
@@ -39,10 +39,6 @@ nodes_once : (p q : ℕ) (x y : NodeAt) → In x (nodes_of (process_at hold_bit 
 nodes_once zero zero x y a b e = (refl, same_number (λ z. z.node) (nodes_of (process_at hold_bit 0)) refl x y a b e)
 nodes_once zero (suc q) x y a b e = absurd b
 nodes_once (suc p) q x y a b e = absurd a
-
--- the first letters of two names differ
-other_name : (n m : ℕ) {x y : Named} → y ≡ x → slice_index_or y.1 0 0 ≡ n → slice_index_or x.1 0 0 ≡ m → (n ≡ m → ⊥) → ⊥
-other_name n m e is other differ = differ (sym is ∙ ap (λ z. slice_index_or z.1 0 0) e ∙ other)
 
 is_lawful : IsLawfulDesign hold_bit
 is_lawful =

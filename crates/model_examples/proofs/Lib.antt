@@ -8,10 +8,12 @@ pub mod HoldRun
 pub mod RomDoubt
 pub mod RaceDoubt
 pub mod ArmsOpen
+pub mod LawfulParts
 pub mod SwapContradicted
 pub mod SwapForced
 pub mod ReverseOpen
 pub mod ClosingOpen
+pub mod Parts
 pub mod OneStep
 pub mod OneSet
 pub mod DividedDoubt
@@ -21,7 +23,6 @@ pub mod SyncedDoubt
 pub mod PulseDoubt
 pub mod ProductOpen
 pub mod HoldBitDoubt
-pub mod RisingNumbers
 pub mod HoldBitHit
 pub mod SettlingClear
 pub mod UnreadClear

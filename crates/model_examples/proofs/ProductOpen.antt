@@ -1,5 +1,5 @@
 -- The run in which y pulses, and what is open on settled values.
-use Rattle.std.proofs.Common.{◌≡◌, ◌≢◌, refl, sym, ap, subst, inl, inr, ℕ, zero, suc, ◌<◌, true, false, [], ◌∷◌, List, arith, lit<, lit≤, Some, None}
+use Rattle.std.proofs.Common.{◌≡◌, refl, sym, ap, subst, inl, inr, ℕ, zero, suc, ◌<◌, true, false, [], ◌∷◌, List, arith, lit<, lit≤, Some}
 use Rattle.std.specs.Prelude.{nat_le, nat_lt}
 use Rattle.std.proofs.lemmas.Bool.{and_parts, eqb-true, false≢true, leb-true, ltb-true}
 use Rattle.event_machine.proofs.Habits.{free_habit_law}  -- #keep
@@ -11,7 +11,7 @@ use Rattle.event_machine.specs.Step.{IsStep}
 use Rattle.four_state.specs.Vector.{extend, truth}
 use Rattle.four_state.specs.declared.bit.Bit.{Bit}
 use Rattle.four_state.specs.declared.bit.Bit.TheVariants.{One, Zero}
-use Rattle.four_state.specs.declared.truth.Truth.TheVariants.{False, True}
+use Rattle.four_state.specs.declared.truth.Truth.TheVariants.{False}
 use Rattle.design_model.specs.Tree.{Term, signal}
 use Rattle.design_model.specs.Design.{In, IsThing, a_signal, a_word, body_at, cell, signal_bits}
 use Rattle.design_model.specs.Value.{head, value}
@@ -29,21 +29,7 @@ use Rattle.model_examples.specs.Product.{IsProductExample, both, case_of, produc
 use Rattle.model_examples.proofs.Entry.{at_end}
 use Rattle.model_examples.proofs.OneSet.{node_met, node_sure}
 use Rattle.model_examples.proofs.OneStep.{never_woken, shows_step}
-
-Zero≢One : Zero ≢ One
-Zero≢One = grind arith
-
-One≢Zero : One ≢ Zero
-One≢Zero = grind arith
-
-False≢True : False ≢ True
-False≢True = grind arith
-
-none_some : (n : ℕ) → None ≢ Some n
-none_some n = grind arith
-
-not_empty : {A : Type 0} (x : A) (xs : List A) → x ∷ xs ≢ []
-not_empty x xs = grind arith
+use Rattle.model_examples.proofs.Parts.{False≢True, One≢Zero, Zero≢One, none_some, not_empty}
 
 -- ---- the run
 

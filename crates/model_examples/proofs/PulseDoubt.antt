@@ -1,6 +1,7 @@
 -- A signal that one execution writes twice is single in no round.
-use Rattle.std.proofs.Common.{◌≡◌, ◌≢◌, ⊎_elim, take, refl, subst, inl, inr, ℕ, zero, suc, true, false, Bool, List, [], ◌∷◌, lit<, arith, if◌then◌else◌}
+use Rattle.std.proofs.Common.{◌≡◌, ⊎_elim, take, refl, sym, subst, inl, inr, ℕ, zero, suc, true, false, Bool, List, [], ◌∷◌, lit<, if◌then◌else◌}
 use Rattle.std.specs.Prelude.{nat_le}
+use Rattle.std.specs.List.{list_any}
 use Rattle.std.proofs.lemmas.Bool.{false≢true}
 use Rattle.event_machine.proofs.Habits.{free_habit_law}  -- #keep
 use Rattle.event_machine.specs.Cell.{Values, Write, put}
@@ -20,17 +21,13 @@ use Rattle.design_model.specs.Run.{IsRun}
 use Rattle.design_model.specs.Shows.{Shows}
 use Rattle.design_model.specs.Points.{IsHit}
 use Rattle.design_model.specs.MayMove.{CanWakeAt, IsSingleAt, MayMoveAt, told_at}
-use Rattle.design_model.specs.Open.{HasAction, IsNotClean, IsOpenFor, IsSurelyOpen, KnownOnEntry}
+use Rattle.design_model.specs.Open.{HasAction, IsNotClean, IsOpen, IsOpenFor, IsSurelyOpen, KnownOnEntry}
 use Rattle.design_model.specs.Doubt.{IsInDoubt, not_clean, of_block}
 use Rattle.model_examples.specs.Pulse.{IsPulseExample, line_low, line_q, pulse, pulse_dump, pulse_events, pulse_run, pulse_start, pulse_values}
 use Rattle.model_examples.proofs.OneSet.{one_rise}
 use Rattle.model_examples.proofs.OneStep.{never_woken, shows_step}
-
-Zero≢One : Zero ≢ One
-Zero≢One = grind arith
-
-not_empty : {A : Type 0} (x : A) (xs : List A) → x ∷ xs ≢ []
-not_empty x xs = grind arith
+use Rattle.model_examples.proofs.PathSteps.{is_reaching, reaching_found}
+use Rattle.model_examples.proofs.Parts.{Zero≢One, not_empty}
 
 -- ---- the doubt
 
@@ -69,6 +66,13 @@ low_sure n = (1 ∷ [], λ path o. go path o.is_path)
     go : (path : Path) → In path (paths [] (body_at pulse 0)) → HasAction (λ x. x ≡ reaches 2) (1 ∷ []) path
     go path (inl e) = subst (HasAction (λ x. x ≡ reaches 2) (1 ∷ [])) e (_, inr (inr (inl refl)), refl, refl)
     go path (inr none) = absurd none
+
+not_in_other : (n : ℕ) → IsOpen pulse (KnownOnEntry pulse Free (pulse_dump n) 5 0) (body_at pulse 0) line_q → ⊥
+not_in_other n h = go h.1.is_path
+  where
+    go : In h.0 (paths [] (body_at pulse 0)) → ⊥
+    go (inl e) = false≢true (subst (λ p. list_any (λ y. is_reaching 3 y.action) p ≡ true) (sym e) (reaching_found 3 h.2.1.0 h.0 h.2.1.1 h.2.1.3))
+    go (inr none) = none
 
 -- ---- the run
 
@@ -143,5 +147,6 @@ pulse_example =
       not_clean = is_not_clean;
       each_open = each_is_open;
       doubt = in_doubt;
+      not_open = not_in_other;
       surely_open = low_sure;
     }

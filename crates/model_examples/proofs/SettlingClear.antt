@@ -1,5 +1,5 @@
 -- y is clear from 5 on, with the value 0, and the block of q knows it at 10.
-use Rattle.std.proofs.Common.{◌≡◌, ◌≢◌, refl, sym, ap, subst, ◌∙◌, ℕ, zero, suc, ◌<◌, ◌-◌, ◌||◌, ◌==◌, true, false, List, [], ◌∷◌, inl, inr, ⊎_elim, arith, suc-ne-zero, lit<, lit≤, Some, None}
+use Rattle.std.proofs.Common.{◌≡◌, ◌≢◌, refl, sym, ap, subst, ◌∙◌, ℕ, zero, suc, ◌<◌, ◌-◌, ◌||◌, ◌==◌, true, false, List, [], ◌∷◌, inl, inr, ⊎_elim, arith, suc-ne-zero, lit<, lit≤, Some}
 use Rattle.std.specs.Prelude.{nat_le, nat_lt}
 use Rattle.std.specs.List.{list_any}
 use Rattle.std.proofs.lemmas.Bool.{and_parts, or_cases, eqb-true, ltb-true, leb-true, false≢true, lt-leb}
@@ -11,7 +11,7 @@ use Rattle.event_machine.specs.Early.{IsEarly}
 use Rattle.four_state.specs.Vector.{extend, truth}
 use Rattle.four_state.specs.declared.bit.Bit.{Bit}
 use Rattle.four_state.specs.declared.bit.Bit.TheVariants.{One, X, Zero}
-use Rattle.four_state.specs.declared.truth.Truth.TheVariants.{False, True}
+use Rattle.four_state.specs.declared.truth.Truth.TheVariants.{False}
 use Rattle.design_model.specs.Tree.{Term, binary, signal}
 use Rattle.four_state.specs.declared.operator.Binary.TheVariants.{BitwiseAnd}
 use Rattle.design_model.specs.Design.{In, IsThing, Thing, a_signal, a_word, body_at, cell, process_at, signal_bits}
@@ -34,20 +34,8 @@ use Rattle.design_model.proofs.Told.{told_blocking, told_by}
 use Rattle.model_examples.specs.Settling.{IsSettlingExample, case_of, line_one, line_zero, settling_dump}
 use Rattle.model_examples.proofs.Entry.{on_entry}
 use Rattle.model_examples.proofs.OneSet.{node_met, node_sure, one_rise}
+use Rattle.model_examples.proofs.Parts.{False≢True, Zero≢One, none_some, path_at, thing_of}
 use Rattle.model_examples.proofs.PathSteps.{is_reaching, node_inside, reaching_found}
-
-Zero≢One : Zero ≢ One
-Zero≢One = grind arith
-
-False≢True : False ≢ True
-False≢True = grind arith
-
-none_some : (n : ℕ) → None ≢ Some n
-none_some n = grind arith
-
-abbrev thing_of : Thing → ℕ
-thing_of (a_signal s) = s
-thing_of (a_word m i) = m
 
 abbrev IsBoundHere : Thing → Type 0
 IsBoundHere (a_signal s) = nat_lt s 4 ≡ true
@@ -272,11 +260,6 @@ fixed_y = record { told = λ v a. ((Zero ∷ [], knows_y), node_inside Entry (So
 
 test_is : (v : Values Bit) → Agrees pipe (KnownOnEntry pipe Free settling_dump 10 1) v → is_true (truth (value pipe v (signal (counted 2) 4))) ≡ false
 test_is v av = ap (λ bs. is_true (truth (extend 1 false bs))) (av (a_signal 4) (Zero ∷ []) knows_y)
-
-abbrev path_at : ℕ → List Path → Path
-path_at n [] = []
-path_at zero (p ∷ ps) = p
-path_at (suc n) (p ∷ ps) = path_at n ps
 
 closed : FollowsAll pipe Entry (body_at pipe 1) (path_at 0 (paths [] (body_at pipe 1))) → ⊥
 closed f = false≢true (sym (test_is (pipe_values One One Zero X Zero) entry_agrees) ∙ f.1.0 fixed_y (pipe_values One One Zero X Zero) entry_agrees)

@@ -1,12 +1,11 @@
 -- The design is lawful, so no run shows the dump in which b is not what is forced.
-use Rattle.std.proofs.Common.{◌<◌, ◌≤◌, ◌&&◌, length, ◌≡◌, ◌≢◌, inl, inr, ⊎_elim, refl, sym, ap, subst, ◌∙◌, ℕ, zero, suc, ◌==◌, true, false, lit<, lit≤, arith, List, [], ◌∷◌}
+use Rattle.std.proofs.Common.{◌<◌, ◌≤◌, ◌&&◌, length, ◌≡◌, ◌≢◌, inl, inr, ⊎_elim, refl, sym, ap, ◌∙◌, ℕ, zero, suc, ◌==◌, true, false, lit<, lit≤, arith, [], ◌∷◌}
 use Rattle.std.proofs.lemmas.Bool.{eqb-true, false≢true, ltb-true}
-use Rattle.std.specs.Prelude.{nat_lt, slice_index_or}
+use Rattle.std.specs.Prelude.{nat_lt}
 use Rattle.std.specs.List.{list_all}
 use Rattle.event_machine.specs.Habit.{Free}
-use Rattle.four_state.specs.declared.bit.Bit.{Bit}
 use Rattle.four_state.specs.declared.bit.Bit.TheVariants.{One, Zero}
-use Rattle.design_model.specs.Design.{In, IsAssign, IsComb, Named, body_at, is_number, path_of, process_at, signal_at}
+use Rattle.design_model.specs.Design.{In, IsAssign, IsComb, body_at, is_number, path_of, process_at, signal_at}
 use Rattle.design_model.specs.Mentions.{body_assigns, body_blocks, body_queues}
 use Rattle.design_model.specs.Numbered.{LineAt, NodeAt, lines_of, nodes_of}
 use Rattle.design_model.specs.Machine.{events_of, machine}
@@ -18,6 +17,7 @@ use Rattle.design_model.specs.Lawful.{IsLawfulDesign, target_once, wakes_of}
 use Rattle.design_model.proofs.Assigns.{machine_lawful}
 use Rattle.design_model.proofs.ForcedSound.{contradiction_law}
 use Rattle.design_model.proofs.StepLaws.{step_laws}
+use Rattle.model_examples.proofs.LawfulParts.{other_name}
 use Rattle.model_examples.specs.Swap.{swap, swap_dump}
 
 no_assign : (p : ℕ) → IsAssign (process_at swap p) → ⊥
@@ -50,10 +50,6 @@ no_node : (p : ℕ) (x : NodeAt) → In x (nodes_of (process_at swap p)) → ⊥
 no_node zero x h = h
 no_node (suc zero) x h = h
 no_node (suc (suc p)) x h = h
-
--- the first letters of two names differ
-other_name : (n m : ℕ) {x y : Named} → y ≡ x → slice_index_or y.1 0 0 ≡ n → slice_index_or x.1 0 0 ≡ m → (n ≡ m → ⊥) → ⊥
-other_name n m e is other differ = differ (sym is ∙ ap (λ z. slice_index_or z.1 0 0) e ∙ other)
 
 is_lawful : IsLawfulDesign swap
 is_lawful =

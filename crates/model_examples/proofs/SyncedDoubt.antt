@@ -13,7 +13,7 @@ use Rattle.four_state.specs.Vector.{extend, truth}
 use Rattle.four_state.specs.declared.bit.Bit.{Bit}
 use Rattle.four_state.specs.declared.bit.Bit.TheVariants.{One, Zero}
 use Rattle.four_state.specs.declared.operator.Unary.TheVariants.{LogicalNot}
-use Rattle.design_model.specs.Design.{In, IsThing, Thing, a_signal, a_word, body_at, cell, signal_bits}
+use Rattle.design_model.specs.Design.{In, IsThing, a_signal, a_word, body_at, cell, signal_bits}
 use Rattle.design_model.specs.Value.{value}
 use Rattle.design_model.specs.Execution.{cases}
 use Rattle.design_model.specs.Paths.{Path, paths, reaches}
@@ -28,14 +28,8 @@ use Rattle.design_model.proofs.Bound.{clear_bound}
 use Rattle.model_examples.specs.Synced.{IsSyncedExample, line_data, line_reset, no_reset, synced, synced_dump, synced_values}
 use Rattle.model_examples.proofs.Entry.{on_entry}
 use Rattle.model_examples.proofs.OneSet.{one_rise}
+use Rattle.model_examples.proofs.Parts.{Zero≢One, path_at, thing_of}
 use Rattle.model_examples.proofs.PathSteps.{is_reaching, node_inside, reaching_found}
-
-Zero≢One : Zero ≢ One
-Zero≢One = grind arith
-
-abbrev thing_of : Thing → ℕ
-thing_of (a_signal s) = s
-thing_of (a_word m i) = m
 
 -- the event signals of the block of q, by their edges
 pos_cell : (c : Cell) → (machine synced).edge 1 Posedge c ≡ true → c ≡ cell 0 0
@@ -140,11 +134,6 @@ fixed = record { told = λ v a. ((One ∷ [], knows_n), node_inside K (Some 1) (
 
 test_is : (v : Values Bit) → Agrees synced (KnownOnEntry synced Free (synced_dump 1) 5 1) v → is_true (truth (value synced v no_reset)) ≡ false
 test_is v av = ap (λ bs. is_true (truth (extend 1 false (unary_value LogicalNot (extend 1 false bs))))) (av (a_signal 3) (One ∷ []) knows_n)
-
-abbrev path_at : ℕ → List Path → Path
-path_at n [] = []
-path_at zero (p ∷ ps) = p
-path_at (suc n) (p ∷ ps) = path_at n ps
 
 -- the path of the reset is closed
 closed : FollowsAll synced K (body_at synced 1) (path_at 0 (paths [] (body_at synced 1))) → ⊥

@@ -21,13 +21,7 @@ use Rattle.design_model.specs.Ram.{ram}
 use Rattle.design_model.proofs.Bound.{clear-thing, clear_bound}
 use Rattle.model_examples.specs.Unread.{words_dump, words_values}
 use Rattle.model_examples.proofs.OneSet.{one_rise}
-
-Zero≢One : Zero ≢ One
-Zero≢One = grind arith
-
-abbrev pub thing_of : Thing → ℕ
-thing_of (a_signal s) = s
-thing_of (a_word m i) = m
+use Rattle.model_examples.proofs.Parts.{Zero≢One, thing_of}
 
 abbrev IsWordThing : Thing → Type 0
 IsWordThing (a_signal s) = ⊥

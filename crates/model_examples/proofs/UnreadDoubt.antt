@@ -1,5 +1,5 @@
 -- What is open, and in doubt, where the word that is read was not written.
-use Rattle.std.proofs.Common.{◌≡◌, ◌≢◌, refl, sym, ap, subst, ◌∙◌, ℕ, zero, suc, ◌≤◌, true, false, List, [], ◌∷◌, inl, inr, arith, lit<, lit≤, Some, None}
+use Rattle.std.proofs.Common.{◌≡◌, ◌≢◌, refl, sym, ap, subst, ◌∙◌, ℕ, zero, suc, ◌≤◌, true, false, List, [], ◌∷◌, inl, inr, arith, lit<, lit≤, Some}
 use Rattle.std.specs.List.{list_any}
 use Rattle.std.proofs.lemmas.Bool.{false≢true}
 use Rattle.event_machine.specs.Cell.{Values, Write, put}
@@ -20,19 +20,12 @@ use Rattle.design_model.specs.Doubt.{IsInDoubt, of_block, unclear_at_start}
 use Rattle.design_model.specs.ExampleParts.{counted, wide}
 use Rattle.design_model.specs.Ram.{ram}
 use Rattle.model_examples.specs.Unread.{IsOtherWordExample, IsUnknownWordExample, line_one, line_test, line_write, other_dump, unknown_dump, words_dump, words_values}
+use Rattle.model_examples.proofs.Parts.{none_some, path_at}
 use Rattle.model_examples.proofs.PathSteps.{is_reaching, node_inside, reaching_found}
 use Rattle.model_examples.proofs.UnreadClear.{clean_15, clean_5, has_15, has_5, knows_15, knows_we, knows_5, no_word, none_early_15, unwritten, word_at_14, word_unknown, words_before}
 
-none_some : (n : ℕ) → None ≢ Some n
-none_some n = grind arith
-
 some_apart : (a b : ℕ) → (a ≡ b → ⊥) → Some a ≢ Some b
 some_apart a b ne = grind arith
-
-abbrev path_at : ℕ → List Path → Path
-path_at n [] = []
-path_at zero (p ∷ ps) = p
-path_at (suc n) (p ∷ ps) = path_at n ps
 
 abbrev path_of : ℕ → Path
 path_of n = path_at n (paths [] (body_at ram 0))
@@ -252,4 +245,5 @@ unknown_word_example =
       none_written = write_unnamed;
       not_clear = none_clear;
       doubt = word_doubt (X ∷ One ∷ []) (One ∷ One ∷ []) [] unknown_agrees 3 (lit≤ tt) (none_clear 3) reads_three (open_one (X ∷ One ∷ []) (One ∷ One ∷ []) [] unknown_agrees unknown_not_fixed);
+      surely_open = test_sure (X ∷ One ∷ []) (One ∷ One ∷ []) [] unknown_agrees;
     }

@@ -19,7 +19,7 @@ use Rattle.design_model.specs.Run.{IsRun, Run}
 use Rattle.design_model.specs.Shows.{BoundDump, Shows}
 use Rattle.design_model.specs.Points.{IsHit}
 use Rattle.design_model.specs.MayMove.{IsSingleAt}
-use Rattle.design_model.specs.Open.{IsNotClean, IsOpenFor, IsSurelyOpen, KnownOnEntry}
+use Rattle.design_model.specs.Open.{IsNotClean, IsOpen, IsOpenFor, IsSurelyOpen, KnownOnEntry}
 use Rattle.design_model.specs.Doubt.{IsInDoubt}
 use Rattle.design_model.specs.ExampleParts.{at, bit_number, one_bit, one_instance, plain}
 
@@ -72,7 +72,7 @@ abbrev pub line_q : Point
 line_q = line_point 1 3 (at 61) Assign
 
 -- h is 0 at each time of the dump, and yet the run hits line 3. So h is single in no round: whatever the round, the block of q
--- is not clean, each of its points is open, and h is in doubt for line 3. The lines of the other block are surely open.
+-- is not clean, each of its points is open, and h is in doubt for line 3. The lines of the other block are surely open for it, and line 3 is not open for it.
 pub record IsPulseExample : Type 0 where
   pub run : IsRun pulse Free pulse_run
   pub shows : (n : ℕ) → Shows pulse (pulse_dump n) pulse_run
@@ -83,4 +83,5 @@ pub record IsPulseExample : Type 0 where
   pub not_clean : (n : ℕ) → IsNotClean pulse (pulse_dump n) 5 1
   pub each_open : (n : ℕ) (x : Point) → IsOpenFor pulse Free (pulse_dump n) 5 1 x
   pub doubt : (n : ℕ) → IsInDoubt pulse Free (pulse_dump n) line_q 5 2
+  pub not_open : (n : ℕ) → IsOpen pulse (KnownOnEntry pulse Free (pulse_dump n) 5 0) (body_at pulse 0) line_q → ⊥
   pub surely_open : (n : ℕ) → IsSurelyOpen pulse (KnownOnEntry pulse Free (pulse_dump n) 5 0) (body_at pulse 0) line_low

@@ -1,7 +1,7 @@
 -- Two registers that swap, worked out: clk is signal 0, a is 1, b is 2.
 --   always @(posedge clk) a <= b;
 --   always @(posedge clk) b <= a;
-use Rattle.std.specs.Prelude.{◌≡◌, ◌∷◌, if◌then◌else◌, ℕ, true, false, [], nat_le, nat_lt, slice_index_or, codes}
+use Rattle.std.specs.Prelude.{◌∷◌, if◌then◌else◌, ℕ, true, false, [], nat_le, nat_lt, slice_index_or, codes}
 use Rattle.event_machine.specs.Cell.{Values}
 use Rattle.event_machine.specs.Habit.{Free, Habit}
 use Rattle.four_state.specs.declared.bit.Bit.{Bit}

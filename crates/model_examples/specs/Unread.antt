@@ -70,3 +70,4 @@ pub record IsUnknownWordExample : Type 0 where
   pub none_written : (i : ℕ) → IsOpen ram (KnownOnEntry ram Free unknown_dump 5 0) (body_at ram 0) (word_point 6 i true) → ⊥
   pub not_clear : (i : ℕ) → HasValue (clear ram Free unknown_dump 14) (a_word 6 i) → ⊥
   pub doubt : IsInDoubt ram Free unknown_dump line_one 15 6
+  pub surely_open : IsSurelyOpen ram (KnownOnEntry ram Free unknown_dump 15 0) (body_at ram 0) line_test

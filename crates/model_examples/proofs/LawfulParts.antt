@@ -1,9 +1,9 @@
--- Line points and nodes whose numbers rise are told apart by them.
+-- Parts of proofs that a design is lawful: line points and nodes whose numbers rise are told apart by them, and names by their first letters.
 use Rattle.std.proofs.Common.{◌≡◌, inl, inr, ℕ, ◌<◌, ◌&&◌, Bool, true, List, [], ◌∷◌, sym, ap, subst, ◌∙◌, arith}
-use Rattle.std.specs.Prelude.{nat_lt}
+use Rattle.std.specs.Prelude.{nat_lt, slice_index_or}
 use Rattle.std.specs.List.{list_all}
 use Rattle.std.proofs.lemmas.Bool.{and_parts, ltb-true}
-use Rattle.design_model.specs.Design.{In}
+use Rattle.design_model.specs.Design.{In, Named}
 
 -- each number is below those after it
 abbrev pub are_rising : {A : Type 0} → (A → ℕ) → List A → Bool
@@ -21,3 +21,7 @@ same_number f (z ∷ zs) rising x y (inl a) (inl b) e = sym a ∙ b
 same_number f (z ∷ zs) rising x y (inl a) (inr b) e = absurd (let less = above f (f z) zs y (and_parts (list_all (λ w. nat_lt (f z) (f w)) zs) _ rising).0 b in let same : f z ≡ f x = ap f a in omega (arith, less, e, same))
 same_number f (z ∷ zs) rising x y (inr a) (inl b) e = absurd (let less = above f (f z) zs x (and_parts (list_all (λ w. nat_lt (f z) (f w)) zs) _ rising).0 a in let same : f z ≡ f y = ap f b in omega (arith, less, e, same))
 same_number f (z ∷ zs) rising x y (inr a) (inr b) e = same_number f zs (and_parts (list_all (λ w. nat_lt (f z) (f w)) zs) _ rising).1 x y a b e
+
+-- the first letters of two names differ
+pub other_name : (n m : ℕ) {x y : Named} → y ≡ x → slice_index_or y.1 0 0 ≡ n → slice_index_or x.1 0 0 ≡ m → (n ≡ m → ⊥) → ⊥
+other_name n m e is other differ = differ (sym is ∙ ap (λ z. slice_index_or z.1 0 0) e ∙ other)
