@@ -1,5 +1,5 @@
 -- Memories of which the words are partly known: what an index reads, and what a write leaves of each word.
-use Rattle.std.specs.Prelude.{◌≡◌, ℕ, ◌+◌, ◌-◌, ◌≤◌, min, max, Bool, if◌then◌else◌, List, [], ◌∷◌, replicate, slice_index_or, Option, Some, None}
+use Rattle.std.specs.Prelude.{◌≡◌, ℕ, ◌+◌, ◌-◌, ◌≤◌, min, max, Bool, if◌then◌else◌, List, [], ◌∷◌, length, replicate, slice_index_or, Option, Some, None}
 use Rattle.event_machine.specs.Cell.{Cell}
 use Rattle.four_state.specs.declared.bit.Bit.{Bit}
 use Rattle.four_state.specs.declared.bit.Bit.TheVariants.{X}
@@ -37,6 +37,10 @@ IsIndex s i = (min s.first s.last ≤ i) × (i ≤ max s.first s.last)
 -- the bits of the word with this index
 abbrev pub word_at : KnownWords → ℕ → KnownBits
 word_at r i = slice_index_or r.words (i - least r.shape) (unknown r.shape.width)
+
+-- each word has the width of the memory's words
+abbrev pub HaveWidth : KnownWords → Type 0
+HaveWidth r = (i : ℕ) → length (word_at r i) ≡ r.shape.width
 
 -- no bit of any word is sure
 abbrev pub unwritten : Shape → KnownWords

@@ -4,7 +4,7 @@ ghost use Rattle.known_state.specs.Partly.{is_told as is_told_whole, with_blame}
 ghost use Rattle.design_model.specs.Design.{Design};
 ghost use Rattle.body_replay.specs.KnownBits.{AllAllow, told as told_bits};
 ghost use Rattle.body_replay.specs.Store.{Kept, keep_all, read_word};
-ghost use Rattle.memory_rebuild.specs.Words.{AllowsWords, IsIndex, StandsFor, bits_left, cell_writes, least, count, may_be, named_by, option_word, read_of, true_word, true_words, unwritten, word_after, word_at};
+ghost use Rattle.memory_rebuild.specs.Words.{AllowsWords, HaveWidth, IsIndex, StandsFor, bits_left, cell_writes, least, count, may_be, named_by, option_word, read_of, true_word, true_words, unwritten, word_after, word_at};
 
 use crate::Shape;
 use crate::word::{Word, list, weaken};
@@ -83,18 +83,13 @@ impl Rebuilt {
     /// the index.
     pub fn read(&self, index: &Known) -> Known
         ensures value { result ≡ read_of self.now index.now }
+        ensures width { length result.bits ≡ self.now.shape.width }
         ensures sound { (v : ℕ → List Bit) (is : List Bit) → AllowsWords self.now v → AllAllow index.now.bits is → AllAllow result.bits (true_word self.now.shape v (named_by self.now.shape index.now.signed is)) }
         ensures sure_index { (is : List Bit) → told_bits index.now.bits ≡ Some is → result.bits ≡ option_word self.now (named_by self.now.shape index.now.signed is) }
         ensures blame { is_told_whole result ≡ false → result.blame ≡ (if is_told_whole index.now then self.now.shape.blame else index.now.blame) }
         ensures stands { (d : Design) (k : Kept) (m : ℕ) → StandsFor d k m self.now → result.bits ≡ read_word d k m index.now.signed index.now.bits }
     {
-        if !index.is_told() {
-            return self.read_unsure(index);
-        }
-        match self.shape.place_named(&index.value()) {
-            Some(place) => self.word(place),
-            None => self.shape.strange(),
-        }
+        self.looked_up(index)
     }
 
     /// Writes a value of the words' width and sign into the word that an index names; where it names none nothing is
@@ -114,11 +109,7 @@ impl Rebuilt {
         ensures others { (i : ℕ) → IsIndex self.old.shape i → may_be self.old.shape index.now i ≡ false → word_at self.new i ≡ word_at self.old i }
         ensures stands { (d : Design) (k : Kept) (m : ℕ) → StandsFor d k m self.old → StandsFor d (keep_all k (cell_writes d m index.now value.now.bits certain)) m self.new }
     {
-        if !index.is_told() {
-            self.write_unsure(index, value);
-        } else if let Some(place) = self.shape.place_named(&index.value()) {
-            self.write_at(place, value, certain);
-        }
+        self.put(index, value, certain);
     }
 
     /// Makes all words unknown. It takes no memory.
@@ -140,10 +131,40 @@ impl Rebuilt {
         self.written.clear();
     }
 
+    /// What an index reads.
+    fn looked_up(&self, index: &Known) -> Known
+        ensures value { result ≡ read_of self.now index.now }
+        ensures widths { HaveWidth self.now }
+    {
+        if !index.is_told() {
+            return self.joined(index);
+        }
+        match self.shape.place_named(&index.value()) {
+            Some(place) => self.word(place),
+            None => self.shape.strange(),
+        }
+    }
+
+    /// Writes a value into the word that an index names, or perhaps into each that it may name.
+    fn put(&mut self, index: &Known, value: &Known, certain: bool)
+        requires width { length value.now.bits ≡ self.old.shape.width }
+        requires sign { value.now.signed ≡ self.old.shape.signed }
+        ensures shape { self.new.shape ≡ self.old.shape }
+        ensures widths { HaveWidth self.old }
+        ensures words { (q : ℕ) → q < count self.old.shape → word_at self.new (least self.old.shape + q) ≡ word_after self.old index.now value.now.bits certain (least self.old.shape + q) }
+    {
+        if !index.is_told() {
+            self.put_anywhere(index, value);
+        } else if let Some(place) = self.shape.place_named(&index.value()) {
+            self.put_at(place, value, certain);
+        }
+    }
+
     /// The word at a place.
     fn word(&self, place: usize) -> Known
         requires { place < count self.now.shape }
-        ensures { result ≡ with_blame (word_at self.now (least self.now.shape + place)) self.now.shape.signed self.now.shape.blame }
+        ensures value { result ≡ with_blame (word_at self.now (least self.now.shape + place)) self.now.shape.signed self.now.shape.blame }
+        ensures width { length result.bits ≡ self.now.shape.width }
     {
         let word = self.words[place];
         if word.epoch == self.epoch {
@@ -154,13 +175,14 @@ impl Rebuilt {
     }
 
     /// What x and the words that an index may name have in common, for an index that is not sure.
-    fn read_unsure(&self, index: &Known) -> Known
+    fn joined(&self, index: &Known) -> Known
         requires { is_told_whole index.now ≡ false }
-        ensures { result ≡ read_of self.now index.now }
+        ensures value { result ≡ read_of self.now index.now }
+        ensures widths { HaveWidth self.now }
     {
         let mut joined = self.shape.strange();
         let mut place = 0;
-        while place < self.words.len() {
+        while place < self.shape.count() {
             if self.shape.may_name(index, place) {
                 joined = joined.join(&self.word(place), index.blame());
                 if joined.sure() == 0 {
@@ -175,12 +197,13 @@ impl Rebuilt {
     }
 
     /// Writes the word at a place.
-    fn write_at(&mut self, place: usize, value: &Known, certain: bool)
+    fn put_at(&mut self, place: usize, value: &Known, certain: bool)
         requires place { place < count self.old.shape }
         requires width { length value.now.bits ≡ self.old.shape.width }
         requires sign { value.now.signed ≡ self.old.shape.signed }
         ensures shape { self.new.shape ≡ self.old.shape }
         ensures word { word_at self.new (least self.old.shape + place) ≡ bits_left certain value.now.bits (word_at self.old (least self.old.shape + place)) }
+        ensures widths { HaveWidth self.old }
         ensures others { (q : ℕ) → q < count self.old.shape → (q ≡ place → ⊥) → word_at self.new (least self.old.shape + q) ≡ word_at self.old (least self.old.shape + q) }
     {
         let word = self.words[place];
@@ -201,11 +224,12 @@ impl Rebuilt {
     }
 
     /// Joins a value into each word that an index may name, for an index that is not sure.
-    fn write_unsure(&mut self, index: &Known, value: &Known)
+    fn put_anywhere(&mut self, index: &Known, value: &Known)
         requires width { length value.now.bits ≡ self.old.shape.width }
         requires sign { value.now.signed ≡ self.old.shape.signed }
         requires index { is_told_whole index.now ≡ false }
         ensures shape { self.new.shape ≡ self.old.shape }
+        ensures widths { HaveWidth self.old }
         ensures words { (q : ℕ) → q < count self.old.shape → word_at self.new (least self.old.shape + q) ≡ word_after self.old index.now value.now.bits false (least self.old.shape + q) }
     {
         weaken(&self.shape, self.words.as_mut_slice(), self.written.as_slice(), index, value);

@@ -1,0 +1,5 @@
+pub mod Joins
+pub mod Numbers
+pub mod Reads
+pub mod Kept
+pub mod Laws
