@@ -73,6 +73,13 @@ impl Rebuilt {
         })
     }
 
+    /// The range of the words, and what each word is.
+    pub fn shape(&self) -> Shape
+        ensures { result ≡ self.now.shape }
+    {
+        self.shape
+    }
+
     /// What an index reads (IEEE 1364-2001, clause 4.2.2): the word that it names, x where it names none, and where it
     /// is not sure the join of x and all words that it may name. A read that is not wholly sure is blamed on the
     /// index where that is not wholly sure, and else on the memory. It takes no memory.

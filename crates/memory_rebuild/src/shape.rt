@@ -65,7 +65,8 @@ impl Shape {
     }
 
     /// The place at which a search for the words that an index may name goes on after a word that it cannot name. It
-    /// passes over all words whose numbers have the wrong bit at the same place.
+    /// passes over all words whose numbers have the wrong bit at the same place. Where no bit of the number is wrong,
+    /// the number has too many bits or is that of a negative index, and so have the later ones.
     pub(crate) fn place_after(&self, index: &Known, place: usize) -> usize
         requires place { place < word_count self.now }
         requires not_named { may_be self.now index.now (least_index self.now + place) ≡ false }
@@ -73,10 +74,11 @@ impl Shape {
         ensures within { result ≤ word_count self.now }
         ensures none { (q : ℕ) → place ≤ q → q < result → may_be self.now index.now (least_index self.now + q) ≡ false }
     {
+        let value = index.value();
         let number = self.least() as u128 + place as u128;
-        let wrong = (number ^ index.value().ones()) & index.sure();
-        if wrong == 0 {
-            return place + 1;
+        let wrong = (number ^ value.ones()) & index.sure();
+        if wrong == 0 || !value.is_known() {
+            return self.count();
         }
         let unit = 1u128 << wrong.ilog2();
         let next = (number / unit + 1) * unit - self.least() as u128;
