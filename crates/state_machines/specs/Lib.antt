@@ -1,0 +1,4 @@
+pub mod Machines
+pub mod Entries
+pub mod Lookups
+pub mod Values
