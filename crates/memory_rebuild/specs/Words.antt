@@ -7,7 +7,8 @@ use Rattle.four_state.specs.Vector.{fill}
 use Rattle.four_state.specs.Parts.{index}
 use Rattle.known_state.specs.Partly.{Partly, is_told, with_blame}
 use Rattle.known_state.specs.Join.{joined}
-use Rattle.design_model.specs.Design.{Design, Memory, memory_at, no_memory}
+use Rattle.design_model.specs.Design.{Design, memory_at, no_memory}
+use Rattle.design_model.specs.declared.design.Memory.{Memory}
 use Rattle.design_model.specs.Value.{named_word}
 use Rattle.body_replay.specs.KnownBits.{KnownBits, AllAllow, told, sure, unknown, on_told}
 use Rattle.body_replay.specs.Store.{Kept, KnownWrite, is_word, keep_all, kept_word, may_name, weaken, words, write_word}
