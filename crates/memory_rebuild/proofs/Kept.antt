@@ -1,10 +1,10 @@
 -- The words of a memory as they are kept: what they stand for, and that they stay in order.
-use Rattle.std.proofs.Common.{◌≡◌, ◌≢◌, ℕ, zero, suc, ◌+◌, ◌-◌, ◌<◌, ◌≤◌, ◌==◌, Bool, true, false, cond, if◌then◌else◌, List, [], ◌∷◌, ◌++◌, length, map, replicate, set, take, drop, get_or, Option, Some, None, refl, sym, ap, ap₂, subst, ◌∙◌, inl, inr, ⊎_elim, arith, length-set, length-append, get_or-set_same, get_or-set_other, eq-eqb}
+use Rattle.std.proofs.Common.{◌≡◌, ℕ, zero, suc, ◌+◌, ◌-◌, ◌<◌, ◌≤◌, ◌==◌, Bool, true, false, cond, if◌then◌else◌, List, [], ◌∷◌, ◌++◌, length, map, replicate, set, take, drop, get_or, None, refl, sym, ap, ap₂, subst, ◌∙◌, ⊎_elim, arith, length-set, length-append, get_or-set_same, get_or-set_other, eq-eqb}
 use Rattle.std.specs.Prelude.{All, Contains, count_by}
 use Rattle.std.specs.List.{sum_by}
-use Rattle.std.proofs.lemmas.Bool.{cases_eq, cases_lt, cases_Bool, eqb-true, false≢true, true≢false}
+use Rattle.std.proofs.lemmas.Bool.{cases_eq, cases_lt, cases_Bool, eqb-true, false≢true}
 use Rattle.std.proofs.lemmas.List.{append-nil, drop_all, get_or-map, get_or_past, length-map, length-replicate, take_all}
-use Rattle.std.proofs.lemmas.List.Elements.{All-head, All-nil, All-push, All-replicate, All-set, All-tail, All-weaker, Contains-append_left, Contains-push}
+use Rattle.std.proofs.lemmas.List.Elements.{All-head, All-nil, All-push, All-set, All-tail, All-weaker, Contains-append_left, Contains-push}
 use Rattle.std.proofs.lemmas.List.Sums.{count_by-le-length, sum_by-cons, sum_by-set}
 use Rattle.known_state.specs.Partly.{Partly, with_blame}
 use Rattle.known_state.specs.Join.{joined}
@@ -112,11 +112,11 @@ kept_replaced s epoch room ws written q d x k l now same f =
       inside = set_inside ws q x written k.inside;
       listed = λ i e m h. ⊎_elim (λ at. subst (λ n. Contains written n) (sym at) (k.listed q d l now)) (λ ne. k.listed i e (omega (arith, m, length-set ws q x)) (ap (is_of epoch) (sym (get_or-set_other ws q i x e ne)) ∙ h)) (cases_eq i q);
       each =
-        k.each
-        ∙ (let f : one_of epoch x ≡ 1 = ap (λ n. cond (n == epoch) 1 0) same ∙ ap (λ t. cond t 1 0) (eq-eqb epoch epoch refl) in
-        let g : one_of epoch (get_or ws q d) ≡ 1 = ap (λ t. cond t 1 0) now in
-        let h : sum_by (one_of epoch) (set ws q x) + one_of epoch (get_or ws q d) ≡ sum_by (one_of epoch) ws + one_of epoch x = sum_by-set (one_of epoch) ws q x d l in
-        omega (arith, f, g, h));
+          k.each
+          ∙ (let f : one_of epoch x ≡ 1 = ap (λ n. cond (n == epoch) 1 0) same ∙ ap (λ t. cond t 1 0) (eq-eqb epoch epoch refl) in
+          let g : one_of epoch (get_or ws q d) ≡ 1 = ap (λ t. cond t 1 0) now in
+          let h : sum_by (one_of epoch) (set ws q x) + one_of epoch (get_or ws q d) ≡ sum_by (one_of epoch) ws + one_of epoch x = sum_by-set (one_of epoch) ws q x d l in
+          omega (arith, f, g, h));
       room = omega (arith, k.room, length-set ws q x);
     }
 
@@ -142,14 +142,14 @@ kept_added s epoch room more ws written q d x k l old same f grown =
       older = All-set (λ w. w.epoch ≤ epoch) ws q x (omega (arith, same)) k.older;
       inside = All-push (λ i. i < length (set ws q x)) written q (set_inside ws q x written k.inside) (omega (arith, l, length-set ws q x));
       listed = λ i e m h.
-        ⊎_elim (λ at. subst (λ n. Contains (written ++ q ∷ []) n) (sym at) (Contains-push written q)) (λ ne. Contains-append_left written (q ∷ []) i (k.listed i e (omega (arith, m, length-set ws q x)) (ap (is_of epoch) (sym (get_or-set_other ws q i x e ne)) ∙ h))) (cases_eq i q);
+          ⊎_elim (λ at. subst (λ n. Contains (written ++ q ∷ []) n) (sym at) (Contains-push written q)) (λ ne. Contains-append_left written (q ∷ []) i (k.listed i e (omega (arith, m, length-set ws q x)) (ap (is_of epoch) (sym (get_or-set_other ws q i x e ne)) ∙ h))) (cases_eq i q);
       each =
-        let f : one_of epoch x ≡ 1 = ap (λ n. cond (n == epoch) 1 0) same ∙ ap (λ t. cond t 1 0) (eq-eqb epoch epoch refl) in
-        let g : one_of epoch (get_or ws q d) ≡ 0 = ap (λ t. cond t 1 0) old in
-        let h : sum_by (one_of epoch) (set ws q x) + one_of epoch (get_or ws q d) ≡ sum_by (one_of epoch) ws + one_of epoch x = sum_by-set (one_of epoch) ws q x d l in
-        let each : length written ≡ sum_by (one_of epoch) ws = k.each in
-        let one : length (written ++ q ∷ []) ≡ length written + 1 = length-append written (q ∷ []) in
-        omega (arith, f, g, h, each, one);
+          let f : one_of epoch x ≡ 1 = ap (λ n. cond (n == epoch) 1 0) same ∙ ap (λ t. cond t 1 0) (eq-eqb epoch epoch refl) in
+          let g : one_of epoch (get_or ws q d) ≡ 0 = ap (λ t. cond t 1 0) old in
+          let h : sum_by (one_of epoch) (set ws q x) + one_of epoch (get_or ws q d) ≡ sum_by (one_of epoch) ws + one_of epoch x = sum_by-set (one_of epoch) ws q x d l in
+          let each : length written ≡ sum_by (one_of epoch) ws = k.each in
+          let one : length (written ++ q ∷ []) ≡ length written + 1 = length-append written (q ∷ []) in
+          omega (arith, f, g, h, each, one);
       room = omega (arith, k.room, grown, length-set ws q x);
     }
 

@@ -2,7 +2,7 @@
 use Rattle.std.proofs.Common.{◌≡◌, ℕ, zero, suc, ◌+◌, ◌-◌, ◌<◌, ◌≤◌, ◌==◌, min, max, Bool, true, false, ◌&&◌, if◌then◌else◌, List, [], ◌∷◌, ◌++◌, length, map, Option, Some, None, refl, sym, ap, ap₂, subst, ◌∙◌, inl, inr, ⊎_elim, arith, eq-eqb}
 use Rattle.std.specs.Prelude.{nat_le, ℤ, pos, negsuc}
 use Rattle.std.specs.List.{range_with_len}
-use Rattle.std.proofs.lemmas.Bool.{and_parts, cases_Bool, cases_eq, eqb-true, false≢true, true≢false}
+use Rattle.std.proofs.lemmas.Bool.{cases_Bool, cases_eq, eqb-true, false≢true}
 use Rattle.event_machine.specs.Cell.{Cell}
 use Rattle.four_state.specs.declared.bit.Bit.{Bit}
 use Rattle.four_state.specs.declared.bit.Bit.TheVariants.{X}
@@ -14,18 +14,18 @@ use Rattle.known_state.specs.Join.{joined}
 use Rattle.design_model.specs.Design.{Design, In, memory_at, word_cells}
 use Rattle.design_model.specs.declared.design.Memory.{Memory}
 use Rattle.design_model.specs.Value.{named_word}
-use Rattle.body_replay.specs.KnownBits.{AllAllow, KnownBits, all_sure, on_told, sure, told}
-use Rattle.body_replay.specs.Store.{Kept, KnownWrite, is_word, join_words, keep_all, kept_word, known_word_writes, may_name, option_kept, perhaps_words, read_word, weaken, words, write_word, writes_of}
+use Rattle.body_replay.specs.KnownBits.{AllAllow, KnownBits, on_told, sure, told}
+use Rattle.body_replay.specs.Store.{Kept, KnownWrite, is_word, join_words, keep_all, known_word_writes, may_name, option_kept, perhaps_words, read_word, weaken, words, writes_of}
 use Rattle.body_replay.proofs.Answered.{same_sure}
 use Rattle.body_replay.proofs.Frames.{Misses, miss_weaken, missed}
 use Rattle.body_replay.proofs.Operators.{on_told_sound, sure_allows, told_sure, zip_left, zip_right}
 use Rattle.body_replay.proofs.Stored.{unsure_word_stored, weak_word_stored, word_stored}
 use Rattle.body_replay.proofs.Unsure.{not_told, told_is}
-use Rattle.body_replay.proofs.Values.{in_numbers, named_bounds, named_may}
+use Rattle.body_replay.proofs.Values.{named_bounds, named_may}
 use Rattle.body_replay.proofs.Words.{other_word}
-use Rattle.memory_rebuild.specs.Words.{AllowsWords, HaveWidth, IsIndex, KnownWords, StandsFor, bits_left, bits_read, cell_writes, count, join_of, least, may_be, memory_of, named_by, option_word, true_word, true_words, word_after, word_at}
+use Rattle.memory_rebuild.specs.Words.{AllowsWords, HaveWidth, IsIndex, KnownWords, StandsFor, bits_left, bits_read, cell_writes, count, least, may_be, memory_of, named_by, option_word, true_word, true_words, word_after, word_at}
 use Rattle.memory_rebuild.specs.declared.shape.Shape.{Shape}
-use Rattle.memory_rebuild.proofs.Reading.{join_length, joined_from, strange_bits, strange_length}
+use Rattle.memory_rebuild.proofs.Reading.{join_length, joined_from}
 
 -- ---- tests of names
 
@@ -273,10 +273,10 @@ left_by_places r s k value certain same widths size f =
       widths = widths;
       size = size;
       words = λ i at.
-        let low : min r.shape.first r.shape.last ≤ i = at.0 in
-        let high : i ≤ max r.shape.first r.shape.last = at.1 in
-        let place : least r.shape + (i - least r.shape) ≡ i = omega (arith, low) in
-        subst (λ j. word_at s j ≡ word_after r k value certain j) place (f (i - least r.shape) (omega (arith, low, high)));
+          let low : min r.shape.first r.shape.last ≤ i = at.0 in
+          let high : i ≤ max r.shape.first r.shape.last = at.1 in
+          let place : least r.shape + (i - least r.shape) ≡ i = omega (arith, low) in
+          subst (λ j. word_at s j ≡ word_after r k value certain j) place (f (i - least r.shape) (omega (arith, low, high)));
     }
 
 module _ (r s : KnownWords) (k : Partly) (value : KnownBits) (certain : Bool) (l : AreLeft r s k value certain) where

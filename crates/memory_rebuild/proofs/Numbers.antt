@@ -1,12 +1,12 @@
 -- A number as a vector of the width of an index, and which numbers an index cannot be.
-use Rattle.std.proofs.Common.{◌≡◌, ℕ, zero, suc, ◌+◌, ◌-◌, ◌*◌, ◌/◌, ◌%◌, ◌^◌, ◌<◌, ◌≤◌, ◌==◌, Bool, true, false, ◌&&◌, if◌then◌else◌, List, [], ◌∷◌, length, get_or, bit_and, bit_xor, Option, Some, None, is_some, refl, sym, ap, ap₂, subst, ◌∙◌, inl, inr, ⊎_elim, arith}
+use Rattle.std.proofs.Common.{◌≡◌, ℕ, zero, suc, ◌+◌, ◌*◌, ◌/◌, ◌%◌, ◌^◌, ◌<◌, ◌≤◌, ◌==◌, Bool, true, false, if◌then◌else◌, [], ◌∷◌, length, get_or, bit_and, bit_xor, Option, Some, None, is_some, refl, sym, ap, ap₂, ◌∙◌, ⊎_elim, arith}
 use Rattle.std.specs.Option.{unwrap_or}
 use Rattle.std.proofs.lemmas.Bool.{and_parts, cases_lt, cases_Bool, false≢true, true≢false}
 use Rattle.std.proofs.lemmas.List.{get_or-map, get_or_past}
 use Rattle.std.proofs.Math.Nat.{add-mul, div-eq_of_lt-le, div-mul-le_self, lt-div-mul-add, mod-eq_of_lt}
 use Rattle.std.proofs.Math.Pow.{pow-lt}
 use Rattle.four_state.specs.declared.bit.Bit.{Bit}
-use Rattle.four_state.specs.declared.bit.Bit.TheVariants.{Zero, One, X, Z}
+use Rattle.four_state.specs.declared.bit.Bit.TheVariants.{Zero, X}
 use Rattle.four_state.specs.Vector.{Vector, bit_of, extend, fit}
 use Rattle.four_state.specs.Parts.{extended_vector}
 use Rattle.four_state.specs.Arithmetic.{low_bits}
@@ -16,7 +16,6 @@ use Rattle.four_state.proofs.Lifted.{is_set-mask_of}
 use Rattle.known_state.specs.Partly.{allows_bits, filled}
 use Rattle.known_state.specs.Stored.{mask_of_sure}
 use Rattle.known_state.proofs.Allowed.{length-filled, place_allowed}
-use Rattle.known_state.proofs.Widths.{length-low_bits}
 use Rattle.body_replay.specs.KnownBits.{KnownBits}
 
 -- ---- the vector of a number
@@ -95,7 +94,7 @@ wrong_bit ps n j p set same = go (get_or ps p None) refl
     differs b e =
         let l : p < length ps = in_list ps p b e in
         let here : is_set (mask_of is_one_or_z (filled Zero ps)) p ≡ is_one_or_z b =
-            is_set-mask_of is_one_or_z (filled Zero ps) p X (omega (arith, l, length-filled Zero ps)) ∙ ap is_one_or_z (get_or-map (λ o. unwrap_or o Zero) ps p None X l ∙ ap (λ o. unwrap_or o Zero) e) in
+        is_set-mask_of is_one_or_z (filled Zero ps) p X (omega (arith, l, length-filled Zero ps)) ∙ ap is_one_or_z (get_or-map (λ o. unwrap_or o Zero) ps p None X l ∙ ap (λ o. unwrap_or o Zero) e) in
         ap (differ (is_set n p)) (sym here) ∙ sym (is_set-xor n (mask_of is_one_or_z (filled Zero ps)) p) ∙ parts.0
 
     allowed : (b : Bit) → get_or ps p None ≡ Some b → allows_bits ps (low_bits (length ps) j) ≡ true → ⊥

@@ -1,10 +1,10 @@
 -- What an index reads: a loop over the words that it may name, and a look-up.
-use Rattle.std.proofs.Common.{◌≡◌, ℕ, zero, suc, ◌+◌, ◌-◌, ◌<◌, ◌≤◌, Bool, true, false, if◌then◌else◌, List, [], ◌∷◌, length, map, Option, Some, None, refl, sym, ap, ap₂, subst, ◌∙◌, arith}
+use Rattle.std.proofs.Common.{◌≡◌, ℕ, zero, suc, ◌+◌, ◌-◌, ◌<◌, ◌≤◌, Bool, true, false, if◌then◌else◌, List, length, Option, Some, None, sym, ap, ap₂, subst, ◌∙◌, arith}
 use Rattle.std.specs.List.{range_with_len}
 use Rattle.four_state.specs.declared.bit.Bit.{Bit}
 use Rattle.four_state.specs.declared.bit.Bit.TheVariants.{X}
 use Rattle.four_state.specs.Vector.{Vector, fill}
-use Rattle.known_state.specs.Partly.{Partly, are_sure, blame_of, is_told, told_of, with_blame}
+use Rattle.known_state.specs.Partly.{Partly, are_sure, is_told, told_of, with_blame}
 use Rattle.known_state.specs.Join.{joined}
 use Rattle.known_state.specs.Stored.{mask_of_sure}
 use Rattle.known_state.proofs.Allowed.{are_sure_told}
@@ -93,12 +93,12 @@ so_far_named r k acc place s l may size =
       whole = ap (λ t. with_blame (joined acc.bits word) t k.blame) (ap (λ a. a.signed) s.whole);
       strange = joined_assoc acc.bits word (strange_bits r) ∙ ap (joined acc.bits) (joined_comm word (strange_bits r)) ∙ sym (joined_assoc acc.bits (strange_bits r) word) ∙ ap (λ ps. joined ps word) s.strange;
       rest =
-        joined_assoc acc.bits word next
-        ∙ ap (joined acc.bits)
-        (sym (ap (joined_from r k (least r.shape + place)) (let n : count r.shape - place ≡ suc (count r.shape - (place + 1)) = omega (arith, l) in n)
-        ∙ ap (λ t. if t then joined word (joined_from r k (least r.shape + place + 1) (count r.shape - (place + 1))) else joined_from r k (least r.shape + place + 1) (count r.shape - (place + 1))) may
-        ∙ ap (λ b. joined word (joined_from r k b (count r.shape - (place + 1)))) (let b : least r.shape + place + 1 ≡ least r.shape + (place + 1) = omega arith in b)))
-        ∙ s.rest;
+          joined_assoc acc.bits word next
+          ∙ ap (joined acc.bits)
+          (sym (ap (joined_from r k (least r.shape + place)) (let n : count r.shape - place ≡ suc (count r.shape - (place + 1)) = omega (arith, l) in n)
+          ∙ ap (λ t. if t then joined word (joined_from r k (least r.shape + place + 1) (count r.shape - (place + 1))) else joined_from r k (least r.shape + place + 1) (count r.shape - (place + 1))) may
+          ∙ ap (λ b. joined word (joined_from r k b (count r.shape - (place + 1)))) (let b : least r.shape + place + 1 ≡ least r.shape + (place + 1) = omega arith in b)))
+          ∙ s.rest;
     }
 
 -- words that cannot be named
@@ -110,11 +110,11 @@ so_far_passed r k acc place next s low high none =
       whole = s.whole;
       strange = s.strange;
       rest =
-        ap (joined acc.bits)
-        (sym (ap (joined_from r k (least r.shape + place)) (let n : count r.shape - place ≡ (next - place) + (count r.shape - next) = omega (arith, low, high) in n)
-        ∙ passed_over r k (least r.shape + place) (next - place) (count r.shape - next) (λ q l. let b : least r.shape + (place + q) ≡ least r.shape + place + q = omega arith in subst (λ b. may_be r.shape k b ≡ false) b (none (place + q) (omega arith) (omega (arith, l))))
-        ∙ ap (λ b. joined_from r k b (count r.shape - next)) (let b : least r.shape + place + (next - place) ≡ least r.shape + next = omega (arith, low) in b)))
-        ∙ s.rest;
+          ap (joined acc.bits)
+          (sym (ap (joined_from r k (least r.shape + place)) (let n : count r.shape - place ≡ (next - place) + (count r.shape - next) = omega (arith, low, high) in n)
+          ∙ passed_over r k (least r.shape + place) (next - place) (count r.shape - next) (λ q l. let b : least r.shape + (place + q) ≡ least r.shape + place + q = omega arith in subst (λ b. may_be r.shape k b ≡ false) b (none (place + q) (omega arith) (omega (arith, l))))
+          ∙ ap (λ b. joined_from r k b (count r.shape - next)) (let b : least r.shape + place + (next - place) ≡ least r.shape + next = omega (arith, low) in b)))
+          ∙ s.rest;
     }
 
 -- what is read by an index that is not sure is the join of all

@@ -1,11 +1,11 @@
 -- The words that a search by an index which is not sure passes over.
-use Rattle.std.proofs.Common.{◌≡◌, ℕ, zero, suc, ◌+◌, ◌-◌, ◌*◌, ◌/◌, ◌%◌, ◌^◌, ◌<◌, ◌≤◌, ◌==◌, ◌⊎◌, min, max, Bool, true, false, not, ◌&&◌, if◌then◌else◌, List, [], ◌∷◌, length, map, get_or, bit_and, bit_xor, Option, Some, None, is_some, refl, sym, ap, ap₂, subst, ◌∙◌, inl, inr, ⊎_elim, arith, eq-eqb}
-use Rattle.std.specs.Prelude.{nat_le, ℤ, pos, negsuc}
+use Rattle.std.proofs.Common.{◌≡◌, ℕ, zero, suc, ◌+◌, ◌-◌, ◌*◌, ◌/◌, ◌%◌, ◌^◌, ◌<◌, ◌≤◌, ◌==◌, ◌⊎◌, min, max, Bool, true, false, not, ◌&&◌, if◌then◌else◌, List, [], ◌∷◌, length, map, get_or, bit_and, bit_xor, Option, Some, None, is_some, refl, sym, ap, ap₂, subst, ◌∙◌, ⊎_elim, arith, eq-eqb}
+use Rattle.std.specs.Prelude.{nat_le, pos, negsuc}
 use Rattle.std.specs.Option.{unwrap_or}
-use Rattle.std.proofs.lemmas.Bool.{and_parts, and_from, cases_Bool, eqb-true, false≢true, true≢false}
+use Rattle.std.proofs.lemmas.Bool.{and_parts, cases_Bool, eqb-true, false≢true, true≢false}
 use Rattle.std.proofs.lemmas.List.{get_or-map}
 use Rattle.std.proofs.Math.Nat.{pow-suc}
-use borrow.Author.Tests.{leb-true, leb-false}
+use borrow.Author.Tests.{leb-false}
 use Rattle.four_state.specs.declared.bit.Bit.{Bit}
 use Rattle.four_state.specs.declared.bit.Bit.TheVariants.{Zero, One, X, Z}
 use Rattle.four_state.specs.Vector.{Vector, all_known, bit_of, is_known, is_one, top}
@@ -26,7 +26,7 @@ use Rattle.body_replay.specs.Store.{is_word}
 use Rattle.body_replay.proofs.Values.{named_bounds}
 use Rattle.memory_rebuild.specs.declared.shape.Shape.{Shape}
 use Rattle.memory_rebuild.specs.Words.{IsIndex, count, least, may_be, memory_of, named_by}
-use Rattle.memory_rebuild.proofs.Numbers.{bit_of_number, differ_self, digit_back, highest_set, in_list, same_block, sure_at, wrong_bit}
+use Rattle.memory_rebuild.proofs.Numbers.{bit_of_number, highest_set, same_block, sure_at, wrong_bit}
 
 -- an index cannot name a word of which its sure bits allow no number
 pub not_allowed : (s : Shape) (k : Partly) (j : ℕ) → allows_bits k.bits (low_bits (length k.bits) j) ≡ false → may_be s k j ≡ false
@@ -72,9 +72,9 @@ right_bits ps n none known = allowed_by_places ps (low_bits (length ps) n) (sym 
         let sure : is_set (mask_of_sure ps) i ≡ true = sure_at ps i ∙ ap is_some e in
         let ones : is_set (mask_of is_one_or_z (filled Zero ps)) i ≡ is_one_or_z b = is_set-mask_of is_one_or_z (filled Zero ps) i X m ∙ ap is_one_or_z filled_at in
         let off : (is_set (bit_xor n (mask_of is_one_or_z (filled Zero ps))) i && is_set (mask_of_sure ps) i) ≡ false =
-            sym (is_set-and (bit_xor n (mask_of is_one_or_z (filled Zero ps))) (mask_of_sure ps) i) ∙ ap (λ m. is_set m i) none ∙ is_set-zero i in
+        sym (is_set-and (bit_xor n (mask_of is_one_or_z (filled Zero ps))) (mask_of_sure ps) i) ∙ ap (λ m. is_set m i) none ∙ is_set-zero i in
         let apart : differ (is_set n i) (is_one_or_z b) ≡ false =
-            ap (differ (is_set n i)) (sym ones) ∙ sym (is_set-xor n (mask_of is_one_or_z (filled Zero ps)) i) ∙ left_false (is_set (bit_xor n (mask_of is_one_or_z (filled Zero ps))) i) (is_set (mask_of_sure ps) i) sure off in
+        ap (differ (is_set n i)) (sym ones) ∙ sym (is_set-xor n (mask_of is_one_or_z (filled Zero ps)) i) ∙ left_false (is_set (bit_xor n (mask_of is_one_or_z (filled Zero ps))) i) (is_set (mask_of_sure ps) i) sure off in
         bit_of_number (length ps) n i l ∙ ap bit_of (same_tests (is_set n i) (is_one_or_z b) apart) ∙ known_digit b is
       where
         left_false : (p q : Bool) → q ≡ true → (p && q) ≡ false → p ≡ false
@@ -156,7 +156,7 @@ named_before s k n j at le none known h = both_true _ _ (right_bits k.bits n non
         let names : Names k.signed (low_bits (length k.bits) j) j = names_of k.signed (low_bits (length k.bits) j) j e in
         let small : j < 2 ^ length k.bits = subst (λ m. m < 2 ^ length k.bits) names.number (subst (λ m. natural (low_bits (length k.bits) j) < 2 ^ m) (length-low_bits (length k.bits) j) (natural_below (low_bits (length k.bits) j))) in
         let whole_is : index k.signed (low_bits (length k.bits) n) ≡ Some (pos n) =
-            ap (λ t. if t then Some (whole k.signed (low_bits (length k.bits) n)) else None) (known-cut (length k.bits) (pos n)) ∙ ap Some (plain_number k.signed (low_bits (length k.bits) n) n (natural_number (length k.bits) n (omega (arith, le, small))) (plain_before k.signed (length k.bits) n j le names)) in
+        ap (λ t. if t then Some (whole k.signed (low_bits (length k.bits) n)) else None) (known-cut (length k.bits) (pos n)) ∙ ap Some (plain_number k.signed (low_bits (length k.bits) n) n (natural_number (length k.bits) n (omega (arith, le, small))) (plain_before k.signed (length k.bits) n j le names)) in
         let in_range : (nat_le (min s.first s.last) n && nat_le n (max s.first s.last)) ≡ true = both_true _ _ (test_le (min s.first s.last) n at.0) (test_le n (max s.first s.last) at.1) in
         ap (λ o. is_word (named_word (memory_of s) o) n) whole_is ∙ ap (λ t. is_word (if t then Some n else None) n) in_range ∙ eq-eqb n n refl
       where

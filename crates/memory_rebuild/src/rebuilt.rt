@@ -228,6 +228,12 @@ impl Rebuilt {
         ensures shape { self.new.shape ≡ self.old.shape }
         ensures words { (q : ℕ) → q < count self.old.shape → word_at self.new (least self.old.shape + q) ≡ word_after self.old index.now value.now.bits false (least self.old.shape + q) }
     {
-        weaken(&self.shape, self.words.as_mut_slice(), self.written.as_slice(), index, value);
+        weaken(
+            &self.shape,
+            self.words.as_mut_slice(),
+            self.written.as_slice(),
+            index,
+            value,
+        );
     }
 }

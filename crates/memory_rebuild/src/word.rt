@@ -68,7 +68,13 @@ pub(crate) fn list(written: &mut Vec<usize>, place: usize)
 }
 
 /// Joins a value into each of the listed words that an index may name.
-pub(crate) fn weaken(shape: &Shape, words: &mut [Word], written: &[usize], index: &Known, value: &Known)
+pub(crate) fn weaken(
+    shape: &Shape,
+    words: &mut [Word],
+    written: &[usize],
+    index: &Known,
+    value: &Known,
+)
     requires size { length words.old ≡ count shape.now }
     requires inside { All (λ place. place < length words.old) written.now }
     requires fit { All (Fits shape.now) words.old }

@@ -1,4 +1,4 @@
-use Rattle.std.proofs.Common.{◌≡◌, ◌+◌, ◌<◌, ◌≤◌, subst, sym, ◌∙◌}
+use Rattle.std.proofs.Common.{◌+◌, ◌<◌, ◌≤◌, subst, sym, ◌∙◌}
 use Rattle.memory_rebuild.proofs.Reading.{SoFar, so_far_after, so_far_ended, so_far_first, so_far_joined, so_far_unknown}
 use Rattle.memory_rebuild.proofs.rebuilt.Rebuilt.joined.Goals as goal
 use Rattle.memory_rebuild.proofs.rebuilt.Rebuilt.joined.Goals.{After-join-joined}
