@@ -88,9 +88,9 @@ impl Rebuilt {
     /// index where that is not wholly sure, and else on the memory. It takes no memory.
     ///
     /// By a sure index the word is looked up. By one that is not sure the words that it may name are joined in turn,
-    /// until no bit of the join is sure: so the reading ends at the latest with the first of them that was not written
-    /// since the last `smudge`. From one word to the next that may be named the search takes at most one step for each bit of
-    /// the index.
+    /// until no bit of the join is sure. So the loop ends at the latest with the first of them that was not written
+    /// since the last `smudge`. From one word to the next that may be named the search takes at most two steps for
+    /// each bit of the index.
     pub fn read(&self, index: &Known) -> Known
         ensures value { result ≡ read_of self.now index.now }
         ensures width { length result.bits ≡ self.now.shape.width }
@@ -106,8 +106,8 @@ impl Rebuilt {
     /// written. A write that is not certain leaves the word what it has in common with the value, and so does each
     /// write of each word that an index that is not sure may name. It takes no memory.
     ///
-    /// By a sure index the word is looked up. By one that is not sure the words are gone through that were written
-    /// since the last `smudge`, since the others stay unknown.
+    /// By a sure index the word is looked up. By one that is not sure the loop is over the words that were written since
+    /// the last `smudge`. The others stay unknown.
     pub fn write(&mut self, index: &Known, value: &Known, certain: bool)
         requires width { length value.now.bits ≡ self.old.shape.width }
         requires sign { value.now.signed ≡ self.old.shape.signed }
@@ -124,7 +124,8 @@ impl Rebuilt {
 
     /// Makes all words unknown. It takes no memory.
     ///
-    /// One number is changed, except each 2^64th time, when all words are.
+    /// One number is changed, and the list of the written words is emptied. Only after the greatest number of an epoch
+    /// all words are changed.
     pub fn smudge(&mut self)
         ensures { self.new ≡ unwritten self.old.shape }
     {

@@ -7,7 +7,7 @@ use four_state::{Bit, Four, Index};
 use known_state::Known;
 
 /// The range of the words of a memory and what each word is.
-#[derive(Clone, Copy, Debug, PartialEq, Eq)]
+#[derive(Clone, Copy)]
 pub struct Shape {
     /// The left bound of the range of the words as declared.
     pub first: u32,
