@@ -1,19 +1,19 @@
 -- The words of a memory as they are kept: what they stand for, and that they stay in order.
-use Rattle.std.proofs.Common.{◌≡◌, ◌≢◌, ℕ, zero, suc, ◌+◌, ◌-◌, ◌<◌, ◌≤◌, ◌==◌, Bool, true, false, cond, if◌then◌else◌, List, [], ◌∷◌, ◌++◌, length, map, replicate, set, get_or, Option, Some, None, refl, sym, ap, ap₂, subst, ◌∙◌, inl, inr, ⊎_elim, arith, length-set, length-append, get_or-set_same, get_or-set_other, eq-eqb}
+use Rattle.std.proofs.Common.{◌≡◌, ℕ, zero, suc, ◌+◌, ◌-◌, ◌<◌, ◌≤◌, ◌==◌, Bool, true, false, cond, if◌then◌else◌, List, [], ◌∷◌, ◌++◌, length, map, replicate, set, take, drop, get_or, None, refl, sym, ap, ap₂, subst, ◌∙◌, ⊎_elim, arith, length-set, length-append, get_or-set_same, get_or-set_other, eq-eqb}
 use Rattle.std.specs.Prelude.{All, Contains, count_by}
 use Rattle.std.specs.List.{sum_by}
-use Rattle.std.proofs.lemmas.Bool.{cases_eq, cases_lt, cases_Bool, eqb-true, false≢true, true≢false}
-use Rattle.std.proofs.lemmas.List.{get_or-map, get_or_past, length-map, length-replicate}
-use Rattle.std.proofs.lemmas.List.Elements.{All-head, All-nil, All-push, All-replicate, All-set, All-tail, All-weaker, Contains-append_left, Contains-push}
+use Rattle.std.proofs.lemmas.Bool.{cases_eq, cases_lt, cases_Bool, eqb-true, false≢true}
+use Rattle.std.proofs.lemmas.List.{append-nil, drop_all, get_or-map, get_or_past, length-map, length-replicate, take_all}
+use Rattle.std.proofs.lemmas.List.Elements.{All-head, All-nil, All-push, All-set, All-tail, All-weaker, Contains-append_left, Contains-push}
 use Rattle.std.proofs.lemmas.List.Sums.{count_by-le-length, sum_by-cons, sum_by-set}
 use Rattle.known_state.specs.Partly.{Partly, with_blame}
 use Rattle.known_state.specs.Join.{joined}
 use Rattle.body_replay.specs.KnownBits.{KnownBits, unknown}
 use Rattle.memory_rebuild.specs.declared.shape.Shape.{Shape}
 use Rattle.memory_rebuild.specs.declared.word.Word.{Word}
-use Rattle.memory_rebuild.specs.Words.{HaveWidth, KnownWords, bits_left, count, least, unwritten, word_at}
+use Rattle.memory_rebuild.specs.Words.{HaveWidth, KnownWords, bits_left, count, least, may_be, unwritten, word_at}
 use Rattle.memory_rebuild.specs.Epochs.{AreKept, Fits, bits_now, is_of, weakened}
-use Rattle.memory_rebuild.proofs.Joins.{joined_self, unknown_joined}
+use Rattle.memory_rebuild.proofs.Joins.{joined_self, length-joined, unknown_joined}
 
 -- what the words stand for
 abbrev pub words_of : Shape → ℕ → List Word → KnownWords
@@ -112,11 +112,11 @@ kept_replaced s epoch room ws written q d x k l now same f =
       inside = set_inside ws q x written k.inside;
       listed = λ i e m h. ⊎_elim (λ at. subst (λ n. Contains written n) (sym at) (k.listed q d l now)) (λ ne. k.listed i e (omega (arith, m, length-set ws q x)) (ap (is_of epoch) (sym (get_or-set_other ws q i x e ne)) ∙ h)) (cases_eq i q);
       each =
-        k.each
-        ∙ (let f : one_of epoch x ≡ 1 = ap (λ n. cond (n == epoch) 1 0) same ∙ ap (λ t. cond t 1 0) (eq-eqb epoch epoch refl) in
-        let g : one_of epoch (get_or ws q d) ≡ 1 = ap (λ t. cond t 1 0) now in
-        let h : sum_by (one_of epoch) (set ws q x) + one_of epoch (get_or ws q d) ≡ sum_by (one_of epoch) ws + one_of epoch x = sum_by-set (one_of epoch) ws q x d l in
-        omega (arith, f, g, h));
+          k.each
+          ∙ (let f : one_of epoch x ≡ 1 = ap (λ n. cond (n == epoch) 1 0) same ∙ ap (λ t. cond t 1 0) (eq-eqb epoch epoch refl) in
+          let g : one_of epoch (get_or ws q d) ≡ 1 = ap (λ t. cond t 1 0) now in
+          let h : sum_by (one_of epoch) (set ws q x) + one_of epoch (get_or ws q d) ≡ sum_by (one_of epoch) ws + one_of epoch x = sum_by-set (one_of epoch) ws q x d l in
+          omega (arith, f, g, h));
       room = omega (arith, k.room, length-set ws q x);
     }
 
@@ -142,14 +142,14 @@ kept_added s epoch room more ws written q d x k l old same f grown =
       older = All-set (λ w. w.epoch ≤ epoch) ws q x (omega (arith, same)) k.older;
       inside = All-push (λ i. i < length (set ws q x)) written q (set_inside ws q x written k.inside) (omega (arith, l, length-set ws q x));
       listed = λ i e m h.
-        ⊎_elim (λ at. subst (λ n. Contains (written ++ q ∷ []) n) (sym at) (Contains-push written q)) (λ ne. Contains-append_left written (q ∷ []) i (k.listed i e (omega (arith, m, length-set ws q x)) (ap (is_of epoch) (sym (get_or-set_other ws q i x e ne)) ∙ h))) (cases_eq i q);
+          ⊎_elim (λ at. subst (λ n. Contains (written ++ q ∷ []) n) (sym at) (Contains-push written q)) (λ ne. Contains-append_left written (q ∷ []) i (k.listed i e (omega (arith, m, length-set ws q x)) (ap (is_of epoch) (sym (get_or-set_other ws q i x e ne)) ∙ h))) (cases_eq i q);
       each =
-        let f : one_of epoch x ≡ 1 = ap (λ n. cond (n == epoch) 1 0) same ∙ ap (λ t. cond t 1 0) (eq-eqb epoch epoch refl) in
-        let g : one_of epoch (get_or ws q d) ≡ 0 = ap (λ t. cond t 1 0) old in
-        let h : sum_by (one_of epoch) (set ws q x) + one_of epoch (get_or ws q d) ≡ sum_by (one_of epoch) ws + one_of epoch x = sum_by-set (one_of epoch) ws q x d l in
-        let each : length written ≡ sum_by (one_of epoch) ws = k.each in
-        let one : length (written ++ q ∷ []) ≡ length written + 1 = length-append written (q ∷ []) in
-        omega (arith, f, g, h, each, one);
+          let f : one_of epoch x ≡ 1 = ap (λ n. cond (n == epoch) 1 0) same ∙ ap (λ t. cond t 1 0) (eq-eqb epoch epoch refl) in
+          let g : one_of epoch (get_or ws q d) ≡ 0 = ap (λ t. cond t 1 0) old in
+          let h : sum_by (one_of epoch) (set ws q x) + one_of epoch (get_or ws q d) ≡ sum_by (one_of epoch) ws + one_of epoch x = sum_by-set (one_of epoch) ws q x d l in
+          let each : length written ≡ sum_by (one_of epoch) ws = k.each in
+          let one : length (written ++ q ∷ []) ≡ length written + 1 = length-append written (q ∷ []) in
+          omega (arith, f, g, h, each, one);
       room = omega (arith, k.room, grown, length-set ws q x);
     }
 
@@ -217,3 +217,117 @@ weakened_word s epoch room ws vs written may value k size value_size same listed
         go : (t : Bool) → unknown s.width ≡ weakened t value (unknown s.width)
         go true = sym (unknown_joined s.width value value_size)
         go false = refl
+
+-- ---- a word as it is read
+
+unknown_blames : (w : ℕ) (signed : Bool) (thing : ℕ) → 1 ≤ w → record { bits = unknown w; signed = signed; blame = thing } ≡ with_blame (unknown w) signed thing
+unknown_blames zero signed thing l = absurd (omega (arith, l))
+unknown_blames (suc w) signed thing l = refl
+
+module _ (s : Shape) (epoch room : ℕ) (ws : List Word) (written : List ℕ) (r : KnownWords) (k : AreKept s epoch ws written room) (is : words_of s epoch ws ≡ r) (place : ℕ) (w : Word) (inside : place < count r.shape) (at : w ≡ get_or ws place w) where
+  pub in_words : place < length ws
+  in_words = let e : length ws ≡ count s = k.size in let f : count s ≡ count r.shape = ap (λ x. count x.shape) is in omega (arith, inside, e, f)
+
+  own_current : w.epoch ≡ epoch → w.value ≡ with_blame (word_at (words_of s epoch ws) (least s + place)) s.signed s.blame
+  own_current same =
+      let fits : Fits s w = subst (Fits s) (sym at) (k.fit place w in_words) in
+      let now : is_of epoch (get_or ws place w) ≡ true = ap (is_of epoch) (sym at) ∙ ap (λ n. n == epoch) same ∙ eq-eqb epoch epoch refl in
+      fits.whole ∙ ap (λ ps. with_blame ps s.signed s.blame) (sym (current_word s epoch ws place w in_words now ∙ ap (λ x. x.value.bits) (sym at)))
+
+  -- a word of this epoch
+  pub current_value : w.epoch ≡ epoch → w.value ≡ with_blame (word_at r (least r.shape + place)) r.shape.signed r.shape.blame
+  current_value same = subst (λ x. w.value ≡ with_blame (word_at x (least x.shape + place)) x.shape.signed x.shape.blame) is (own_current same)
+
+  own_old : (w.epoch ≡ epoch → ⊥) → record { bits = unknown s.width; signed = s.signed; blame = s.blame } ≡ with_blame (word_at (words_of s epoch ws) (least s + place)) s.signed s.blame
+  own_old other =
+      let old : is_of epoch (get_or ws place w) ≡ false = ap (is_of epoch) (sym at) ∙ ⊎_elim (λ e. absurd (other (eqb-true w.epoch epoch e))) (λ e. e) (cases_Bool (is_of epoch w)) in
+      unknown_blames s.width s.signed s.blame k.at_least ∙ ap (λ ps. with_blame ps s.signed s.blame) (sym (old_word s epoch ws place w in_words old))
+
+  -- an older one
+  pub old_value : (w.epoch ≡ epoch → ⊥) → record { bits = unknown s.width; signed = s.signed; blame = s.blame } ≡ with_blame (word_at r (least r.shape + place)) r.shape.signed r.shape.blame
+  old_value other = subst (λ x. record { bits = unknown s.width; signed = s.signed; blame = s.blame } ≡ with_blame (word_at x (least x.shape + place)) x.shape.signed x.shape.blame) is (own_old other)
+
+-- ---- a word as it is written
+
+module _ (s : Shape) (epoch room : ℕ) (ws : List Word) (written : List ℕ) (r : KnownWords) (k : AreKept s epoch ws written room) (is : words_of s epoch ws ≡ r) (place : ℕ) (w : Word) (inside : place < count r.shape) (at : w ≡ get_or ws place w) (v : Partly) (wide : length v.bits ≡ r.shape.width) (sign : v.signed ≡ r.shape.signed) where
+  within : place < length ws
+  within = in_words s epoch room ws written r k is place w inside at
+
+  same_shape : s ≡ r.shape
+  same_shape = ap (λ x. x.shape) is
+
+  own : Fits s w
+  own = subst (Fits s) (sym at) (k.fit place w within)
+
+  now_of : w.epoch ≡ epoch → is_of epoch (get_or ws place w) ≡ true
+  now_of same = ap (is_of epoch) (sym at) ∙ ap (λ n. n == epoch) same ∙ eq-eqb epoch epoch refl
+
+  old_of : (w.epoch ≡ epoch → ⊥) → is_of epoch (get_or ws place w) ≡ false
+  old_of other = ap (is_of epoch) (sym at) ∙ ⊎_elim (λ e. absurd (other (eqb-true w.epoch epoch e))) (λ e. e) (cases_Bool (is_of epoch w))
+
+  pub value_width : length w.value.bits ≡ length v.bits
+  value_width = own.width ∙ ap (λ x. x.width) same_shape ∙ sym wide
+
+  pub value_sign : w.value.signed ≡ v.signed
+  value_sign = ap (λ x. x.signed) own.whole ∙ ap (λ x. x.signed) same_shape ∙ sym sign
+
+  -- a vector with the blame of the memory fits
+  blamed_fits : (x : Word) (bits : KnownBits) → length bits ≡ s.width → x.value ≡ with_blame bits v.signed s.blame → Fits s x
+  blamed_fits x bits size e =
+      record {
+        width = ap (λ y. length y.bits) e ∙ size;
+        whole = e ∙ ap₂ (λ bs t. with_blame bs t s.blame) (sym (ap (λ y. y.bits) e)) (sign ∙ sym (ap (λ y. y.signed) same_shape));
+      }
+
+  wide_too : length v.bits ≡ s.width
+  wide_too = wide ∙ sym (ap (λ x. x.width) same_shape)
+
+  left_width : (certain : Bool) → length (bits_left certain v.bits w.value.bits) ≡ s.width
+  left_width true = wide_too
+  left_width false = length-joined w.value.bits v.bits s.width own.width wide_too
+
+  -- one of this epoch is replaced
+  pub replaced : (certain : Bool) (x : Word) → w.epoch ≡ epoch → x.epoch ≡ w.epoch → x.value ≡ with_blame (bits_left certain v.bits w.value.bits) v.signed s.blame → AreKept s epoch (set ws place x) written room
+  replaced certain x same e value = kept_replaced s epoch room ws written place w x k within (now_of same) (e ∙ same) (blamed_fits x (bits_left certain v.bits w.value.bits) (left_width certain) value)
+
+  pub replaced_word : (certain : Bool) (x : Word) → w.epoch ≡ epoch → x.epoch ≡ w.epoch → x.value ≡ with_blame (bits_left certain v.bits w.value.bits) v.signed s.blame → word_at (words_of s epoch (set ws place x)) (least r.shape + place) ≡ bits_left certain v.bits (word_at r (least r.shape + place))
+  replaced_word certain x same e value =
+      subst (λ y. word_at (words_of s epoch (set ws place x)) (least y.shape + place) ≡ bits_left certain v.bits (word_at y (least y.shape + place))) is
+      (set_word s epoch ws place x within (e ∙ same) ∙ ap (λ y. y.bits) value ∙ ap (bits_left certain v.bits) (sym (current_word s epoch ws place w within (now_of same) ∙ ap (λ y. y.value.bits) (sym at))))
+
+  -- an older one is surely written
+  pub left_room : (w.epoch ≡ epoch → ⊥) → length written < room
+  left_room other = room_left s epoch room ws written place w k within (old_of other)
+
+  pub added : (x : Word) (more : ℕ) → (w.epoch ≡ epoch → ⊥) → x.epoch ≡ epoch → x.value ≡ with_blame (joined v.bits v.bits) v.signed s.blame → room ≤ more → AreKept s epoch (set ws place x) (written ++ place ∷ []) more
+  added x more other e value grown = kept_added s epoch room more ws written place w x k within (old_of other) e (blamed_fits x (joined v.bits v.bits) (ap length (joined_self v.bits) ∙ wide_too) value) grown
+
+  pub added_word : (x : Word) → x.epoch ≡ epoch → x.value ≡ with_blame (joined v.bits v.bits) v.signed s.blame → word_at (words_of s epoch (set ws place x)) (least r.shape + place) ≡ v.bits
+  added_word x e value =
+      subst (λ y. word_at (words_of s epoch (set ws place x)) (least y.shape + place) ≡ v.bits) is (set_word s epoch ws place x within e ∙ ap (λ y. y.bits) value ∙ joined_self v.bits)
+
+  -- an older one is perhaps written
+  pub unwritten_word : (w.epoch ≡ epoch → ⊥) → word_at r (least r.shape + place) ≡ bits_left false v.bits (word_at r (least r.shape + place))
+  unwritten_word other =
+      subst (λ y. word_at y (least y.shape + place) ≡ bits_left false v.bits (word_at y (least y.shape + place))) is (old_weakened s epoch ws place w v.bits within (old_of other) wide_too)
+
+  pub other_words : (x : Word) (q : ℕ) → q < count r.shape → (q ≡ place → ⊥) → word_at (words_of s epoch (set ws place x)) (least r.shape + q) ≡ word_at r (least r.shape + q)
+  other_words x q l ne =
+      subst (λ y. word_at (words_of s epoch (set ws place x)) (least y.shape + q) ≡ word_at y (least y.shape + q)) is
+      (set_others s epoch ws q place x (let e : length ws ≡ count s = k.size in let f : count s ≡ count r.shape = ap (λ y. count y.shape) is in omega (arith, l, e, f)) ne)
+
+-- ---- a slice of all words
+
+pub whole_slice : {X : Type 0} (n : ℕ) (xs ys : List X) → length xs ≡ length ys → n ≡ length ys → take n (xs ++ drop (length xs) ys) ≡ xs
+whole_slice n xs ys e f =
+    ap (λ zs. take n (xs ++ zs)) (drop_all (length xs) ys (omega (arith, e))) ∙ ap (take n) (append-nil xs) ∙ take_all n xs (omega (arith, e, f))
+
+-- the words after the next epoch began
+pub forgotten_kept : (s : Shape) (epoch next room more : ℕ) (ws vs : List Word) (written : List ℕ) → AreKept s epoch ws written room → length vs ≡ length ws → All (Fits s) vs → All (λ x. x.epoch < next) vs → more ≡ room → AreKept s next vs [] more
+forgotten_kept s epoch next room more ws vs written k size fit old same = old_kept s next more vs k.at_least k.at_most (size ∙ k.size) fit old (omega (arith, k.room, size, same))
+
+-- the words after a value was perhaps written into each that an index may name
+pub weakened_words : (s : Shape) (epoch room : ℕ) (ws vs : List Word) (written : List ℕ) (r : KnownWords) (index : Partly) (value : KnownBits) → AreKept s epoch ws written room → words_of s epoch ws ≡ r → length vs ≡ length ws → length value ≡ r.shape.width → ((q : ℕ) (d : Word) → q < length ws → (get_or vs q d).epoch ≡ (get_or ws q d).epoch) → ((q : ℕ) (d : Word) → q < length ws → Contains written q → (get_or vs q d).value.bits ≡ weakened (may_be s index (least s + q)) value (get_or ws q d).value.bits) → (q : ℕ) → q < count r.shape → word_at (words_of s epoch vs) (least r.shape + q) ≡ (if may_be r.shape index (least r.shape + q) then joined (word_at r (least r.shape + q)) value else word_at r (least r.shape + q))
+weakened_words s epoch room ws vs written r index value k is size wide same listed =
+    subst (λ y. (q : ℕ) → q < count y.shape → word_at (words_of s epoch vs) (least y.shape + q) ≡ (if may_be y.shape index (least y.shape + q) then joined (word_at y (least y.shape + q)) value else word_at y (least y.shape + q))) is
+    (λ q l. weakened_word s epoch room ws vs written (may_be s index) value k size (wide ∙ sym (ap (λ y. y.shape.width) is)) same listed q (let e : length ws ≡ count s = k.size in omega (arith, l, e)))

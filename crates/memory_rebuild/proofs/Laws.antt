@@ -2,29 +2,30 @@
 use Rattle.std.proofs.Common.{◌≡◌, ℕ, zero, suc, ◌+◌, ◌-◌, ◌<◌, ◌≤◌, ◌==◌, min, max, Bool, true, false, ◌&&◌, if◌then◌else◌, List, [], ◌∷◌, ◌++◌, length, map, Option, Some, None, refl, sym, ap, ap₂, subst, ◌∙◌, inl, inr, ⊎_elim, arith, eq-eqb}
 use Rattle.std.specs.Prelude.{nat_le, ℤ, pos, negsuc}
 use Rattle.std.specs.List.{range_with_len}
-use Rattle.std.proofs.lemmas.Bool.{and_parts, cases_Bool, eqb-true, false≢true, true≢false}
+use Rattle.std.proofs.lemmas.Bool.{cases_Bool, cases_eq, eqb-true, false≢true}
 use Rattle.event_machine.specs.Cell.{Cell}
 use Rattle.four_state.specs.declared.bit.Bit.{Bit}
 use Rattle.four_state.specs.declared.bit.Bit.TheVariants.{X}
-use Rattle.four_state.specs.Vector.{fill}
+use Rattle.four_state.specs.Vector.{Vector, fill}
 use Rattle.four_state.specs.Arithmetic.{low_bits}
 use Rattle.four_state.specs.Parts.{index}
-use Rattle.known_state.specs.Partly.{Partly, allows_bits, is_told}
+use Rattle.known_state.specs.Partly.{Partly, allows_bits, is_told, told_of}
 use Rattle.known_state.specs.Join.{joined}
-use Rattle.design_model.specs.Design.{Design, In, Memory, memory_at, word_cells}
+use Rattle.design_model.specs.Design.{Design, In, memory_at, word_cells}
+use Rattle.design_model.specs.declared.design.Memory.{Memory}
 use Rattle.design_model.specs.Value.{named_word}
-use Rattle.body_replay.specs.KnownBits.{AllAllow, KnownBits, all_sure, on_told, sure, told}
-use Rattle.body_replay.specs.Store.{Kept, KnownWrite, is_word, join_words, keep_all, kept_word, known_word_writes, may_name, option_kept, perhaps_words, read_word, weaken, words, write_word, writes_of}
+use Rattle.body_replay.specs.KnownBits.{AllAllow, KnownBits, on_told, sure, told}
+use Rattle.body_replay.specs.Store.{Kept, KnownWrite, is_word, join_words, keep_all, known_word_writes, may_name, option_kept, perhaps_words, read_word, weaken, words, writes_of}
 use Rattle.body_replay.proofs.Answered.{same_sure}
 use Rattle.body_replay.proofs.Frames.{Misses, miss_weaken, missed}
-use Rattle.body_replay.proofs.Operators.{on_told_sound, same_length, sure_allows, zip_left, zip_right}
+use Rattle.body_replay.proofs.Operators.{on_told_sound, sure_allows, told_sure, zip_left, zip_right}
 use Rattle.body_replay.proofs.Stored.{unsure_word_stored, weak_word_stored, word_stored}
 use Rattle.body_replay.proofs.Unsure.{not_told, told_is}
-use Rattle.body_replay.proofs.Values.{in_numbers, named_bounds, named_may}
+use Rattle.body_replay.proofs.Values.{named_bounds, named_may}
 use Rattle.body_replay.proofs.Words.{other_word}
-use Rattle.memory_rebuild.specs.Words.{AllowsWords, HaveWidth, IsIndex, KnownWords, StandsFor, bits_left, bits_read, cell_writes, count, join_of, least, may_be, memory_of, named_by, option_word, true_word, true_words, word_after, word_at}
+use Rattle.memory_rebuild.specs.Words.{AllowsWords, HaveWidth, IsIndex, KnownWords, StandsFor, bits_left, bits_read, cell_writes, count, least, may_be, memory_of, named_by, option_word, true_word, true_words, word_after, word_at}
 use Rattle.memory_rebuild.specs.declared.shape.Shape.{Shape}
-use Rattle.memory_rebuild.proofs.Reads.{join_length, joined_from, strange_bits, strange_length}
+use Rattle.memory_rebuild.proofs.Reading.{join_length, joined_from}
 
 -- ---- tests of names
 
@@ -254,3 +255,87 @@ after_stands d b m r s k value certain is size same left =
       width = ap (λ x. x.width) same ∙ is.width;
       words = λ i at. let inside : IsIndex r.shape i = subst (λ x. IsIndex x i) same at in left i inside ∙ write_stands d b m r is k value size i inside certain;
     }
+
+-- ---- the words after a write
+
+-- the words are those that a write leaves of others
+pub record AreLeft (r s : KnownWords) (k : Partly) (value : KnownBits) (certain : Bool) : Type 0 where
+  pub same : s.shape ≡ r.shape
+  pub widths : HaveWidth r
+  pub size : length value ≡ r.shape.width
+  pub words : (i : ℕ) → IsIndex r.shape i → word_at s i ≡ word_after r k value certain i
+
+-- counted by places
+pub left_by_places : (r s : KnownWords) (k : Partly) (value : KnownBits) (certain : Bool) → s.shape ≡ r.shape → HaveWidth r → length value ≡ r.shape.width → ((q : ℕ) → q < count r.shape → word_at s (least r.shape + q) ≡ word_after r k value certain (least r.shape + q)) → AreLeft r s k value certain
+left_by_places r s k value certain same widths size f =
+    record {
+      same = same;
+      widths = widths;
+      size = size;
+      words = λ i at.
+          let low : min r.shape.first r.shape.last ≤ i = at.0 in
+          let high : i ≤ max r.shape.first r.shape.last = at.1 in
+          let place : least r.shape + (i - least r.shape) ≡ i = omega (arith, low) in
+          subst (λ j. word_at s j ≡ word_after r k value certain j) place (f (i - least r.shape) (omega (arith, low, high)));
+    }
+
+module _ (r s : KnownWords) (k : Partly) (value : KnownBits) (certain : Bool) (l : AreLeft r s k value certain) where
+  at_same : (i : ℕ) → IsIndex s.shape i → IsIndex r.shape i
+  at_same i at = subst (λ x. IsIndex x i) l.same at
+
+  pub left_sound : (v : ℕ → List Bit) (is bs : List Bit) → AllowsWords r v → AllAllow k.bits is → AllAllow value bs → AllowsWords s (true_words v (named_by r.shape k.signed is) bs)
+  left_sound v is bs h of_index of_value i at =
+      subst (λ ps. AllAllow ps (true_words v (named_by r.shape k.signed is) bs i)) (sym (l.words i (at_same i at))) (write_sound r k value certain i v is bs (l.widths i ∙ sym l.size) (h i (at_same i at)) of_index of_value)
+
+  pub left_weak : certain ≡ false → (v : ℕ → List Bit) → AllowsWords r v → AllowsWords s v
+  left_weak e v h i at =
+      subst (λ ps. AllAllow ps (v i)) (sym (l.words i (at_same i at) ∙ ap (λ t. word_after r k value t i) e)) (weak_sound r k value i (v i) (l.widths i ∙ sym l.size) (h i (at_same i at)))
+
+  pub left_sure : (is : List Bit) (i : ℕ) → told k.bits ≡ Some is → named_by r.shape k.signed is ≡ Some i → word_at s i ≡ bits_left certain value (word_at r i)
+  left_sure is i e f = l.words i (named_index r.shape k.signed is i f) ∙ named_left r k value certain i is e f
+
+  pub left_others : (i : ℕ) → IsIndex r.shape i → may_be r.shape k i ≡ false → word_at s i ≡ word_at r i
+  left_others i at free = l.words i at ∙ other_left r k value certain i free
+
+  pub left_stands : (d : Design) (b : Kept) (m : ℕ) → StandsFor d b m r → StandsFor d (keep_all b (cell_writes d m k value certain)) m s
+  left_stands d b m is = after_stands d b m r s k value certain is l.size l.same l.words
+
+-- ---- the same of what the code does
+
+-- by an index that is not sure no word is surely written
+pub put_anywhere_left : (r s : KnownWords) (k : Partly) (value : KnownBits) (certain : Bool) → is_told k ≡ false → ((q : ℕ) → q < count r.shape → word_at s (least r.shape + q) ≡ word_after r k value false (least r.shape + q)) → (q : ℕ) → q < count r.shape → word_at s (least r.shape + q) ≡ word_after r k value certain (least r.shape + q)
+put_anywhere_left r s k value certain unsure f q l =
+    f q l ∙ unsure_is false ∙ sym (unsure_is certain)
+  where
+    unsure_is : (t : Bool) → word_after r k value t (least r.shape + q) ≡ (if may_be r.shape k (least r.shape + q) then joined (word_at r (least r.shape + q)) value else word_at r (least r.shape + q))
+    unsure_is t = not_told k.bits (same_sure k.bits ∙ unsure) (λ bs. if is_word (named_by r.shape k.signed bs) (least r.shape + q) then bits_left t value (word_at r (least r.shape + q)) else word_at r (least r.shape + q)) (if may_be r.shape k (least r.shape + q) then joined (word_at r (least r.shape + q)) value else word_at r (least r.shape + q))
+
+pub anywhere_left : (r s : KnownWords) (k : Partly) (value : KnownBits) → is_told k ≡ false → ((q : ℕ) → q < count r.shape → word_at s (least r.shape + q) ≡ (if may_be r.shape k (least r.shape + q) then joined (word_at r (least r.shape + q)) value else word_at r (least r.shape + q))) → (q : ℕ) → q < count r.shape → word_at s (least r.shape + q) ≡ word_after r k value false (least r.shape + q)
+anywhere_left r s k value unsure f q l =
+    f q l ∙ sym (not_told k.bits (same_sure k.bits ∙ unsure) (λ bs. if is_word (named_by r.shape k.signed bs) (least r.shape + q) then joined (word_at r (least r.shape + q)) value else word_at r (least r.shape + q)) (if may_be r.shape k (least r.shape + q) then joined (word_at r (least r.shape + q)) value else word_at r (least r.shape + q)))
+
+-- what a sure index leaves
+sure_after : (r : KnownWords) (k : Partly) (value : KnownBits) (certain : Bool) (v : Vector) (o : Option ℕ) (i : ℕ) → k ≡ told_of v → named_by r.shape v.signed v.bits ≡ o → word_after r k value certain i ≡ (if is_word o i then bits_left certain value (word_at r i) else word_at r i)
+sure_after r k value certain v o i is names =
+    ap (λ x. word_after r x value certain i) is
+    ∙ ap (λ t. on_told t (λ bs. if is_word (named_by r.shape v.signed bs) i then bits_left certain value (word_at r i) else word_at r i) (if may_be r.shape (told_of v) i then joined (word_at r i) value else word_at r i)) (told_sure v.bits) ∙ ap (λ p. if is_word p i then bits_left certain value (word_at r i) else word_at r i) names
+
+pub put_named : (r s : KnownWords) (k : Partly) (value : KnownBits) (certain : Bool) (v : Vector) (place : ℕ) (x : Shape) → x ≡ r.shape → k ≡ told_of v → named_by x v.signed v.bits ≡ Some (least x + place) → word_at s (least r.shape + place) ≡ bits_left certain value (word_at r (least r.shape + place)) → ((q : ℕ) → q < count r.shape → (q ≡ place → ⊥) → word_at s (least r.shape + q) ≡ word_at r (least r.shape + q)) → (q : ℕ) → q < count r.shape → word_at s (least r.shape + q) ≡ word_after r k value certain (least r.shape + q)
+put_named r s k value certain v place x same is names word others q l = ⊎_elim here there (cases_eq q place)
+  where
+    after : word_after r k value certain (least r.shape + q) ≡ (if is_word (Some (least r.shape + place)) (least r.shape + q) then bits_left certain value (word_at r (least r.shape + q)) else word_at r (least r.shape + q))
+    after = sure_after r k value certain v (Some (least r.shape + place)) (least r.shape + q) is (subst (λ y. named_by y v.signed v.bits ≡ Some (least y + place)) same names)
+
+    here : q ≡ place → word_at s (least r.shape + q) ≡ word_after r k value certain (least r.shape + q)
+    here e =
+        subst (λ p. word_at s (least r.shape + p) ≡ bits_left certain value (word_at r (least r.shape + p))) (sym e) word
+        ∙ sym (after ∙ ap (λ t. if t then bits_left certain value (word_at r (least r.shape + q)) else word_at r (least r.shape + q)) (eq-eqb (least r.shape + place) (least r.shape + q) (ap (λ p. least r.shape + p) (sym e))))
+
+    there : (q ≡ place → ⊥) → word_at s (least r.shape + q) ≡ word_after r k value certain (least r.shape + q)
+    there ne = others q l ne ∙ sym (after ∙ ap (λ t. if t then bits_left certain value (word_at r (least r.shape + q)) else word_at r (least r.shape + q)) apart)
+      where
+        apart : (least r.shape + place == least r.shape + q) ≡ false
+        apart = ⊎_elim (λ h. absurd (let sums : least r.shape + place ≡ least r.shape + q = eqb-true (least r.shape + place) (least r.shape + q) h in ne (omega (arith, sums)))) (λ h. h) (cases_Bool (least r.shape + place == least r.shape + q))
+
+pub put_nothing : (r : KnownWords) (k : Partly) (value : KnownBits) (certain : Bool) (v : Vector) (x : Shape) → x ≡ r.shape → k ≡ told_of v → named_by x v.signed v.bits ≡ None → (q : ℕ) → q < count r.shape → word_at r (least r.shape + q) ≡ word_after r k value certain (least r.shape + q)
+put_nothing r k value certain v x same is names q l = sym (sure_after r k value certain v None (least r.shape + q) is (subst (λ y. named_by y v.signed v.bits ≡ None) same names))

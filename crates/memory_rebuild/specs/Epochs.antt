@@ -21,7 +21,7 @@ pub record Fits (s : Shape) (w : Word) : Type 0 where
   pub whole : w.value ≡ with_blame w.value.bits s.signed s.blame
 
 -- each word fits, none is of a later epoch, and those of this epoch are listed; there is room to list all
-pub record AreKept (s : Shape) (epoch : ℕ) (ws : List Word) (written : List ℕ) (room : ℕ) : Type 0 where
+pub record AreKept (s : Shape) (epoch : ℕ) (ws : List Word) (written : List ℕ) (most : ℕ) : Type 0 where
   pub at_least : 1 ≤ s.width
   pub at_most : s.width ≤ 128
   pub size : length ws ≡ count s
@@ -30,7 +30,7 @@ pub record AreKept (s : Shape) (epoch : ℕ) (ws : List Word) (written : List �
   pub inside : All (λ i. i < length ws) written
   pub listed : (i : ℕ) (d : Word) → i < length ws → is_of epoch (slice_index_or ws i d) ≡ true → Contains written i
   pub each : length written ≡ count_by (is_of epoch) ws
-  pub room : length ws ≤ room
+  pub room : length ws ≤ most
 
 -- the bits of a word after a value was written that may be meant for another one
 abbrev pub weakened : Bool → KnownBits → KnownBits → KnownBits

@@ -7,7 +7,7 @@ ghost use Rattle.body_replay.specs.Store.{Kept, keep_all, read_word};
 ghost use Rattle.memory_rebuild.specs.Words.{AllowsWords, HaveWidth, IsIndex, StandsFor, bits_left, cell_writes, least, count, may_be, named_by, option_word, read_of, true_word, true_words, unwritten, word_after, word_at};
 
 use crate::Shape;
-use crate::word::{Word, list, weaken};
+use crate::word::{Word, list, next_epoch, weaken};
 use cov_host::NoMemory;
 use known_state::Known;
 use std::alloc::Global;
@@ -75,7 +75,10 @@ impl Rebuilt {
 
     /// The range of the words, and what each word is.
     pub fn shape(&self) -> Shape
-        ensures { result ≡ self.now.shape }
+        ensures value { result ≡ self.now.shape }
+        ensures at_least { 1 ≤ self.now.shape.width }
+        ensures at_most { self.now.shape.width ≤ 128 }
+        ensures widths { HaveWidth self.now }
     {
         self.shape
     }
@@ -85,9 +88,9 @@ impl Rebuilt {
     /// index where that is not wholly sure, and else on the memory. It takes no memory.
     ///
     /// By a sure index the word is looked up. By one that is not sure the words that it may name are joined in turn,
-    /// until no bit of the join is sure: so the reading ends at the latest with the first of them that was not written
-    /// since the last `smudge`. From one word to the next that may be named the search takes at most one step for each bit of
-    /// the index.
+    /// until no bit of the join is sure. So the loop ends at the latest with the first of them that was not written
+    /// since the last `smudge`. From one word to the next that may be named the search takes at most two steps for
+    /// each bit of the index.
     pub fn read(&self, index: &Known) -> Known
         ensures value { result ≡ read_of self.now index.now }
         ensures width { length result.bits ≡ self.now.shape.width }
@@ -103,8 +106,8 @@ impl Rebuilt {
     /// written. A write that is not certain leaves the word what it has in common with the value, and so does each
     /// write of each word that an index that is not sure may name. It takes no memory.
     ///
-    /// By a sure index the word is looked up. By one that is not sure the words are gone through that were written
-    /// since the last `smudge`, since the others stay unknown.
+    /// By a sure index the word is looked up. By one that is not sure the loop is over the words that were written since
+    /// the last `smudge`. The others stay unknown.
     pub fn write(&mut self, index: &Known, value: &Known, certain: bool)
         requires width { length value.now.bits ≡ self.old.shape.width }
         requires sign { value.now.signed ≡ self.old.shape.signed }
@@ -121,20 +124,12 @@ impl Rebuilt {
 
     /// Makes all words unknown. It takes no memory.
     ///
-    /// One number is changed, except each 2^64th time, when all words are.
+    /// One number is changed, and the list of the written words is emptied. Only after the greatest number of an epoch
+    /// all words are changed.
     pub fn smudge(&mut self)
         ensures { self.new ≡ unwritten self.old.shape }
     {
-        if self.epoch == u64::MAX {
-            self.epoch = 1;
-            let never = Word {
-                value: self.shape.unknown(),
-                epoch: 0,
-            };
-            self.words.fill(never);
-        } else {
-            self.epoch += 1;
-        }
+        self.epoch = next_epoch(&self.shape, self.words.as_mut_slice(), self.epoch);
         self.written.clear();
     }
 
@@ -143,12 +138,13 @@ impl Rebuilt {
         ensures value { result ≡ read_of self.now index.now }
         ensures widths { HaveWidth self.now }
     {
+        let shape = self.shape();
         if !index.is_told() {
             return self.joined(index);
         }
-        match self.shape.place_named(&index.value()) {
+        match shape.place_named(&index.value()) {
             Some(place) => self.word(place),
-            None => self.shape.strange(),
+            None => shape.strange(),
         }
     }
 
@@ -160,9 +156,10 @@ impl Rebuilt {
         ensures widths { HaveWidth self.old }
         ensures words { (q : ℕ) → q < count self.old.shape → word_at self.new (least self.old.shape + q) ≡ word_after self.old index.now value.now.bits certain (least self.old.shape + q) }
     {
+        let shape = self.shape();
         if !index.is_told() {
             self.put_anywhere(index, value);
-        } else if let Some(place) = self.shape.place_named(&index.value()) {
+        } else if let Some(place) = shape.place_named(&index.value()) {
             self.put_at(place, value, certain);
         }
     }
@@ -184,20 +181,20 @@ impl Rebuilt {
     /// What x and the words that an index may name have in common, for an index that is not sure.
     fn joined(&self, index: &Known) -> Known
         requires { is_told_whole index.now ≡ false }
-        ensures value { result ≡ read_of self.now index.now }
-        ensures widths { HaveWidth self.now }
+        ensures { result ≡ read_of self.now index.now }
     {
-        let mut joined = self.shape.strange();
+        let shape = self.shape();
+        let mut joined = shape.strange();
         let mut place = 0;
-        while place < self.shape.count() {
-            if self.shape.may_name(index, place) {
+        while place < shape.count() {
+            if shape.may_name(index, place) {
                 joined = joined.join(&self.word(place), index.blame());
                 if joined.sure() == 0 {
                     return joined;
                 }
                 place += 1;
             } else {
-                place = self.shape.place_after(index, place);
+                place = shape.place_after(index, place);
             }
         }
         joined
@@ -210,17 +207,11 @@ impl Rebuilt {
         requires sign { value.now.signed ≡ self.old.shape.signed }
         ensures shape { self.new.shape ≡ self.old.shape }
         ensures word { word_at self.new (least self.old.shape + place) ≡ bits_left certain value.now.bits (word_at self.old (least self.old.shape + place)) }
-        ensures widths { HaveWidth self.old }
         ensures others { (q : ℕ) → q < count self.old.shape → (q ≡ place → ⊥) → word_at self.new (least self.old.shape + q) ≡ word_at self.old (least self.old.shape + q) }
     {
         let word = self.words[place];
-        let current = word.epoch == self.epoch;
-        if current {
-            let old = if certain { *value } else { word.value };
-            self.words[place] = Word {
-                value: old.join(value, self.shape.blame),
-                epoch: self.epoch,
-            };
+        if word.epoch == self.epoch {
+            self.words[place] = word.after(value, certain, self.shape.blame);
         } else if certain {
             list(&mut self.written, place);
             self.words[place] = Word {
@@ -236,9 +227,14 @@ impl Rebuilt {
         requires sign { value.now.signed ≡ self.old.shape.signed }
         requires index { is_told_whole index.now ≡ false }
         ensures shape { self.new.shape ≡ self.old.shape }
-        ensures widths { HaveWidth self.old }
         ensures words { (q : ℕ) → q < count self.old.shape → word_at self.new (least self.old.shape + q) ≡ word_after self.old index.now value.now.bits false (least self.old.shape + q) }
     {
-        weaken(&self.shape, self.words.as_mut_slice(), self.written.as_slice(), index, value);
+        weaken(
+            &self.shape,
+            self.words.as_mut_slice(),
+            self.written.as_slice(),
+            index,
+            value,
+        );
     }
 }

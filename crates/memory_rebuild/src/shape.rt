@@ -7,7 +7,7 @@ use four_state::{Bit, Four, Index};
 use known_state::Known;
 
 /// The range of the words of a memory and what each word is.
-#[derive(Clone, Copy, Debug, PartialEq, Eq)]
+#[derive(Clone, Copy)]
 pub struct Shape {
     /// The left bound of the range of the words as declared.
     pub first: u32,
@@ -61,7 +61,13 @@ impl Shape {
     {
         let number = self.least() as u128 + place as u128;
         let number = Four::make(128, false, number, 0).extend(index.width(), index.is_signed());
-        !index.differs(&number) && self.place_named(&number) == Some(place)
+        if index.differs(&number) {
+            return false;
+        }
+        match self.place_named(&number) {
+            Some(named) => named == place,
+            None => false,
+        }
     }
 
     /// The place at which a search for the words that an index may name goes on after a word that it cannot name. It

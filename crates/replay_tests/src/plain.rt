@@ -9,6 +9,7 @@ use std::alloc::{AllocError, Global};
 /// How many values are tried: all of an index of up to three bits.
 const TRIED: u128 = 64;
 
+#[derive(Drop)]
 pub(crate) struct Plain {
     least: u128,
     blame: u32,

@@ -5,6 +5,7 @@ use four_state::Four;
 use known_state::Known;
 
 /// A linear congruential generator (Knuth, The Art of Computer Programming, volume 2, 3.3.4, table 1, line 26).
+#[derive(Drop)]
 pub(crate) struct Random {
     state: u64,
 }

@@ -107,7 +107,7 @@ fn agree_after_writes(alloc: Global, shape: &Shape, seed: u64) -> Result<bool, N
     let count = shape.first.abs_diff(shape.last) as usize + 1;
     let least = shape.first.min(shape.last);
     let mut plain = Plain::new(alloc, least, count, shape.width, shape.signed, 7)?;
-    for _ in 0..300 {
+    for _ in 0..100 {
         if random.chance(20) {
             memory.smudge();
             plain.smudge();
@@ -127,7 +127,7 @@ fn agree_after_writes(alloc: Global, shape: &Shape, seed: u64) -> Result<bool, N
 /// All reads are those of the plain list.
 #[test]
 fn same_as_a_plain_list(rt: HostRuntime) -> Result<(), NoMemory> {
-    for seed in 0..20 {
+    for seed in 0..8 {
         let shape = Shape {
             first: if seed % 2 == 0 { 0 } else { 6 },
             last: 3,

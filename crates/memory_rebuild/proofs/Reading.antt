@@ -1,10 +1,10 @@
 -- What an index reads: a loop over the words that it may name, and a look-up.
-use Rattle.std.proofs.Common.{◌≡◌, ℕ, zero, suc, ◌+◌, ◌-◌, ◌<◌, ◌≤◌, Bool, true, false, if◌then◌else◌, List, [], ◌∷◌, length, map, Option, Some, None, refl, sym, ap, ap₂, subst, ◌∙◌, arith}
+use Rattle.std.proofs.Common.{◌≡◌, ℕ, zero, suc, ◌+◌, ◌-◌, ◌<◌, ◌≤◌, Bool, true, false, if◌then◌else◌, List, length, Option, Some, None, sym, ap, ap₂, subst, ◌∙◌, arith}
 use Rattle.std.specs.List.{range_with_len}
 use Rattle.four_state.specs.declared.bit.Bit.{Bit}
 use Rattle.four_state.specs.declared.bit.Bit.TheVariants.{X}
 use Rattle.four_state.specs.Vector.{Vector, fill}
-use Rattle.known_state.specs.Partly.{Partly, are_sure, blame_of, is_told, told_of, with_blame}
+use Rattle.known_state.specs.Partly.{Partly, are_sure, is_told, told_of, with_blame}
 use Rattle.known_state.specs.Join.{joined}
 use Rattle.known_state.specs.Stored.{mask_of_sure}
 use Rattle.known_state.proofs.Allowed.{are_sure_told}
@@ -40,13 +40,19 @@ strange_in r k a (suc n) = go (may_be r.shape k a) (strange_in r k (a + 1) n)
 
 -- words that the index cannot name are passed over
 passed_over : (r : KnownWords) (k : Partly) (a m n : ℕ) → ((q : ℕ) → q < m → may_be r.shape k (a + q) ≡ false) → joined_from r k a (m + n) ≡ joined_from r k (a + m) n
-passed_over r k a zero n h = ap₂ (joined_from r k) (omega arith) (omega arith)
+passed_over r k a zero n h =
+    let b : a ≡ a + 0 = omega arith in
+    let m : 0 + n ≡ n = omega arith in
+    ap₂ (joined_from r k) b m
 passed_over r k a (suc m) n h =
-    let first : may_be r.shape k a ≡ false = subst (λ b. may_be r.shape k b ≡ false) (omega arith) (h 0 (omega arith)) in
-    ap (joined_from r k a) (omega arith) ∙ ap (λ t. if t then joined (word_at r a) (joined_from r k (a + 1) (m + n)) else joined_from r k (a + 1) (m + n)) first
-    ∙ passed_over r k (a + 1) m n (λ q l. subst (λ b. may_be r.shape k b ≡ false) (omega arith) (h (suc q) (omega (arith, l)))) ∙ ap (λ b. joined_from r k b n) (omega arith)
+    let here : a + 0 ≡ a = omega arith in
+    let first : may_be r.shape k a ≡ false = subst (λ b. may_be r.shape k b ≡ false) here (h 0 (omega arith)) in
+    let more : suc m + n ≡ suc (m + n) = omega arith in
+    let next : a + 1 + m ≡ a + suc m = omega arith in
+    ap (joined_from r k a) more ∙ ap (λ t. if t then joined (word_at r a) (joined_from r k (a + 1) (m + n)) else joined_from r k (a + 1) (m + n)) first
+    ∙ passed_over r k (a + 1) m n (λ q l. let b : a + suc q ≡ a + 1 + q = omega arith in subst (λ b. may_be r.shape k b ≡ false) b (h (suc q) (omega (arith, l)))) ∙ ap (λ b. joined_from r k b n) next
 
-join_length : (r : KnownWords) (k : Partly) → HaveWidth r → (a n : ℕ) → length (joined_from r k a n) ≡ r.shape.width
+pub join_length : (r : KnownWords) (k : Partly) → HaveWidth r → (a n : ℕ) → length (joined_from r k a n) ≡ r.shape.width
 join_length r k sizes a zero = strange_length r.shape.width
 join_length r k sizes a (suc n) = go (may_be r.shape k a) (join_length r k sizes (a + 1) n)
   where
@@ -73,7 +79,7 @@ so_far_none r k =
       size = strange_length r.shape.width;
       whole = told_blames (fill r.shape.width X) r.shape.signed k.blame;
       strange = joined_self (strange_bits r);
-      rest = ap (joined (strange_bits r)) (ap₂ (joined_from r k) (omega arith) (omega arith)) ∙ strange_in r k (least r.shape) (count r.shape);
+      rest = ap (joined (strange_bits r)) (let b : least r.shape + 0 ≡ least r.shape = omega arith in let n : count r.shape - 0 ≡ count r.shape = omega arith in ap₂ (joined_from r k) b n) ∙ strange_in r k (least r.shape) (count r.shape);
     }
 
 -- one word more that may be named
@@ -87,12 +93,12 @@ so_far_named r k acc place s l may size =
       whole = ap (λ t. with_blame (joined acc.bits word) t k.blame) (ap (λ a. a.signed) s.whole);
       strange = joined_assoc acc.bits word (strange_bits r) ∙ ap (joined acc.bits) (joined_comm word (strange_bits r)) ∙ sym (joined_assoc acc.bits (strange_bits r) word) ∙ ap (λ ps. joined ps word) s.strange;
       rest =
-        joined_assoc acc.bits word next
-        ∙ ap (joined acc.bits)
-        (sym (ap (joined_from r k (least r.shape + place)) (let n : count r.shape - place ≡ suc (count r.shape - (place + 1)) = omega (arith, l) in n)
-        ∙ ap (λ t. if t then joined word (joined_from r k (least r.shape + place + 1) (count r.shape - (place + 1))) else joined_from r k (least r.shape + place + 1) (count r.shape - (place + 1))) may
-        ∙ ap (λ b. joined word (joined_from r k b (count r.shape - (place + 1)))) (let b : least r.shape + place + 1 ≡ least r.shape + (place + 1) = omega arith in b)))
-        ∙ s.rest;
+          joined_assoc acc.bits word next
+          ∙ ap (joined acc.bits)
+          (sym (ap (joined_from r k (least r.shape + place)) (let n : count r.shape - place ≡ suc (count r.shape - (place + 1)) = omega (arith, l) in n)
+          ∙ ap (λ t. if t then joined word (joined_from r k (least r.shape + place + 1) (count r.shape - (place + 1))) else joined_from r k (least r.shape + place + 1) (count r.shape - (place + 1))) may
+          ∙ ap (λ b. joined word (joined_from r k b (count r.shape - (place + 1)))) (let b : least r.shape + place + 1 ≡ least r.shape + (place + 1) = omega arith in b)))
+          ∙ s.rest;
     }
 
 -- words that cannot be named
@@ -104,11 +110,11 @@ so_far_passed r k acc place next s low high none =
       whole = s.whole;
       strange = s.strange;
       rest =
-        ap (joined acc.bits)
-        (sym (ap (joined_from r k (least r.shape + place)) (let n : count r.shape - place ≡ (next - place) + (count r.shape - next) = omega (arith, low, high) in n)
-        ∙ passed_over r k (least r.shape + place) (next - place) (count r.shape - next) (λ q l. subst (λ b. may_be r.shape k b ≡ false) (omega arith) (none (place + q) (omega arith) (omega (arith, l))))
-        ∙ ap (λ b. joined_from r k b (count r.shape - next)) (let b : least r.shape + place + (next - place) ≡ least r.shape + next = omega (arith, low) in b)))
-        ∙ s.rest;
+          ap (joined acc.bits)
+          (sym (ap (joined_from r k (least r.shape + place)) (let n : count r.shape - place ≡ (next - place) + (count r.shape - next) = omega (arith, low, high) in n)
+          ∙ passed_over r k (least r.shape + place) (next - place) (count r.shape - next) (λ q l. let b : least r.shape + (place + q) ≡ least r.shape + place + q = omega arith in subst (λ b. may_be r.shape k b ≡ false) b (none (place + q) (omega arith) (omega (arith, l))))
+          ∙ ap (λ b. joined_from r k b (count r.shape - next)) (let b : least r.shape + place + (next - place) ≡ least r.shape + next = omega (arith, low) in b)))
+          ∙ s.rest;
     }
 
 -- what is read by an index that is not sure is the join of all
@@ -146,3 +152,35 @@ read_length r k sizes = go (told k.bits)
     go : (o : Option (List Bit)) → length (on_told o (λ bs. option_word r (named_by r.shape k.signed bs)) (joined_from r k (least r.shape) (count r.shape))) ≡ r.shape.width
     go None = join_length r k sizes (least r.shape) (count r.shape)
     go (Some bs) = option_length (named_by r.shape k.signed bs)
+
+-- the blame of a read that is not wholly sure
+pub read_blamed : (r : KnownWords) (k q : Partly) → q ≡ read_of r k → is_told q ≡ false → q.blame ≡ blame_read r k
+read_blamed r k q e unsure =
+    let bits : are_sure (bits_read r k) ≡ false = ap is_told (sym e) ∙ unsure in
+    ap (λ x. x.blame) e ∙ ap (λ t. if t then 0 else blame_read r k) bits
+
+-- ---- the same of what the code computes
+
+-- x, told whole
+pub so_far_first : (r : KnownWords) (k acc : Partly) (s : Shape) → s ≡ r.shape → acc ≡ told_of (record { bits = fill s.width X; signed = s.signed }) → SoFar r k acc 0
+so_far_first r k acc s same e = subst (λ a. SoFar r k a 0) (sym (e ∙ ap (λ x. told_of (record { bits = fill x.width X; signed = x.signed })) same)) (so_far_none r k)
+
+pub so_far_joined : (r : KnownWords) (k acc word next : Partly) (place thing : ℕ) (s : Shape) → s ≡ r.shape → SoFar r k acc place → place < count s → may_be s k (least s + place) ≡ true → word ≡ with_blame (word_at r (least r.shape + place)) r.shape.signed r.shape.blame → length word.bits ≡ r.shape.width → thing ≡ k.blame → next ≡ with_blame (joined acc.bits word.bits) acc.signed thing → SoFar r k next (place + 1)
+so_far_joined r k acc word next place thing s same so l may is size blames e =
+    let bits : word.bits ≡ word_at r (least r.shape + place) = ap (λ q. q.bits) is in
+    subst (λ a. SoFar r k a (place + 1)) (sym (e ∙ ap₂ (λ ps n. with_blame (joined acc.bits ps) acc.signed n) bits blames))
+    (so_far_named r k acc place so (subst (λ x. place < count x) same l) (subst (λ x. may_be x k (least x + place) ≡ true) same may) (sym (ap length bits) ∙ size))
+
+pub so_far_after : (r : KnownWords) (k acc : Partly) (place next : ℕ) (s : Shape) → s ≡ r.shape → SoFar r k acc place → place < next → next ≤ count s → ((q : ℕ) → place ≤ q → q < next → may_be s k (least s + q) ≡ false) → SoFar r k acc next
+so_far_after r k acc place next s same so low high none =
+    so_far_passed r k acc place next so (omega (arith, low)) (subst (λ x. next ≤ count x) same high) (subst (λ x. (q : ℕ) → place ≤ q → q < next → may_be x k (least x + q) ≡ false) same none)
+
+pub so_far_ended : (r : KnownWords) (k acc : Partly) (place : ℕ) (s : Shape) → s ≡ r.shape → is_told k ≡ false → SoFar r k acc place → count s ≤ place → acc ≡ read_of r k
+so_far_ended r k acc place s same unsure so l = so_far_all r k acc place unsure so (subst (λ x. count x ≤ place) same l)
+
+pub read_named : (r : KnownWords) (k word : Partly) (v : Vector) (place : ℕ) (s : Shape) → s ≡ r.shape → k ≡ told_of v → named_by s v.signed v.bits ≡ Some (least s + place) → word ≡ with_blame (word_at r (least r.shape + place)) r.shape.signed r.shape.blame → word ≡ read_of r k
+read_named r k word v place s same is names e = e ∙ sym (sure_read r k v (Some (least r.shape + place)) is (subst (λ x. named_by x v.signed v.bits ≡ Some (least x + place)) same names))
+
+pub read_unnamed : (r : KnownWords) (k q : Partly) (v : Vector) (s : Shape) → s ≡ r.shape → k ≡ told_of v → named_by s v.signed v.bits ≡ None → q ≡ told_of (record { bits = fill s.width X; signed = s.signed }) → q ≡ read_of r k
+read_unnamed r k q v s same is names e =
+    e ∙ ap (λ x. told_of (record { bits = fill x.width X; signed = x.signed })) same ∙ told_blames (fill r.shape.width X) r.shape.signed r.shape.blame ∙ sym (sure_read r k v None is (subst (λ x. named_by x v.signed v.bits ≡ None) same names))
