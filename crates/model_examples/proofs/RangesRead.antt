@@ -20,8 +20,13 @@ ranges_example =
       partly_above_rising = λ p q s t. refl;
       partly_below = λ p q s t. refl;
       partly_below_rising = λ p q s t. refl;
+      whole_word = λ p q s t. refl;
+      bit_of_word_rising = λ p q s t. refl;
+      outside_word = λ p q s t. refl;
       written = λ a b. refl;
       written_rising = λ a b. refl;
       written_partly = λ a b. refl;
       written_partly_rising = λ a b. refl;
+      written_word = λ a b e f. refl;
+      outside_not_written = λ a b e f. refl;
     }

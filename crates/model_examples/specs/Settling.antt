@@ -26,7 +26,9 @@ settling_dump =
       times = 0 ∷ 5 ∷ 10 ∷ 15 ∷ [];
       bound = λ s. nat_lt s 4;
       round = λ t. 0;
-      values = λ t. if nat_le 15 t then pipe_values Zero One Zero Zero X else (if nat_le 10 t then pipe_values One One Zero Zero X else (if nat_le 5 t then pipe_values Zero One Zero X X else pipe_values Zero Zero One X X));
+      values = λ t.
+          if nat_le 15 t then pipe_values Zero One Zero Zero X else
+          (if nat_le 10 t then pipe_values One One Zero Zero X else (if nat_le 5 t then pipe_values Zero One Zero X X else pipe_values Zero Zero One X X));
     }
 
 -- the logic points of a & b

@@ -31,7 +31,10 @@ words_dump wa ra =
       times = 0 ∷ 5 ∷ 10 ∷ 15 ∷ 20 ∷ [];
       bound = λ s. nat_lt s 6;
       round = λ t. 0;
-      values = λ t. if nat_le 20 t then words_values Zero Zero wa ra Zero [] else (if nat_le 15 t then words_values One Zero wa ra Zero [] else (if nat_le 10 t then words_values Zero Zero wa ra Zero [] else (if nat_le 5 t then words_values One One wa ra Zero [] else words_values Zero One wa ra Zero [])));
+      values = λ t.
+          if nat_le 20 t then words_values Zero Zero wa ra Zero [] else
+          (if nat_le 15 t then words_values One Zero wa ra Zero [] else
+          (if nat_le 10 t then words_values Zero Zero wa ra Zero [] else (if nat_le 5 t then words_values One One wa ra Zero [] else words_values Zero One wa ra Zero [])));
     }
 
 -- word 3 is written, and word 2 is read
