@@ -1,13 +1,11 @@
 #!/bin/sh
 # Lists the points of two generated designs of half a million and a million points, makes their marks and finds each point by
-# its visit. It prints the milliseconds after each of the three, and the resident memory of this run and of one that only
-# elaborates the design. Run it from the top of the repository. It needs awk and GNU time.
+# its visit: `bench/points.sh PROGRAM`. It prints the milliseconds after each of the three, and the resident memory of
+# this run and of PROGRAM, which only elaborates the design. Run it from the top of the repository. It needs awk and GNU time.
 set -e
 source=$(mktemp)
 trap 'rm -f "$source"' EXIT
-for crate in source_bench point_bench; do
-  log=$(cd crates/$crate && rt run 2>&1) || { echo "$log"; exit 1; }
-done
+log=$(cd crates/bench && rt run 2>&1) || { echo "$log"; exit 1; }
 for instances in 3500 7000; do
   awk -v instances="$instances" 'BEGIN {
     print "module top(input clk, input [15:0] d);"
@@ -16,6 +14,6 @@ for instances in 3500 7000; do
     for (i = 0; i < 16; i++) printf "    q[%d] <= d[%d] ^ q[%d];\n", i, i, (i + 1) % 16
     print "    m[d[3:0]] <= q[7:0];\n  end\nendmodule"
   }' > "$source"
-  /usr/bin/time -f "%M kB" crates/source_bench/out/source_bench elaborate "$source" top
-  /usr/bin/time -f "%M kB" crates/point_bench/out/point_bench "$source" top
+  /usr/bin/time -f "%M kB" "$1" score -t top -i tb -v "$source" -vcd "$source" -o /dev/null || true
+  /usr/bin/time -f "%M kB" crates/bench/out/bench points "$source" top
 done

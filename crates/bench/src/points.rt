@@ -1,9 +1,5 @@
-//! Measures the list of the points of a design: `point_bench FILE TOP`. It prints how many points there are, and the times
-//! that the list, its marks, and the number of the point of each visit take.
-#![tactic(auto)]
-
-mod visits;
-
+//! Measures the list of the points of a design: it prints the times that the list, its marks, and the number of the point
+//! of each visit take.
 ghost use Rattle.design_model.specs.Lawful.{IsLawfulDesign};
 ghost use Rattle.design_model.specs.View.{design_view};
 
@@ -13,25 +9,18 @@ use cov_host::Bytes;
 use cover_marks::Marks;
 use cover_points::{PointFault, list};
 use design_model::Design;
+use std::fs;
 use std::rt::{Clock, Files};
 use std::time::Instant;
-use std::{env, fs};
 use text_designs::design_of;
 use verilog_lexer::Sources;
 
-fn main(rt: HostRuntime) -> Result<()> {
-    let mut words = env::args(&rt)?;
-    match (words.nth(1), words.next()) {
-        (Some(path), Some(top)) => measure(&rt, path.as_str(), top.as_str()),
-        _ => {
-            println!(rt; "usage: point_bench FILE TOP")?;
-            Ok(())
-        }
-    }
-}
-
 /// Elaborates the design of a file, and measures its points.
-fn measure(rt: &(impl AllocGlobal + Clock + Files + Print), path: &str, top: &str) -> Result<()> {
+pub(crate) fn measure(
+    rt: &(impl AllocGlobal + Clock + Files + Print),
+    path: &str,
+    top: &str,
+) -> Result<()> {
     let bytes = fs::read(rt, path)?;
     let mut sources = Sources::new(rt.alloc());
     sources.add_root(path, Bytes::from_vec(bytes))?;
