@@ -5,7 +5,11 @@ use Rattle.std.specs.List.{AllZip}
 use Rattle.std.proofs.lemmas.Bool.Decides.{nat_tests}
 use Rattle.std.proofs.lemmas.List.{get_or_default, get_or_read}
 use Rattle.four_state.specs.Parts.{extended_vector}
-use Rattle.four_state.specs.Vector.{Vector}
+use Rattle.four_state.specs.Operators.{matches}
+use Rattle.four_state.specs.Vector.{Vector, same_bits}
+use Rattle.four_state.specs.declared.operator.CaseKind.TheVariants.{Exact}
+use Rattle.four_state.proofs.MatchLaws.{exact_law}
+use Rattle.state_machines.specs.Same.{bits_at, no_value}
 use Rattle.design_model.specs.Design.{Design, In, no_signal, signal_at}
 use Rattle.design_model.specs.Lawful.{IsLawfulDesign, is_alias}
 use Rattle.design_model.specs.Points.{IsNameOf, IsStateValue}
@@ -49,8 +53,8 @@ found_value d cs is ss are i s name k e x v h l seen value =
     (c, there, h.1, h.2, value ∙ ap (λ (y : Signal). extended_vector y.width y.signed (get_or cs k e).value) x_is ∙ ap (λ (f : Constant). extended_vector (signal_at d s).width (signal_at d s).signed f.value) e_is)
 
 -- where no parameter is found there is none
-pub no_value : (d : Design) (cs : List Constant) → cs ≡ d.constants → (i : ℕ) (name : List ℕ) → ((k : ℕ) → IsConstantAt cs i name k → ⊥) → IsNoParameter d i name
-no_value d cs is i name none c there instance named =
+pub no_parameter : (d : Design) (cs : List Constant) → cs ≡ d.constants → (i : ℕ) (name : List ℕ) → ((k : ℕ) → IsConstantAt cs i name k → ⊥) → IsNoParameter d i name
+no_parameter d cs is i name none c there instance named =
     let p = place_of c cs no_constant (subst (λ (ys : List Constant). In c ys) (sym is) there) in
     none p.0 (p.1, ap (λ (a : Constant). a.instance) p.2 ∙ instance, ap (λ (a : Constant). a.name) p.2 ∙ named)
 
@@ -60,3 +64,8 @@ zip_push R [] [] x y h r = (r, tt)
 zip_push R [] (b ∷ ys) x y h r = absurd h
 zip_push R (a ∷ xs) [] x y h r = absurd h
 zip_push R (a ∷ xs) (b ∷ ys) x y h r = (h.0, zip_push R xs ys x y h.1 r)
+
+-- two values of a list are compared bit by bit
+pub alike : (vs : List Vector) (j k : ℕ) (x y : Vector) → j < length vs → k < length vs → x ≡ get_or vs j x → y ≡ get_or vs k y → matches Exact x.bits y.bits ≡ same_bits (bits_at vs j) (bits_at vs k)
+alike vs j k x y l m p q =
+    exact_law x.bits y.bits ∙ ap (λ (v : Vector). same_bits v.bits y.bits) (get_or_read vs j x l p no_value) ∙ ap (λ (v : Vector). same_bits (bits_at vs j) v.bits) (get_or_read vs k y m q no_value)

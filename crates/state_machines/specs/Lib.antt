@@ -2,3 +2,4 @@ pub mod Machines
 pub mod Entries
 pub mod Lookups
 pub mod Values
+pub mod Same

@@ -4,9 +4,11 @@
 mod lookups;
 mod machine;
 mod names;
+mod same;
 mod states;
 
 pub use machine::{
     InstanceMachine, MachineFault, machine_in, signal_named, state_value, state_values,
 };
+pub use same::first_same;
 pub use states::States;
