@@ -17,6 +17,27 @@ pub enum Spot {
     WordWrite { memory: u32, index: u32 },
 }
 
+/// How a word of a memory is used.
+#[derive(Clone, Copy, Debug, PartialEq, Eq)]
+pub enum Access {
+    Read,
+    Write,
+}
+
+impl Access {
+    ghost use Rattle.term_replay.specs.Noted.{access_spot, spot_of};
+
+    /// What this use of the word with this index counts for.
+    pub fn spot(self, memory: u32, index: u32) -> Spot
+        ensures { spot_of result ≡ access_spot self memory index }
+    {
+        match self {
+            Access::Read => Spot::WordRead { memory, index },
+            Access::Write => Spot::WordWrite { memory, index },
+        }
+    }
+}
+
 /// Takes what a run notes, in order: that a spot is hit, or that it may be hit and which thing is to blame for that.
 pub trait Notes {
     /// The sink may have been told these marks, in order, since it was made. A sink need not keep the marks: that of a
