@@ -8,7 +8,7 @@ use Rattle.design_model.specs.Design.{Design, signal_cells, nowhere}
 use Rattle.design_model.specs.Tree.{Head, Term, Terms}
 use Rattle.design_model.specs.Value.{head}
 use Rattle.design_model.specs.Shape.{is_shaped, own_width, are_alone, own_widths}
-use Rattle.body_replay.specs.KnownBits.{extend_partly}
+use Rattle.body_replay.specs.KnownBits.{copies_partly, extend_partly}
 use Rattle.body_replay.specs.Store.{Kept, known_joined, known_value}
 use Rattle.body_replay.specs.Replay.{Blames, blame_of, blame_of_all, first_read, first_reads}
 use Rattle.term_replay.specs.declared.shape.Shape.{Shape}
@@ -83,3 +83,7 @@ pub record IsInContext (d : Design) (t : Term) : Type 0 where
 pub record AreSideBySide (d : Design) (ts : Terms) : Type 0 where
   pub alone : are_alone d ts ≡ true
   pub narrow : own_widths d ts ≤ 128
+
+-- so many copies of the vector side by side
+abbrev pub copied : ℕ → Partly → Partly
+copied n q = record { bits = copies_partly n q.bits; signed = false; blame = q.blame }

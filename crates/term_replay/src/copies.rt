@@ -3,23 +3,24 @@
 ghost use Rattle.std.specs.Prelude.{◌≡◌, ◌+◌, ◌*◌, ◌++◌, ◌≤◌, false, length};
 ghost use Rattle.known_state.specs.Join.{first_blame};
 ghost use Rattle.known_state.specs.Partly.{is_told};
-ghost use Rattle.body_replay.specs.KnownBits.{copies_partly, extend_partly};
-ghost use Rattle.term_replay.specs.Stands.{IsShape, so_far};
+ghost use Rattle.body_replay.specs.KnownBits.{copies_partly};
+ghost use Rattle.term_replay.specs.Stands.{Fitted, IsShape, copied, so_far};
 
 use crate::Shape;
 use crate::fit::{blank, fitted};
 use four_state::Four;
 use known_state::Known;
 
-/// The bits of a value below those so far, if there are any.
+/// The bits of a value below those so far, if there are any. More than 128 bits, which only a concatenation that is
+/// repeated 0 times can have, are left out.
 pub fn followed_by(high: Option<Known>, low: &Known) -> Known
-    requires { length (so_far high).bits + length low.now.bits ≤ 128 }
-    ensures bits { result.bits ≡ low.now.bits ++ (so_far high).bits }
-    ensures blame { is_told result ≡ false → result.blame ≡ first_blame (so_far high) low.now }
+    ensures bits { length (so_far high).bits + length low.now.bits ≤ 128 → result.bits ≡ low.now.bits ++ (so_far high).bits }
+    ensures blame { length (so_far high).bits + length low.now.bits ≤ 128 → is_told result ≡ false → result.blame ≡ first_blame (so_far high) low.now }
 {
     match high {
         None => *low,
-        Some(high) => appended(&high, low),
+        Some(high) if high.width() <= 128 - low.width() => appended(&high, low),
+        Some(high) => high,
     }
 }
 
@@ -54,10 +55,7 @@ pub fn copies(value: &Known, count: u8) -> Known
 pub fn concat(all: Option<Known>, count: u8, shape: Shape) -> Known
     requires shape { IsShape shape }
     requires room { length (so_far all).bits * count ≤ 128 }
-    ensures bits { result.bits ≡ extend_partly shape.width shape.signed (copies_partly count (so_far all).bits) }
-    ensures sign { result.signed ≡ shape.signed }
-    ensures unsure { is_told result ≡ false → is_told (so_far all) ≡ false }
-    ensures blame { is_told result ≡ false → result.blame ≡ (so_far all).blame }
+    ensures { Fitted shape (copied count (so_far all)) result }
 {
     match all {
         Some(all) if count > 0 => fitted(&copies(&all, count), shape),

@@ -1,11 +1,12 @@
 //! The evaluation of a term, form by form.
 
-ghost use Rattle.std.specs.Prelude.{◌≡◌, ◌++◌, ℕ, Bool, Option, map, true};
+ghost use Rattle.std.specs.Prelude.{◌≡◌, ◌≤◌, ℕ, Option, map, true};
 ghost use Rattle.cov_host.specs.declared.place.Place.{Place};
+ghost use Rattle.design_model.specs.Shape.{are_alone, own_widths};
 ghost use Rattle.design_model.specs.Tree as t;
 ghost use Rattle.design_model.specs.View.{term_view, terms_of};
 ghost use Rattle.term_replay.specs.Noted.{Adds, all_marks, in_this, inner_marks, marks_of};
-ghost use Rattle.term_replay.specs.Stands.{all_first_after, first_after, AreSideBySide, IsInContext, IsShape, Stands, StandsAll, bare, head_of, so_far};
+ghost use Rattle.term_replay.specs.Stands.{all_first_after, first_after, IsInContext, IsShape, Stands, StandsAll, bare, head_of, so_far};
 
 use crate::cases::{note_own, note_two};
 use crate::copies::{concat, followed_by};
@@ -311,8 +312,8 @@ fn joined<R: Reads, N: Notes>(
     run: Progress,
     notes: &mut N,
 ) -> Joined
-    requires { AreSideBySide (R.scene reads.now).design (terms_of (map term_view parts.now)) }
-    ensures value { StandsAll (R.scene reads.now) run.first (terms_of (map term_view parts.now)) (so_far result.value) }
+    requires { are_alone (R.scene reads.now).design (terms_of (map term_view parts.now)) ≡ true }
+    ensures value { own_widths (R.scene reads.now).design (terms_of (map term_view parts.now)) ≤ 128 → StandsAll (R.scene reads.now) run.first (terms_of (map term_view parts.now)) (so_far result.value) }
     ensures first { result.first ≡ all_first_after (R.scene reads.now) run.first (terms_of (map term_view parts.now)) }
     ensures notes { Adds N.noted notes.old (in_this run.mode (all_marks (R.scene reads.now) run.first (terms_of (map term_view parts.now)))) notes.new }
 {
