@@ -1,8 +1,8 @@
 -- What the context of a term says of the terms in it.
-use Rattle.std.proofs.Common.{◌≡◌, ◌∙◌, ◌⊎◌, ℕ, zero, suc, ◌+◌, ◌*◌, ◌≤◌, ◌<◌, ◌==◌, Bool, true, false, not, ◌&&◌, ◌||◌, if◌then◌else◌, List, [], Option, Some, None, length, map, max, nat_le, nat_lt, refl, sym, ap, ap₂, subst, arith}
+use Rattle.std.proofs.Common.{◌≡◌, ◌∙◌, ◌⊎◌, ℕ, zero, suc, ◌+◌, ◌*◌, ◌≤◌, ◌<◌, ◌==◌, Bool, true, false, not, ◌&&◌, ◌||◌, ◌++◌, if◌then◌else◌, List, [], Option, Some, None, length, map, max, nat_le, nat_lt, refl, sym, ap, ap₂, subst, arith}
 use Rattle.std.specs.Bool.{OnTrue}
 use Rattle.std.proofs.lemmas.Bool.{and_parts, eqb-true, leb-true, ltb-true}
-use Rattle.std.proofs.lemmas.List.{length-replicate}
+use Rattle.std.proofs.lemmas.List.{length-append, length-replicate}
 use Rattle.four_state.specs.declared.bit.Bit.{Bit}
 use Rattle.four_state.specs.declared.truth.Truth.{Truth}
 use Rattle.four_state.specs.declared.operator.Unary.{Unary}
@@ -14,16 +14,17 @@ use Rattle.four_state.specs.Vector.{extend}
 use Rattle.known_state.specs.Partly.{Partly}
 use Rattle.known_state.specs.Answers.{HaveSameShape}
 use Rattle.known_state.proofs.UnarySound.{length-moved}
-use Rattle.design_model.specs.Design.{Design, is_memory}
+use Rattle.design_model.specs.Design.{Design, is_memory, signal_cells}
 use Rattle.design_model.specs.Mentions.{blank, is_constant}
 use Rattle.design_model.specs.Shape.{are_alone, has_shape, is_logic, is_shaped, is_shift, is_wide_binary, is_wide_unary, own_sign, own_width, own_widths, same_bool}
 use Rattle.design_model.specs.Tree.{Head, Term, Terms, a_term, binary, bit, choice, concat, no_terms, number, part, repeat, sign, signal, slide, unary, word}
-use Rattle.design_model.specs.Value.{head, part_width, value}
-use Rattle.body_replay.specs.KnownBits.{KnownBits, extend_partly, fits, on_told, told, unknown}
-use Rattle.body_replay.specs.Store.{Kept, choice_of, known_value}
+use Rattle.four_state.specs.Parts.{index}
+use Rattle.design_model.specs.Value.{head, offset_option, part_width, range_of, slide_offset, value}
+use Rattle.body_replay.specs.KnownBits.{KnownBits, binary_partly, choose_partly, copies_partly, extend_partly, known_truth, select_option, sure, unary_partly, fits, on_told, told, unknown}
+use Rattle.body_replay.specs.Store.{Kept, choice_of, known_joined, known_value, read_word}
 use Rattle.body_replay.proofs.Operators.{extend_length}
-use Rattle.term_replay.specs.Stands.{AreSideBySide, IsInContext, IsShape, Scene, Stands}
-use Rattle.term_replay.specs.declared.shape.Shape.{Shape}
+use Rattle.term_replay.specs.Stands.{AreSideBySide, IsInContext, IsHead, Scene, Stands}
+use Rattle.term_replay.specs.declared.head.TermHead.{TermHead}
 
 -- ---- the width of a value
 
@@ -42,22 +43,22 @@ length-either true w s ps = length-extended w s ps
 length-either false w s ps = length-unknown w
 
 length-choice : (h : Head) (o : Option Truth) (ps qs : KnownBits) → length (choice_of h o ps qs) ≡ h.width
-length-choice h (Some x) ps qs = length-extended h.width h.signed _
-length-choice h None ps qs = length-either (length ps == length qs) h.width h.signed _
+length-choice h (Some x) ps qs = length-extended h.width h.signed (choose_partly (Some x) ps qs)
+length-choice h None ps qs = length-either (length ps == length qs) h.width h.signed (choose_partly None ps qs)
 
 pub length-value : (d : Design) (k : Kept) (x : Term) → length (known_value d k x) ≡ (head x).width
-length-value d k (number h n) = length-extended h.width h.signed _
-length-value d k (signal h s) = length-extended h.width h.signed _
-length-value d k (word h m i) = length-extended h.width h.signed _
-length-value d k (bit h t i) = length-told h.width (told (known_value d k i)) _ (λ bs. length-extended h.width h.signed _)
-length-value d k (part h t i j) = length-told h.width (told (known_value d k i)) _ (λ bs. length-told h.width (told (known_value d k j)) _ (λ cs. length-extended h.width h.signed _))
-length-value d k (slide h t b w up) = length-told h.width (told (known_value d k b)) _ (λ bs. length-told h.width (told (known_value d k w)) _ (λ cs. length-extended h.width h.signed _))
-length-value d k (unary h op t) = length-extended h.width h.signed _
-length-value d k (binary h op t u) = length-either (fits op (known_value d k t) (known_value d k u)) h.width h.signed _
-length-value d k (choice h c t u) = length-choice h _ _ _
-length-value d k (concat h ts) = length-extended h.width h.signed _
-length-value d k (repeat h n ts) = length-told h.width (told (known_value d k n)) _ (λ bs. length-extended h.width h.signed _)
-length-value d k (sign h s t) = length-extended h.width h.signed _
+length-value d k (number h n) = length-extended h.width h.signed (sure n.bits)
+length-value d k (signal h s) = length-extended h.width h.signed (map k (signal_cells d s))
+length-value d k (word h m i) = length-extended h.width h.signed (read_word d k m (head i).signed (known_value d k i))
+length-value d k (bit h t i) = length-told h.width (told (known_value d k i)) _ (λ bs. length-extended h.width h.signed (select_option (known_value d k t) (offset_option (range_of d t) (index (head i).signed bs)) 1))
+length-value d k (part h t i j) = length-told h.width (told (known_value d k i)) _ (λ bs. length-told h.width (told (known_value d k j)) _ (λ cs. length-extended h.width h.signed (select_option (known_value d k t) (offset_option (range_of d t) (index (head j).signed cs)) (part_width bs cs))))
+length-value d k (slide h t b w up) = length-told h.width (told (known_value d k b)) _ (λ bs. length-told h.width (told (known_value d k w)) _ (λ cs. length-extended h.width h.signed (select_option (known_value d k t) (slide_offset (range_of d t) up (natural cs) (index (head b).signed bs)) (natural cs))))
+length-value d k (unary h op t) = length-extended h.width h.signed (unary_partly op (known_value d k t))
+length-value d k (binary h op t u) = length-either (fits op (known_value d k t) (known_value d k u)) h.width h.signed (binary_partly op (head t).signed (known_value d k t) (known_value d k u))
+length-value d k (choice h c t u) = length-choice h (known_truth (known_value d k c)) (known_value d k t) (known_value d k u)
+length-value d k (concat h ts) = length-extended h.width h.signed (known_joined d k ts)
+length-value d k (repeat h n ts) = length-told h.width (told (known_value d k n)) _ (λ bs. length-extended h.width h.signed (copies_partly (natural bs) (known_joined d k ts)))
+length-value d k (sign h s t) = length-extended h.width h.signed (known_value d k t)
 
 pub length-stands : (v : Scene) (first : Option ℕ) (x : Term) (r : Partly) → Stands v first x r → length r.bits ≡ (head x).width
 length-stands v first x r a = ap length a.bits ∙ length-value v.design v.kept x
@@ -116,10 +117,10 @@ module _ (d : Design) where
   pub context_head : (x : Term) (c : IsInContext d x) → HeadIs c.width c.signed (head x)
   context_head x c = head_is c.width c.signed (head x) (shaped_head c.width c.signed x c.shaped)
 
-  pub shape_ok : (x : Term) (s : Shape) → (head x).width ≡ s.width → IsInContext d x → IsShape s
+  pub shape_ok : (x : Term) (s : TermHead) → (head x).width ≡ s.width → IsInContext d x → IsHead s
   shape_ok x s e c = let h = context_head x c in record { at_least = subst (λ n. 1 ≤ n) (sym h.width ∙ e) h.at_least; at_most = subst (λ n. n ≤ 128) (sym h.width ∙ e) h.at_most }
 
-  pub alone : (x : Term) → is_shaped d (own_width d x) (own_sign d x) x ≡ true → IsInContext d x
+  abbrev pub alone : (x : Term) → is_shaped d (own_width d x) (own_sign d x) x ≡ true → IsInContext d x
   alone x e = record { width = own_width d x; signed = own_sign d x; shaped = e; narrow = omega arith }
 
   -- ---- the terms in a term
@@ -233,6 +234,16 @@ module _ (d : Design) where
       let narrow : natural (value d blank n) * own_widths d ts ≤ c.width = c.narrow in
       let most : c.width ≤ 128 = (context_head (repeat h n ts) c).at_most in
       record { count = alone n p1.1; fixed = p2.1; parts = p3.1; room = omega (arith, narrow, most) }
+
+-- terms that stand alone have the bits of their widths
+pub length-joined : (d : Design) (k : Kept) (ts : Terms) → are_alone d ts ≡ true → length (known_joined d k ts) ≡ own_widths d ts
+length-joined d k no_terms e = refl
+length-joined d k (a_term x ts) e =
+    let p = and_parts (is_shaped d (own_width d x) (own_sign d x) x) (are_alone d ts) e in
+    let w : length (known_value d k x) ≡ own_width d x = length-value d k x ∙ (context_head d x (alone d x p.0)).width in
+    let rest : length (known_joined d k ts) ≡ own_widths d ts = length-joined d k ts p.1 in
+    let both : length (known_joined d k ts ++ known_value d k x) ≡ length (known_joined d k ts) + length (known_value d k x) = length-append (known_joined d k ts) (known_value d k x) in
+    omega (arith, w, rest, both)
 
 same_shape_ops : (op : Binary) → takes_same_shape op ≡ (is_wide_binary op || not (is_shift op || is_logic op))
 same_shape_ops Multiply = refl

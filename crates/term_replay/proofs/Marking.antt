@@ -37,6 +37,15 @@ module _ {S : Type 0} (noted : List Mark → S → Type 0) where
   pub adds_answer : (mode : Mode) (n : ℕ) (c : NodeCase) (m : Maybe) (a : Option Bool) (thing : ℕ) (s t : S) → IsAnswer a thing m → Adds noted s (in_this mode (case_mark n c (answer_of m) (blame_in m))) t → Adds noted s (in_this mode (case_mark n c a thing)) t
   adds_answer mode n c m a thing s t is d = adds_same s t _ _ (ap (in_this mode) (case_same n c m a thing is.is is.blame)) d
 
+  pub adds_two : (mode : Mode) (n : ℕ) (c e : Case) (s t u : S) → Adds noted s (in_this mode (case_mark n c.kind c.answer c.blame)) t → Adds noted t (in_this mode (case_mark n e.kind e.answer e.blame)) u → Adds noted s (in_this mode (case_marks n (c ∷ e ∷ []))) u
+  adds_two mode n c e s t u a b = adds_case mode n c (e ∷ []) s t u a (adds_case mode n e [] t u u b (adds_none u))
+
+  pub adds_three : (mode : Mode) (n : ℕ) (c e f : Case) (s t u w : S) → Adds noted s (in_this mode (case_mark n c.kind c.answer c.blame)) t → Adds noted t (in_this mode (case_mark n e.kind e.answer e.blame)) u → Adds noted u (in_this mode (case_mark n f.kind f.answer f.blame)) w → Adds noted s (in_this mode (case_marks n (c ∷ e ∷ f ∷ []))) w
+  adds_three mode n c e f s t u w a b d = adds_case mode n c (e ∷ f ∷ []) s t w a (adds_two mode n e f t u w b d)
+
+  pub adds_four : (mode : Mode) (n : ℕ) (c e f g : Case) (s t u w x : S) → Adds noted s (in_this mode (case_mark n c.kind c.answer c.blame)) t → Adds noted t (in_this mode (case_mark n e.kind e.answer e.blame)) u → Adds noted u (in_this mode (case_mark n f.kind f.answer f.blame)) w → Adds noted w (in_this mode (case_mark n g.kind g.answer g.blame)) x → Adds noted s (in_this mode (case_marks n (c ∷ e ∷ f ∷ g ∷ []))) x
+  adds_four mode n c e f g s t u w x a b d h = adds_case mode n c (e ∷ f ∷ g ∷ []) s t x a (adds_three mode n e f g t u w x b d h)
+
 -- a hit and a doubt as they count in a mode
 pub hit_in : (mode : Mode) (x : Spot) → in_mode mode (hit x) ≡ record { spot = x; doubt = mode }
 hit_in None x = refl
@@ -65,17 +74,21 @@ both_at m n a b l r z ea eb fa fb is blame =
 pub both_answer : (m n z : Maybe) (a b : Option Bool) (l r : ℕ) → IsAnswer a l m → IsAnswer b r n → IsAnswer (both (answer_of m) (answer_of n)) (if undecided (answer_of m) then blame_in m else blame_in n) z → IsAnswer (both a b) (if undecided a then l else r) z
 both_answer m n z a b l r ma nb is = both_at m n a b l r z ma.is nb.is ma.blame nb.blame is.is is.blame
 
+one_more : (at : ℕ → Spot) (may : ℕ → Bool) (low n thing : ℕ) (b : Bool) → may low ≡ b → perhaps_marks at may (range_with_len (low + 1) (suc n)) thing ≡ perhaps_marks at may (range_with_len (low + 1) n) thing ++ (if may (low + suc n) then doubted (at (low + suc n)) thing ∷ [] else []) → (if may low then doubted (at low) thing ∷ perhaps_marks at may (range_with_len (low + 1) (suc n)) thing else perhaps_marks at may (range_with_len (low + 1) (suc n)) thing) ≡ (if may low then doubted (at low) thing ∷ perhaps_marks at may (range_with_len (low + 1) n) thing else perhaps_marks at may (range_with_len (low + 1) n) thing) ++ (if may (low + suc n) then doubted (at (low + suc n)) thing ∷ [] else [])
+one_more at may low n thing true e later = rw e (ap (λ ms. doubted (at low) thing ∷ ms) later)
+one_more at may low n thing false e later = rw e later
+
 -- one word more
 pub perhaps_more : (at : ℕ → Spot) (may : ℕ → Bool) (low n thing : ℕ) → perhaps_marks at may (range_with_len low (suc n)) thing ≡ perhaps_marks at may (range_with_len low n) thing ++ (if may (low + n) then doubted (at (low + n)) thing ∷ [] else [])
 perhaps_more at may low zero thing = ap (λ k. if may k then doubted (at k) thing ∷ [] else []) (omega arith)
-perhaps_more at may low (suc n) thing = go (may low) refl
-  where
-    rest : List Mark
-    rest = if may (low + suc n) then doubted (at (low + suc n)) thing ∷ [] else []
+perhaps_more at may low (suc n) thing =
+    one_more at may low n thing (may low) refl (perhaps_more at may (low + 1) n thing ∙ ap (λ k. perhaps_marks at may (range_with_len (low + 1) n) thing ++ (if may k then doubted (at k) thing ∷ [] else [])) (omega arith))
 
-    later : perhaps_marks at may (range_with_len (low + 1) (suc n)) thing ≡ perhaps_marks at may (range_with_len (low + 1) n) thing ++ (if may (low + suc n) then doubted (at (low + suc n)) thing ∷ [] else [])
-    later = perhaps_more at may (low + 1) n thing ∙ ap (λ k. perhaps_marks at may (range_with_len (low + 1) n) thing ++ (if may k then doubted (at k) thing ∷ [] else [])) (omega arith)
+one_in : (mode : Mode) (at : ℕ → Spot) (may : ℕ → Bool) (i : ℕ) (is : List ℕ) (thing : ℕ) (b : Bool) → in_this mode (perhaps_marks at may is thing) ≡ perhaps_marks at may is (unwrap_or mode thing) → in_this mode (if b then doubted (at i) thing ∷ perhaps_marks at may is thing else perhaps_marks at may is thing) ≡ (if b then doubted (at i) (unwrap_or mode thing) ∷ perhaps_marks at may is (unwrap_or mode thing) else perhaps_marks at may is (unwrap_or mode thing))
+one_in mode at may i is thing true rest = ap₂ (λ x y. x ∷ y) (doubt_in mode (at i) thing) rest
+one_in mode at may i is thing false rest = rest
 
-    go : (b : Bool) → may low ≡ b → (if may low then doubted (at low) thing ∷ perhaps_marks at may (range_with_len (low + 1) (suc n)) thing else perhaps_marks at may (range_with_len (low + 1) (suc n)) thing) ≡ (if may low then doubted (at low) thing ∷ perhaps_marks at may (range_with_len (low + 1) n) thing else perhaps_marks at may (range_with_len (low + 1) n) thing) ++ (if may (low + suc n) then doubted (at (low + suc n)) thing ∷ [] else [])
-    go true e = rw e (ap (λ ms. doubted (at low) thing ∷ ms) later)
-    go false e = rw e later
+-- doubts in a mode are blamed on the mode's test
+pub perhaps_in : (mode : Mode) (at : ℕ → Spot) (may : ℕ → Bool) (is : List ℕ) (thing : ℕ) → in_this mode (perhaps_marks at may is thing) ≡ perhaps_marks at may is (unwrap_or mode thing)
+perhaps_in mode at may [] thing = refl
+perhaps_in mode at may (i ∷ is) thing = one_in mode at may i is thing (may i) (perhaps_in mode at may is thing)

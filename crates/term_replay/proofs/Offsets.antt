@@ -1,5 +1,5 @@
 -- A part that begins far from a vector has no bit of it, so an index may be cut where it is far from 0.
-use Rattle.std.proofs.Common.{◌≡◌, ◌∙◌, ℕ, zero, suc, ◌+◌, ◌-◌, ◌<◌, ◌≤◌, ◌^◌, Bool, true, false, if◌then◌else◌, List, [], ◌∷◌, length, Option, Some, None, ℤ, pos, negsuc, ◌+ℤ◌, ◌-ℤ◌, min, nat_le, refl, sym, ap, ap₂, subst, arith, inl, inr, ⊎_elim}
+use Rattle.std.proofs.Common.{◌≡◌, ◌∙◌, ◌⊎◌, ℕ, zero, suc, ◌+◌, ◌-◌, ◌<◌, ◌≤◌, ◌^◌, Bool, true, false, if◌then◌else◌, List, [], ◌∷◌, length, Option, Some, None, ℤ, pos, negsuc, ◌+ℤ◌, ◌-ℤ◌, ◌≤ℤ◌, min, nat_le, refl, sym, ap, ap₂, subst, arith, inl, inr, ⊎_elim}
 use Rattle.std.specs.Prelude.{replicate}
 use Rattle.std.proofs.lemmas.Bool.{cases_Bool, cases_lt, le-ltb}
 use Rattle.std.proofs.lemmas.Int.{ints}
@@ -10,14 +10,15 @@ use Rattle.four_state.specs.Parts.{bits_from, option_bit, within}
 use Rattle.known_state.specs.Partly.{filled}
 use Rattle.known_state.specs.Join.{joined}
 use Rattle.known_state.proofs.Allowed.{length-filled}
-use Rattle.design_model.specs.Value.{Range, least_index, offset, offset_option, slide_offset}
+use Rattle.design_model.specs.declared.design.Range.{Range}
+use Rattle.design_model.specs.Value.{least_index, offset, offset_option, slide_offset}
 use Rattle.body_replay.specs.KnownBits.{KnownBits, select_option, sure}
 use Rattle.term_replay.specs.Near.{far, near, near_option}
 
 -- w bits from this offset up are all outside of n bits
 pub data IsOutside (n w : ℕ) : ℤ → Type 0 where
-  above : (k : ℕ) → n ≤ k → IsOutside n w (pos k)
-  below : (k : ℕ) → w ≤ suc k → IsOutside n w (negsuc k)
+  above : {k : ℕ} → n ≤ k → IsOutside n w (pos k)
+  below : {k : ℕ} → w ≤ suc k → IsOutside n w (negsuc k)
 
 all_above : (bs : List Bit) (w k : ℕ) → length bs ≤ k → bits_from bs (pos k) w ≡ fill w X
 all_above bs zero k h = refl
@@ -34,8 +35,8 @@ all_below bs (suc w) (suc k) h =
     ap (λ r. X ∷ r) (let e : negsuc (suc k) +ℤ pos 1 ≡ negsuc k = omega (arith, ints) in ap (λ z. bits_from bs z w) e ∙ all_below bs w k (omega arith))
 
 outside_x : (bs : List Bit) (w : ℕ) (from : ℤ) → IsOutside (length bs) w from → bits_from bs from w ≡ fill w X
-outside_x bs w (pos k) (above k h) = all_above bs w k h
-outside_x bs w (negsuc k) (below k h) = all_below bs w k h
+outside_x bs w (pos k) (above h) = all_above bs w k h
+outside_x bs w (negsuc k) (below h) = all_below bs w k h
 
 select_x : (ps : KnownBits) (w : ℕ) (from : ℤ) → IsOutside (length ps) w from → select_option ps (Some from) w ≡ joined (sure (fill w X)) (sure (fill w X))
 select_x ps w from o = ap₂ (λ x y. joined (sure x) (sure y)) (one Zero) (one One)
@@ -49,29 +50,29 @@ both_outside ps w from to a b = select_x ps w from a ∙ sym (select_x ps w to b
 
 -- a whole number at least so far from 0
 pub data IsFar (b : ℕ) : ℤ → Type 0 where
-  up_by : (k : ℕ) → b ≤ k → IsFar b (pos k)
-  down_by : (k : ℕ) → b ≤ k → IsFar b (negsuc k)
+  up_by : {k : ℕ} → b ≤ k → IsFar b (pos k)
+  down_by : {k : ℕ} → b ≤ k → IsFar b (negsuc k)
 
 lowered : (b c : ℕ) (z : ℤ) → c ≤ b → IsFar b z → IsFar (b - c) (z -ℤ pos c)
-lowered b c (pos k) h (up_by k l) = let e : pos (k - c) ≡ pos k -ℤ pos c = omega (arith, ints) in subst (IsFar (b - c)) e (up_by (k - c) (omega arith))
-lowered b c (negsuc k) h (down_by k l) = let e : negsuc (k + c) ≡ negsuc k -ℤ pos c = omega (arith, ints) in subst (IsFar (b - c)) e (down_by (k + c) (omega arith))
+lowered b c (pos k) h (up_by l) = let e : pos (k - c) ≡ pos k -ℤ pos c = omega (arith, ints) in subst (IsFar (b - c)) e (up_by (omega arith))
+lowered b c (negsuc k) h (down_by l) = let e : negsuc (k + c) ≡ negsuc k -ℤ pos c = omega (arith, ints) in subst (IsFar (b - c)) e (down_by (omega arith))
 
 raised : (b c : ℕ) (z : ℤ) → c ≤ b → IsFar b z → IsFar (b - c) (z +ℤ pos c)
-raised b c (pos k) h (up_by k l) = let e : pos (k + c) ≡ pos k +ℤ pos c = omega (arith, ints) in subst (IsFar (b - c)) e (up_by (k + c) (omega arith))
-raised b c (negsuc k) h (down_by k l) = let e : negsuc (k - c) ≡ negsuc k +ℤ pos c = omega (arith, ints) in subst (IsFar (b - c)) e (down_by (k - c) (omega arith))
+raised b c (pos k) h (up_by l) = let e : pos (k + c) ≡ pos k +ℤ pos c = omega (arith, ints) in subst (IsFar (b - c)) e (up_by (omega arith))
+raised b c (negsuc k) h (down_by l) = let e : negsuc (k - c) ≡ negsuc k +ℤ pos c = omega (arith, ints) in subst (IsFar (b - c)) e (down_by (omega arith))
 
 weaker : (b c : ℕ) (z : ℤ) → c ≤ b → IsFar b z → IsFar c z
-weaker b c (pos k) h (up_by k l) = up_by k (omega arith)
-weaker b c (negsuc k) h (down_by k l) = down_by k (omega arith)
+weaker b c (pos k) h (up_by l) = up_by (omega arith)
+weaker b c (negsuc k) h (down_by l) = down_by (omega arith)
 
 -- the offset of an index that is far from 0
 falling_out : (low n w : ℕ) (z : ℤ) → n ≤ 128 → w ≤ 128 → IsFar (low + 128) z → IsOutside n w (z -ℤ pos low)
-falling_out low n w (pos k) a b (up_by k l) = let e : pos (k - low) ≡ pos k -ℤ pos low = omega (arith, ints) in subst (IsOutside n w) e (above (k - low) (omega arith))
-falling_out low n w (negsuc k) a b (down_by k l) = let e : negsuc (k + low) ≡ negsuc k -ℤ pos low = omega (arith, ints) in subst (IsOutside n w) e (below (k + low) (omega arith))
+falling_out low n w (pos k) a b (up_by l) = let e : pos (k - low) ≡ pos k -ℤ pos low = omega (arith, ints) in subst (IsOutside n w) e (above (omega arith))
+falling_out low n w (negsuc k) a b (down_by l) = let e : negsuc (k + low) ≡ negsuc k -ℤ pos low = omega (arith, ints) in subst (IsOutside n w) e (below (omega arith))
 
 rising_out : (low n w : ℕ) (z : ℤ) → n ≤ 128 → w ≤ 128 → IsFar (low + 128) z → IsOutside n w (pos low -ℤ z)
-rising_out low n w (pos k) a b (up_by k l) = let e : negsuc (k - low - 1) ≡ pos low -ℤ pos k = omega (arith, ints) in subst (IsOutside n w) e (below (k - low - 1) (omega arith))
-rising_out low n w (negsuc k) a b (down_by k l) = let e : pos (low + k + 1) ≡ pos low -ℤ negsuc k = omega (arith, ints) in subst (IsOutside n w) e (above (low + k + 1) (omega arith))
+rising_out low n w (pos k) a b (up_by l) = let e : negsuc (k - low - 1) ≡ pos low -ℤ pos k = omega (arith, ints) in subst (IsOutside n w) e (below (omega arith))
+rising_out low n w (negsuc k) a b (down_by l) = let e : pos (low + k + 1) ≡ pos low -ℤ negsuc k = omega (arith, ints) in subst (IsOutside n w) e (above (omega arith))
 
 offset_out : (r : Range) (n w : ℕ) (z : ℤ) → n ≤ 128 → w ≤ 128 → IsFar (r.low + 128) z → IsOutside n w (offset r z)
 offset_out r n w z a b f = go (nat_le r.low r.high)
@@ -83,9 +84,9 @@ offset_out r n w z a b f = go (nat_le r.low r.high)
 -- a number is not cut, or it and what is left are far from 0
 near_cases : (z : ℤ) → (near z ≡ z) ⊎ (IsFar far z × IsFar far (near z))
 near_cases (pos n) =
-    ⊎_elim (λ l. inl (let e : min n far ≡ n = omega arith in ap pos e)) (λ l. inr (up_by n l, up_by (min n far) (omega arith))) (cases_lt n far)
+    ⊎_elim (λ l. inl (let e : min n far ≡ n = omega arith in ap pos e)) (λ l. inr (up_by l, up_by (omega arith))) (cases_lt n far)
 near_cases (negsuc n) =
-    ⊎_elim (λ l. inl (let e : min n far ≡ n = omega arith in ap negsuc e)) (λ l. inr (down_by n l, down_by (min n far) (omega arith))) (cases_lt n far)
+    ⊎_elim (λ l. inl (let e : min n far ≡ n = omega arith in ap negsuc e)) (λ l. inr (down_by l, down_by (omega arith))) (cases_lt n far)
 
 -- so a cut index selects the same bits
 pub near_bit : (ps : KnownBits) (r : Range) (o : Option ℤ) (w : ℕ) → r.low < 2 ^ 32 → length ps ≤ 128 → w ≤ 128 → select_option ps (offset_option r (near_option o)) w ≡ select_option ps (offset_option r o) w
@@ -116,3 +117,15 @@ near_slide ps r up w (Some z) low long wide =
     ⊎_elim (λ e. ap (λ y. select_option ps (slide_offset r up w (Some y)) w) e)
     (λ f. both_outside ps w _ _ (slide_out r up (length ps) w (near z) low long wide f.1) (slide_out r up (length ps) w z low long wide f.0))
     (near_cases z)
+
+-- in a rising range, down from the base
+pub rising_down : (r : Range) (w : ℕ) (b : ℤ) → nat_le r.low r.high ≡ false → slide_offset r false w (Some b) ≡ Some (pos r.low -ℤ b)
+rising_down r w b e =
+    let same : (b -ℤ pos (w - 1)) +ℤ pos (w - 1) ≡ b = omega (arith, ints) in
+    ap (λ t. Some (if t then (if t then b -ℤ pos (w - 1) else (b -ℤ pos (w - 1)) +ℤ pos (w - 1)) -ℤ pos r.low else pos r.low -ℤ (if t then b -ℤ pos (w - 1) else (b -ℤ pos (w - 1)) +ℤ pos (w - 1)))) e ∙ ap (λ z. Some (pos r.low -ℤ z)) same
+
+-- an index that was cut is near 0
+pub near_within : (o : Option ℤ) (b : ℤ) → Some b ≡ near_option o → (negsuc far ≤ℤ b) × (b ≤ℤ pos far)
+near_within None b e = absurd (cc)
+near_within (Some (pos n)) b e = let is : b ≡ pos (min n far) = cc in (omega (arith, ints, is), omega (arith, ints, is))
+near_within (Some (negsuc n)) b e = let is : b ≡ negsuc (min n far) = cc in (omega (arith, ints, is), omega (arith, ints, is))

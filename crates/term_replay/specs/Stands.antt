@@ -1,39 +1,37 @@
 -- What a partly known vector stands for: the value of a term on what is known, with its sign and its blame.
 use Rattle.std.specs.Prelude.{◌≡◌, ◌≤◌, ℕ, Bool, true, false, List, [], map, Option, Some, None}
-use Rattle.cov_host.specs.declared.place.Place.{Place}
 use Rattle.four_state.specs.declared.bit.Bit.{Bit}
-use Rattle.four_state.specs.Vector.{extend}
+use Rattle.four_state.specs.Arithmetic.{natural}
+use Rattle.four_state.specs.Parts.{index}
+use Rattle.four_state.specs.Vector.{Vector, extend}
 use Rattle.known_state.specs.Partly.{Partly, is_told, told_of}
-use Rattle.design_model.specs.Design.{Design, signal_cells, nowhere}
+use Rattle.design_model.specs.Design.{Design, signal_cells}
 use Rattle.design_model.specs.Tree.{Head, Term, Terms}
-use Rattle.design_model.specs.Value.{head}
+use Rattle.design_model.specs.Value.{head, slide_offset}
+use Rattle.design_model.specs.declared.design.Range.{Range}
 use Rattle.design_model.specs.Shape.{is_shaped, own_width, are_alone, own_widths}
-use Rattle.body_replay.specs.KnownBits.{copies_partly, extend_partly}
+use Rattle.body_replay.specs.KnownBits.{copies_partly, extend_partly, select_option}
 use Rattle.body_replay.specs.Store.{Kept, known_joined, known_value}
 use Rattle.body_replay.specs.Replay.{Blames, blame_of, blame_of_all, first_read, first_reads}
-use Rattle.term_replay.specs.declared.shape.Shape.{Shape}
+use Rattle.term_replay.specs.declared.head.TermHead.{TermHead}
 
 -- the width is from 1 to 128
-pub record IsShape (x : Shape) : Type 0 where
+pub record IsHead (x : TermHead) : Type 0 where
   pub at_least : 1 ≤ x.width
   pub at_most : x.width ≤ 128
 
--- what a term of this shape has beside its form
-abbrev pub head_of : Place → Shape → Option ℕ → Head
-head_of place x node = record { place = place; width = x.width; signed = x.signed; node = node }
-
--- the same, where the place and the number do not matter
-abbrev pub bare : Shape → Head
-bare x = head_of nowhere x None
+-- what a term has beside its form
+abbrev pub head_of : TermHead → Head
+head_of x = record { place = x.place; width = x.width; signed = x.signed; node = x.node }
 
 -- r is q at this width and with this sign, by which it is extended
-pub record Fitted (x : Shape) (q r : Partly) : Type 0 where
+pub record Fitted (x : TermHead) (q r : Partly) : Type 0 where
   pub bits : r.bits ≡ extend_partly x.width x.signed q.bits
   pub sign_is : r.signed ≡ x.signed
   pub blame : is_told r ≡ false → (is_told q ≡ false) × (r.blame ≡ q.blame)
 
 -- these bits, told whole, extended by this sign
-abbrev pub told_at : Shape → List Bit → Partly
+abbrev pub told_at : TermHead → List Bit → Partly
 told_at x bs = told_of (record { bits = extend x.width x.signed bs; signed = x.signed })
 
 -- no bits, or those of the vector
@@ -87,3 +85,8 @@ pub record AreSideBySide (d : Design) (ts : Terms) : Type 0 where
 -- so many copies of the vector side by side
 abbrev pub copied : ℕ → Partly → Partly
 copied n q = record { bits = copies_partly n q.bits; signed = false; blame = q.blame }
+
+-- so many bits of the vector, from the base up or down
+abbrev pub slid : Range → Bool → Vector → Vector → Partly → Partly
+slid r up base count q =
+    record { bits = select_option q.bits (slide_offset r up (natural count.bits) (index base.signed base.bits)) (natural count.bits); signed = false; blame = q.blame }

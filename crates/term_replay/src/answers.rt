@@ -2,7 +2,7 @@
 
 ghost use Rattle.std.specs.Prelude.{◌≡◌, if◌then◌else◌};
 ghost use Rattle.four_state.specs.Vector.{truth as truth_of};
-ghost use Rattle.four_state.specs.declared.bit.Bit.TheVariants as bit;
+ghost use Rattle.four_state.specs.declared.bit.Bit.TheVariants as bits;
 ghost use Rattle.four_state.specs.declared.truth.Truth.TheVariants as truth;
 ghost use Rattle.known_state.specs.Partly.{filled};
 ghost use Rattle.body_replay.specs.KnownBits.{both as both_hold};
@@ -24,15 +24,24 @@ pub(crate) fn is_false(value: &Known) -> Maybe
     ensures { IsAnswer (ask value.now.bits truth.False) value.now.blame result }
 {
     match value.truth() {
-        KnownTruth::Sure(Truth::False) => Maybe::Yes,
-        KnownTruth::Sure(Truth::True | Truth::Strange) => Maybe::No,
+        KnownTruth::Sure(truth) => sure_false(truth),
         KnownTruth::Unsure(thing) => may_be_false(value, thing),
+    }
+}
+
+/// Whether this is the truth of a vector of which all bits are 0.
+fn sure_false(truth: Truth) -> Maybe
+    ensures { result ≡ (if is_truth_false truth then Maybe.Yes else Maybe.No) }
+{
+    match truth {
+        Truth::False => Maybe::Yes,
+        Truth::True | Truth::Strange => Maybe::No,
     }
 }
 
 /// Whether all bits of an operand may be 0, as an answer that hangs on this thing if they may.
 fn may_be_false(value: &Known, thing: u32) -> Maybe
-    ensures { result ≡ (if is_truth_false (truth_of (filled bit.Zero value.now.bits)) then Maybe.Unsure thing else Maybe.No) }
+    ensures { result ≡ (if is_truth_false (truth_of (filled bits.Zero value.now.bits)) then Maybe.Unsure thing else Maybe.No) }
 {
     match value.value().truth() {
         Truth::False => Maybe::Unsure(thing),

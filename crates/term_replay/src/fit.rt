@@ -1,47 +1,45 @@
 //! A value at the width and with the sign of its term, and the terms that stand alone.
 
-ghost use Rattle.std.specs.Prelude.{◌≡◌, ◌≤◌, ℕ, [], Option, false};
-ghost use Rattle.cov_host.specs.declared.place.Place.{Place};
+ghost use Rattle.std.specs.Prelude.{◌≡◌, ℕ, Bool, [], Option, false};
 ghost use Rattle.known_state.specs.Partly.{is_told, told_of};
 ghost use Rattle.design_model.specs.Tree as t;
 ghost use Rattle.body_replay.specs.Replay.{note};
-ghost use Rattle.term_replay.specs.Stands.{Scene, Fitted, IsRead, IsShape, Stands, head_of, told_at};
+ghost use Rattle.term_replay.specs.Stands.{Scene, Fitted, IsRead, IsHead, Stands, head_of, told_at};
 
-use crate::Shape;
+use crate::TermHead;
 use four_state::{Bit, Four};
 use known_state::Known;
 
 /// The value at another width, extended by this sign and not by its own, and with this sign from then on.
-pub fn fitted(value: &Known, shape: Shape) -> Known
-    requires { IsShape shape }
-    ensures { Fitted shape value.now result }
+pub fn fitted(value: &Known, head: TermHead) -> Known
+    requires { IsHead head }
+    ensures { Fitted head value.now result }
 {
-    if value.width() == shape.width && value.is_signed() == shape.signed {
-        *value
-    } else if value.is_told() {
-        told_fitted(&value.value(), shape)
-    } else {
-        value
-            .extend(value.width(), shape.signed)
-            .extend(shape.width, shape.signed)
+    if value.width() == head.width && value.is_signed() == head.signed {
+        return *value;
     }
+    if value.is_told() {
+        return told_fitted(&value.value(), head);
+    }
+    let value = value.extend(value.width(), head.signed);
+    value.extend(head.width, head.signed)
 }
 
 /// The same of a value of which all bits are sure.
-fn told_fitted(value: &Four, shape: Shape) -> Known
-    requires { IsShape shape }
-    ensures { result ≡ told_at shape value.now.bits }
+fn told_fitted(value: &Four, head: TermHead) -> Known
+    requires { IsHead head }
+    ensures { result ≡ told_at head value.now.bits }
 {
-    let value = value.extend(value.width(), shape.signed);
-    Known::told(value.extend(shape.width, shape.signed))
+    let value = value.extend(value.width(), head.signed);
+    Known::told(value.extend(head.width, head.signed))
 }
 
 /// The value of no bits: 0.
-pub(crate) fn blank(shape: Shape) -> Known
-    requires { IsShape shape }
-    ensures { result ≡ told_at shape [] }
+pub(crate) fn blank(head: TermHead) -> Known
+    requires { IsHead head }
+    ensures { result ≡ told_at head [] }
 {
-    Known::told(Four::fill(shape.width, shape.signed, Bit::Zero))
+    Known::told(Four::fill(head.width, head.signed, Bit::Zero))
 }
 
 /// The same bits with this thing to blame where not all are sure.
@@ -50,10 +48,9 @@ pub(crate) fn blamed(value: &Known, thing: u32) -> Known
     ensures blame { is_told result ≡ false → result.blame ≡ thing }
 {
     if value.is_told() {
-        *value
-    } else {
-        value.join(value, thing)
+        return *value;
     }
+    value.join(value, thing)
 }
 
 /// The first read of a run that was not wholly sure, after this read.
@@ -68,25 +65,25 @@ pub(crate) fn noted(first: Option<u32>, value: &Known) -> Option<u32>
 }
 
 /// The value of a number.
-pub fn number(value: &Four, shape: Shape) -> Known
-    requires { IsShape shape }
-    ensures { (v : Scene) (first : Option ℕ) (place : Place) (node : Option ℕ) → Stands v first (t.number (head_of place shape node) value.now) result }
+pub fn number(value: &Four, head: TermHead) -> Known
+    requires { IsHead head }
+    ensures { (v : Scene) (first : Option ℕ) → Stands v first (t.number (head_of head) value.now) result }
 {
-    fitted(&Known::told(*value), shape)
+    fitted(&Known::told(*value), head)
 }
 
 /// The value of a signal of which this was read.
-pub fn signal(read: &Known, shape: Shape) -> Known
-    requires { IsShape shape }
-    ensures { (v : Scene) (first : Option ℕ) (place : Place) (node : Option ℕ) (s : ℕ) → IsRead v s read.now → Stands v first (t.signal (head_of place shape node) s) result }
+pub fn signal(read: &Known, head: TermHead) -> Known
+    requires { IsHead head }
+    ensures { (v : Scene) (first : Option ℕ) (s : ℕ) → IsRead v s read.now → Stands v first (t.signal (head_of head) s) result }
 {
-    fitted(read, shape)
+    fitted(read, head)
 }
 
 /// The value of `$signed` or `$unsigned` of an operand.
-pub fn sign(operand: &Known, shape: Shape) -> Known
-    requires { IsShape shape }
-    ensures { (v : Scene) (first : Option ℕ) (place : Place) (node : Option ℕ) (x : t.Term) (s : Bool) → Stands v first x operand.now → Stands v first (t.sign (head_of place shape node) s x) result }
+pub fn sign(operand: &Known, head: TermHead) -> Known
+    requires { IsHead head }
+    ensures { (v : Scene) (first : Option ℕ) (x : t.Term) (s : Bool) → Stands v first x operand.now → Stands v first (t.sign (head_of head) s x) result }
 {
-    fitted(operand, shape)
+    fitted(operand, head)
 }

@@ -4,24 +4,22 @@
 
 mod answers;
 mod cases;
-mod copies;
-mod evaluate;
+mod repeated;
 mod fit;
 mod notes;
 mod offset;
 mod operate;
 mod reads;
 mod select;
-mod shape;
-mod word;
+mod head;
+mod memory;
 
 pub use cases::{note_own, note_two};
-pub use copies::{concat, copies, followed_by};
-pub use evaluate::{Evaluated, Progress, evaluate};
+pub use repeated::{concat, copies, followed_by};
 pub use fit::{fitted, number, sign, signal};
 pub use notes::{Access, Notes, Spot};
 pub use operate::{binary, choice, unary};
 pub use reads::Reads;
 pub use select::{bit, part, range_of, slide};
-pub use shape::Shape;
-pub use word::{may_name, note_words, word};
+pub use head::TermHead;
+pub use memory::{may_name, note_words, word};

@@ -1,4 +1,4 @@
-ghost use Rattle.std.specs.Prelude.{◌∷◌, [], List};
+ghost use Rattle.std.specs.Prelude.{◌≡◌, ◌∷◌, [], List};
 ghost use Rattle.body_replay.specs.Replay.{Mark};
 ghost use Rattle.term_replay.specs.Noted.{Adds, mark_of};
 

@@ -4,9 +4,9 @@ ghost use Rattle.std.specs.Prelude.{◌≡◌, ◌+◌, ◌*◌, ◌++◌, ◌�
 ghost use Rattle.known_state.specs.Join.{first_blame};
 ghost use Rattle.known_state.specs.Partly.{is_told};
 ghost use Rattle.body_replay.specs.KnownBits.{copies_partly};
-ghost use Rattle.term_replay.specs.Stands.{Fitted, IsShape, copied, so_far};
+ghost use Rattle.term_replay.specs.Stands.{Fitted, IsHead, copied, so_far};
 
-use crate::Shape;
+use crate::TermHead;
 use crate::fit::{blank, fitted};
 use four_state::Four;
 use known_state::Known;
@@ -31,10 +31,9 @@ fn appended(high: &Known, low: &Known) -> Known
     ensures blame { is_told result ≡ false → result.blame ≡ first_blame high.now low.now }
 {
     if high.is_told() && low.is_told() {
-        Known::told(Four::append(&high.value(), &low.value()))
-    } else {
-        Known::append(high, low)
+        return Known::told(Four::append(&high.value(), &low.value()));
     }
+    Known::append(high, low)
 }
 
 /// So many copies of a value side by side.
@@ -45,20 +44,24 @@ pub fn copies(value: &Known, count: u8) -> Known
     ensures blame { is_told result ≡ false → result.blame ≡ value.now.blame }
 {
     let mut all = *value;
-    for _ in 1..count {
+    for made in 1..count {
+        prove!(made < count);
         all = appended(&all, value);
     }
     all
 }
 
 /// So many copies of the joined values of a concatenation, at the shape of its term: 0 where there are no bits.
-pub fn concat(all: Option<Known>, count: u8, shape: Shape) -> Known
-    requires shape { IsShape shape }
+pub fn concat(all: Option<Known>, count: u8, head: TermHead) -> Known
+    requires head { IsHead head }
     requires room { length (so_far all).bits * count ≤ 128 }
-    ensures { Fitted shape (copied count (so_far all)) result }
+    ensures { Fitted head (copied count (so_far all)) result }
 {
+    if count == 0 {
+        return blank(head);
+    }
     match all {
-        Some(all) if count > 0 => fitted(&copies(&all, count), shape),
-        _ => blank(shape),
+        Some(all) => fitted(&copies(&all, count), head),
+        None => blank(head),
     }
 }

@@ -1,14 +1,15 @@
 //! Words of memories by their evaluated indexes (IEEE 1364-2001, clause 4.2.2).
 
-ghost use Rattle.std.specs.Prelude.{◌≡◌, ◌-◌, ◌^◌, ◌≤◌, false, true, max, min};
+ghost use Rattle.std.specs.Prelude.{◌≡◌, ◌-◌, ◌^◌, ◌≤◌, ◌∷◌, [], if◌then◌else◌, false, true, max, min};
 ghost use Rattle.four_state.specs.Parts.{index as index_value};
 ghost use Rattle.known_state.specs.Partly.{is_told};
-ghost use Rattle.design_model.specs.Design.{Memory, is_memory};
+ghost use Rattle.design_model.specs.declared.design.Memory.{Memory};
+ghost use Rattle.design_model.specs.Design.{is_memory};
 ghost use Rattle.design_model.specs.Value.{named_word};
 ghost use Rattle.body_replay.specs.Store.{may_name as may_name_word, read_word, words as words_of};
-ghost use Rattle.body_replay.specs.Replay.{perhaps_marks, word_blame};
+ghost use Rattle.body_replay.specs.Replay.{doubted, named_mark, perhaps_marks, word_blame};
 ghost use Rattle.term_replay.specs.Noted.{Adds, access_spot, in_this};
-ghost use Rattle.term_replay.specs.Words.{IsOf, marks_of_words};
+ghost use Rattle.term_replay.specs.Words.{IsOf, is_index_at, marks_of_words};
 
 use crate::fit::blamed;
 use crate::{Access, Notes, Reads};
@@ -23,15 +24,23 @@ pub fn word<R: Reads>(reads: &R, memory: u32, index: &Known, first: Option<u32>)
     ensures bits { result.bits ≡ read_word (R.scene reads.now).design (R.scene reads.now).kept memory index.now.signed index.now.bits }
     ensures blame { is_told result ≡ false → result.blame ≡ word_blame (R.scene reads.now).blames memory (is_told index.now) index.now.blame first }
 {
-    let own = reads.blame(memory);
-    let thing = if reads.wrote(memory) {
-        first.unwrap_or(own)
-    } else if index.is_told() {
-        own
-    } else {
-        index.blame()
-    };
+    let thing = thing_to_blame(reads, memory, index, first);
     blamed(&reads.word(memory, index), thing)
+}
+
+/// What a word that is read by an index is blamed on.
+fn thing_to_blame<R: Reads>(reads: &R, memory: u32, index: &Known, first: Option<u32>) -> u32
+    requires { is_memory (R.scene reads.now).design memory ≡ true }
+    ensures { result ≡ word_blame (R.scene reads.now).blames memory (is_told index.now) index.now.blame first }
+{
+    let own = reads.blame(memory);
+    if reads.wrote(memory) {
+        return match first {
+            Some(thing) => thing,
+            None => own,
+        };
+    }
+    if index.is_told() { own } else { index.blame() }
 }
 
 /// The mask of the lowest `width` places.
@@ -51,7 +60,20 @@ pub fn may_name(index: &Known, word: u32) -> bool
     let number = u128::from(word);
     let mask = low_mask(index.width());
     let bits = Four::make(index.width(), index.is_signed(), number & mask, 0);
-    bits.index() == Index::At(number) && !index.differs(&bits)
+    if index.differs(&bits) {
+        return false;
+    }
+    is_number(bits.index(), number)
+}
+
+/// Whether an index is this number.
+fn is_number(index: Index, number: u128) -> bool
+    ensures { result ≡ is_index_at index number }
+{
+    match index {
+        Index::At(own) => own == number,
+        Index::Strange | Index::Below => false,
+    }
 }
 
 /// The word of a memory that a told index names, if there is one.
@@ -78,11 +100,24 @@ pub fn note_words<N: Notes>(
 )
     ensures { (m : Memory) → IsOf words m → Adds N.noted notes.old (in_this mode (marks_of_words m (access_spot access memory) index.now.signed index.now.bits index.now.blame)) notes.new }
 {
-    if !index.is_told() {
-        let thing = mode.unwrap_or(index.blame());
-        return note_each(access, memory, words, index, thing, notes);
+    if index.is_told() {
+        return note_named(access, memory, named(words, &index.value()), mode, notes);
     }
-    if let Some(word) = named(words, &index.value()) {
+    let thing = mode.unwrap_or(index.blame());
+    note_each(access, memory, words, index, thing, notes);
+}
+
+/// Notes the word that is named, if there is one.
+fn note_named<N: Notes>(
+    access: Access,
+    memory: u32,
+    word: Option<u32>,
+    mode: Option<u32>,
+    notes: &mut N,
+)
+    ensures { Adds N.noted notes.old (in_this mode (named_mark (access_spot access memory) word)) notes.new }
+{
+    if let Some(word) = word {
         notes.note(access.spot(memory, word), mode);
     }
 }
@@ -98,12 +133,25 @@ fn note_each<N: Notes>(
 )
     ensures { (m : Memory) → IsOf words m → Adds N.noted notes.old (perhaps_marks (access_spot access memory) (may_name_word m index.now.signed index.now.bits) (words_of m) thing) notes.new }
 {
-    let low = u64::from(words.high.min(words.low));
-    let high = u64::from(words.high.max(words.low));
-    for word in low..high + 1 {
-        let word = word as u32;
-        if may_name(index, word) {
-            notes.note(access.spot(memory, word), Some(thing));
-        }
+    let low = words.high.min(words.low);
+    let high = words.high.max(words.low);
+    for word in u64::from(low)..u64::from(high) + 1 {
+        note_if_named(access, memory, index, word as u32, thing, notes);
+    }
+}
+
+/// Notes a doubt of the word of a memory with this number, if an index may name it.
+fn note_if_named<N: Notes>(
+    access: Access,
+    memory: u32,
+    index: &Known,
+    word: u32,
+    thing: u32,
+    notes: &mut N,
+)
+    ensures { (m : Memory) → min m.first m.last ≤ word → word ≤ max m.first m.last → Adds N.noted notes.old (if may_name_word m index.now.signed index.now.bits word then doubted (access_spot access memory word) thing ∷ [] else []) notes.new }
+{
+    if may_name(index, word) {
+        notes.note(access.spot(memory, word), Some(thing));
     }
 }
