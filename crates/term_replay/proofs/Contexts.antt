@@ -200,12 +200,14 @@ module _ (d : Design) where
       let p3 = and_parts _ (is_shaped d c.width c.signed z) c.shaped in
       let p2 = and_parts _ (is_shaped d c.width c.signed y) p3.0 in
       let p1 = and_parts (has_shape c.width c.signed h) (is_shaped d (own_width d i) (own_sign d i) i) p2.0 in
-      let n : max (own_width d y) (own_width d z) ≤ c.width = c.narrow in
-      (alone i p1.1, record {
-        left = record { width = c.width; signed = c.signed; shaped = p2.1; narrow = omega (arith, n) };
-        right = record { width = c.width; signed = c.signed; shaped = p3.1; narrow = omega (arith, n) };
-        one_shape = λ e. (refl, refl);
-      })
+      let n : max (own_width d y) (own_width d z) ≤ c.width = c.narrow in (
+        alone i p1.1,
+        record {
+          left = record { width = c.width; signed = c.signed; shaped = p2.1; narrow = omega (arith, n) };
+          right = record { width = c.width; signed = c.signed; shaped = p3.1; narrow = omega (arith, n) };
+          one_shape = λ e. (refl, refl);
+        },
+      )
 
   -- the sides have one shape
   pub same_shapes : (v : Scene) (first next : Option ℕ) (y z : Term) (a b : Partly) → (l : IsInContext d y) (r : IsInContext d z) → l.width ≡ r.width → l.signed ≡ r.signed → Stands v first y a → Stands v next z b → HaveSameShape a b

@@ -14,13 +14,7 @@ use four_state::Binary;
 use known_state::{Known, Maybe};
 
 /// Notes a case by its answer. In a branch of an undecided test, which `mode` is to blame for, it is a doubt by that test.
-fn note_case<N: Notes>(
-    node: u32,
-    case: NodeCase,
-    answer: Maybe,
-    mode: Option<u32>,
-    notes: &mut N,
-)
+fn note_case<N: Notes>(node: u32, case: NodeCase, answer: Maybe, mode: Option<u32>, notes: &mut N)
     ensures { Adds N.noted notes.old (in_this mode (case_mark node case (answer_of answer) (blame_in answer))) notes.new }
 {
     let spot = Spot::Node { node, case };
@@ -63,13 +57,7 @@ pub fn note_two<N: Notes>(
 }
 
 /// The cases of an operator that one false operand decides.
-fn note_and<N: Notes>(
-    node: u32,
-    left: &Known,
-    right: &Known,
-    mode: Option<u32>,
-    notes: &mut N,
-)
+fn note_and<N: Notes>(node: u32, left: &Known, right: &Known, mode: Option<u32>, notes: &mut N)
     ensures { Adds N.noted notes.old (in_this mode (case_marks node (and_cases left.now.bits right.now.bits left.now.blame right.now.blame))) notes.new }
 {
     let all = both(is_true(left), is_true(right));
@@ -89,19 +77,31 @@ fn note_or<N: Notes>(node: u32, left: &Known, right: &Known, mode: Option<u32>, 
 }
 
 /// The cases of any other operator with two operands.
-fn note_four<N: Notes>(
-    node: u32,
-    left: &Known,
-    right: &Known,
-    mode: Option<u32>,
-    notes: &mut N,
-)
+fn note_four<N: Notes>(node: u32, left: &Known, right: &Known, mode: Option<u32>, notes: &mut N)
     ensures { Adds N.noted notes.old (in_this mode (case_marks node (four_known left.now.bits right.now.bits left.now.blame right.now.blame))) notes.new }
 {
     let (low, high) = (is_false(left), is_true(left));
     let (right_low, right_high) = (is_false(right), is_true(right));
     note_case(node, NodeCase::BothFalse, both(low, right_low), mode, notes);
-    note_case(node, NodeCase::FalseTrue, both(low, right_high), mode, notes);
-    note_case(node, NodeCase::TrueFalse, both(high, right_low), mode, notes);
-    note_case(node, NodeCase::BothTrue, both(high, right_high), mode, notes);
+    note_case(
+        node,
+        NodeCase::FalseTrue,
+        both(low, right_high),
+        mode,
+        notes,
+    );
+    note_case(
+        node,
+        NodeCase::TrueFalse,
+        both(high, right_low),
+        mode,
+        notes,
+    );
+    note_case(
+        node,
+        NodeCase::BothTrue,
+        both(high, right_high),
+        mode,
+        notes,
+    );
 }

@@ -30,8 +30,8 @@ fn told_fitted(value: &Four, head: TermHead) -> Known
     requires { IsHead head }
     ensures { result ≡ told_at head value.now.bits }
 {
-    let value = value.extend(value.width(), head.signed);
-    Known::told(value.extend(head.width, head.signed))
+    let own = value.extend(value.width(), head.signed);
+    Known::told(own.extend(head.width, head.signed))
 }
 
 /// The value of no bits: 0.

@@ -4,22 +4,22 @@
 
 mod answers;
 mod cases;
-mod repeated;
 mod fit;
+mod head;
+mod memory;
 mod notes;
 mod offset;
 mod operate;
 mod reads;
+mod repeated;
 mod select;
-mod head;
-mod memory;
 
 pub use cases::{note_own, note_two};
-pub use repeated::{concat, copies, followed_by};
 pub use fit::{fitted, number, sign, signal};
+pub use head::TermHead;
+pub use memory::{may_name, note_words, word};
 pub use notes::{Access, Notes, Spot};
 pub use operate::{binary, choice, unary};
 pub use reads::Reads;
+pub use repeated::{concat, copies, followed_by};
 pub use select::{bit, part, range_of, slide};
-pub use head::TermHead;
-pub use memory::{may_name, note_words, word};

@@ -12,4 +12,4 @@ returns-then-is_told g c = λ m is.
 
 pub returns : goal.returns
 returns g c = λ m is.
-    adds_same g.N.Notes.noted _ _ _ _ (words_unsure c.args.mode m (access_spot c.args.access c.args.memory) c.args.index.now c.unwrap_or.result (sym c.is_told.ensures ∙ c.if-is_told.false) (c.unwrap_or.ensures ∙ ap (unwrap_or c.args.mode) c.blame.ensures.value)) (c.note_each.ensures m is)
+    adds_same g.N.Notes.noted _ _ _ _ (words_unsure c.args.mode m (access_spot c.args.access c.args.memory) c.args.index.now c.unwrap_or-thing.result (sym c.is_told.ensures ∙ c.if-is_told.false) (c.unwrap_or-thing.ensures ∙ ap (unwrap_or c.args.mode) c.blame.ensures.value)) (c.note_each.ensures m is)
