@@ -1,0 +1,7 @@
+pub mod Slots
+pub mod Offsets
+pub mod Spread
+pub mod Placed
+pub mod Missed
+pub mod Left
+pub mod Held

@@ -1,0 +1,5 @@
+pub mod Signals
+pub mod Slots
+pub mod Near
+pub mod Parts
+pub mod Held
