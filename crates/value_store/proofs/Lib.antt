@@ -1,4 +1,5 @@
 pub mod Slots
+pub mod Indexes
 pub mod Offsets
 pub mod Spread
 pub mod Placed

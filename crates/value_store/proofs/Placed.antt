@@ -68,3 +68,17 @@ part_shape r i p q = go (is_told i)
 pub update_shape : (certain : Bool) (s : ℕ) (new old : Partly) → length new.bits ≡ length old.bits → new.signed ≡ old.signed → (length (updated certain s new old).bits ≡ length old.bits) × ((updated certain s new old).signed ≡ old.signed)
 update_shape true s new old e f = (e, f)
 update_shape false s new old e f = (length-joined old.bits new.bits (sym e), refl)
+
+-- ---- a part by a told index
+
+module _ (r : Range) (i p q : Partly) (told : is_told i ≡ true) where
+  abbrev after : List (Option Bit) → Partly
+  after qs = with_blame qs q.signed (if is_told p then q.blame else p.blame)
+
+  part_told : part_written r i p q ≡ after (placed_bits q.bits p.bits (told_offset r i))
+  part_told = ap (λ t. if t then after (placed_bits q.bits p.bits (told_offset r i)) else with_blame (joined q.bits (replicate (length q.bits) (common_bits p.bits))) q.signed i.blame) told
+
+  -- with an offset of which the part does the same
+  pub written_placed : (o : Option ℤ) → placed_bits q.bits p.bits o ≡ placed_bits q.bits p.bits (told_offset r i) → (w : Partly) (blame : ℕ) → w.bits ≡ placed_bits q.bits p.bits o → w.signed ≡ q.signed → blame ≡ (if is_told p then q.blame else p.blame) → with_blame w.bits w.signed blame ≡ part_written r i p q
+  written_placed o same w blame bits sign is =
+      ap₂ (λ ps s. with_blame ps s blame) (bits ∙ same) sign ∙ ap (with_blame (placed_bits q.bits p.bits (told_offset r i)) q.signed) is ∙ sym part_told

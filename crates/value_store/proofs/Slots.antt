@@ -1,12 +1,13 @@
 -- What changes of one slot leave of the whole.
-use Rattle.std.proofs.Common.{◌≡◌, ℕ, suc, ◌+◌, ◌<◌, ◌≤◌, ◌==◌, Bool, true, false, if◌then◌else◌, List, [], ◌∷◌, ◌++◌, length, map, get_or, set, take, Option, Some, None, refl, sym, ap, ap₂, subst, ◌∙◌, arith, eq-eqb}
+use Rattle.std.proofs.Common.{◌≡◌, ℕ, suc, ◌+◌, ◌-◌, ◌<◌, ◌≤◌, ◌==◌, Bool, true, false, if◌then◌else◌, List, [], ◌∷◌, ◌++◌, length, map, get_or, set, take, drop, append_assoc, length-take, Option, Some, None, refl, sym, ap, ap₂, subst, ◌∙◌, arith, eq-eqb}
 use Rattle.std.specs.List.{All}
-use Rattle.std.proofs.lemmas.List.{map-set, set-get_or}
-use Rattle.std.proofs.lemmas.List.Elements.{All-head, All-map, All-tail, All-weaker}
+use Rattle.std.proofs.lemmas.List.{drop_more, get_or-append_right, length-map, map-append, map-set, set-get_or, set_at, take_all, take_more}
+use Rattle.std.proofs.lemmas.List.Elements.{All-head, All-map, All-push, All-tail, All-weaker}
 use Rattle.std.proofs.lemmas.Bool.{eqb-true, false≢true}
 use Rattle.known_state.specs.Partly.{Partly}
-use Rattle.value_store.specs.Signals.{Signals, Shape, unknown_from, unknown_of}
+use Rattle.value_store.specs.Signals.{Signals, Shape, shape_of, unknown_from, unknown_of, unknown_signals}
 use Rattle.value_store.specs.Slots.{IsSlot, hidden_in, rewound, shape_in, signals_in}
+use Rattle.design_model.specs.declared.design.Signal.{Signal}
 use Rattle.value_store.specs.declared.slot.Slot.{Slot}
 
 -- a change that a view of a slot does not see
@@ -75,3 +76,50 @@ later_slots epoch later xs l h =
 
 pub all_later : (epoch : ℕ) (xs : List Slot) → All (IsSlot epoch) xs → signals_in (epoch + 1) xs ≡ record (signals_in epoch xs) { hidden = map (λ x. None) (map (hidden_in epoch) xs) }
 all_later epoch xs h = ap (made (map shape_in xs) (map (λ x. x.kept) xs)) (none_shown epoch (epoch + 1) xs (omega arith) h (hidden_in epoch))
+
+-- ---- one signal, as contracts see it
+
+module _ (epoch : ℕ) (xs : List Slot) (i : ℕ) (x : Slot) (v : Signals) (is : x ≡ get_or xs i x) (view : signals_in epoch xs ≡ v) where
+  pub kept_written : (q : Partly) → signals_in epoch (set xs i (record x { kept = q })) ≡ record v { kept = set v.kept i q }
+  kept_written q = ap {A = Slot} (λ y. signals_in epoch (set xs i (record y { kept = q }))) is ∙ kept_set epoch xs i x q ∙ ap {A = Signals} (λ w. record w { kept = set w.kept i q }) view
+
+  pub shown_written : (q : Partly) → signals_in epoch (set xs i (record x { shown = q; epoch = epoch })) ≡ record v { hidden = set v.hidden i (Some q) }
+  shown_written q = ap {A = Slot} (λ y. signals_in epoch (set xs i (record y { shown = q; epoch = epoch }))) is ∙ shown_set epoch xs i x q ∙ ap {A = Signals} (λ w. record w { hidden = set w.hidden i (Some q) }) view
+
+-- one slot more is without anything put into it
+pub rewound_more : (xs ys : List Slot) (i : ℕ) (d : Slot) → i < length xs → ys ≡ map rewound (take i xs) ++ drop i xs → set ys i (rewound (get_or ys i d)) ≡ map rewound (take (i + 1) xs) ++ drop (i + 1) xs
+rewound_more xs ys i d l e =
+    let y : Slot = get_or xs i d in
+    let before : List Slot = map rewound (take i xs) in
+    let later : List Slot = drop (i + 1) xs in
+    let size : length before ≡ i = omega (arith, l, length-map (take i xs) rewound, length-take i xs) in
+    let split : ys ≡ before ++ y ∷ later = e ∙ ap (λ zs. before ++ zs) (drop_more xs i d l) in
+    let first : i - i ≡ 0 = omega arith in
+    let here : get_or ys i d ≡ y = ap (λ zs. get_or zs i d) split ∙ get_or-append_right before (y ∷ later) i i d size (omega arith) ∙ ap (λ k. get_or (y ∷ later) k d) first in
+    let left : set ys i (rewound (get_or ys i d)) ≡ before ++ rewound y ∷ later = ap₂ (λ zs v. set zs i (rewound v)) split here ∙ set_at before y later (rewound y) i size in
+    let right : map rewound (take (i + 1) xs) ++ later ≡ before ++ rewound y ∷ later = ap (λ zs. map rewound zs ++ later) (take_more xs i d l) ∙ ap (λ zs. zs ++ later) (map-append rewound (take i xs) (y ∷ [])) ∙ append_assoc before (rewound y ∷ []) later in
+    left ∙ sym right
+
+-- ---- the slots of the first signals
+
+pub record Made (i : ℕ) (xs : List Signal) (ys : List Slot) : Type 0 where
+  pub shapes : map shape_in ys ≡ map shape_of (take i xs)
+  pub kept : map (λ y. y.kept) ys ≡ unknown_from 0 (map shape_of (take i xs))
+  pub slots : All (IsSlot 0) ys
+
+pub one_made : (i : ℕ) (xs : List Signal) (ys zs : List Slot) (s : Signal) (x : Slot) → i < length xs → s ≡ get_or xs i s → zs ≡ ys ++ x ∷ [] → shape_in x ≡ shape_of s → x.kept ≡ unknown_of (shape_of s) i → IsSlot 0 x → Made i xs ys → Made (i + 1) xs zs
+one_made i xs ys zs s x l is pushed shape unknown slot m =
+    let more : take (i + 1) xs ≡ take i xs ++ s ∷ [] = take_more xs i s l ∙ ap (λ y. take i xs ++ y ∷ []) (sym is) in
+    let shapes_more : map shape_of (take (i + 1) xs) ≡ map shape_of (take i xs) ++ shape_of s ∷ [] = ap (map shape_of) more ∙ map-append shape_of (take i xs) (s ∷ []) in
+    let size : 0 + length (map shape_of (take i xs)) ≡ i = omega (arith, l, length-map (take i xs) shape_of, length-take i xs) in
+    record {
+      shapes = ap (map shape_in) pushed ∙ map-append shape_in ys (x ∷ []) ∙ ap₂ (λ a b. a ++ b ∷ []) m.shapes shape ∙ sym shapes_more;
+      kept = ap (map (λ y. y.kept)) pushed ∙ map-append (λ y. y.kept) ys (x ∷ []) ∙ ap₂ (λ a b. a ++ b ∷ []) m.kept (unknown ∙ ap (unknown_of (shape_of s)) (sym size)) ∙ sym (unknown_push 0 (map shape_of (take i xs)) (shape_of s)) ∙ ap (unknown_from 0) (sym shapes_more);
+      slots = let h = All-push (IsSlot 0) ys x m.slots slot in subst (All (IsSlot 0)) (sym pushed) h;
+    }
+
+pub all_made : (i : ℕ) (xs : List Signal) (ys : List Slot) → length xs ≤ i → Made i xs ys → signals_in 1 ys ≡ unknown_signals (map shape_of xs)
+all_made i xs ys l m =
+    let whole : map shape_of (take i xs) ≡ map shape_of xs = ap (map shape_of) (take_all i xs l) in
+    let shapes : map shape_in ys ≡ map shape_of xs = m.shapes ∙ whole in
+    three shapes (m.kept ∙ ap (unknown_from 0) whole) (none_shown 0 1 ys (omega arith) m.slots shape_in ∙ ap (map (λ x. None)) shapes)

@@ -1,9 +1,11 @@
 //! Where a part of a signal begins, from its evaluated index.
 
-ghost use Rattle.std.specs.Prelude.{◌≡◌};
+ghost use Rattle.std.specs.Prelude.{◌≡◌, ◌≤◌, List, Option, length};
+ghost use Rattle.four_state.specs.declared.bit.Bit.{Bit};
 ghost use Rattle.four_state.specs.Parts.{index as index_value};
 ghost use Rattle.design_model.specs.Value.{offset_option};
 ghost use Rattle.value_store.specs.Near.{near_option};
+ghost use Rattle.value_store.specs.Parts.{placed_bits};
 
 use design_model::Range;
 use four_state::{Four, Index};
@@ -24,7 +26,7 @@ fn near_index(index: &Four) -> Option<i64>
 
 /// How far above the lowest bit of a range the bit with this index is, if no bit of the index is x or z
 /// (IEEE 1364-2001, clause 4.2.1). An index that is farther from 0 than `FAR` is cut.
-pub(crate) fn offset_in(range: Range, index: &Four) -> Option<i64>
+fn offset_in(range: Range, index: &Four) -> Option<i64>
     ensures { result ≡ offset_option range (near_option (index_value index.now.signed index.now.bits)) }
 {
     let low = i64::from(range.low);
@@ -33,4 +35,14 @@ pub(crate) fn offset_in(range: Range, index: &Four) -> Option<i64>
         Some(index) => Some(low - index),
         None => None,
     }
+}
+
+/// How far above the lowest bit of a range the bit with this index is, if no bit of the index is x or z. One that is too
+/// far from 0 for a part of 128 bits to reach the range is cut.
+pub(crate) fn part_offset(range: Range, index: &Four) -> Option<i64>
+    ensures { (qs ps : List (Option Bit)) → length qs ≤ 128 → length ps ≤ 128 → placed_bits qs ps result ≡ placed_bits qs ps (offset_option range (index_value index.now.signed index.now.bits)) }
+{
+    let low = range.low;
+    prove!(low <= u32::MAX);
+    offset_in(range, index)
 }

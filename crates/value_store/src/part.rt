@@ -4,7 +4,7 @@ ghost use Rattle.std.specs.Prelude.{◌≡◌, ◌<◌, ◌≤◌, ◌^◌, leng
 ghost use Rattle.known_state.specs.Partly.{with_blame};
 ghost use Rattle.value_store.specs.Parts.{common_bits, part_written, updated};
 
-use crate::offset::offset_in;
+use crate::offset::part_offset;
 use design_model::Range;
 use four_state::{CaseKind, Four};
 use known_state::Known;
@@ -41,15 +41,18 @@ fn spread(part: &Known, width: u8) -> Known
 pub(crate) fn with_part(old: &Known, range: Range, index: &Known, part: &Known) -> Known
     ensures { result ≡ part_written range index.now part.now old.now }
 {
+    let (width, part_width) = (old.width(), part.width());
     if !index.is_told() {
-        return old.join(&spread(part, old.width()), index.blame());
+        return old.join(&spread(part, width), index.blame());
     }
+    // So a part whose index is far from 0 reaches no bit.
+    prove!(width <= 128 && part_width <= 128);
     let blame = if part.is_told() {
         old.blame()
     } else {
         part.blame()
     };
-    match offset_in(range, &index.value()) {
+    match part_offset(range, &index.value()) {
         Some(low) => blamed(&old.place(low, part), blame),
         None => blamed(old, blame),
     }

@@ -7,7 +7,7 @@ ghost use Rattle.value_store.specs.Parts.{part_written, updated};
 use crate::part::{blamed, with_part, with_update};
 use crate::slot::{Slot, rewind};
 use cov_host::NoMemory;
-use design_model::Signal;
+use design_model::{Range, Signal};
 use known_state::Known;
 use std::alloc::Global;
 use std::marker::Model;
@@ -53,6 +53,14 @@ impl Signals {
         ensures { result ≡ length self.now.kept }
     {
         self.slots.len()
+    }
+
+    /// The declared range of a signal.
+    pub fn range(&self, signal: u32) -> Range
+        requires { signal < length self.now.kept }
+        ensures { result ≡ (shape_at self.now signal).range }
+    {
+        self.slots[signal as usize].range
     }
 
     /// Whether a value has the width and the sign of a signal.
@@ -103,8 +111,8 @@ impl Signals {
         requires { signal < length self.old.kept }
         ensures { self.new ≡ record self.old { kept = slice_set self.old.kept signal (part_written (shape_at self.old signal).range index.now part.now (kept_at self.old signal)) } }
     {
-        let slot = &mut self.slots[signal as usize];
-        slot.kept = with_part(&slot.kept, slot.range, index, part);
+        let value = with_part(&self.signal(signal), self.range(signal), index, part);
+        self.set(signal, value);
     }
 
     /// Makes a queued update of a whole signal, which is then to blame for itself. One that is not certain leaves what
@@ -114,8 +122,8 @@ impl Signals {
         requires shape { HasShape (shape_at self.old signal) value.now }
         ensures { self.new ≡ record self.old { kept = slice_set self.old.kept signal (updated certain signal value.now (kept_at self.old signal)) } }
     {
-        let slot = &mut self.slots[signal as usize];
-        slot.kept = with_update(value, &slot.kept, certain, signal);
+        let kept = with_update(value, &self.signal(signal), certain, signal);
+        self.set(signal, kept);
     }
 
     /// Makes a queued update of a part of a signal, from the bit with this index up.
@@ -123,9 +131,9 @@ impl Signals {
         requires { signal < length self.old.kept }
         ensures { self.new ≡ record self.old { kept = slice_set self.old.kept signal (updated certain signal (part_written (shape_at self.old signal).range index.now part.now (kept_at self.old signal)) (kept_at self.old signal)) } }
     {
-        let slot = &mut self.slots[signal as usize];
-        let new = with_part(&slot.kept, slot.range, index, part);
-        slot.kept = with_update(&new, &slot.kept, certain, signal);
+        let old = self.signal(signal);
+        let new = with_part(&old, self.range(signal), index, part);
+        self.set(signal, with_update(&new, &old, certain, signal));
     }
 
     /// The signal is to blame for what is not sure of it.
@@ -133,8 +141,8 @@ impl Signals {
         requires { signal < length self.old.kept }
         ensures { self.new ≡ record self.old { kept = slice_set self.old.kept signal (with_blame (kept_at self.old signal).bits (kept_at self.old signal).signed signal) } }
     {
-        let slot = &mut self.slots[signal as usize];
-        slot.kept = blamed(&slot.kept, signal);
+        let kept = blamed(&self.signal(signal), signal);
+        self.set(signal, kept);
     }
 
     /// Bodies read this value of a signal, until `plain`.
