@@ -1,5 +1,5 @@
 -- What changes of one slot leave of the whole.
-use Rattle.std.proofs.Common.{◌≡◌, ℕ, suc, ◌+◌, ◌-◌, ◌<◌, ◌≤◌, ◌==◌, Bool, true, false, if◌then◌else◌, List, [], ◌∷◌, ◌++◌, length, map, get_or, set, take, drop, append_assoc, length-take, Option, Some, None, refl, sym, ap, ap₂, subst, ◌∙◌, arith, eq-eqb}
+use Rattle.std.proofs.Common.{◌≡◌, ◌⊎◌, inl, inr, ℕ, suc, ◌+◌, ◌-◌, ◌<◌, ◌≤◌, ◌==◌, Bool, true, false, if◌then◌else◌, List, [], ◌∷◌, ◌++◌, length, map, get_or, set, take, drop, append_assoc, length-take, Option, Some, None, refl, sym, ap, ap₂, subst, ◌∙◌, arith, eq-eqb}
 use Rattle.std.specs.List.{All}
 use Rattle.std.proofs.lemmas.List.{drop_more, get_or-append_right, length-map, map-append, map-set, set-get_or, set_at, take_all, take_more}
 use Rattle.std.proofs.lemmas.List.Elements.{All-head, All-map, All-push, All-tail, All-weaker}
@@ -123,3 +123,21 @@ all_made i xs ys l m =
     let whole : map shape_of (take i xs) ≡ map shape_of xs = ap (map shape_of) (take_all i xs l) in
     let shapes : map shape_in ys ≡ map shape_of xs = m.shapes ∙ whole in
     three shapes (m.kept ∙ ap (unknown_from 0) whole) (none_shown 0 1 ys (omega arith) m.slots shape_in ∙ ap (map (λ x. None)) shapes)
+
+-- ---- the end of what is shown and veiled
+
+-- either nothing was put into the slots since epoch 0, or slots and epoch are as before
+abbrev pub IsEnding : ℕ → ℕ → List Slot → List Slot → Type 0
+IsEnding epoch later xs ys = ((ys ≡ map rewound xs) × (later ≡ 0)) ⊎ ((ys ≡ xs) × (later ≡ epoch))
+
+pub ended_slots : (epoch later : ℕ) (xs ys : List Slot) → IsEnding epoch later xs ys → All (IsSlot epoch) xs → All (IsSlot (later + 1)) ys
+ended_slots epoch later xs ys (inl w) h = subst (All (IsSlot (later + 1))) (sym w.0) (rewound_slots epoch (later + 1) xs h)
+ended_slots epoch later xs ys (inr w) h =
+    let same = w.1 in
+    subst (All (IsSlot (later + 1))) (sym w.0) (later_slots epoch (later + 1) xs (omega (arith, same)) h)
+
+pub ended_view : (epoch later : ℕ) (xs ys : List Slot) (v : Signals) → IsEnding epoch later xs ys → All (IsSlot epoch) xs → signals_in epoch xs ≡ v → signals_in (later + 1) ys ≡ record v { hidden = map (λ x. None) v.hidden }
+ended_view epoch later xs ys v (inl w) h view =
+    ap₂ (λ n zs. signals_in (n + 1) zs) w.1 w.0 ∙ all_rewound epoch xs ∙ ap {A = Signals} (λ u. record u { hidden = map (λ x. None) u.hidden }) view
+ended_view epoch later xs ys v (inr w) h view =
+    ap₂ (λ n zs. signals_in (n + 1) zs) w.1 w.0 ∙ all_later epoch xs h ∙ ap {A = Signals} (λ u. record u { hidden = map (λ x. None) u.hidden }) view

@@ -1,8 +1,9 @@
-use Rattle.std.proofs.Common.{◌≡◌, ◌≤◌, ℕ, Bool, true, false, Option, Some, None, length, ap, arith, refl, sym, if◌then◌else◌, ◌∙◌}
+use Rattle.std.proofs.Common.{◌≡◌, ◌≤◌, ℕ, Bool, true, false, Option, Some, None, length, ap, arith, refl, sym, if◌then◌else◌, ◌∙◌, ℤ, neg_ℤ, rules, w64, to_z, of_z, SFits}
+use Rattle.std.proofs.lemmas.Int.{ints}
 use Rattle.four_state.specs.Parts.{index}
 use Rattle.known_state.specs.Partly.{is_told}
 use Rattle.design_model.specs.Value.{offset_option}
-use Rattle.value_store.specs.Parts.{placed_bits, told_offset}
+use Rattle.value_store.specs.Parts.{bits_over, placed_bits, told_offset}
 use Rattle.value_store.proofs.Placed.{placed_is, written_placed}
 use Rattle.value_store.proofs.part.with_part.Goals as goal
 use Rattle.value_store.proofs.part.with_part.Goals.{then-is_told, else-is_told}
@@ -17,12 +18,15 @@ returns-in-Some c =
     let b : length p.bits ≤ 128 = omega arith in
     let told : is_told i ≡ true = sym c.is_told.ensures ∙ c.if-not-is_told.false in
     let same : placed_bits q.bits p.bits (Some c.in-Some.low) ≡ placed_bits q.bits p.bits (told_offset r i) = ap (placed_bits q.bits p.bits) (sym c.in-Some.is) ∙ c.part_offset.ensures q.bits p.bits a b ∙ ap (λ v. placed_bits q.bits p.bits (offset_option r (index v.signed v.bits))) c.value.ensures.value in
-    let placed = placed_is q p c.place.result c.in-Some.low c.place.ensures.sound c.place.ensures.tight in
+    let fits : SFits w64 c.in-Some.low = search rules in
+    let low : ℤ = to_z w64 (of_z w64 c.in-Some.low) in
+    let whole : low ≡ c.in-Some.low = omega (arith, ints) in
+    let placed = placed_is q p c.place.result low c.place.ensures.sound c.place.ensures.tight in
     let blame : c.if-is_told.blame ≡ (if is_told p then q.blame else p.blame) = elim c.if-is_told.branch [
       then-is_told w ↦ w.blame-is ∙ w.blame-blame.ensures.value ∙ ap (λ t. if t then q.blame else p.blame) (sym (sym c.is_told-2.ensures ∙ w.if-is_told.true))
       | else-is_told w ↦ w.blame-is ∙ w.blame-blame-else-is_told.ensures.value ∙ ap (λ t. if t then q.blame else p.blame) (sym (sym c.is_told-2.ensures ∙ w.if-is_told.false))
     ] in
-    c.blamed.ensures ∙ written_placed r i p q told (Some c.in-Some.low) same c.place.result c.if-is_told.blame placed.0 placed.1 blame
+    c.blamed.ensures ∙ written_placed r i p q told (Some c.in-Some.low) same c.place.result c.if-is_told.blame (placed.0 ∙ ap (λ z. bits_over q.bits p.bits (neg_ℤ z)) whole) placed.1 blame
 
 pub returns-in-None : goal.returns-in-None
 returns-in-None c =
