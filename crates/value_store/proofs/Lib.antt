@@ -6,3 +6,4 @@ pub mod Placed
 pub mod Missed
 pub mod Left
 pub mod Held
+pub mod Counted
