@@ -1,12 +1,12 @@
 -- What changes of one slot leave of the whole.
 use Rattle.std.proofs.Common.{◌≡◌, ◌⊎◌, inl, inr, ℕ, suc, ◌+◌, ◌-◌, ◌<◌, ◌≤◌, ◌==◌, Bool, true, false, if◌then◌else◌, List, [], ◌∷◌, ◌++◌, length, map, get_or, set, take, drop, append_assoc, length-take, Option, Some, None, refl, sym, ap, ap₂, subst, ◌∙◌, arith, eq-eqb}
 use Rattle.std.specs.List.{All}
-use Rattle.std.proofs.lemmas.List.{drop_more, get_or-append_right, length-map, map-append, map-set, set-get_or, set_at, take_all, take_more}
-use Rattle.std.proofs.lemmas.List.Elements.{All-head, All-map, All-push, All-tail, All-weaker}
+use Rattle.std.proofs.lemmas.List.{drop_more, get_or-append_right, length-map, length-replicate, map-append, map-set, set-get_or, set_at, take_all, take_more}
+use Rattle.std.proofs.lemmas.List.Elements.{All-cons, All-head, All-map, All-push, All-tail, All-weaker}
 use Rattle.std.proofs.lemmas.Bool.{eqb-true, false≢true}
 use Rattle.known_state.specs.Partly.{Partly}
 use Rattle.value_store.specs.Signals.{Signals, Shape, shape_of, unknown_from, unknown_of, unknown_signals}
-use Rattle.value_store.specs.Slots.{IsSlot, hidden_in, rewound, shape_in, signals_in}
+use Rattle.value_store.specs.Slots.{IsSlot, blank_of, forgotten, hidden_in, rewound, shape_in, signals_in}
 use Rattle.design_model.specs.declared.design.Signal.{Signal}
 use Rattle.value_store.specs.declared.slot.Slot.{Slot}
 
@@ -141,3 +141,55 @@ ended_view epoch later xs ys v (inl w) h view =
     ap₂ (λ n zs. signals_in (n + 1) zs) w.1 w.0 ∙ all_rewound epoch xs ∙ ap {A = Signals} (λ u. record u { hidden = map (λ x. None) u.hidden }) view
 ended_view epoch later xs ys v (inr w) h view =
     ap₂ (λ n zs. signals_in (n + 1) zs) w.1 w.0 ∙ all_later epoch xs h ∙ ap {A = Signals} (λ u. record u { hidden = map (λ x. None) u.hidden }) view
+
+-- ---- slots of which nothing is known
+
+forgotten_push : (s : ℕ) (xs : List Slot) (x : Slot) → forgotten s (xs ++ x ∷ []) ≡ forgotten s xs ++ record x { kept = blank_of x.kept (s + length xs) } ∷ []
+forgotten_push s [] x = ap (λ n. record x { kept = blank_of x.kept n } ∷ []) (omega arith)
+forgotten_push s (y ∷ ys) x =
+    ap (λ l. record y { kept = blank_of y.kept s } ∷ l) (forgotten_push (s + 1) ys x ∙ ap (λ n. forgotten (s + 1) ys ++ record x { kept = blank_of x.kept n } ∷ []) (omega arith))
+
+length-forgotten : (s : ℕ) (xs : List Slot) → length (forgotten s xs) ≡ length xs
+length-forgotten s [] = refl
+length-forgotten s (x ∷ xs) = ap suc (length-forgotten (s + 1) xs)
+
+-- one slot more
+pub forgotten_more : (xs ys : List Slot) (i : ℕ) (d : Slot) → i < length xs → ys ≡ forgotten 0 (take i xs) ++ drop i xs → set ys i (record (get_or ys i d) { kept = blank_of (get_or ys i d).kept i }) ≡ forgotten 0 (take (i + 1) xs) ++ drop (i + 1) xs
+forgotten_more xs ys i d l e =
+    let y : Slot = get_or xs i d in
+    let before : List Slot = forgotten 0 (take i xs) in
+    let later : List Slot = drop (i + 1) xs in
+    let taken : 0 + length (take i xs) ≡ i = omega (arith, l, length-take i xs) in
+    let size : length before ≡ i = omega (arith, l, length-forgotten 0 (take i xs), length-take i xs) in
+    let split : ys ≡ before ++ y ∷ later = e ∙ ap (λ zs. before ++ zs) (drop_more xs i d l) in
+    let first : i - i ≡ 0 = omega arith in
+    let here : get_or ys i d ≡ y = ap (λ zs. get_or zs i d) split ∙ get_or-append_right before (y ∷ later) i i d size (omega arith) ∙ ap (λ k. get_or (y ∷ later) k d) first in
+    let blank : Slot = record y { kept = blank_of y.kept i } in
+    let put : List Slot → Slot → List Slot = λ zs v. set zs i (record v { kept = blank_of v.kept i }) in
+    let left : set ys i (record (get_or ys i d) { kept = blank_of (get_or ys i d).kept i }) ≡ before ++ blank ∷ later = ap₂ put split here ∙ set_at before y later blank i size in
+    let right : forgotten 0 (take (i + 1) xs) ++ later ≡ before ++ blank ∷ later = ap (λ zs. forgotten 0 zs ++ later) (take_more xs i d l) ∙ ap (λ zs. zs ++ later) (forgotten_push 0 (take i xs) y ∙ ap (λ n. before ++ record y { kept = blank_of y.kept n } ∷ []) taken) ∙ append_assoc before (blank ∷ []) later in
+    left ∙ sym right
+
+-- what the forgotten slots hold
+forgotten_view : (epoch s : ℕ) (xs : List Slot) → All (IsSlot epoch) xs → signals_in epoch (forgotten s xs) ≡ made (map shape_in xs) (unknown_from s (map shape_in xs)) (map (hidden_in epoch) xs)
+forgotten_view epoch s [] h = refl
+forgotten_view epoch s (x ∷ xs) h =
+    let here = All-head (IsSlot epoch) x xs h in
+    let rest = forgotten_view epoch (s + 1) xs (All-tail (IsSlot epoch) x xs h) in
+    let blank : blank_of x.kept s ≡ unknown_of (shape_in x) s = ap₂ (λ n t. unknown_of (record { range = x.range; width = n; signed = t }) s) here.kept.0 here.kept.1 in
+    three (ap (λ ss. shape_in x ∷ ss) (ap (λ v. v.shapes) rest)) (ap₂ (λ a b. a ∷ b) blank (ap (λ v. v.kept) rest)) (ap (λ hs. hidden_in epoch x ∷ hs) (ap (λ v. v.hidden) rest))
+
+pub all_forgotten : (epoch : ℕ) (xs ys : List Slot) (v : Signals) → ys ≡ forgotten 0 xs → All (IsSlot epoch) xs → signals_in epoch xs ≡ v → signals_in epoch ys ≡ record v { kept = unknown_from 0 v.shapes }
+all_forgotten epoch xs ys v e h view =
+    ap (signals_in epoch) e ∙ forgotten_view epoch 0 xs h ∙ ap {A = Signals} (λ u. record u { kept = unknown_from 0 u.shapes }) view
+
+blank_slots : (epoch s : ℕ) (xs : List Slot) → All (IsSlot epoch) xs → All (IsSlot epoch) (forgotten s xs)
+blank_slots epoch s [] h = h
+blank_slots epoch s (x ∷ xs) h =
+    let here = All-head (IsSlot epoch) x xs h in
+    All-cons (IsSlot epoch) (record x { kept = blank_of x.kept s }) (forgotten (s + 1) xs)
+    (record { past = here.past; kept = (length-replicate (length x.kept.bits) None ∙ here.kept.0, here.kept.1); shown = here.shown })
+    (blank_slots epoch (s + 1) xs (All-tail (IsSlot epoch) x xs h))
+
+pub forgotten_slots : (epoch : ℕ) (xs ys : List Slot) → ys ≡ forgotten 0 xs → All (IsSlot epoch) xs → All (IsSlot epoch) ys
+forgotten_slots epoch xs ys e h = let g = blank_slots epoch 0 xs h in subst (All (IsSlot epoch)) (sym e) g

@@ -1,8 +1,7 @@
--- Queued updates of nonblocking assignments.
+-- Items in order with room for so many.
 use Rattle.std.specs.Prelude.{ℕ, List}
-use Rattle.value_store.specs.declared.update.Update.{Update}
 
--- the updates in order, and how many there is room for
-pub record Queue : Type 0 where
-  pub updates : List Update
+-- the items in order, and how many there is room for
+pub record Queue (A : Type 0) : Type 0 where
+  pub items : List A
   pub room : ℕ

@@ -1,5 +1,5 @@
 -- How a store holds its signals: one slot for each.
-use Rattle.std.specs.Prelude.{◌≡◌, ◌≤◌, ℕ, ◌==◌, if◌then◌else◌, List, map, length, Option, Some, None}
+use Rattle.std.specs.Prelude.{◌≡◌, ◌≤◌, ℕ, ◌+◌, ◌==◌, if◌then◌else◌, List, [], ◌∷◌, map, length, replicate, Option, Some, None}
 use Rattle.known_state.specs.Partly.{Partly}
 use Rattle.value_store.specs.Signals.{Signals, Shape, HasShape}
 use Rattle.value_store.specs.declared.slot.Slot.{Slot}
@@ -25,3 +25,12 @@ pub record IsSlot (epoch : ℕ) (x : Slot) : Type 0 where
 -- nothing was put into the slot since epoch 0
 abbrev pub rewound : Slot → Slot
 rewound x = record x { epoch = 0 }
+
+-- as many bits as the vector has, of which none is sure, blamed on the signal with this number
+abbrev pub blank_of : Partly → ℕ → Partly
+blank_of q s = record { bits = replicate (length q.bits) None; signed = q.signed; blame = s }
+
+-- the slots of signals of which nothing is known, with the numbers from this one up
+abbrev pub forgotten : ℕ → List Slot → List Slot
+forgotten s [] = []
+forgotten s (x ∷ xs) = record x { kept = blank_of x.kept s } ∷ forgotten (s + 1) xs

@@ -9,10 +9,8 @@ mod queue;
 mod room;
 mod signals;
 mod slot;
-mod update;
 
 pub use laws::writes_law;
 pub use queue::Queue;
 pub use room::queue_room;
 pub use signals::Signals;
-pub use update::{Location, Update};

@@ -1,56 +1,58 @@
 ghost use Rattle.std.specs.Prelude.{◌≡◌, ◌<◌, ◌++◌, ◌∷◌, [], IfOk, length};
 
-use crate::Update;
 use cov_host::NoMemory;
 use std::alloc::Global;
 use std::marker::Model;
 
-/// The queued updates of nonblocking assignments, in order, with room for so many.
+/// Items in order, with room for so many, as the updates that nonblocking assignments queue (IEEE 1364-2001, clause 9.2.2).
+/// Only `new` takes memory.
 #[derive(Drop)]
-pub struct Queue {
-    updates: Vec<Update>,
+pub struct Queue<T> {
+    items: Vec<T>,
     room: usize,
 }
 
-impl Model for Queue {
+impl<T> Model for Queue<T> {
     ghost use Rattle.std.specs.Prelude.{◌≤◌, vec_capacity};
     ghost use Rattle.value_store.specs.Queue.{Queue as QueueView};
 
-    ghost Value = { QueueView };
+    ghost Value = { QueueView T };
 
-    ghost view = { λ q. record { updates = q.updates.items; room = q.room } };
+    ghost view = { λ q. record { items = q.items.items; room = q.room } };
 
-    ghost invariant = { λ q. q.room ≤ vec_capacity q.updates };
+    ghost invariant = { λ q. q.room ≤ vec_capacity q.items };
 }
 
-impl Queue {
-    /// No updates, with room for so many.
+impl<T> Queue<T> {
+    /// No items, with room for so many.
     pub fn new(alloc: Global, room: usize) -> Result<Self, NoMemory>
-        ensures { IfOk result (λ queue. queue ≡ record { updates = []; room = room }) }
+        ensures { IfOk result (λ queue. queue ≡ record { items = []; room = room }) }
     {
-        let updates = Vec::with_capacity(alloc, room)?;
-        Ok(Queue { updates, room })
+        let items = Vec::with_capacity(alloc, room)?;
+        Ok(Queue { items, room })
     }
 
-    /// Adds an update after the others. It takes no memory.
-    pub fn push(&mut self, update: Update)
-        requires { length self.old.updates < self.old.room }
-        ensures { self.new ≡ record self.old { updates = self.old.updates ++ update ∷ [] } }
+    /// Adds an item after the others.
+    pub fn push(&mut self, item: T)
+        requires { length self.old.items < self.old.room }
+        ensures { self.new ≡ record self.old { items = self.old.items ++ item ∷ [] } }
     {
-        self.updates.push_reserved(update);
+        self.items.push_reserved(item);
     }
 
-    /// The updates in order.
-    pub fn as_slice(&self) -> &[Update]
-        ensures { result.now ≡ self.now.updates }
+    /// The items in order.
+    pub fn as_slice(&self) -> &[T]
+        ensures { result.now ≡ self.now.items }
     {
-        self.updates.as_slice()
+        self.items.as_slice()
     }
 
-    /// Removes all updates.
+    /// Removes all items.
     pub fn clear(&mut self)
-        ensures { self.new ≡ record self.old { updates = [] } }
+    where
+        T: Drop,
+        ensures { self.new ≡ record self.old { items = [] } }
     {
-        self.updates.clear();
+        self.items.clear();
     }
 }

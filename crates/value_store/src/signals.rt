@@ -5,7 +5,7 @@ ghost use Rattle.value_store.specs.Signals.{HasShape, HasWidth, hidden_at, kept_
 ghost use Rattle.value_store.specs.Parts.{part_written, updated};
 
 use crate::part::{blamed, with_part, with_update};
-use crate::slot::{Slot, rewind};
+use crate::slot::{Slot, forget, rewind};
 use cov_host::NoMemory;
 use design_model::{Range, Signal};
 use known_state::Known;
@@ -143,6 +143,15 @@ impl Signals {
     {
         let kept = blamed(&self.signal(signal), signal);
         self.set(signal, kept);
+    }
+
+    /// Nothing is known of any signal any more, and each is to blame for itself. What bodies read in the place of what is
+    /// kept stays.
+    pub fn forget(&mut self)
+        requires { length self.old.kept ≤ 65536 }
+        ensures { self.new ≡ record self.old { kept = unknown_from 0 self.old.shapes } }
+    {
+        forget(self.slots.as_mut_slice());
     }
 
     /// Bodies read this value of a signal, until `plain`.

@@ -1,7 +1,6 @@
-ghost use Rattle.std.specs.Prelude.{◌≡◌, ◌≤◌, ℕ, map};
-ghost use Rattle.std.specs.List.{All};
+ghost use Rattle.std.specs.Prelude.{◌≡◌, ◌≤◌, length, map};
 ghost use Rattle.value_store.specs.Signals.{shape_of, unknown_of};
-ghost use Rattle.value_store.specs.Slots.{IsSlot, rewound, shape_in};
+ghost use Rattle.value_store.specs.Slots.{IsSlot, forgotten, rewound, shape_in};
 
 use design_model::{Range, Signal};
 use known_state::Known;
@@ -51,5 +50,16 @@ pub(crate) fn rewind(slots: &mut [Slot])
 {
     for slot in slots.iter_mut() {
         slot.epoch = 0;
+    }
+}
+
+/// Nothing is known of any signal, and each is to blame for itself.
+pub(crate) fn forget(slots: &mut [Slot])
+    requires { length slots.old ≤ 65536 }
+    ensures { slots.new ≡ forgotten 0 slots.old }
+{
+    for number in 0..slots.len() {
+        let slot = &mut slots[number];
+        slot.kept = Known::unknown(slot.kept.width(), slot.kept.is_signed(), number as u32);
     }
 }
