@@ -1,5 +1,5 @@
 -- Numbers that are cut to the greatest `usize` as they are counted.
-use Rattle.std.proofs.Common.{◌≡◌, ℕ, ◌+◌, ◌-◌, ◌<◌, ◌^◌, min, arith}
+use Rattle.std.proofs.Common.{◌≡◌, ℕ, ◌+◌, ◌<◌, ◌^◌, arith}
 use Rattle.value_store.specs.Rooms.{as_usize}
 
 pub counted : (n a b : ℕ) → as_usize (as_usize (n + a) + b) ≡ as_usize (n + (a + b))

@@ -1,15 +1,14 @@
 -- What the calls of a store leave of what is known of the cells of a design.
-use Rattle.std.proofs.Common.{◌≡◌, ℕ, ◌<◌, ◌≤◌, ◌==◌, Bool, true, false, ◌&&◌, if◌then◌else◌, List, length, map, get_or, set, replicate, Option, refl, sym, ap, ap₂, subst, ◌∙◌, ◌≢◌, arith, eq-eqb, length-set, get_or-set_same, get_or-set_other}
-use Rattle.std.proofs.lemmas.Bool.{eqb-true, eqb-false, false≢true}
-use Rattle.std.proofs.lemmas.List.{get_or-map, length-map}
-use Rattle.four_state.specs.declared.bit.Bit.{Bit}
-use Rattle.known_state.specs.Partly.{Partly, are_sure, is_told, with_blame}
+use Rattle.std.proofs.Common.{◌≡◌, ℕ, ◌<◌, ◌==◌, Bool, true, false, if◌then◌else◌, length, map, get_or, set, replicate, refl, sym, ap, ap₂, subst, ◌∙◌, ◌≢◌, arith, eq-eqb, length-set, get_or-set_same, get_or-set_other}
+use Rattle.std.proofs.lemmas.Bool.{eqb-true, eqb-false}
+use Rattle.std.proofs.lemmas.List.{get_or-map}
+use Rattle.known_state.specs.Partly.{Partly, is_told, with_blame}
 use Rattle.known_state.specs.Join.{joined}
 use Rattle.design_model.specs.Design.{Design, no_signal, signal_at, signal_cells}
 use Rattle.design_model.specs.declared.design.Range.{Range}
 use Rattle.design_model.specs.Assignment.{signal_range}
-use Rattle.body_replay.specs.KnownBits.{KnownBits, all_sure}
-use Rattle.body_replay.specs.Store.{Kept, keep_all, weaken, write_bits, writes_of}
+use Rattle.body_replay.specs.KnownBits.{all_sure}
+use Rattle.body_replay.specs.Store.{Kept, keep_all, write_bits, writes_of}
 use Rattle.body_replay.specs.Replay.{part_blame}
 use Rattle.body_replay.proofs.Answered.{same_sure}
 use Rattle.body_replay.proofs.Stored.{signal_stored, weak_signal_stored}

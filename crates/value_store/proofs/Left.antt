@@ -1,28 +1,26 @@
 -- What the writes of an evaluated target leave of its signal.
-use Rattle.std.proofs.Common.{◌≡◌, ℕ, zero, suc, ◌<◌, ◌≤◌, ◌==◌, Bool, true, false, ◌&&◌, if◌then◌else◌, List, [], ◌∷◌, ◌++◌, length, map, is_some, replicate, ℤ, pos, ◌+ℤ◌, neg_ℤ, Option, Some, None, refl, sym, ap, ap₂, ◌∙◌, subst, get_or, arith}
-use Rattle.std.specs.List.{range_with_len}
+use Rattle.std.proofs.Common.{◌≡◌, ℕ, zero, suc, ◌≤◌, Bool, true, false, if◌then◌else◌, List, [], ◌∷◌, ◌++◌, length, map, is_some, replicate, ℤ, pos, ◌+ℤ◌, neg_ℤ, Option, Some, None, refl, sym, ap, ap₂, ◌∙◌, arith}
 use Rattle.std.proofs.lemmas.Bool.{and_parts, false≢true}
 use Rattle.event_machine.specs.Cell.{Cell}
 use Rattle.four_state.specs.declared.bit.Bit.{Bit}
 use Rattle.four_state.specs.declared.bit.Bit.TheVariants.{Zero}
 use Rattle.four_state.specs.Parts.{index, within}
 use Rattle.four_state.specs.Vector.{same_bit}
-use Rattle.known_state.specs.Partly.{Partly, are_sure, blame_of, filled, is_told, with_blame}
+use Rattle.known_state.specs.Partly.{Partly, are_sure, filled, is_told}
 use Rattle.known_state.specs.Join.{join_bit, joined}
 use Rattle.known_state.proofs.Allowed.{told_filled}
 use Rattle.known_state.proofs.Cases.{both_true}
-use Rattle.design_model.specs.Design.{Design, cell, signal_at, signal_cells}
+use Rattle.design_model.specs.Design.{Design, signal_at, signal_cells}
 use Rattle.design_model.specs.Value.{offset_option}
 use Rattle.design_model.specs.Assignment.{signal_range}
-use Rattle.body_replay.specs.KnownBits.{KnownBits, all_sure, on_told, sure, told}
-use Rattle.body_replay.specs.Store.{Kept, KnownWrite, keep_all, known_bit_option, perhaps_cell, perhaps_cells, weaken, write_bits, writes_of}
+use Rattle.body_replay.specs.KnownBits.{KnownBits}
+use Rattle.body_replay.specs.Store.{Kept, KnownWrite, keep_all, known_bit_option, perhaps_cell, perhaps_cells, weaken, write_bits}
 use Rattle.body_replay.proofs.Answered.{same_sure}
 use Rattle.body_replay.proofs.Exact.{on_sure}
 use Rattle.body_replay.proofs.Frames.{join_self}
 use Rattle.body_replay.proofs.Unsure.{all_sure_is, not_told}
-use Rattle.body_replay.proofs.Stored.{join_each, part_stored, signal_stored, unsure_part_stored, weak_part_stored, weak_signal_stored}
-use Rattle.value_store.specs.Parts.{bit_or_old, bits_over, common_bit, common_bits, part_written, placed_bits, told_offset, updated}
-use Rattle.value_store.specs.Held.{if_certain}
+use Rattle.body_replay.proofs.Stored.{join_each, part_stored, unsure_part_stored, weak_part_stored}
+use Rattle.value_store.specs.Parts.{bit_or_old, bits_over, common_bit, common_bits, placed_bits, told_offset}
 use Rattle.value_store.proofs.Placed.{over_is}
 
 -- ---- joins

@@ -6,7 +6,7 @@ use Rattle.four_state.specs.declared.bit.Bit.{Bit}
 use Rattle.four_state.specs.Parts.{within}
 use Rattle.design_model.specs.declared.design.Range.{Range}
 use Rattle.design_model.specs.Value.{offset, offset_option}
-use Rattle.value_store.specs.Near.{far, near, near_option}
+use Rattle.value_store.specs.Near.{far, near_option}
 use Rattle.value_store.specs.Parts.{bit_or_old, bits_over, placed_bits}
 
 not_within : (n k : ℕ) → n ≤ k → within n (pos k) ≡ None

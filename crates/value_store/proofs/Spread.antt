@@ -1,5 +1,5 @@
 -- What all bits of a part have in common.
-use Rattle.std.proofs.Common.{◌≡◌, ℕ, zero, suc, ◌<◌, Bool, true, false, ◌&&◌, if◌then◌else◌, List, [], ◌∷◌, length, map, replicate, get_or, slice_get, Option, Some, None, refl, sym, ap, ◌∙◌}
+use Rattle.std.proofs.Common.{◌≡◌, ℕ, zero, suc, Bool, true, false, ◌&&◌, if◌then◌else◌, List, [], ◌∷◌, length, map, replicate, slice_get, Option, Some, None, refl, sym, ap, ◌∙◌}
 use Rattle.std.proofs.lemmas.Bool.{false≢true}
 use Rattle.std.proofs.lemmas.List.{length-map}
 use Rattle.four_state.specs.declared.bit.Bit.{Bit}
@@ -7,7 +7,6 @@ use Rattle.four_state.specs.declared.operator.CaseKind.TheVariants.{Exact}
 use Rattle.four_state.specs.Vector.{same_bit, fill}
 use Rattle.four_state.specs.Operators.{matches}
 use Rattle.known_state.specs.Partly.{are_sure}
-use Rattle.known_state.specs.Join.{join_bit}
 use Rattle.known_state.proofs.Cases.{same_bit_eq, same_bit_refl}
 use Rattle.value_store.specs.Parts.{common_bit, common_bits}
 

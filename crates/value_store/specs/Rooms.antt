@@ -3,7 +3,7 @@ use Rattle.std.specs.Prelude.{ℕ, ◌+◌, ◌-◌, ◌^◌, min, List, [], ◌
 use Rattle.cov_host.specs.declared.place.Place.{Place}
 use Rattle.design_model.specs.Tree as t
 use Rattle.design_model.specs.Tree.{Arms, Process, Stmt, Stmts, Target, Targets, a_stmt, a_target, all_of, arm, assign, bits_of, block, branch, clocked, comb, empty, no_arms, no_stmts, no_targets, select, set, several, turns, word_of}
-use Rattle.design_model.specs.Design.{Design, body}
+use Rattle.design_model.specs.Design.{body}
 use Rattle.design_model.specs.View.{Arm, arm_step, stmt_form_step, stmt_step}
 use Rattle.design_model.specs.declared.tree.CaseArm.{CaseArm, fold-CaseArm}
 

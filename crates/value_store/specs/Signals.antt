@@ -1,5 +1,5 @@
 -- What a store has of the signals of a design: lists by the number of a signal.
-use Rattle.std.specs.Prelude.{◌≡◌, ◌+◌, ◌≤◌, ℕ, Bool, false, List, [], ◌∷◌, length, map, replicate, slice_index_or, Option, Some, None}
+use Rattle.std.specs.Prelude.{◌≡◌, ◌+◌, ◌≤◌, ℕ, Bool, false, List, [], ◌∷◌, length, map, replicate, slice_index_or, Option, None}
 use Rattle.std.specs.Option.{unwrap_or}
 use Rattle.known_state.specs.Partly.{Partly}
 use Rattle.design_model.specs.declared.design.Range.{Range}

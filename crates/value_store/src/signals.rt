@@ -171,7 +171,10 @@ impl Signals {
         ensures { self.new ≡ record self.old { hidden = slice_set self.old.hidden signal (Some (unknown_of (shape_at self.old signal) signal)) } }
     {
         let kept = self.signal(signal);
-        self.show(signal, Known::unknown(kept.width(), kept.is_signed(), signal));
+        self.show(
+            signal,
+            Known::unknown(kept.width(), kept.is_signed(), signal),
+        );
     }
 
     /// Nothing is shown or veiled any more.

@@ -1,5 +1,4 @@
-use Rattle.std.proofs.Common.{◌≡◌, true, false, List, Option, Some, None, length, map, replicate, ap, sym, ◌∙◌}
-use Rattle.four_state.specs.declared.bit.Bit.{Bit}
+use Rattle.std.proofs.Common.{◌≡◌, true, false, Some, None, length, map, replicate, ap, sym, ◌∙◌}
 use Rattle.four_state.specs.declared.operator.CaseKind.TheVariants.{Exact}
 use Rattle.four_state.specs.Operators.{matches}
 use Rattle.four_state.specs.Vector.{fill}
@@ -22,12 +21,12 @@ returns-else-is_told c = ap (λ q. q.bits) c.unknown.ensures ∙ ap (replicate c
   where
     none : common_bits c.args.part.now.bits ≡ None
     none = elim c.else-is_told.branch [
-      else-is_told-via-then-is_told+else-all_equal w ↦
-      (let ps = c.args.part.now.bits in
-      let bs = c.value-value.result.bits in
-      let whole = c.value-value.ensures.told (sym c.is_told.ensures ∙ w.if-is_told.true) in
-      let told : ps ≡ map Some bs = ap (λ q. q.bits) whole in
-      let other : matches Exact bs (fill (length ps) c.bit-first.result) ≡ false = ap (λ n. matches Exact bs (fill n c.bit-first.result)) (sym c.width.ensures.value) ∙ ap (λ v. matches Exact bs v.bits) (sym c.fill.ensures) ∙ sym c.label-all_equal.ensures ∙ w.if-all_equal.false in
-      not_equal ps bs c.bit-first.result told c.bit-first.ensures other)
+      | else-is_told-via-then-is_told+else-all_equal w ↦
+          (let ps = c.args.part.now.bits in
+          let bs = c.value-value.result.bits in
+          let whole = c.value-value.ensures.told (sym c.is_told.ensures ∙ w.if-is_told.true) in
+          let told : ps ≡ map Some bs = ap (λ q. q.bits) whole in
+          let other : matches Exact bs (fill (length ps) c.bit-first.result) ≡ false = ap (λ n. matches Exact bs (fill n c.bit-first.result)) (sym c.width.ensures.value) ∙ ap (λ v. matches Exact bs v.bits) (sym c.fill.ensures) ∙ sym c.label-all_equal.ensures ∙ w.if-all_equal.false in
+          not_equal ps bs c.bit-first.result told c.bit-first.ensures other)
       | else-is_told-via-else-is_told w ↦ unsure_bits c.args.part.now.bits (sym c.is_told.ensures ∙ w.if-is_told.false)
     ]

@@ -1,4 +1,4 @@
-use Rattle.std.proofs.Common.{◌≡◌, ◌≤◌, ℕ, Bool, true, false, Option, Some, None, length, ap, arith, refl, sym, if◌then◌else◌, ◌∙◌, ℤ, neg_ℤ, rules, w64, to_z, of_z, SFits}
+use Rattle.std.proofs.Common.{◌≡◌, ◌≤◌, true, Some, None, length, ap, arith, refl, sym, if◌then◌else◌, ◌∙◌, ℤ, neg_ℤ, rules, w64, to_z, of_z, SFits}
 use Rattle.std.proofs.lemmas.Int.{ints}
 use Rattle.four_state.specs.Parts.{index}
 use Rattle.known_state.specs.Partly.{is_told}
@@ -23,7 +23,7 @@ returns-in-Some c =
     let whole : low ≡ c.in-Some.low = omega (arith, ints) in
     let placed = placed_is q p c.place.result low c.place.ensures.sound c.place.ensures.tight in
     let blame : c.if-is_told.blame ≡ (if is_told p then q.blame else p.blame) = elim c.if-is_told.branch [
-      then-is_told w ↦ w.blame-is ∙ w.blame-blame.ensures.value ∙ ap (λ t. if t then q.blame else p.blame) (sym (sym c.is_told-2.ensures ∙ w.if-is_told.true))
+      | then-is_told w ↦ w.blame-is ∙ w.blame-blame.ensures.value ∙ ap (λ t. if t then q.blame else p.blame) (sym (sym c.is_told-2.ensures ∙ w.if-is_told.true))
       | else-is_told w ↦ w.blame-is ∙ w.blame-blame-else-is_told.ensures.value ∙ ap (λ t. if t then q.blame else p.blame) (sym (sym c.is_told-2.ensures ∙ w.if-is_told.false))
     ] in
     c.blamed.ensures ∙ written_placed r i p q told (Some c.in-Some.low) same c.place.result c.if-is_told.blame (placed.0 ∙ ap (λ z. bits_over q.bits p.bits (neg_ℤ z)) whole) placed.1 blame
@@ -39,7 +39,7 @@ returns-in-None c =
     let told : is_told i ≡ true = sym c.is_told.ensures ∙ c.if-not-is_told.false in
     let same : placed_bits q.bits p.bits None ≡ placed_bits q.bits p.bits (told_offset r i) = ap (placed_bits q.bits p.bits) (sym c.in-None.is) ∙ c.part_offset.ensures q.bits p.bits a b ∙ ap (λ v. placed_bits q.bits p.bits (offset_option r (index v.signed v.bits))) c.value.ensures.value in
     let blame : c.if-is_told.blame ≡ (if is_told p then q.blame else p.blame) = elim c.if-is_told.branch [
-      then-is_told w ↦ w.blame-is ∙ w.blame-blame.ensures.value ∙ ap (λ t. if t then q.blame else p.blame) (sym (sym c.is_told-2.ensures ∙ w.if-is_told.true))
+      | then-is_told w ↦ w.blame-is ∙ w.blame-blame.ensures.value ∙ ap (λ t. if t then q.blame else p.blame) (sym (sym c.is_told-2.ensures ∙ w.if-is_told.true))
       | else-is_told w ↦ w.blame-is ∙ w.blame-blame-else-is_told.ensures.value ∙ ap (λ t. if t then q.blame else p.blame) (sym (sym c.is_told-2.ensures ∙ w.if-is_told.false))
     ] in
     c.blamed-in-None.ensures ∙ written_placed r i p q told None same q c.if-is_told.blame refl refl blame

@@ -1,4 +1,4 @@
-use Rattle.std.proofs.Common.{◌≡◌, ◌≤◌, ℕ, List, [], length, drop, map, ap, arith}
+use Rattle.std.proofs.Common.{◌≤◌, length, map, ap, arith}
 use Rattle.std.proofs.lemmas.List.{drop_all}
 use Rattle.design_model.specs.View.{target_view, targets_of}
 use Rattle.value_store.specs.Rooms.{all_parts}
