@@ -16,11 +16,11 @@ use Rattle.design_model.specs.Shape.{is_body}
 use Rattle.design_model.specs.WellFormed.{is_well_formed_body}
 use Rattle.design_model.specs.Lawful.{IsLawfulDesign, may_read, target_once, wakes_of}
 use Rattle.design_model.specs.BodyLaws.{all_cells}
-use Rattle.design_model.proofs.AssignLaws.{assign_visits_law}
+use Rattle.design_model.proofs.AssignLaws.{assign_visits_law, own_wake_law}
 use Rattle.design_model.proofs.SettledHits.{settling_level}
 use Rattle.design_model.proofs.ReadThings.{execute_things}
 use Rattle.design_model.proofs.Told.{execution_same}
-use Rattle.model_laws.specs.Own.{IsIgnored, IsPickingExample, WakeOrIgnoredLaw, picking}
+use Rattle.model_laws.specs.Own.{IsIgnored, IsPickingExample, OwnWakesLaw, WakeOrIgnoredLaw, picking}
 use Rattle.model_laws.proofs.Cells.{has, in_has, on_design, outer_on, signal_place}
 
 -- ---- ignored signals
@@ -64,6 +64,11 @@ wake_or_ignored_law d lawful p y is_a mentioned less =
     not_clocked (assign i x t counted) a k = k
     not_clocked (comb i wakes s) a k = false≢true a
     not_clocked (clocked i events s) a k = false≢true a
+
+-- ---- where each select is known
+
+pub own_wakes_law : (d : Design) → IsLawfulDesign d → OwnWakesLaw d
+own_wakes_law d lawful known p y is_a mentioned mine = ⊎_elim (λ wake. wake) (λ unknown. absurd (both_ways _ (known p y (is_a, mentioned, mine)) unknown)) (own_wake_law d lawful p y (is_a, mentioned, mine))
 
 -- ---- the design
 

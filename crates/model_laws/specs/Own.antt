@@ -1,13 +1,15 @@
 -- Signals that an Assign both drives and mentions: when it has a wake bit of them, and what holds where it has none.
 use Rattle.std.specs.Prelude.{◌≡◌, ◌≢◌, ◌⊎◌, ◌∷◌, ◌<◌, ℕ, true, false, [], length, codes}
+use Rattle.std.specs.List.{list_any}
 use Rattle.event_machine.specs.Cell.{Cell, Values}
 use Rattle.four_state.specs.declared.bit.Bit.{Bit}
 use Rattle.four_state.specs.declared.bit.Bit.TheVariants.{X, Zero}
 use Rattle.design_model.specs.Tree.{Term, all_of, assign, bit, signal}
 use Rattle.design_model.specs.Design.{Design, body_at, cell, is_assign, process_at}
 use Rattle.design_model.specs.Value.{value}
-use Rattle.design_model.specs.Mentions.{body_assigns, body_mentions}
+use Rattle.design_model.specs.Mentions.{body_assigns, body_mentions, body_terms}
 use Rattle.design_model.specs.Execution.{execution}
+use Rattle.design_model.specs.BodyLaws.{DrivesAndMentions, is_unknown_select}
 use Rattle.design_model.specs.Open.{IsWakeBit}
 use Rattle.design_model.specs.Lawful.{IsLawfulDesign}
 use Rattle.design_model.specs.ExampleParts.{bit_number, one_instance, wide}
@@ -16,6 +18,14 @@ use Rattle.design_model.specs.ExampleParts.{bit_number, one_instance, wide}
 abbrev pub HasOwnWakes : Design → Type 0
 HasOwnWakes d =
     (p y : ℕ) → is_assign (process_at d p) ≡ true → body_mentions y (body_at d p) ≡ true → body_assigns y (body_at d p) ≡ true → (k : ℕ) × IsWakeBit d p (cell y k)
+
+-- no Assign selects a signal that it drives by a constant index with an x or z
+abbrev pub HasKnownSelects : Design → Type 0
+HasKnownSelects d = (p y : ℕ) → DrivesAndMentions d p y → list_any (is_unknown_select d y) (body_terms (body_at d p)) ≡ false
+
+-- Own-wake law: where none does, each Assign has these wake bits.
+abbrev pub OwnWakesLaw : Design → Type 0
+OwnWakesLaw d = HasKnownSelects d → HasOwnWakes d
 
 -- what process p visits does not depend on signal y
 abbrev pub IsIgnored : Design → ℕ → ℕ → Type 0

@@ -7,7 +7,7 @@ ghost use Rattle.design_model.specs.Design.{Design as DesignTree};
 ghost use Rattle.design_model.specs.Lawful.{IsLawfulDesign};
 ghost use Rattle.model_laws.specs.Decided.{DecidedLaw};
 ghost use Rattle.model_laws.specs.Consistent.{ConsistentLaw, HasOwnUnclear, OneValueLaw};
-ghost use Rattle.model_laws.specs.Own.{IsPickingExample, WakeOrIgnoredLaw};
+ghost use Rattle.model_laws.specs.Own.{IsPickingExample, OwnWakesLaw, WakeOrIgnoredLaw};
 
 /// At a window time at which nothing is in doubt for a point, two runs that show the dump do not differ in whether it is
 /// hit: of a signal, of Clocked blocks, and of Assigns and Combs, also of such as a memory wakes.
@@ -23,10 +23,12 @@ pub fn consistent_law()
     ensures own_unclear { (d : DesignTree) → IsLawfulDesign d → HasOwnUnclear d }
 {}
 
-/// Of a signal that an Assign mentions it has a wake bit, or what it visits does not depend on the signal. So it may be of
-/// one that it drives whole and selects by a constant index with an x, which selects no bit: an Assign of a lawful design
-/// need not have a wake bit of each signal that it both drives and mentions.
+/// Of each signal that an Assign both drives and mentions it has a wake bit, where it selects none of them by a constant
+/// index with an x or z. In any case it has a wake bit of a signal that it mentions, or what it visits does not depend on
+/// the signal. The second can be: a lawful design in which an Assign drives each bit of a signal and selects it by an index
+/// that is x, which selects no bit.
 pub fn own_wake_law()
+    ensures known { (d : DesignTree) → IsLawfulDesign d → OwnWakesLaw d }
     ensures wakes { (d : DesignTree) → IsLawfulDesign d → WakeOrIgnoredLaw d }
     ensures without { IsPickingExample }
 {}
