@@ -10,5 +10,5 @@ overflow_add-result c =
 
 pub returns-clause-next : goal.returns-clause-next
 returns-clause-next c =
-    let some : 1 ≤ c.best_table-best.result.added = omega (arith, c.if-best-eq0.false) in
+    let some : 1 ≤ c.best_table-best.result.added = omega arith in
     best_is_next c.args.tables.now c.args.hit.now c.best_table-best.result c.args.total c.best_table-best.ensures.best c.requires.total some
