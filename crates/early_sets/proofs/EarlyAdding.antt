@@ -1,6 +1,5 @@
 -- What is early at first, input by input and process by process.
-use Rattle.std.proofs.Common.{◌≡◌, ◌⊎◌, inl, inr, ⊎_elim, ◌∙◌, ℕ, ◌+◌, ◌<◌, Bool, true, false, not, ◌==◌, List, Some, get_or, refl, sym, ap, subst, arith}
-use Rattle.std.specs.List.{Contains}
+use Rattle.std.proofs.Common.{◌≡◌, ◌⊎◌, inl, inr, ⊎_elim, ℕ, ◌+◌, not, ◌==◌, List, Some, get_or, subst, arith}
 use Rattle.std.proofs.lemmas.Bool.{cases_lt}
 use Rattle.index_sets.specs.Rows.{row_at}
 use Rattle.wake_tables.specs.declared.tables.WakeTables.{WakeTables}

@@ -1,5 +1,5 @@
 -- What is found to be early is what is early by the tables.
-use Rattle.std.proofs.Common.{◌≡◌, ◌⊎◌, ◌↔◌, inl, inr, ⊎_elim, ◌∙◌, ℕ, ◌<◌, Bool, true, not, ◌==◌, List, [], Some, length, get_or, refl, sym, ap, subst, arith}
+use Rattle.std.proofs.Common.{◌≡◌, ◌↔◌, inl, inr, ⊎_elim, ℕ, true, not, ◌==◌, List, [], Some, length, get_or, refl, sym, subst, arith}
 use Rattle.std.specs.List.{Contains}
 use Rattle.index_sets.specs.Rows.{row_at}
 use Rattle.wake_tables.specs.declared.tables.WakeTables.{WakeTables}
@@ -8,7 +8,7 @@ use Rattle.early_sets.specs.declared.habit.Habit.{Habit}
 use Rattle.early_sets.specs.declared.rule.Rule.{Rule}
 use Rattle.early_sets.specs.Adds.{Adds}
 use Rattle.early_sets.specs.Early.{IsEarlyBy, IsEarlyInput, IsEarlySeed, IsTriggerTarget, early_rule, is_free}
-use Rattle.early_sets.specs.Reached.{IsRowItem, IsWoken, MayWakeBy, Reached, is_apart}
+use Rattle.early_sets.specs.Reached.{IsRowItem, IsWoken, MayWakeBy, Reached}
 use Rattle.early_sets.specs.WakeState.{WakeState}
 use Rattle.early_sets.proofs.Adding.{extends_has, member_at, place_of}
 use Rattle.early_sets.proofs.Closing.{reached_from}

@@ -1,5 +1,5 @@
 -- Which edges the change of a signal may be.
-use Rattle.std.specs.Prelude.{Bool, true, false}
+use Rattle.std.specs.Prelude.{Bool, true}
 use Rattle.four_state.specs.Edges.{falls, rises}
 use Rattle.four_state.specs.declared.bit.Bit.{Bit}
 use Rattle.four_state.specs.declared.edge.Edge.{Edge}

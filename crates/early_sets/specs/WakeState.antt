@@ -1,6 +1,6 @@
 -- The sets of a step.
-use Rattle.std.specs.Prelude.{◌≡◌, ◌⊎◌, ◌<◌, ◌==◌, ◌&&◌, ◌||◌, if◌then◌else◌, ℕ, Bool, true, false, not, List, [], ◌∷◌, Option, Some, None, length, slice_index_or}
-use Rattle.std.specs.List.{Contains, list_all, list_any}
+use Rattle.std.specs.Prelude.{◌==◌, ◌&&◌, if◌then◌else◌, ℕ, Bool, false, not, List, [], ◌∷◌, Option, Some, None, slice_index_or}
+use Rattle.std.specs.List.{list_all, list_any}
 use Rattle.four_state.specs.declared.edge.Edge.{Edge}
 use Rattle.index_sets.specs.Rows.{row_at}
 use Rattle.wake_tables.specs.declared.tables.WakeTables.{WakeTables}

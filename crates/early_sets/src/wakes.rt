@@ -123,6 +123,20 @@ impl Wakes {
         self.moves.contains(thing as usize)
     }
 
+    /// What may move in the step: the inputs that change first, then in the order in which it was found.
+    pub fn moves(&self) -> &[usize]
+        ensures { result.now ≡ (state_of self.now).moves }
+    {
+        self.moves.as_slice()
+    }
+
+    /// The processes that what may move may wake, in the order in which they were found.
+    pub fn woken(&self) -> &[usize]
+        ensures { result.now ≡ (state_of self.now).woken }
+    {
+        self.woken.as_slice()
+    }
+
     /// Whether the process can wake in the step by an edge of its list.
     pub fn can_wake(&self, process: u32) -> bool
         requires { process < (state_of self.now).tables.processes }

@@ -1,7 +1,7 @@
 -- The places of the numbers of a set, and what putting one in does to them.
-use Rattle.std.proofs.Common.{◌≡◌, ◌≢◌, ◌⊎◌, ◌↔◌, inl, inr, ⊎_elim, ◌∙◌, ℕ, ◌+◌, ◌<◌, ◌≤◌, List, [], ◌∷◌, ◌++◌, Bool, true, false, ltb, length, get_or, set, take, refl, sym, ap, subst, arith, length-set, length-take-le, get_or-set_same, get_or-set_other, get_or-take}
+use Rattle.std.proofs.Common.{◌≡◌, ◌↔◌, ⊎_elim, ◌∙◌, ℕ, ◌+◌, ◌<◌, ◌≤◌, List, [], ◌∷◌, ◌++◌, true, ltb, length, get_or, set, take, refl, sym, ap, subst, arith, length-set, length-take-le, get_or-set_same, get_or-set_other, get_or-take}
 use Rattle.std.specs.List.{Contains}
-use Rattle.std.proofs.lemmas.Bool.{cases_eq, cases_lt, lt-ltb, ltb-true, true≢false}
+use Rattle.std.proofs.lemmas.Bool.{cases_eq, cases_lt, lt-ltb, ltb-true}
 use Rattle.std.proofs.lemmas.List.{get_or_append_left, get_or_default, get_or_push, get_or_read, length_push, take-set-le, take_more}
 use Rattle.index_sets.specs.Members.{ArePlaces, IsIdentity, Members}
 

@@ -1,4 +1,4 @@
-ghost use Rattle.std.specs.Prelude.{◌≡◌, ◌<◌, ◌≤◌, ◌↔◌, ◌++◌, ◌∷◌, [], ℕ, IfOk, IsFalse, IsTrue, if◌then◌else◌, length, slice_index};
+ghost use Rattle.std.specs.Prelude.{◌≡◌, ◌<◌, ◌≤◌, ◌↔◌, ◌++◌, ◌∷◌, [], ℕ, IfOk, IsFalse, IsTrue, if◌then◌else◌, length, slice_index, take};
 ghost use Rattle.std.specs.List.{Contains};
 ghost use Rattle.index_sets.specs.Members.{Members, IsIdentity};
 
@@ -61,6 +61,13 @@ impl IndexSet {
         self.order[place]
     }
 
+    /// The members, in the order in which they were put in.
+    pub fn as_slice(&self) -> &[usize]
+        ensures { result.now ≡ self.now.items }
+    {
+        first(self.order.as_slice(), self.used)
+    }
+
     /// Whether the number is a member.
     pub fn contains(&self, number: usize) -> bool
         requires { number < self.now.size }
@@ -97,6 +104,14 @@ impl IndexSet {
     {
         self.used = 0;
     }
+}
+
+/// So many numbers of a list, from its first on.
+fn first(numbers: &[usize], count: usize) -> &[usize]
+    requires { count ≤ length numbers.now }
+    ensures { result.now ≡ take count numbers.now }
+{
+    &numbers[..count]
 }
 
 /// The numbers below a bound, in order.

@@ -1,4 +1,4 @@
-use Rattle.std.proofs.Common.{◌≡◌, ◌∙◌, [], length, refl, sym, ap, subst, arith, length-append}
+use Rattle.std.proofs.Common.{◌∙◌, length, refl, sym, ap, subst, arith, length-append}
 use Rattle.early_sets.proofs.Closing.{IsClosing, closed_processes, closed_things, closing_more, closing_none}
 use Rattle.early_sets.proofs.closure.close.Goals as goal
 

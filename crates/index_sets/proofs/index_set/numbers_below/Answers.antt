@@ -1,4 +1,4 @@
-use Rattle.index_sets.proofs.Places.{identity_more, identity_none}
+use Rattle.index_sets.proofs.Places.{identity_more}
 use Rattle.index_sets.proofs.index_set.numbers_below.Goals as goal
 
 pub loop-number-preserved : goal.loop-number-preserved
