@@ -1,23 +1,22 @@
 -- What is early for a clean block, by tables, is the set of the definitions.
-use Rattle.std.proofs.Common.{◌≡◌, ◌≢◌, ◌⊎◌, ◌↔◌, inl, inr, ⊎_elim, ◌∙◌, ℕ, zero, suc, ◌<◌, Bool, true, false, not, ◌==◌, ◌||◌, List, [], ◌∷◌, Some, refl, sym, ap, subst, arith, length}
+use Rattle.std.proofs.Common.{◌≡◌, inl, inr, ⊎_elim, ◌∙◌, ℕ, ◌<◌, true, List, [], ◌∷◌, Some, refl, sym, subst, arith}
 use Rattle.std.specs.List.{Contains}
-use Rattle.std.proofs.lemmas.Bool.{eqb-true, false≢true, ne_eqb, not_from_false, not-true, or_cases, or_left, or_right, both_ways, cases_eq, eq-eqb}
-use Rattle.event_machine.specs.Cell.{Cell}
-use Rattle.event_machine.specs.Early.{IsEarly, of_blocking, of_input, of_nonblocking, of_trigger}
+use Rattle.std.proofs.lemmas.Bool.{false≢true, ne_eqb, not_from_false, not-true, or_cases, or_left, or_right, both_ways, eq-eqb}
+use Rattle.event_machine.specs.Early.{of_blocking, of_input, of_nonblocking, of_trigger}
 use Rattle.event_machine.specs.Habit.{is_free_input}
-use Rattle.event_machine.specs.Machine.{Edge as MachineEdge, IsLawful, Negedge, Posedge}
-use Rattle.design_model.specs.Design.{Design, cell, process_at, signal_at}
+use Rattle.event_machine.specs.Machine.{Edge as MachineEdge, Negedge, Posedge}
+use Rattle.design_model.specs.Design.{Design, cell, process_at}
 use Rattle.design_model.specs.Lawful.{IsLawfulDesign}
 use Rattle.design_model.specs.Machine.{machine}
 use Rattle.design_model.specs.Shows.{BoundDump}
 use Rattle.design_model.specs.Early.{IsEarlyAt}
-use Rattle.design_model.specs.MayMove.{IsCleanAt, told_at}
+use Rattle.design_model.specs.MayMove.{IsCleanAt}
 use Rattle.design_model.proofs.Assigns.{machine_lawful}
 use Rattle.index_sets.specs.Rows.{row_at}
 use Rattle.wake_laws.specs.OfDesign.{AreTablesOf}
 use Rattle.early_sets.specs.declared.habit.Habit.{Habit}
 use Rattle.early_sets.specs.declared.habit.Habit.TheVariants.{Free, Late}
-use Rattle.early_sets.specs.Early.{IsEarlyBy, IsEarlySeed, early_rule, has_items, is_event_signal, is_free}
+use Rattle.early_sets.specs.Early.{IsEarlyBy, early_rule, has_items, is_event_signal, is_free}
 use Rattle.wake_laws.specs.Laws.{AreNotes, EarlyLaw, habit_of}
 use Rattle.early_sets.specs.Reached.{IsTargetBy, MayWakeBy, Reached, is_apart, of_seed, of_target}
 use Rattle.early_sets.specs.WakeState.{WakeState, nothing_left}

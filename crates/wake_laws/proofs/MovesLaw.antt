@@ -1,26 +1,23 @@
 -- What the changed inputs reach, by tables, is what may move.
-use Rattle.std.proofs.Common.{◌≡◌, ◌⊎◌, ◌↔◌, inl, inr, ⊎_elim, ◌∙◌, ℕ, ◌+◌, ◌-◌, ◌<◌, ◌≤◌, Bool, true, false, ◌==◌, ◌&&◌, List, length, refl, sym, ap, subst, arith, lt-ltb}
-use Rattle.std.specs.Prelude.{nat_lt}
-use Rattle.std.specs.List.{Contains, list_any}
+use Rattle.std.proofs.Common.{◌≡◌, inl, inr, ⊎_elim, ◌∙◌, ℕ, ◌-◌, ◌<◌, ◌≤◌, true, false, ◌==◌, length, refl, sym, ap, subst, arith, lt-ltb}
+use Rattle.std.specs.List.{Contains}
 use Rattle.std.proofs.lemmas.Bool.{and_from, and_parts, both_ways, cases_Bool, cases_lt, eqb-true, false≢true}
 use Rattle.std.proofs.lemmas.List.{get_or_past}
 use Rattle.event_machine.specs.Cell.{Cell}
 use Rattle.event_machine.specs.Machine.{Edge, IsTarget, Negedge, Posedge}
-use Rattle.event_machine.specs.MayMove.{CanBeEdge, MayMove, MayWake, of_input, of_target as moves_target}
+use Rattle.event_machine.specs.MayMove.{MayWake, of_input, of_target as moves_target}
 use Rattle.event_machine.specs.Single.{IsSingle}
-use Rattle.event_machine.specs.Told.{IsMovingInput, IsToldInput}
+use Rattle.event_machine.specs.Told.{IsToldInput}
 use Rattle.design_model.specs.Tree.{Process, assign, clocked, comb}
 use Rattle.design_model.specs.Design.{Design, cell, no_signal, process_at, signal_at}
 use Rattle.design_model.specs.Lawful.{IsLawfulDesign}
-use Rattle.design_model.specs.Machine.{lists_edge, machine, same_edge}
+use Rattle.design_model.specs.Machine.{lists_edge, machine}
 use Rattle.design_model.specs.Shows.{BoundDump}
 use Rattle.design_model.specs.MayMove.{IsSingleAt, MayMoveAt, told_at}
 use Rattle.design_model.proofs.AssignLaws.{has_bit}
 use Rattle.design_model.proofs.TargetCells.{target_cells_law}
-use Rattle.index_sets.specs.Rows.{row_at}
-use Rattle.wake_laws.specs.OfDesign.{AreTablesOf, HasCell}
-use Rattle.early_sets.specs.declared.edges.Edges.{Edges}
-use Rattle.early_sets.specs.Edges.{any_edges, edges_between}
+use Rattle.wake_laws.specs.OfDesign.{AreTablesOf}
+use Rattle.early_sets.specs.Edges.{edges_between}
 use Rattle.wake_laws.specs.Laws.{AreNotes, MovesLaw}
 use Rattle.early_sets.specs.Reached.{IsTargetBy, MayWakeBy, Reached, edges_at, of_seed, of_target}
 use Rattle.early_sets.specs.WakeState.{WakeState, nothing_left}

@@ -1,23 +1,22 @@
 -- Which process can wake and which is clean, by tables, are those of the definitions.
-use Rattle.std.proofs.Common.{◌≡◌, ◌⊎◌, ◌↔◌, inl, inr, ⊎_elim, ◌∙◌, ℕ, ◌<◌, Bool, true, false, not, cond, ◌==◌, ◌&&◌, List, Option, Some, None, refl, sym, ap, subst, eq-eqb}
+use Rattle.std.proofs.Common.{◌≡◌, ⊎_elim, ◌∙◌, ℕ, ◌<◌, Bool, true, false, not, cond, ◌==◌, ◌&&◌, List, Option, Some, None, refl, sym, ap, subst, eq-eqb}
 use Rattle.std.specs.List.{Contains, list_all}
-use Rattle.std.proofs.lemmas.Bool.{and_from, and_parts, both_ways, cases_Bool, cases_eq, eqb-true, false≢true, ne_eqb, not_from_false, not_from_true, not-true}
+use Rattle.std.proofs.lemmas.Bool.{and_from, and_parts, both_ways, cases_Bool, cases_eq, false≢true, ne_eqb, not_from_false, not-true}
 use Rattle.event_machine.specs.Cell.{Cell}
 use Rattle.event_machine.specs.Machine.{Edge as MachineEdge, Negedge, Posedge}
-use Rattle.event_machine.specs.MayMove.{CanBeEdge}
 use Rattle.four_state.specs.declared.edge.Edge.{Edge}
 use Rattle.four_state.specs.declared.edge.Edge.TheVariants.{Neg, Pos}
-use Rattle.design_model.specs.Design.{Design, In, cell, process_at, signal_at}
+use Rattle.design_model.specs.Design.{Design, In, cell, process_at}
 use Rattle.design_model.specs.Lawful.{IsLawfulDesign}
 use Rattle.design_model.specs.Machine.{events_of, machine, same_edge}
 use Rattle.design_model.specs.Shows.{BoundDump}
-use Rattle.design_model.specs.MayMove.{CanWakeAt, CanWakeSome, IsCleanAt, IsSingleAt, MayMoveAt, told_at}
+use Rattle.design_model.specs.MayMove.{CanWakeAt, CanWakeSome, IsCleanAt, IsSingleAt, told_at}
 use Rattle.index_sets.specs.Rows.{row_at}
 use Rattle.wake_laws.specs.OfDesign.{AreTablesOf}
 use Rattle.early_sets.specs.Edges.{may_be}
 use Rattle.wake_laws.specs.Laws.{AreNotes, AreWakes, IsSettled, WakesLaw}
 use Rattle.early_sets.specs.Reached.{Reached, edges_at}
-use Rattle.early_sets.specs.WakeState.{WakeState, can_wake_by, first_signal, is_in, is_input, nothing_left, trigger_by, trigger_of, waker_of, wakes_only_by}
+use Rattle.early_sets.specs.WakeState.{WakeState, can_wake_by, first_signal, is_in, is_input, nothing_left, trigger_by, waker_of, wakes_only_by}
 use Rattle.early_sets.proofs.Membership.{is_in_from, is_in_gives}
 use Rattle.wake_laws.proofs.EdgeLists.{Listed, all_from, all_gives, first_gives, first_none, listed_by, listed_of, no_level}
 use Rattle.wake_laws.proofs.MovesLaw.{edge_place, input_single, is_fall, is_rise, fall_is, lowest, moves_by, moves_of, reached_below, rise_is, single_input}

@@ -9,7 +9,7 @@ use Rattle.design_model.specs.Machine.{machine}
 use Rattle.design_model.specs.Shows.{BoundDump}
 use Rattle.design_model.specs.Early.{IsEarlyAt}
 use Rattle.design_model.specs.MayMove.{CanWakeAt, CanWakeSome, IsCleanAt, MayMoveAt, told_at}
-use Rattle.wake_laws.specs.OfDesign.{AreTablesOf, HasCell}
+use Rattle.wake_laws.specs.OfDesign.{AreTablesOf}
 use Rattle.early_sets.specs.declared.habit.Habit.{Habit}
 use Rattle.early_sets.specs.declared.habit.Habit.TheVariants.{Free, Late}
 use Rattle.early_sets.specs.Early.{IsEarlyBy}
