@@ -1,5 +1,5 @@
 -- The answers of a step are the sets that the replay asks for.
-use Rattle.std.proofs.Common.{◌≡◌, ◌↔◌, ◌∙◌, ℕ, true, List, Option, Some, None, refl, sym, subst}
+use Rattle.std.proofs.Common.{◌≡◌, ◌↔◌, ℕ, true, List, Option, Some, None, refl, subst}
 use Rattle.std.specs.List.{Contains}
 use Rattle.event_machine.specs.Cell.{Cell}
 use Rattle.design_model.specs.Design.{Design, cell}
