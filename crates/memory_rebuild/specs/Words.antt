@@ -1,5 +1,6 @@
 -- Memories of which the words are partly known: what an index reads, and what a write leaves of each word.
 use Rattle.std.specs.Prelude.{◌≡◌, ℕ, ◌+◌, ◌-◌, ◌≤◌, min, max, Bool, if◌then◌else◌, List, [], ◌∷◌, length, replicate, slice_index_or, Option, Some, None}
+use Rattle.event_machine.specs.Cell.{Cell}
 use Rattle.four_state.specs.declared.bit.Bit.{Bit}
 use Rattle.four_state.specs.declared.bit.Bit.TheVariants.{X}
 use Rattle.four_state.specs.Vector.{fill}
@@ -104,6 +105,10 @@ pub record StandsFor (d : Design) (k : Kept) (m : ℕ) (r : KnownWords) : Type 0
   pub last : r.shape.last ≡ (memory_at d m).last
   pub width : r.shape.width ≡ (memory_at d m).width
   pub words : (i : ℕ) → IsIndex r.shape i → word_at r i ≡ kept_word d k m i
+
+-- nothing is known of the cells of memory m
+abbrev pub IsForgotten : Kept → ℕ → Type 0
+IsForgotten k m = (c : Cell) → c.thing ≡ m → k c ≡ None
 
 -- the writes to the cells of memory m that put a value into the word of an index
 abbrev pub cell_writes : Design → ℕ → Partly → KnownBits → Bool → List KnownWrite
