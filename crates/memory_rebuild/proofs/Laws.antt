@@ -354,7 +354,7 @@ unwritten_stands d b m s first last width none =
       last = last;
       width = width;
       words = λ i at.
-        let low : min s.first s.last ≤ i = at.0 in
-        let high : i ≤ max s.first s.last = at.1 in
-        get_or-replicate (count s) (i - least s) (unknown s.width) (unknown s.width) (omega (arith, low, high)) ∙ ap unknown width ∙ sym (none_known b m (memory_at d m).width i none 0 (memory_at d m).width);
+          let low : min s.first s.last ≤ i = at.0 in
+          let high : i ≤ max s.first s.last = at.1 in
+          get_or-replicate (count s) (i - least s) (unknown s.width) (unknown s.width) (omega (arith, low, high)) ∙ ap unknown width ∙ sym (none_known b m (memory_at d m).width i none 0 (memory_at d m).width);
     }

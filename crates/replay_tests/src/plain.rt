@@ -29,7 +29,10 @@ pub(crate) fn common(a: &Known, b: &Known, blame: u32) -> Known {
 /// The value with this number, if the index may have it.
 fn candidate(index: &Known, code: u64) -> Option<Four> {
     let strange = code >> (index.width() % 64);
-    let value = Four::make(128, false, code as u128, strange as u128).extend(index.width(), index.is_signed());
+    let value = Four::make(128, false, code as u128, strange as u128).extend(
+        index.width(),
+        index.is_signed(),
+    );
     if value.width() != index.width() || index.differs(&value) {
         None
     } else {
