@@ -84,7 +84,8 @@ bits_left certain value old = if certain then value else joined old value
 -- the bits of word i after a write: a word that the index only may name is joined with the value
 abbrev pub word_after : KnownWords → Partly → KnownBits → Bool → ℕ → KnownBits
 word_after r k value certain i =
-    on_told (told k.bits) (λ bs. if is_word (named_by r.shape k.signed bs) i then bits_left certain value (word_at r i) else word_at r i) (if may_be r.shape k i then joined (word_at r i) value else word_at r i)
+    let old = word_at r i in
+    on_told (told k.bits) (λ bs. if is_word (named_by r.shape k.signed bs) i then bits_left certain value old else old) (if may_be r.shape k i then joined old value else old)
 
 -- the true words are among those that the sure bits allow
 abbrev pub AllowsWords : KnownWords → (ℕ → List Bit) → Type 0
