@@ -1,7 +1,8 @@
 -- What follows from the words that a read and a write leave: which words are allowed, and which are those of a design.
-use Rattle.std.proofs.Common.{◌≡◌, ℕ, zero, suc, ◌+◌, ◌-◌, ◌<◌, ◌≤◌, ◌==◌, min, max, Bool, true, false, ◌&&◌, if◌then◌else◌, List, [], ◌∷◌, ◌++◌, length, map, Option, Some, None, refl, sym, ap, ap₂, subst, ◌∙◌, inl, inr, ⊎_elim, arith, eq-eqb}
+use Rattle.std.proofs.Common.{◌≡◌, ℕ, zero, suc, ◌+◌, ◌*◌, ◌-◌, ◌<◌, ◌≤◌, ◌==◌, min, max, Bool, true, false, ◌&&◌, if◌then◌else◌, List, [], ◌∷◌, ◌++◌, length, map, Option, Some, None, refl, sym, ap, ap₂, subst, ◌∙◌, inl, inr, ⊎_elim, arith, eq-eqb}
 use Rattle.std.specs.Prelude.{nat_le, ℤ, pos, negsuc}
 use Rattle.std.specs.List.{range_with_len}
+use Rattle.std.proofs.lemmas.List.{get_or-replicate}
 use Rattle.std.proofs.lemmas.Bool.{cases_Bool, cases_eq, eqb-true, false≢true}
 use Rattle.event_machine.specs.Cell.{Cell}
 use Rattle.four_state.specs.declared.bit.Bit.{Bit}
@@ -11,10 +12,10 @@ use Rattle.four_state.specs.Arithmetic.{low_bits}
 use Rattle.four_state.specs.Parts.{index}
 use Rattle.known_state.specs.Partly.{Partly, allows_bits, is_told, told_of}
 use Rattle.known_state.specs.Join.{joined}
-use Rattle.design_model.specs.Design.{Design, In, memory_at, word_cells}
+use Rattle.design_model.specs.Design.{Design, In, memory_at, word_cells, cell}
 use Rattle.design_model.specs.declared.design.Memory.{Memory}
 use Rattle.design_model.specs.Value.{named_word}
-use Rattle.body_replay.specs.KnownBits.{AllAllow, KnownBits, on_told, sure, told}
+use Rattle.body_replay.specs.KnownBits.{AllAllow, KnownBits, on_told, sure, told, unknown}
 use Rattle.body_replay.specs.Store.{Kept, KnownWrite, is_word, join_words, keep_all, known_word_writes, may_name, option_kept, perhaps_words, read_word, weaken, words, writes_of}
 use Rattle.body_replay.proofs.Answered.{same_sure}
 use Rattle.body_replay.proofs.Frames.{Misses, miss_weaken, missed}
@@ -23,7 +24,7 @@ use Rattle.body_replay.proofs.Stored.{unsure_word_stored, weak_word_stored, word
 use Rattle.body_replay.proofs.Unsure.{not_told, told_is}
 use Rattle.body_replay.proofs.Values.{named_bounds, named_may}
 use Rattle.body_replay.proofs.Words.{other_word}
-use Rattle.memory_rebuild.specs.Words.{AllowsWords, HaveWidth, IsIndex, KnownWords, StandsFor, bits_left, bits_read, cell_writes, count, least, may_be, memory_of, named_by, option_word, true_word, true_words, word_after, word_at}
+use Rattle.memory_rebuild.specs.Words.{AllowsWords, HaveWidth, IsForgotten, IsIndex, KnownWords, StandsFor, bits_left, bits_read, cell_writes, count, least, may_be, memory_of, named_by, option_word, true_word, true_words, word_after, word_at, unwritten}
 use Rattle.memory_rebuild.specs.declared.shape.Shape.{Shape}
 use Rattle.memory_rebuild.proofs.Reading.{join_length, joined_from}
 
@@ -339,3 +340,21 @@ put_named r s k value certain v place x same is names word others q l = ⊎_elim
 
 pub put_nothing : (r : KnownWords) (k : Partly) (value : KnownBits) (certain : Bool) (v : Vector) (x : Shape) → x ≡ r.shape → k ≡ told_of v → named_by x v.signed v.bits ≡ None → (q : ℕ) → q < count r.shape → word_at r (least r.shape + q) ≡ word_after r k value certain (least r.shape + q)
 put_nothing r k value certain v x same is names q l = sym (sure_after r k value certain v None (least r.shape + q) is (subst (λ y. named_by y v.signed v.bits ≡ None) same names))
+
+-- ---- a memory that is forgotten
+
+none_known : (b : Kept) (m w i : ℕ) → IsForgotten b m → (n k : ℕ) → map b (map (λ j. cell m (i * w + j)) (range_with_len n k)) ≡ unknown k
+none_known b m w i none n zero = refl
+none_known b m w i none n (suc k) = ap₂ (λ p ps. p ∷ ps) (none (cell m (i * w + n)) refl) (none_known b m w i none (n + 1) k)
+
+pub unwritten_stands : (d : Design) (b : Kept) (m : ℕ) (s : Shape) → s.first ≡ (memory_at d m).first → s.last ≡ (memory_at d m).last → s.width ≡ (memory_at d m).width → IsForgotten b m → StandsFor d b m (unwritten s)
+unwritten_stands d b m s first last width none =
+    record {
+      first = first;
+      last = last;
+      width = width;
+      words = λ i at.
+          let low : min s.first s.last ≤ i = at.0 in
+          let high : i ≤ max s.first s.last = at.1 in
+          get_or-replicate (count s) (i - least s) (unknown s.width) (unknown s.width) (omega (arith, low, high)) ∙ ap unknown width ∙ sym (none_known b m (memory_at d m).width i none 0 (memory_at d m).width);
+    }

@@ -1,5 +1,6 @@
 -- Memories of which the words are partly known: what an index reads, and what a write leaves of each word.
 use Rattle.std.specs.Prelude.{◌≡◌, ℕ, ◌+◌, ◌-◌, ◌≤◌, min, max, Bool, if◌then◌else◌, List, [], ◌∷◌, length, replicate, slice_index_or, Option, Some, None}
+use Rattle.event_machine.specs.Cell.{Cell}
 use Rattle.four_state.specs.declared.bit.Bit.{Bit}
 use Rattle.four_state.specs.declared.bit.Bit.TheVariants.{X}
 use Rattle.four_state.specs.Vector.{fill}
@@ -83,7 +84,8 @@ bits_left certain value old = if certain then value else joined old value
 -- the bits of word i after a write: a word that the index only may name is joined with the value
 abbrev pub word_after : KnownWords → Partly → KnownBits → Bool → ℕ → KnownBits
 word_after r k value certain i =
-    on_told (told k.bits) (λ bs. if is_word (named_by r.shape k.signed bs) i then bits_left certain value (word_at r i) else word_at r i) (if may_be r.shape k i then joined (word_at r i) value else word_at r i)
+    let old = word_at r i in
+    on_told (told k.bits) (λ bs. if is_word (named_by r.shape k.signed bs) i then bits_left certain value old else old) (if may_be r.shape k i then joined old value else old)
 
 -- the true words are among those that the sure bits allow
 abbrev pub AllowsWords : KnownWords → (ℕ → List Bit) → Type 0
@@ -104,6 +106,10 @@ pub record StandsFor (d : Design) (k : Kept) (m : ℕ) (r : KnownWords) : Type 0
   pub last : r.shape.last ≡ (memory_at d m).last
   pub width : r.shape.width ≡ (memory_at d m).width
   pub words : (i : ℕ) → IsIndex r.shape i → word_at r i ≡ kept_word d k m i
+
+-- nothing is known of the cells of memory m
+abbrev pub IsForgotten : Kept → ℕ → Type 0
+IsForgotten k m = (c : Cell) → c.thing ≡ m → k c ≡ None
 
 -- the writes to the cells of memory m that put a value into the word of an index
 abbrev pub cell_writes : Design → ℕ → Partly → KnownBits → Bool → List KnownWrite

@@ -1,10 +1,10 @@
 ghost use Rattle.std.specs.Prelude.{◌≡◌, ◌+◌, ◌<◌, ◌≤◌, ℕ, List, IfOk, None, Some, false, if◌then◌else◌, length};
 ghost use Rattle.four_state.specs.declared.bit.Bit.{Bit};
 ghost use Rattle.known_state.specs.Partly.{is_told as is_told_whole, with_blame};
-ghost use Rattle.design_model.specs.Design.{Design};
+ghost use Rattle.design_model.specs.Design.{Design, memory_at};
 ghost use Rattle.body_replay.specs.KnownBits.{AllAllow, told as told_bits};
 ghost use Rattle.body_replay.specs.Store.{Kept, keep_all, read_word};
-ghost use Rattle.memory_rebuild.specs.Words.{AllowsWords, HaveWidth, IsIndex, StandsFor, bits_left, cell_writes, least, count, may_be, named_by, option_word, read_of, true_word, true_words, unwritten, word_after, word_at};
+ghost use Rattle.memory_rebuild.specs.Words.{AllowsWords, HaveWidth, IsForgotten, IsIndex, StandsFor, bits_left, cell_writes, least, count, may_be, named_by, option_word, read_of, true_word, true_words, unwritten, word_after, word_at};
 
 use crate::Shape;
 use crate::word::{Word, list, next_epoch, weaken};
@@ -50,7 +50,8 @@ impl Rebuilt {
     ) -> Result<Rebuilt, NoMemory>
         requires at_least { 1 ≤ width }
         requires at_most { width ≤ 128 }
-        ensures { IfOk result (λ r. r ≡ unwritten (record { first = first; last = last; width = width; signed = signed; blame = blame })) }
+        ensures value { IfOk result (λ r. r ≡ unwritten (record { first = first; last = last; width = width; signed = signed; blame = blame })) }
+        ensures stands { IfOk result (λ r. (d : Design) (b : Kept) (m : ℕ) → first ≡ (memory_at d m).first → last ≡ (memory_at d m).last → width ≡ (memory_at d m).width → IsForgotten b m → StandsFor d b m r) }
     {
         let shape = Shape {
             first,
@@ -127,7 +128,8 @@ impl Rebuilt {
     /// One number is changed, and the list of the written words is emptied. Only after the greatest number of an epoch
     /// all words are changed.
     pub fn smudge(&mut self)
-        ensures { self.new ≡ unwritten self.old.shape }
+        ensures value { self.new ≡ unwritten self.old.shape }
+        ensures stands { (d : Design) (k b : Kept) (m : ℕ) → StandsFor d k m self.old → IsForgotten b m → StandsFor d b m self.new }
     {
         self.epoch = next_epoch(&self.shape, self.words.as_mut_slice(), self.epoch);
         self.written.clear();

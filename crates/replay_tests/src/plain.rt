@@ -7,7 +7,7 @@ use known_state::Known;
 use std::alloc::{AllocError, Global};
 
 /// How many values are tried: all of an index of up to three bits.
-const TRIED: u128 = 64;
+const TRIED: u64 = 64;
 
 #[derive(Drop)]
 pub(crate) struct Plain {
@@ -18,7 +18,7 @@ pub(crate) struct Plain {
 }
 
 /// What two vectors have in common.
-fn common(a: &Known, b: &Known, blame: u32) -> Known {
+pub(crate) fn common(a: &Known, b: &Known, blame: u32) -> Known {
     if a.width() == b.width() {
         a.join(b, blame)
     } else {
@@ -27,10 +27,13 @@ fn common(a: &Known, b: &Known, blame: u32) -> Known {
 }
 
 /// The value with this number, if the index may have it.
-fn candidate(index: &Known, code: u128) -> Option<Four> {
-    let strange = code >> (index.width() % 128);
-    let value = Four::make(128, false, code, strange).extend(index.width(), index.is_signed());
-    if index.differs(&value) {
+fn candidate(index: &Known, code: u64) -> Option<Four> {
+    let strange = code >> (index.width() % 64);
+    let value = Four::make(128, false, code as u128, strange as u128).extend(
+        index.width(),
+        index.is_signed(),
+    );
+    if value.width() != index.width() || index.differs(&value) {
         None
     } else {
         Some(value)

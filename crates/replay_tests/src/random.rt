@@ -1,6 +1,7 @@
 //! Numbers and vectors that look random, the same in each run.
-ghost use Rattle.std.specs.Prelude.{◌≡◌, ◌≤◌, length};
+ghost use Rattle.std.specs.Prelude.{◌≤◌};
 
+use crate::plain::common;
 use four_state::Four;
 use known_state::Known;
 
@@ -16,16 +17,16 @@ impl Random {
     }
 
     /// A number of 32 bits.
-    pub(crate) fn number(&mut self) -> u128 {
+    pub(crate) fn number(&mut self) -> u64 {
         self.state = self
             .state
             .wrapping_mul(6364136223846793005)
             .wrapping_add(1442695040888963407);
-        (self.state >> 32) as u128
+        self.state >> 32
     }
 
     /// Whether one of so many equal chances came.
-    pub(crate) fn chance(&mut self, of: u128) -> bool {
+    pub(crate) fn chance(&mut self, of: u64) -> bool {
         of != 0 && self.number() % of == 0
     }
 
@@ -33,13 +34,13 @@ impl Random {
     pub(crate) fn known(&mut self, width: u8, signed: bool, blame: u32) -> Known
         requires at_least { 1 ≤ width }
         requires at_most { width ≤ 128 }
-        ensures { length result.bits ≡ width }
     {
         let ones = self.number();
         let strange = self.number() & self.number() & self.number();
         let unsure = self.number() & self.number();
-        let value = Four::make(128, false, ones, strange).extend(width, signed);
-        let other = Four::make(128, false, ones ^ unsure, strange).extend(width, signed);
-        Known::told(value).join(&Known::told(other), blame)
+        let value = Four::make(128, false, ones as u128, strange as u128).extend(width, signed);
+        let changed = ones ^ unsure;
+        let other = Four::make(128, false, changed as u128, strange as u128).extend(width, signed);
+        common(&Known::told(value), &Known::told(other), blame)
     }
 }

@@ -10,11 +10,11 @@ use memory_rebuild::{Rebuilt, Shape};
 use std::alloc::Global;
 
 /// The unsigned vector of a number of so many bits.
-fn number(width: u8, value: u128) -> Known
+fn number(width: u8, value: u64) -> Known
     requires at_least { 1 ≤ width }
     requires at_most { width ≤ 128 }
 {
-    Known::told(Four::make(128, false, value, 0).extend(width, false))
+    Known::told(Four::make(128, false, value as u128, 0).extend(width, false))
 }
 
 /// Writes a value, if it has the width and the sign of the words.
@@ -66,7 +66,14 @@ fn words_of_a_new_epoch(rt: HostRuntime) -> Result<(), NoMemory> {
 #[test]
 fn blames(rt: HostRuntime) -> Result<(), NoMemory> {
     let mut memory = Rebuilt::new(rt.alloc(), 0, 3, 1, false, 7)?;
-    assert!(rt; put(&mut memory, &number(2, 0), &Known::unknown(1, false, 5), true));
+    assert!(rt;
+        put(
+            &mut memory,
+            &number(2, 0),
+            &Known::unknown(1, false, 5),
+            true
+        )
+    );
     assert!(rt; memory.read(&number(2, 0)).blame() == 7);
     assert!(rt; memory.read(&Known::unknown(2, false, 9)).blame() == 9);
     Ok(())
@@ -77,10 +84,12 @@ fn blames(rt: HostRuntime) -> Result<(), NoMemory> {
 fn bounds_that_are_far_apart(rt: HostRuntime) -> Result<(), NoMemory> {
     let mut memory = Rebuilt::new(rt.alloc(), u32::MAX, u32::MAX - 1, 128, true, 7)?;
     let value = Known::told(Four::fill(128, true, Bit::One));
-    assert!(rt; put(&mut memory, &number(32, u32::MAX as u128), &value, true));
-    assert!(rt; memory.read(&number(128, u32::MAX as u128)) == value);
+    assert!(rt; put(&mut memory, &number(32, u32::MAX as u64), &value, true));
+    assert!(rt; memory.read(&number(128, u32::MAX as u64)) == value);
     assert!(rt; memory.read(&Known::unknown(128, true, 1)) == Known::unknown(128, true, 1));
-    assert!(rt; memory.read(&number(31, u32::MAX as u128)) == Known::told(Four::fill(128, true, Bit::X)));
+    assert!(rt;
+        memory.read(&number(31, u32::MAX as u64)) == Known::told(Four::fill(128, true, Bit::X))
+    );
     Ok(())
 }
 

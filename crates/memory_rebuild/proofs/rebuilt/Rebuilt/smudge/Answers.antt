@@ -2,8 +2,9 @@ use Rattle.std.proofs.Common.{◌≡◌, ◌++◌, [], List, ap, drop, length, s
 use Rattle.std.specs.Prelude.{vec_capacity}
 use Rattle.memory_rebuild.specs.declared.word.Word.{Word}
 use Rattle.memory_rebuild.specs.Epochs.{AreKept}
-use Rattle.memory_rebuild.specs.Words.{unwritten}
+use Rattle.memory_rebuild.specs.Words.{StandsFor, unwritten}
 use Rattle.memory_rebuild.proofs.Kept.{forgotten_kept, old_none, old_words, whole_slice, words_of}
+use Rattle.memory_rebuild.proofs.Laws.{unwritten_stands}
 use Rattle.memory_rebuild.proofs.rebuilt.Rebuilt.smudge.Goals as goal
 use Rattle.memory_rebuild.proofs.rebuilt.Rebuilt.smudge.Goals.{After-clear}
 
@@ -21,7 +22,11 @@ invariant_of-self c =
     (subst (λ (vs : List Word). AreKept c.self.inside.shape c.next_epoch-self-inside.result vs [] (vec_capacity c.clear.new.self)) (sym (whole a))
     (forgotten_kept c.self.inside.shape c.self.inside.epoch c.next_epoch-self-inside.result (vec_capacity c.self.inside.written) (vec_capacity c.clear.new.self) c.self.inside.words.items c.next_epoch-self-inside.new.words c.self.inside.written.items c.self.invariant (size a) c.next_epoch-self-inside.ensures.fit c.next_epoch-self-inside.ensures.older c.clear.ensures.capacity))
 
-pub returns : goal.returns
-returns c =
+pub returns-clause-value : goal.returns-clause-value
+returns-clause-value c =
     subst (λ (vs : List Word). words_of c.self.inside.shape c.next_epoch-self-inside.result vs ≡ unwritten c.args.self.now.shape) (sym (whole c))
     (old_words c.self.inside.shape c.next_epoch-self-inside.result c.next_epoch-self-inside.new.words (size c ∙ c.self.invariant.size) (old_none c.next_epoch-self-inside.result c.next_epoch-self-inside.new.words c.next_epoch-self-inside.ensures.older) ∙ ap (λ r. unwritten r.shape) c.self.view_is)
+
+pub returns-clause-stands : goal.returns-clause-stands
+returns-clause-stands c = λ d k b m is none.
+    subst (StandsFor d b m) (sym (returns-clause-value c)) (unwritten_stands d b m c.args.self.now.shape is.first is.last is.width none)
