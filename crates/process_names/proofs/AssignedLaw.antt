@@ -1,5 +1,5 @@
 -- What a text assigns, as a list and as a test.
-use Rattle.std.proofs.Common.{◌≡◌, ◌∙◌, ℕ, Bool, true, false, not, ◌==◌, ◌&&◌, ◌||◌, cond, List, [], ◌∷◌, ◌++◌, refl, sym, ap, ap₂}
+use Rattle.std.proofs.Common.{◌≡◌, ◌∙◌, ℕ, Bool, true, false, not, ◌==◌, ◌&&◌, ◌||◌, cond, List, [], ◌++◌, refl, ap, ap₂}
 use Rattle.std.specs.List.{list_any}
 use Rattle.design_model.specs.Mentions.{any_set, any_set_in, any_set_of, body_blocks, body_queues, some_target_names as some_names, target_names as names}
 use Rattle.design_model.specs.Shape.{same_bool}
