@@ -31,10 +31,17 @@ IsEarlyInput t h inputs n trigger x = (k : ℕ) × (k < n) × (is_free t h (slic
 abbrev pub IsTriggerTarget : WakeTables → List ℕ → ℕ → ℕ → ℕ → ℕ → Type 0
 IsTriggerTarget t processes n block trigger y = (k : ℕ) × (k < n) × IsRowItem (not (slice_index processes k == block)) (row_at t.blocking (slice_index processes k)) (Some trigger) y
 
+-- an input that changes and is free
+abbrev pub IsFreeInput : WakeState → Habit → ℕ → Type 0
+IsFreeInput w h x = Contains w.noted x × (is_free w.tables h x ≡ true)
+
+-- a blocking target of a process, not the block, that the trigger may wake
+abbrev pub IsOtherTarget : WakeState → ℕ → ℕ → ℕ → Type 0
+IsOtherTarget w block trigger x = (p : ℕ) × MayWakeBy w.tables w.edges trigger p × (is_apart (Some block) p ≡ true) × Contains (row_at w.tables.blocking p) x
+
 -- what is early at first: an input that changes and is free, and a blocking target of another process that the trigger may wake; not the trigger
 abbrev pub IsEarlySeed : WakeState → Habit → ℕ → ℕ → ℕ → Type 0
-IsEarlySeed w h block trigger x =
-    ((Contains w.noted x × (is_free w.tables h x ≡ true)) ⊎ ((p : ℕ) × MayWakeBy w.tables w.edges trigger p × (is_apart (Some block) p ≡ true) × Contains (row_at w.tables.blocking p) x)) × (is_apart (Some trigger) x ≡ true)
+IsEarlySeed w h block trigger x = (IsFreeInput w h x ⊎ IsOtherTarget w block trigger x) × (is_apart (Some trigger) x ≡ true)
 
 -- what the trigger and the members leave out
 abbrev pub early_rule : ℕ → ℕ → Rule

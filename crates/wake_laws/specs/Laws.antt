@@ -32,7 +32,8 @@ pub record AreNotes (d : Design) (dump : BoundDump) (t : ℕ) (w : WakeState) : 
 
 -- what the changed inputs reach is what may move
 abbrev pub MovesLaw : Design → Type 0
-MovesLaw d = (dump : BoundDump) (t : ℕ) (w : WakeState) → AreTablesOf d w.tables → AreNotes d dump t w → (x : ℕ) → Reached w.tables w.edges nothing_left (Contains w.noted) x ↔ MayMoveAt d dump t x
+MovesLaw d =
+    (dump : BoundDump) (t : ℕ) (w : WakeState) → AreTablesOf d w.tables → AreNotes d dump t w → (x : ℕ) → Reached w.tables w.edges nothing_left (Contains w.noted) x ↔ MayMoveAt d dump t x
 
 -- the sets of a state are those of its notes
 pub record IsSettled (w : WakeState) : Type 0 where
