@@ -125,6 +125,9 @@ module _ (d : Design) where
 
   -- ---- the terms in a term
 
+  pub in_signal : (h : Head) (s : ℕ) → IsInContext d (signal h s) → s < length d.signals
+  in_signal h s c = ltb-true s (length d.signals) (and_parts (has_shape c.width c.signed h) (nat_lt s (length d.signals)) c.shaped).1
+
   pub record InWord (m : ℕ) (i : Term) : Type 0 where
     pub is : is_memory d m ≡ true
     pub index : IsInContext d i

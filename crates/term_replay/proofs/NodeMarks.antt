@@ -116,3 +116,7 @@ module _ {S : Type 0} (noted : List Mark → S → Type 0) (v : Scene) (mode : M
   seen_two h op y z a c s m u sa sc inner own =
       adds_same noted s u _ _ (ap (in_this mode) (ap (λ cs. inner_marks v first (t.binary h op y z) ++ cs) (two_node v first op y z a c h.node sa sc)))
       (adds_more noted mode s m u (inner_marks v first (t.binary h op y z)) _ inner own)
+
+  -- $signed or $unsigned, whichever of them it is
+  pub seen_sign : (x : t.Term) (h : t.Head) (g : Bool) (y : t.Term) (r : Partly) (s m u : S) → x ≡ t.sign h g y → ((k : Bool) → Stands v first (t.sign h k y) r) → Adds noted s (in_this mode (marks_of v first y)) m → Adds noted m (in_this mode (node_marks h.node (own_cases r.bits r.blame))) u → Adds noted s (in_this mode (marks_of v first x)) u
+  seen_sign x h g y r s m u e a inner own = adds_same noted s u _ _ (ap (λ z. in_this mode (marks_of v first z)) (sym e)) (seen_own (t.sign h g y) r s m u refl (a g) inner own)
