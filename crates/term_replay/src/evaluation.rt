@@ -12,11 +12,11 @@ ghost use Rattle.term_replay.specs.Noted.{Adds, all_marks, in_this, marks_of, ow
 ghost use Rattle.term_replay.specs.Stands.{IsInContext, Stands, StandsAll, all_first_after, first_after, head_of, so_far};
 
 use crate::cases::{note_own, note_two};
-use crate::repeated::{concat, followed_by};
 use crate::fit::{fitted, noted, number, sign, signal};
-use crate::operate::{binary, choice, unary};
-use crate::select::{bit, part, range_of, slide};
 use crate::memory::{note_words, word};
+use crate::operate::{binary, choice, unary};
+use crate::repeated::{concat, followed_by};
+use crate::select::{bit, part, range_of, slide};
 use crate::{Access, Notes, Reads, TermHead};
 use design_model::{Form, Term};
 use four_state::Binary;
@@ -293,12 +293,7 @@ fn choice_term<R: Reads, N: Notes>(
 
 /// Evaluates terms in order, and joins their values, the first one highest.
 #[cycle(terms)]
-fn join_all<R: Reads, N: Notes>(
-    reads: &R,
-    parts: &[Term],
-    run: Progress,
-    notes: &mut N,
-) -> Joined
+fn join_all<R: Reads, N: Notes>(reads: &R, parts: &[Term], run: Progress, notes: &mut N) -> Joined
     requires { are_alone (R.scene reads.now).design (terms_of (map term_view parts.now)) ≡ true }
     ensures value { own_widths (R.scene reads.now).design (terms_of (map term_view parts.now)) ≤ 128 → StandsAll (R.scene reads.now) run.first (terms_of (map term_view parts.now)) (so_far result.value) }
     ensures first { result.first ≡ all_first_after (R.scene reads.now) run.first (terms_of (map term_view parts.now)) }

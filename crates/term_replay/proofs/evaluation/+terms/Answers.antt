@@ -608,8 +608,8 @@ join_all-loop-part-preserved g t c =
           goes_further v c.args.run.first (terms_of (map term_view c.args.parts.now)) c.loop-part.all.first c.evaluate-part.result.first (term_view x) (terms_of (map term_view (drop (c.loop-part.part-index + 1) c.args.parts.now))) c.evaluate-part.result.value (so_far c.loop-part.all.value) c.followed_by.result g0 told first (c.followed_by.ensures.bits room) (c.followed_by.ensures.blame room);
       first = h.first ∙ ap (all_first_after v c.loop-part.all.first) next ∙ ap (λ o. all_first_after v o (terms_of (map term_view (drop (c.loop-part.part-index + 1) c.args.parts.now)))) (sym first);
       notes = subst (λ o. TellsOn g.N.Notes.noted c.args.run.mode c.args.notes.now (all_marks v c.args.run.first (terms_of (map term_view c.args.parts.now))) c.evaluate-part.new.notes (all_marks v o (terms_of (map term_view (drop (c.loop-part.part-index + 1) c.args.parts.now))))) (sym first)
-      (tells_further g.N.Notes.noted c.args.run.mode c.args.notes.now (all_marks v c.args.run.first (terms_of (map term_view c.args.parts.now))) c.loop-part.notes c.evaluate-part.new.notes (marks_of v c.loop-part.all.first (term_view x)) (all_marks v (first_after v c.loop-part.all.first (term_view x)) (terms_of (map term_view (drop (c.loop-part.part-index + 1) c.args.parts.now))))
-      (subst (λ ts. TellsOn g.N.Notes.noted c.args.run.mode c.args.notes.now (all_marks v c.args.run.first (terms_of (map term_view c.args.parts.now))) c.loop-part.notes (all_marks v c.loop-part.all.first ts)) next h.notes) notes);
+          (tells_further g.N.Notes.noted c.args.run.mode c.args.notes.now (all_marks v c.args.run.first (terms_of (map term_view c.args.parts.now))) c.loop-part.notes c.evaluate-part.new.notes (marks_of v c.loop-part.all.first (term_view x)) (all_marks v (first_after v c.loop-part.all.first (term_view x)) (terms_of (map term_view (drop (c.loop-part.part-index + 1) c.args.parts.now))))
+          (subst (λ ts. TellsOn g.N.Notes.noted c.args.run.mode c.args.notes.now (all_marks v c.args.run.first (terms_of (map term_view c.args.parts.now))) c.loop-part.notes (all_marks v c.loop-part.all.first ts)) next h.notes) notes);
     }
 
 pub join_all-returns-clause-value : goal.join_all-returns-clause-value
