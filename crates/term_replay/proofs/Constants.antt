@@ -1,5 +1,5 @@
 -- A constant has its value, whatever is known.
-use Rattle.std.proofs.Common.{◌≡◌, ◌∙◌, ℕ, Bool, true, ◌&&◌, ◌++◌, ◌∷◌, [], List, Option, if◌then◌else◌, Some, refl, sym, ap, ap₂}
+use Rattle.std.proofs.Common.{◌≡◌, ◌∙◌, ℕ, true, ◌&&◌, ◌++◌, ◌∷◌, [], List, Option, if◌then◌else◌, Some, refl, sym, ap, ap₂}
 use Rattle.std.proofs.lemmas.Bool.{and_parts, false≢true}
 use Rattle.event_machine.specs.Cell.{Values}
 use Rattle.four_state.specs.declared.bit.Bit.{Bit}

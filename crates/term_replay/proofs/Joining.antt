@@ -20,11 +20,11 @@ use Rattle.body_replay.proofs.Answered.{append_answer, same_sure}
 use Rattle.body_replay.proofs.Exact.{append_exact}
 use Rattle.body_replay.proofs.Steps as s
 use Rattle.term_replay.specs.Noted.{Adds, in_this}
-use Rattle.term_replay.specs.Stands.{Fitted, Scene, Stands, StandsAll, all_first_after, copied, first_after, head_of, so_far, told_at}
+use Rattle.term_replay.specs.Stands.{Fitted, Scene, Stands, StandsAll, copied, first_after, head_of, so_far, told_at}
 use Rattle.term_replay.specs.declared.head.TermHead.{TermHead}
 use Rattle.term_replay.proofs.Contexts.{length-joined}
 use Rattle.term_replay.proofs.Marking.{adds_more, adds_none}
-use Rattle.term_replay.proofs.Standing.{from_step, not_false, to_all, to_fit, to_step, told_fits, told_sure}
+use Rattle.term_replay.proofs.Standing.{from_step, not_false, to_all, to_fit, to_step, told_fits}
 
 pub told_appended : (a b q : Partly) (m n : Vector) → a ≡ told_of m → b ≡ told_of n → q ≡ told_of (appended_vector m n) → q.bits ≡ b.bits ++ a.bits
 told_appended a b q m n ea eb eq = ap (λ y. y.bits) eq ∙ sym (append_exact n.bits m.bits) ∙ sym (ap₂ (λ x y. x.bits ++ y.bits) eb ea)

@@ -4,18 +4,17 @@ use Rattle.four_state.specs.declared.truth.Truth.{Truth}
 use Rattle.four_state.specs.declared.truth.Truth.TheVariants.{True, False}
 use Rattle.four_state.specs.declared.operator.Binary.{Binary}
 use Rattle.four_state.specs.declared.operator.Binary.TheVariants.{Multiply, Divide, Modulus, Add, Subtract, ShiftLeft, ShiftRight, ArithmeticShiftLeft, ArithmeticShiftRight, LessThan, LessOrEqual, GreaterThan, GreaterOrEqual, Equal, NotEqual, CaseEqual, CaseNotEqual, BitwiseAnd, BitwiseXor, BitwiseXnor, BitwiseNxor, BitwiseOr, LogicalAnd, LogicalOr}
-use Rattle.known_state.specs.Partly.{Partly, is_told}
+use Rattle.known_state.specs.Partly.{Partly}
 use Rattle.design_model.specs.Tree as t
 use Rattle.design_model.specs.Value.{head}
 use Rattle.design_model.specs.declared.point.NodeCase.{NodeCase}
 use Rattle.body_replay.specs.KnownBits.{KnownBits, both}
 use Rattle.body_replay.specs.Store.{known_value}
-use Rattle.body_replay.specs.Replay.{Case, Mark, Mode, ask, blame_of, case_mark, case_marks, doubted, four_known, known_cases, node, node_marks, one_case, two_case, two_known, undecided}
+use Rattle.body_replay.specs.Replay.{Mark, Mode, ask, blame_of, case_mark, case_marks, doubted, four_known, known_cases, node, node_marks, two_known, undecided}
 use Rattle.body_replay.proofs.Answered.{same_sure}
 use Rattle.body_replay.proofs.Unsure.{ask_none}
 use Rattle.term_replay.specs.Noted.{Adds, and_cases, in_this, inner_marks, marks_of, or_cases, own_cases}
-use Rattle.term_replay.specs.Stands.{Scene, Stands, first_after, head_of}
-use Rattle.term_replay.specs.declared.head.TermHead.{TermHead}
+use Rattle.term_replay.specs.Stands.{Scene, Stands, first_after}
 use Rattle.term_replay.proofs.Marking.{adds_more, adds_same}
 
 mark_blame : (n : ℕ) (c : NodeCase) (o : Option Bool) (l m : ℕ) → (o ≡ None → l ≡ m) → case_mark n c o l ≡ case_mark n c o m

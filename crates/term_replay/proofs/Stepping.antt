@@ -1,5 +1,5 @@
 -- Operands that are evaluated one after the other, and a term by the form that it has.
-use Rattle.std.proofs.Common.{◌≡◌, ◌∙◌, ℕ, Bool, List, ◌++◌, Option, refl, sym, ap, subst}
+use Rattle.std.proofs.Common.{◌≡◌, ◌∙◌, ℕ, Bool, List, ◌++◌, Option, sym, ap, subst}
 use Rattle.known_state.specs.Partly.{Partly}
 use Rattle.design_model.specs.Design.{Design}
 use Rattle.design_model.specs.Tree as t

@@ -1,5 +1,5 @@
 -- Reads of signals and words, in the walk over a term.
-use Rattle.std.proofs.Common.{◌≡◌, ◌∙◌, ℕ, Bool, true, false, if◌then◌else◌, List, Option, Some, None, map, refl, sym, ap, ap₂}
+use Rattle.std.proofs.Common.{◌≡◌, ◌∙◌, ℕ, Bool, true, false, if◌then◌else◌, List, Option, Some, None, refl, sym, ap, ap₂}
 use Rattle.std.specs.Bool.{OnTrue}
 use Rattle.four_state.specs.declared.bit.Bit.{Bit}
 use Rattle.four_state.specs.Parts.{index}
@@ -11,7 +11,7 @@ use Rattle.design_model.specs.Tree as t
 use Rattle.design_model.specs.Value.{head, named_word}
 use Rattle.body_replay.specs.KnownBits.{KnownBits, all_sure, on_told, told}
 use Rattle.body_replay.specs.Store.{known_value, may_name, read_word, words}
-use Rattle.body_replay.specs.Replay.{Blames, Spot, blame_of, first_of, first_read, named_mark, note, perhaps_marks, word_blame}
+use Rattle.body_replay.specs.Replay.{Blames, Spot, blame_of, first_of, named_mark, note, perhaps_marks, word_blame}
 use Rattle.body_replay.proofs.Answered.{same_sure}
 use Rattle.body_replay.proofs.Unsure.{told_none}
 use Rattle.body_replay.proofs.Steps as s

@@ -1,4 +1,4 @@
-use Rattle.std.proofs.Common.{◌≡◌, ◌∙◌, ◌+◌, ◌*◌, ◌≤◌, drop, length, map, min, sym, ap, ap₂, subst, refl, arith, true}
+use Rattle.std.proofs.Common.{◌≡◌, ◌∙◌, ◌+◌, ◌*◌, ◌≤◌, drop, length, map, min, sym, ap, ap₂, subst, refl, arith}
 use Rattle.std.proofs.lemmas.Bool.{and_parts}
 use Rattle.std.proofs.lemmas.List.{at_drop_all}
 use Rattle.std.proofs.Common.{rules}
@@ -7,11 +7,10 @@ use Rattle.design_model.specs.Shape.{are_alone, own_widths}
 use Rattle.design_model.specs.Tree as tree
 use Rattle.design_model.specs.declared.tree.Term.{the_lemmas}
 use Rattle.design_model.specs.View.{term_view, terms_of}
-use Rattle.term_replay.specs.Stands.{Fitted, IsInContext, copied, all_first_after, first_after, head_of, so_far}
+use Rattle.term_replay.specs.Stands.{Fitted, copied, all_first_after, first_after, head_of, so_far}
 use Rattle.term_replay.proofs.Contexts.{alone, in_binary, in_bit, in_choice, in_concat, in_part, in_repeat, in_sign, in_slide, in_unary, in_word, same_shapes, shape_ok, length-joined}
 use Rattle.term_replay.proofs.Joining.{GoesOn, TellsOn, concat_stands, repeat_all, room_for_all, goes_end, goes_further, goes_start, room_left, tells_end, tells_further, tells_start, terms_from}
 use Rattle.term_replay.proofs.NodeMarks.{seen_own, seen_sign, seen_two}
-use Rattle.std.specs.Bool.{OnTrue}
 use Rattle.four_state.specs.Arithmetic.{natural}
 use Rattle.four_state.specs.Operators.{takes_same_shape}
 use Rattle.design_model.specs.Design.{memory_at}
@@ -23,7 +22,7 @@ use Rattle.term_replay.proofs.Constants.{bits_are, constant_bits, constant_told}
 use Rattle.term_replay.proofs.Marking.{adds_more, adds_none, adds_same}
 use Rattle.term_replay.proofs.Walking.{noted_is, on_true, read_is, thing_is, word_stands, words_of_range, words_same}
 use Rattle.term_replay.proofs.Stepping.{along, along_sign, arm_context, arm_notes, arm_value, next_value, same_value, three_first, three_marks, two_first, two_marks}
-use Rattle.term_replay.proofs.Views.{binary_view, bit_view, choice_view, concat_view, number_view, part_view, repeat_view, sign_view, signal_view, slide_view, unary_view, word_view}
+use Rattle.term_replay.proofs.Views.{binary_view, bit_view, choice_view, concat_view, number_view, part_view, repeat_view, signal_view, slide_view, unary_view, word_view}
 use Rattle.term_replay.proofs.evaluation.+terms.Goals as goal
 
 -- ---- word
