@@ -1,5 +1,5 @@
 -- A constant has its value, whatever is known.
-use Rattle.std.proofs.Common.{◌≡◌, ◌∙◌, ℕ, Bool, true, ◌&&◌, ◌++◌, ◌∷◌, [], List, Option, if◌then◌else◌, Some, refl, sym, ap, ap₂}
+use Rattle.std.proofs.Common.{◌≡◌, ◌∙◌, ℕ, true, ◌&&◌, ◌++◌, ◌∷◌, [], List, Option, if◌then◌else◌, Some, refl, sym, ap, ap₂}
 use Rattle.std.proofs.lemmas.Bool.{and_parts, false≢true}
 use Rattle.event_machine.specs.Cell.{Values}
 use Rattle.four_state.specs.declared.bit.Bit.{Bit}
@@ -76,7 +76,8 @@ filled_sure [] = refl
 filled_sure (b ∷ bs) = ap (λ r. b ∷ r) (filled_sure bs)
 
 module _ (v : Scene) (first : Option ℕ) (x : Term) (r : Partly) (c : is_constant x ≡ true) (a : Stands v first x r) where
-  bits_are : r.bits ≡ sure (value v.design blank x)
+  -- its bits, all sure
+  pub bits_are : r.bits ≡ sure (value v.design blank x)
   bits_are = a.bits ∙ constant_known v.design v.kept blank x c
 
   -- the value of a constant is told

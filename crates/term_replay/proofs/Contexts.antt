@@ -1,6 +1,5 @@
 -- What the context of a term says of the terms in it.
-use Rattle.std.proofs.Common.{◌≡◌, ◌∙◌, ◌⊎◌, ℕ, zero, suc, ◌+◌, ◌*◌, ◌≤◌, ◌<◌, ◌==◌, Bool, true, false, not, ◌&&◌, ◌||◌, ◌++◌, if◌then◌else◌, List, [], Option, Some, None, length, map, max, nat_le, nat_lt, refl, sym, ap, ap₂, subst, arith}
-use Rattle.std.specs.Bool.{OnTrue}
+use Rattle.std.proofs.Common.{◌≡◌, ◌∙◌, ℕ, ◌+◌, ◌*◌, ◌≤◌, ◌<◌, ◌==◌, Bool, true, false, not, ◌&&◌, ◌||◌, ◌++◌, if◌then◌else◌, List, Option, Some, None, length, map, max, nat_le, nat_lt, refl, sym, ap, subst, arith}
 use Rattle.std.proofs.lemmas.Bool.{and_parts, eqb-true, leb-true, ltb-true}
 use Rattle.std.proofs.lemmas.List.{length-append, length-replicate}
 use Rattle.four_state.specs.declared.bit.Bit.{Bit}
@@ -124,6 +123,9 @@ module _ (d : Design) where
   alone x e = record { width = own_width d x; signed = own_sign d x; shaped = e; narrow = omega arith }
 
   -- ---- the terms in a term
+
+  pub in_signal : (h : Head) (s : ℕ) → IsInContext d (signal h s) → s < length d.signals
+  in_signal h s c = ltb-true s (length d.signals) (and_parts (has_shape c.width c.signed h) (nat_lt s (length d.signals)) c.shaped).1
 
   pub record InWord (m : ℕ) (i : Term) : Type 0 where
     pub is : is_memory d m ≡ true

@@ -1,8 +1,7 @@
 -- The number of a signed index below 0, and whether an index names a word.
-use Rattle.std.proofs.Common.{◌≡◌, ◌≤◌, ◌-◌, ◌^◌, ◌==◌, ℕ, ◌+◌, ◌*◌, bit_and, length, max, min, nat_le, not, ℤ, Option, arith, inl, inr, ⊎_elim, subst, eq-eqb, Bool, true, false, ◌&&◌, if◌then◌else◌, List, [], ◌∷◌, map, pos, negsuc, Some, None, refl, sym, ap, ap₂, ◌∙◌}
+use Rattle.std.proofs.Common.{◌≡◌, ◌≤◌, ◌-◌, ◌^◌, ◌==◌, ℕ, ◌+◌, ◌*◌, bit_and, length, max, min, nat_le, not, ℤ, Option, ⊎_elim, subst, Bool, true, false, ◌&&◌, if◌then◌else◌, List, [], ◌∷◌, map, pos, negsuc, Some, None, refl, sym, ap, ap₂, ◌∙◌}
 use Rattle.four_state.specs.declared.bit.Bit.{Bit}
 use Rattle.four_state.specs.declared.bit.Bit.TheVariants.{Zero, One, X, Z}
-use Rattle.four_state.specs.declared.index.Index.{Index}
 use Rattle.four_state.specs.declared.index.Index.TheVariants.{Below}
 use Rattle.four_state.specs.Vector.{all_known, is_one, is_zero, top}
 use Rattle.four_state.specs.Arithmetic.{natural, not_bit}

@@ -1,7 +1,8 @@
 -- Values side by side, and copies of them.
-use Rattle.std.proofs.Common.{◌≡◌, ◌∙◌, ℕ, zero, suc, ◌+◌, ◌-◌, ◌*◌, ◌<◌, ◌≤◌, Bool, true, false, ◌&&◌, if◌then◌else◌, List, [], ◌∷◌, ◌++◌, Option, Some, None, length, map, drop, get_or, refl, sym, ap, ap₂, subst, append-nil, append_assoc, add-one, drop-cons, arith}
+use Rattle.std.proofs.Common.{◌≡◌, ◌∙◌, ℕ, zero, suc, ◌+◌, ◌-◌, ◌*◌, ◌<◌, ◌≤◌, Bool, true, false, ◌&&◌, if◌then◌else◌, List, [], ◌∷◌, ◌++◌, Option, Some, None, length, map, min, drop, get_or, refl, sym, ap, ap₂, subst, append-nil, append_assoc, add-one, drop-cons, arith}
 use Rattle.std.specs.Prelude.{IsTrue}
 use Rattle.std.proofs.lemmas.List.{length-append}
+use Rattle.four_state.specs.declared.bit.Bit.{Bit}
 use Rattle.four_state.specs.Arithmetic.{natural}
 use Rattle.four_state.specs.Vector.{Vector}
 use Rattle.four_state.specs.Parts.{appended_vector}
@@ -19,11 +20,11 @@ use Rattle.body_replay.proofs.Answered.{append_answer, same_sure}
 use Rattle.body_replay.proofs.Exact.{append_exact}
 use Rattle.body_replay.proofs.Steps as s
 use Rattle.term_replay.specs.Noted.{Adds, in_this}
-use Rattle.term_replay.specs.Stands.{Fitted, Scene, Stands, StandsAll, all_first_after, copied, first_after, head_of, so_far, told_at}
+use Rattle.term_replay.specs.Stands.{Fitted, Scene, Stands, StandsAll, copied, first_after, head_of, so_far, told_at}
 use Rattle.term_replay.specs.declared.head.TermHead.{TermHead}
 use Rattle.term_replay.proofs.Contexts.{length-joined}
 use Rattle.term_replay.proofs.Marking.{adds_more, adds_none}
-use Rattle.term_replay.proofs.Standing.{from_step, not_false, to_all, to_fit, to_step, told_fits, told_sure}
+use Rattle.term_replay.proofs.Standing.{from_step, not_false, to_all, to_fit, to_step, told_fits}
 
 pub told_appended : (a b q : Partly) (m n : Vector) → a ≡ told_of m → b ≡ told_of n → q ≡ told_of (appended_vector m n) → q.bits ≡ b.bits ++ a.bits
 told_appended a b q m n ea eb eq = ap (λ y. y.bits) eq ∙ sym (append_exact n.bits m.bits) ∙ sym (ap₂ (λ x y. x.bits ++ y.bits) eb ea)
@@ -69,15 +70,58 @@ pub blank_fits : (x : TermHead) (q r : Partly) → q.bits ≡ [] → r ≡ told_
 blank_fits x q r e f =
     fits_same x (told_of (record { bits = []; signed = false })) q r (sym e) (λ u. not_false true refl u) (told_fits x (record { bits = []; signed = false }) _ r refl f)
 
+-- copies that are more than 128 have no bits
+pub copies_cut : (n : ℕ) (ps : KnownBits) → n * length ps ≤ 128 → copies_partly (min n 128) ps ≡ copies_partly n ps
+copies_cut n [] h = no_copies (min n 128) ∙ sym (no_copies n)
+copies_cut n (p ∷ ps) h =
+    let x : n * suc (length ps) ≡ n + n * length ps = grind arith in
+    let e : min n 128 ≡ n = omega (arith, x, h) in
+    ap (λ m. copies_partly m (p ∷ ps)) e
+
 -- ---- terms side by side
 
 pub concat_stands : (v : Scene) (first : Option ℕ) (x : TermHead) (ts : t.Terms) (q r : Partly) → StandsAll v first ts q → Fitted x (copied 1 q) r → Stands v first (t.concat (head_of x) ts) r
 concat_stands v first x ts q r sq f =
     from_step v first _ r (s.concat_stands v.design v.kept v.blames first (head_of x) ts q r (to_all v first ts q sq) (to_fit x q r (fits_same x (copied 1 q) q r (append-nil q.bits) (λ u. refl) f)))
 
-pub repeat_stands : (v : Scene) (first : Option ℕ) (x : TermHead) (i : t.Term) (ts : t.Terms) (n : Vector) (c q r : Partly) → Stands v first i c → c ≡ told_of n → StandsAll v (first_after v first i) ts q → Fitted x (copied (natural n.bits) q) r → Stands v first (t.repeat (head_of x) i ts) r
-repeat_stands v first x i ts n c q r sc e sq f =
-    from_step v first _ r (s.told_copies_stand v.design v.kept v.blames first (head_of x) i ts n.bits c q (copied (natural n.bits) q) r (to_step v first i c sc) (ap (λ z. z.bits) e) (to_all v (first_after v first i) ts q sq) (record { bits = refl; blame = λ u. refl }) (to_fit x (copied (natural n.bits) q) r f))
+pub repeat_stands : (v : Scene) (first : Option ℕ) (x : TermHead) (i : t.Term) (ts : t.Terms) (ns : List Bit) (c q r : Partly) → Stands v first i c → c.bits ≡ sure ns → StandsAll v (first_after v first i) ts q → Fitted x (copied (natural ns) q) r → Stands v first (t.repeat (head_of x) i ts) r
+repeat_stands v first x i ts ns c q r sc e sq f =
+    from_step v first _ r (s.told_copies_stand v.design v.kept v.blames first (head_of x) i ts ns c q (copied (natural ns) q) r (to_step v first i c sc) e (to_all v (first_after v first i) ts q sq) (record { bits = refl; blame = λ u. refl }) (to_fit x (copied (natural ns) q) r f))
+
+-- a concatenation that is repeated, as often as it has bits for
+pub repeat_all : (v : Scene) (first : Option ℕ) (x : TermHead) (i : t.Term) (ts : t.Terms) (ns : List Bit) (c q r : Partly) → Stands v first i c → c.bits ≡ sure ns → are_alone v.design ts ≡ true → natural ns * own_widths v.design ts ≤ 128 → (own_widths v.design ts ≤ 128 → StandsAll v (first_after v first i) ts q) → Fitted x (copied (min (natural ns) 128) q) r → Stands v first (t.repeat (head_of x) i ts) r
+repeat_all v first x i ts ns c q r sc e alone room sq f = go (natural ns) refl
+  where
+    go : (k : ℕ) → natural ns ≡ k → Stands v first (t.repeat (head_of x) i ts) r
+    go zero z =
+        let none : Partly = record { bits = known_joined v.design v.kept ts; signed = false; blame = blame_of_all v.design v.kept v.blames (first_after v first i) ts } in
+        repeat_stands v first x i ts ns c none r sc e (record { bits = refl; blame = λ u. refl })
+        (fits_same x (copied (min (natural ns) 128) q) (copied (natural ns) none) r (ap (λ k. copies_partly (min k 128) q.bits) z ∙ sym (ap (λ k. copies_partly k none.bits) z)) (λ u. not_false true refl (sym (ap (λ k. are_sure (copies_partly (min k 128) q.bits)) z) ∙ u)) f)
+    go (suc k) z =
+        let more : suc k * own_widths v.design ts ≡ own_widths v.design ts + k * own_widths v.design ts = grind arith in
+        let room0 : suc k * own_widths v.design ts ≤ 128 = subst (λ m. m * own_widths v.design ts ≤ 128) z room in
+        let all : StandsAll v (first_after v first i) ts q = sq (omega (arith, more, room0)) in
+        let size : length q.bits ≡ own_widths v.design ts = ap length all.bits ∙ length-joined v.design v.kept ts alone in
+        repeat_stands v first x i ts ns c q r sc e all
+        (fits_same x (copied (min (natural ns) 128) q) (copied (natural ns) q) r (copies_cut (natural ns) q.bits (subst (λ m. natural ns * m ≤ 128) (sym size) room)) (λ u. refl) f)
+
+-- there is room for the copies
+pub room_for_all : (v : Scene) (next : Option ℕ) (ts : t.Terms) (n : ℕ) (q : Partly) → are_alone v.design ts ≡ true → n * own_widths v.design ts ≤ 128 → (own_widths v.design ts ≤ 128 → StandsAll v next ts q) → length q.bits * min n 128 ≤ 128
+room_for_all v next ts zero q alone room sq = let z : length q.bits * min 0 128 ≡ 0 = grind arith in omega (arith, z)
+room_for_all v next ts (suc k) q alone room sq = go (own_widths v.design ts) refl
+  where
+    go : (w : ℕ) → own_widths v.design ts ≡ w → length q.bits * min (suc k) 128 ≤ 128
+    go zero e =
+        let all : StandsAll v next ts q = sq (omega (arith, e)) in
+        let size : length q.bits ≡ 0 = ap length all.bits ∙ length-joined v.design v.kept ts alone ∙ e in
+        subst (λ m. m * min (suc k) 128 ≤ 128) (sym size) (let z : 0 * min (suc k) 128 ≡ 0 = grind arith in omega (arith, z))
+    go (suc w) e =
+        let room0 : suc k * suc w ≤ 128 = subst (λ m. suc k * m ≤ 128) e room in
+        let parts : suc k * suc w ≡ suc w + k + k * w = grind arith in
+        let all : StandsAll v next ts q = sq (omega (arith, e, parts, room0)) in
+        let size : length q.bits ≡ suc w = ap length all.bits ∙ length-joined v.design v.kept ts alone ∙ e in
+        let few : min (suc k) 128 ≡ suc k = omega (arith, parts, room0) in
+        subst (λ m. m * min (suc k) 128 ≤ 128) (sym size) (subst (λ m. suc w * m ≤ 128) (sym few) (let turned : suc w * suc k ≡ suc k * suc w = grind arith in omega (arith, turned, room0)))
 
 -- the terms from the one at i on
 pub terms_from : (xs : List Term) (i : ℕ) (x : Term) → i < length xs → x ≡ get_or xs i x → terms_of (map term_view (drop i xs)) ≡ t.a_term (term_view x) (terms_of (map term_view (drop (i + 1) xs)))

@@ -4,18 +4,17 @@ use Rattle.four_state.specs.declared.truth.Truth.{Truth}
 use Rattle.four_state.specs.declared.truth.Truth.TheVariants.{True, False}
 use Rattle.four_state.specs.declared.operator.Binary.{Binary}
 use Rattle.four_state.specs.declared.operator.Binary.TheVariants.{Multiply, Divide, Modulus, Add, Subtract, ShiftLeft, ShiftRight, ArithmeticShiftLeft, ArithmeticShiftRight, LessThan, LessOrEqual, GreaterThan, GreaterOrEqual, Equal, NotEqual, CaseEqual, CaseNotEqual, BitwiseAnd, BitwiseXor, BitwiseXnor, BitwiseNxor, BitwiseOr, LogicalAnd, LogicalOr}
-use Rattle.known_state.specs.Partly.{Partly, is_told}
+use Rattle.known_state.specs.Partly.{Partly}
 use Rattle.design_model.specs.Tree as t
 use Rattle.design_model.specs.Value.{head}
 use Rattle.design_model.specs.declared.point.NodeCase.{NodeCase}
 use Rattle.body_replay.specs.KnownBits.{KnownBits, both}
 use Rattle.body_replay.specs.Store.{known_value}
-use Rattle.body_replay.specs.Replay.{Case, Mark, Mode, ask, blame_of, case_mark, case_marks, doubted, four_known, known_cases, node, node_marks, one_case, two_case, two_known, undecided}
+use Rattle.body_replay.specs.Replay.{Mark, Mode, ask, blame_of, case_mark, case_marks, doubted, four_known, known_cases, node, node_marks, two_known, undecided}
 use Rattle.body_replay.proofs.Answered.{same_sure}
 use Rattle.body_replay.proofs.Unsure.{ask_none}
 use Rattle.term_replay.specs.Noted.{Adds, and_cases, in_this, inner_marks, marks_of, or_cases, own_cases}
-use Rattle.term_replay.specs.Stands.{Scene, Stands, first_after, head_of}
-use Rattle.term_replay.specs.declared.head.TermHead.{TermHead}
+use Rattle.term_replay.specs.Stands.{Scene, Stands, first_after}
 use Rattle.term_replay.proofs.Marking.{adds_more, adds_same}
 
 mark_blame : (n : ℕ) (c : NodeCase) (o : Option Bool) (l m : ℕ) → (o ≡ None → l ≡ m) → case_mark n c o l ≡ case_mark n c o m
@@ -116,3 +115,7 @@ module _ {S : Type 0} (noted : List Mark → S → Type 0) (v : Scene) (mode : M
   seen_two h op y z a c s m u sa sc inner own =
       adds_same noted s u _ _ (ap (in_this mode) (ap (λ cs. inner_marks v first (t.binary h op y z) ++ cs) (two_node v first op y z a c h.node sa sc)))
       (adds_more noted mode s m u (inner_marks v first (t.binary h op y z)) _ inner own)
+
+  -- $signed or $unsigned, whichever of them it is
+  pub seen_sign : (x : t.Term) (h : t.Head) (g : Bool) (y : t.Term) (r : Partly) (s m u : S) → x ≡ t.sign h g y → ((k : Bool) → Stands v first (t.sign h k y) r) → Adds noted s (in_this mode (marks_of v first y)) m → Adds noted m (in_this mode (node_marks h.node (own_cases r.bits r.blame))) u → Adds noted s (in_this mode (marks_of v first x)) u
+  seen_sign x h g y r s m u e a inner own = adds_same noted s u _ _ (ap (λ z. in_this mode (marks_of v first z)) (sym e)) (seen_own (t.sign h g y) r s m u refl (a g) inner own)

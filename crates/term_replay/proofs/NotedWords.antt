@@ -1,5 +1,5 @@
 -- The marks on the words of a memory.
-use Rattle.std.proofs.Common.{◌≡◌, ◌∙◌, ℕ, ◌+◌, ◌-◌, Bool, true, false, if◌then◌else◌, List, [], ◌∷◌, ◌++◌, suc, Option, Some, None, max, min, refl, sym, ap, ap₂, subst, arith}
+use Rattle.std.proofs.Common.{◌≡◌, ◌∙◌, ℕ, ◌+◌, ◌-◌, Bool, false, if◌then◌else◌, List, [], ◌∷◌, ◌++◌, suc, Option, max, min, sym, ap, ap₂, arith}
 use Rattle.std.specs.List.{range_with_len}
 use Rattle.std.specs.Option.{unwrap_or}
 use Rattle.four_state.specs.Parts.{index}
@@ -10,13 +10,13 @@ use Rattle.design_model.specs.declared.design.Range.{Range}
 use Rattle.design_model.specs.Value.{named_word}
 use Rattle.body_replay.specs.KnownBits.{sure}
 use Rattle.body_replay.specs.Store.{may_name, words}
-use Rattle.body_replay.specs.Replay.{Mark, Mode, Spot, doubted, hit, named_mark, perhaps_marks}
+use Rattle.body_replay.specs.Replay.{Mark, Mode, Spot, doubted, named_mark, perhaps_marks}
 use Rattle.body_replay.proofs.Answered.{same_sure}
 use Rattle.body_replay.proofs.Exact.{on_sure}
 use Rattle.body_replay.proofs.Unsure.{not_told}
 use Rattle.term_replay.specs.Noted.{Adds, in_this}
 use Rattle.term_replay.specs.Words.{IsOf, marks_of_words}
-use Rattle.term_replay.proofs.Marking.{adds_both, adds_same, hit_in, perhaps_in, perhaps_more}
+use Rattle.term_replay.proofs.Marking.{adds_both, adds_same, perhaps_in, perhaps_more}
 
 -- by a told index
 pub words_told : (m : Memory) (at : ℕ → Spot) (q : Partly) (n : Vector) (o : Option ℕ) → q ≡ told_of n → o ≡ named_word m (index n.signed n.bits) → named_mark at o ≡ marks_of_words m at q.signed q.bits q.blame

@@ -1,12 +1,11 @@
 -- A part that begins far from a vector has no bit of it, so an index may be cut where it is far from 0.
-use Rattle.std.proofs.Common.{◌≡◌, ◌∙◌, ◌⊎◌, ℕ, zero, suc, ◌+◌, ◌-◌, ◌<◌, ◌≤◌, ◌^◌, Bool, true, false, if◌then◌else◌, List, [], ◌∷◌, length, Option, Some, None, ℤ, pos, negsuc, ◌+ℤ◌, ◌-ℤ◌, ◌≤ℤ◌, min, nat_le, refl, sym, ap, ap₂, subst, arith, inl, inr, ⊎_elim}
-use Rattle.std.specs.Prelude.{replicate}
-use Rattle.std.proofs.lemmas.Bool.{cases_Bool, cases_lt, le-ltb}
+use Rattle.std.proofs.Common.{◌≡◌, ◌∙◌, ◌⊎◌, ℕ, zero, suc, ◌+◌, ◌-◌, ◌<◌, ◌≤◌, ◌^◌, Bool, true, false, if◌then◌else◌, List, ◌∷◌, length, Option, Some, None, ℤ, pos, negsuc, ◌+ℤ◌, ◌-ℤ◌, ◌≤ℤ◌, min, nat_le, refl, sym, ap, ap₂, subst, arith, inl, inr, ⊎_elim}
+use Rattle.std.proofs.lemmas.Bool.{cases_lt, le-ltb}
 use Rattle.std.proofs.lemmas.Int.{ints}
 use Rattle.four_state.specs.declared.bit.Bit.{Bit}
 use Rattle.four_state.specs.declared.bit.Bit.TheVariants.{X, Zero, One}
 use Rattle.four_state.specs.Vector.{fill}
-use Rattle.four_state.specs.Parts.{bits_from, option_bit, within}
+use Rattle.four_state.specs.Parts.{bits_from, option_bit}
 use Rattle.known_state.specs.Partly.{filled}
 use Rattle.known_state.specs.Join.{joined}
 use Rattle.known_state.proofs.Allowed.{length-filled}

@@ -1,21 +1,19 @@
 -- Bits and parts: what the selects give stands for the term.
-use Rattle.std.proofs.Common.{◌≡◌, ◌∙◌, ℕ, zero, suc, ◌≤◌, Bool, true, false, List, [], Option, Some, None, ℤ, length, map, refl, sym, ap, ap₂, subst}
+use Rattle.std.proofs.Common.{◌≡◌, ◌∙◌, ℕ, Bool, false, [], Option, Some, None, ℤ, sym, ap}
 use Rattle.std.specs.Prelude.{IsTrue}
-use Rattle.four_state.specs.declared.bit.Bit.{Bit}
-use Rattle.four_state.specs.declared.bit.Bit.TheVariants.{X, Zero}
+use Rattle.four_state.specs.declared.bit.Bit.TheVariants.{X}
 use Rattle.four_state.specs.Arithmetic.{natural}
 use Rattle.four_state.specs.Parts.{bits_from, index, selected_vector}
-use Rattle.four_state.specs.Vector.{Vector, extend, fill}
-use Rattle.known_state.specs.Partly.{Partly, allows, are_sure, filled, is_told, told_of}
+use Rattle.four_state.specs.Vector.{Vector, fill}
+use Rattle.known_state.specs.Partly.{Partly, allows, are_sure, is_told, told_of}
 use Rattle.known_state.specs.Answers.{IsTight}
 use Rattle.design_model.specs.Tree as t
-use Rattle.design_model.specs.Value.{head, offset_option, part_width, range_of, slide_offset}
-use Rattle.body_replay.specs.KnownBits.{KnownBits, extend_partly, select_option, sure, unknown}
+use Rattle.design_model.specs.Value.{offset_option, part_width, range_of, slide_offset}
+use Rattle.body_replay.specs.KnownBits.{KnownBits, select_option, unknown}
 use Rattle.body_replay.proofs.Answered.{select_answer}
 use Rattle.body_replay.proofs.Exact.{select_option_exact}
 use Rattle.body_replay.proofs.Steps as s
-use Rattle.term_replay.specs.Near.{near_option}
-use Rattle.term_replay.specs.Stands.{Fitted, Scene, Stands, first_after, head_of, told_at}
+use Rattle.term_replay.specs.Stands.{Fitted, Scene, Stands, first_after, head_of}
 use Rattle.term_replay.specs.declared.head.TermHead.{TermHead}
 use Rattle.term_replay.proofs.Standing.{from_step, not_false, to_fit, to_step, told_sure}
 

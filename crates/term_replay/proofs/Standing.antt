@@ -1,7 +1,7 @@
 -- What each form of a term gives stands for the term.
-use Rattle.std.proofs.Common.{◌≡◌, ◌∙◌, ℕ, Bool, true, false, if◌then◌else◌, List, [], Option, Some, None, length, map, refl, sym, ap, ap₂, subst, ◌&&◌, suc, zero, ◌∷◌}
+use Rattle.std.proofs.Common.{◌≡◌, ◌∙◌, ℕ, Bool, true, false, if◌then◌else◌, List, [], Option, Some, None, length, refl, sym, ap, ap₂, subst, suc, zero, ◌∷◌}
 use mathlib.Core.Bool.{beq}
-use Rattle.std.specs.Prelude.{IsTrue, replicate}
+use Rattle.std.specs.Prelude.{IsTrue}
 use Rattle.std.specs.Bool.{OnTrue}
 use Rattle.four_state.specs.declared.bit.Bit.{Bit}
 use Rattle.four_state.specs.declared.bit.Bit.TheVariants.{Zero}
@@ -12,14 +12,13 @@ use Rattle.four_state.specs.Vector.{Vector, extend, fill, fit}
 use Rattle.four_state.specs.Operators.{unary_value, unary_vector, binary_value, binary_vector, takes_same_shape, choice_value, choice_vector}
 use Rattle.four_state.specs.Parts.{extended_vector}
 use Rattle.known_state.specs.declared.maybe.KnownTruth.{KnownTruth}
-use Rattle.known_state.specs.Partly.{Partly, allows, are_sure, blame_of, is_told, told_of, with_blame}
+use Rattle.known_state.specs.Partly.{Partly, allows, are_sure, is_told, told_of}
 use Rattle.known_state.specs.Join.{first_blame, joined, join_bit}
 use Rattle.known_state.specs.Answers.{IsTight, HaveSameShape, allow_both}
 use Rattle.known_state.specs.Maybe.{IsTruthOf, allows_truth, allow_choice, choice_blame}
 use Rattle.known_state.proofs.Cases.{same_bit_refl}
 use Rattle.design_model.specs.Tree as t
 use Rattle.body_replay.specs.KnownBits.{KnownBits, extend_partly, is_unsure_shift, sure, unknown}
-use Rattle.body_replay.specs.Replay.{note}
 use Rattle.body_replay.proofs.Answered.{extend_same, same_sure}
 use Rattle.body_replay.proofs.Exact.{extend_exact}
 use Rattle.body_replay.proofs.Unsure.{all_sure_sure}

@@ -1,20 +1,24 @@
 -- Operands that are evaluated one after the other, and a term by the form that it has.
-use Rattle.std.proofs.Common.{◌≡◌, ◌∙◌, ℕ, List, ◌++◌, Option, refl, sym, ap, subst}
+use Rattle.std.proofs.Common.{◌≡◌, ◌∙◌, ℕ, Bool, List, ◌++◌, Option, sym, ap, subst}
 use Rattle.known_state.specs.Partly.{Partly}
 use Rattle.design_model.specs.Design.{Design}
 use Rattle.design_model.specs.Tree as t
 use Rattle.design_model.specs.View.{term_view}
 use Rattle.design_model.specs.declared.tree.Term.{Term}
+use Rattle.design_model.specs.declared.tree.Form as form
 use Rattle.body_replay.specs.Replay.{Mark, Mode}
 use Rattle.term_replay.specs.Noted.{Adds, in_this, marks_of}
 use Rattle.term_replay.specs.Stands.{IsInContext, Scene, Stands, first_after, head_of}
 use Rattle.term_replay.specs.declared.head.TermHead.{TermHead}
 use Rattle.term_replay.proofs.Marking.{adds_more}
-use Rattle.term_replay.proofs.Views.{head_in}
+use Rattle.term_replay.proofs.Views.{head_in, sign_view}
 
 -- the plain tree of a term, with a head that was read of it
 pub along : (h : TermHead) (x : Term) (form : t.Head → t.Term) → h ≡ head_in x → term_view x ≡ form (head_of (head_in x)) → term_view x ≡ form (head_of h)
 along h x form e is = is ∙ ap (λ k. form (head_of k)) (sym e)
+
+pub along_sign : (h : TermHead) (x : Term) (g : Bool) (y : Term) → h ≡ head_in x → x.form.value ≡ form.Sign g y → term_view x ≡ t.sign (head_of h) g (term_view y)
+along_sign h x g y e is = along h x (λ k. t.sign k g (term_view y)) e (sign_view x g y is)
 
 pub arm_context : (d : Design) (x y : t.Term) → x ≡ y → IsInContext d x → IsInContext d y
 arm_context d x y e c = subst (IsInContext d) e c

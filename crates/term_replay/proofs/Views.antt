@@ -1,5 +1,5 @@
 -- The plain tree of a term by its form.
-use Rattle.std.proofs.Common.{◌≡◌, ℕ, Bool, Option, map, refl}
+use Rattle.std.proofs.Common.{◌≡◌, ℕ, Bool, map, refl}
 use Rattle.std.specs.Global.{Vec}
 use Rattle.four_state.specs.Vector.{Vector}
 use Rattle.four_state.specs.declared.operator.Unary.{Unary}

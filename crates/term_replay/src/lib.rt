@@ -4,6 +4,7 @@
 
 mod answers;
 mod cases;
+mod evaluation;
 mod fit;
 mod head;
 mod memory;
@@ -15,6 +16,7 @@ mod repeated;
 mod select;
 
 pub use cases::{note_own, note_two};
+pub use evaluation::{Evaluated, Progress, evaluate};
 pub use fit::{fitted, number, sign, signal};
 pub use head::TermHead;
 pub use memory::{may_name, note_words, word};

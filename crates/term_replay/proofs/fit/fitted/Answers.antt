@@ -1,4 +1,4 @@
-use Rattle.std.proofs.Common.{◌∙◌, sym, true, false, arith}
+use Rattle.std.proofs.Common.{◌∙◌, sym, arith}
 use Rattle.term_replay.proofs.Standing.{same_fits, same_flag, slow_fits, told_fits}
 use Rattle.term_replay.proofs.fit.fitted.Goals as goal
 

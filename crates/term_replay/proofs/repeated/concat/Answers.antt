@@ -1,6 +1,6 @@
 use Rattle.std.proofs.Common.{◌∙◌, ap, sym}
 use Rattle.body_replay.specs.KnownBits.{copies_partly}
-use Rattle.term_replay.specs.Stands.{Fitted, copied, so_far}
+use Rattle.term_replay.specs.Stands.{copied, so_far}
 use Rattle.term_replay.proofs.Joining.{blank_fits, fits_same, no_copies}
 use Rattle.term_replay.proofs.repeated.concat.Goals as goal
 

@@ -1,4 +1,4 @@
-use Rattle.std.proofs.Common.{◌≡◌, ◌≤◌, false}
+use Rattle.std.proofs.Common.{◌≡◌, false}
 use Rattle.known_state.specs.Partly.{is_told}
 use Rattle.body_replay.specs.KnownBits.{copies_partly}
 use Rattle.term_replay.proofs.repeated.copies.Given as goal

@@ -1,4 +1,4 @@
-use Rattle.std.proofs.Common.{◌∙◌, ap, arith, sym}
+use Rattle.std.proofs.Common.{◌∙◌, ap, sym}
 use Rattle.four_state.specs.Parts.{index}
 use Rattle.design_model.specs.Value.{offset_option, part_width}
 use Rattle.body_replay.specs.KnownBits.{select_option}

@@ -3,7 +3,7 @@ use Rattle.std.proofs.lemmas.Int.{ints}
 use Rattle.four_state.specs.Parts.{selected_vector}
 use Rattle.known_state.specs.Partly.{told_of}
 use Rattle.body_replay.specs.KnownBits.{select_option}
-use Rattle.term_replay.proofs.Selecting.{none_selected, slow_selected, told_blame, told_selected}
+use Rattle.term_replay.proofs.Selecting.{slow_selected, told_blame, told_selected}
 use Rattle.term_replay.proofs.select.selected.Goals as goal
 
 pub returns-in-None-clause-blame : goal.returns-in-None-clause-blame
