@@ -1,8 +1,11 @@
-//! Measures a part of the program that has no command of its own: `bench operators ROUNDS` or `bench points FILE TOP`.
+//! Measures a part of the program that has no command of its own: `bench operators ROUNDS`, `bench points FILE TOP` or
+//! `bench ranking TABLES POINTS`.
 #![tactic(auto)]
 
 mod operators;
 mod points;
+mod ranking;
+mod tables;
 mod visits;
 
 use anyhow::Result;
@@ -15,14 +18,32 @@ fn main(rt: HostRuntime) -> Result<()> {
         (Some(part), Some(rounds), None) if part.as_str() == "operators" => {
             operators::measure(&rt, rounds.parse().unwrap_or(0))
         }
-        (Some(part), Some(path), Some(top)) if part.as_str() == "points" => {
-            points::measure(&rt, path.as_str(), top.as_str())
+        (Some(part), Some(first), Some(second)) => {
+            measure(&rt, part.as_str(), first.as_str(), second.as_str())
         }
         _ => usage(&rt),
     }
 }
 
+/// Measures a part that takes two words.
+fn measure(
+    rt: &(impl AllocGlobal + Clock + Files + Print),
+    part: &str,
+    first: &str,
+    second: &str,
+) -> Result<()> {
+    match part {
+        "points" => points::measure(rt, first, second),
+        "ranking" => {
+            ranking::measure_all(rt, first.parse().unwrap_or(0), second.parse().unwrap_or(0))
+        }
+        _ => usage(rt),
+    }
+}
+
 fn usage(rt: &impl Print) -> Result<()> {
-    println!(rt; "usage: bench operators ROUNDS | bench points FILE TOP")?;
+    println!(rt;
+        "usage: bench operators ROUNDS | bench points FILE TOP | bench ranking TABLES POINTS"
+    )?;
     Ok(())
 }
