@@ -43,19 +43,24 @@ itself s = s
 -- a value that is set is what a blocking assignment to the whole signal leaves
 abbrev pub SetLaw : Type 0
 SetLaw =
-    (d : Design) (k : Kept) (blame : ℕ → ℕ) (v : Signals) (s : ℕ) (p : Partly) → s < length d.signals → length p.bits ≡ (signal_at d s).width → HoldsSignals d k blame v → HoldsSignals d (keep_all k (writes_of (signal_cells d s) p.bits)) (whole_blame s p blame) (with_kept v s p)
+    (d : Design) (k : Kept) (blame : ℕ → ℕ) (v : Signals) (s : ℕ) (p : Partly) → s < length d.signals → length p.bits ≡ (signal_at d s).width
+    → HoldsSignals d k blame v → HoldsSignals d (keep_all k (writes_of (signal_cells d s) p.bits)) (whole_blame s p blame) (with_kept v s p)
 
 -- a part that is set is what a blocking assignment to the part leaves
 abbrev pub SetPartLaw : Type 0
 SetPartLaw =
-    (d : Design) (k : Kept) (blame : ℕ → ℕ) (v : Signals) (s : ℕ) (i p : Partly) → s < length d.signals → 1 ≤ length p.bits → HoldsSignals d k blame v → HoldsSignals d (keep_all k (write_bits d s i.signed i.bits p.bits)) (after_part s i p blame) (with_kept v s (part_written (shape_at v s).range i p (kept_at v s)))
+    (d : Design) (k : Kept) (blame : ℕ → ℕ) (v : Signals) (s : ℕ) (i p : Partly) → s < length d.signals → 1 ≤ length p.bits
+    → HoldsSignals d k blame v → HoldsSignals d (keep_all k (write_bits d s i.signed i.bits p.bits)) (after_part s i p blame) (with_kept v s (part_written (shape_at v s).range i p (kept_at v s)))
 
 -- an update is what the queued writes of a nonblocking assignment to the whole signal leave
 abbrev pub UpdateLaw : Type 0
 UpdateLaw =
-    (d : Design) (k : Kept) (v : Signals) (s : ℕ) (p : Partly) (certain : Bool) → s < length d.signals → length p.bits ≡ (signal_at d s).width → HoldsSignals d k itself v → HoldsSignals d (keep_all k (if_certain certain (writes_of (signal_cells d s) p.bits))) itself (with_kept v s (updated certain s p (kept_at v s)))
+    (d : Design) (k : Kept) (v : Signals) (s : ℕ) (p : Partly) (certain : Bool) → s < length d.signals → length p.bits ≡ (signal_at d s).width
+    → HoldsSignals d k itself v → HoldsSignals d (keep_all k (if_certain certain (writes_of (signal_cells d s) p.bits))) itself (with_kept v s (updated certain s p (kept_at v s)))
 
 -- an update of a part is what the queued writes of a nonblocking assignment to the part leave
 abbrev pub UpdatePartLaw : Type 0
 UpdatePartLaw =
-    (d : Design) (k : Kept) (v : Signals) (s : ℕ) (i p : Partly) (certain : Bool) → s < length d.signals → 1 ≤ length p.bits → HoldsSignals d k itself v → HoldsSignals d (keep_all k (if_certain certain (write_bits d s i.signed i.bits p.bits))) itself (with_kept v s (updated certain s (part_written (shape_at v s).range i p (kept_at v s)) (kept_at v s)))
+    (d : Design) (k : Kept) (v : Signals) (s : ℕ) (i p : Partly) (certain : Bool) → s < length d.signals → 1 ≤ length p.bits
+    → HoldsSignals d k itself v
+    → HoldsSignals d (keep_all k (if_certain certain (write_bits d s i.signed i.bits p.bits))) itself (with_kept v s (updated certain s (part_written (shape_at v s).range i p (kept_at v s)) (kept_at v s)))

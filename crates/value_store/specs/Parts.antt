@@ -41,7 +41,8 @@ told_offset r i = offset_option r (index i.signed (filled Zero i.bits))
 -- part can come to each bit, and the index is to blame; else the part is, if it is not told, and else what was before
 abbrev pub part_written : Range → Partly → Partly → Partly → Partly
 part_written r i p q =
-    if is_told i then with_blame (placed_bits q.bits p.bits (told_offset r i)) q.signed (if is_told p then q.blame else p.blame) else with_blame (joined q.bits (replicate (length q.bits) (common_bits p.bits))) q.signed i.blame
+    if is_told i then with_blame (placed_bits q.bits p.bits (told_offset r i)) q.signed (if is_told p then q.blame else p.blame)
+    else with_blame (joined q.bits (replicate (length q.bits) (common_bits p.bits))) q.signed i.blame
 
 -- an update leaves its value, or, where it is not certain, what it has in common with what was before; the signal with
 -- this number is to blame
