@@ -29,3 +29,4 @@ pub mod UnreadClear
 pub mod UnreadDoubt
 pub mod RangesRead
 pub mod InnerReads
+pub mod TestLine
