@@ -30,3 +30,4 @@ pub mod UnreadDoubt
 pub mod RangesRead
 pub mod InnerReads
 pub mod TestLine
+pub mod SteadyReset

@@ -2,7 +2,7 @@
 //! of a function that does no work.
 #![tactic(auto)]
 
-ghost use Rattle.model_examples.specs.Reset.{IsBothExample, IsReleaseExample};
+ghost use Rattle.model_examples.specs.Reset.{IsBothExample, IsReleaseExample, IsSteadyResetExample};
 ghost use Rattle.model_examples.specs.Loop.{IsLoopExample};
 ghost use Rattle.model_examples.specs.Latch.{IsLatchExample};
 ghost use Rattle.model_examples.specs.Hold.{IsHoldExample};
@@ -32,6 +32,12 @@ pub fn clock_and_reset()
 /// doubt for the branches.
 pub fn reset_ends()
     ensures { IsReleaseExample }
+{}
+
+/// A register whose reset stays away while the clock rises: the line of the reset is not open, and the other is surely
+/// open.
+pub fn reset_stays_away()
+    ensures { IsSteadyResetExample }
 {}
 
 /// A combinational block that reads its own target before writing it: the target is in doubt for its points.
