@@ -31,3 +31,4 @@ pub mod RangesRead
 pub mod InnerReads
 pub mod TestLine
 pub mod SteadyReset
+pub mod PipeOpen

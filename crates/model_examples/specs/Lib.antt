@@ -17,3 +17,4 @@ pub mod Settling
 pub mod Unread
 pub mod Ranges
 pub mod Inner
+pub mod PipePoints

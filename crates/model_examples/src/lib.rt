@@ -18,6 +18,7 @@ ghost use Rattle.model_examples.specs.Pulse.{IsPulseExample};
 ghost use Rattle.model_examples.specs.Product.{IsProductExample};
 ghost use Rattle.model_examples.specs.HoldBit.{IsHoldBitExample};
 ghost use Rattle.model_examples.specs.Settling.{IsSettlingExample};
+ghost use Rattle.model_examples.specs.PipePoints.{IsPipePointsExample};
 ghost use Rattle.model_examples.specs.Unread.{IsOtherWordExample, IsUnknownWordExample};
 ghost use Rattle.model_examples.specs.Ranges.{IsRangesExample};
 ghost use Rattle.model_examples.specs.Inner.{IsInnerExample};
@@ -114,6 +115,11 @@ pub fn tested_bit()
 /// The same gate before a register, with an output that the dump lacks: clear from the step on, and known to the register.
 pub fn settled_gate()
     ensures { IsSettlingExample }
+{}
+
+/// The gate before a register that the dump lacks, where both its operands are true.
+pub fn undumped_register_points()
+    ensures { IsPipePointsExample }
 {}
 
 /// A memory of which another word is read than the one that was written: the memory is in doubt for what depends on it.
