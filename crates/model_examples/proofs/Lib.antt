@@ -32,3 +32,4 @@ pub mod InnerReads
 pub mod TestLine
 pub mod SteadyReset
 pub mod PipeOpen
+pub mod RamOpen

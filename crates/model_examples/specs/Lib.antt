@@ -18,3 +18,4 @@ pub mod Unread
 pub mod Ranges
 pub mod Inner
 pub mod PipePoints
+pub mod RamPoints

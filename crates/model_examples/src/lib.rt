@@ -19,6 +19,7 @@ ghost use Rattle.model_examples.specs.Product.{IsProductExample};
 ghost use Rattle.model_examples.specs.HoldBit.{IsHoldBitExample};
 ghost use Rattle.model_examples.specs.Settling.{IsSettlingExample};
 ghost use Rattle.model_examples.specs.PipePoints.{IsPipePointsExample};
+ghost use Rattle.model_examples.specs.RamPoints.{IsRamPointsExample};
 ghost use Rattle.model_examples.specs.Unread.{IsOtherWordExample, IsUnknownWordExample};
 ghost use Rattle.model_examples.specs.Ranges.{IsRangesExample};
 ghost use Rattle.model_examples.specs.Inner.{IsInnerExample};
@@ -120,6 +121,12 @@ pub fn settled_gate()
 /// The gate before a register that the dump lacks, where both its operands are true.
 pub fn undumped_register_points()
     ensures { IsPipePointsExample }
+{}
+
+/// A memory whose word is known when it is read: its read and the branch that it takes are surely open, and the others
+/// are not open.
+pub fn memory_word_points()
+    ensures { IsRamPointsExample }
 {}
 
 /// A memory of which another word is read than the one that was written: the memory is in doubt for what depends on it.
