@@ -1,5 +1,5 @@
 -- At 5 both operands of the gate are known to be 1.
-use Rattle.std.proofs.Common.{◌≡◌, ◌≢◌, refl, sym, ap, subst, ℕ, zero, suc, false, true, List, [], ◌∷◌, inl, inr, arith, lit<, lit≤, Some}
+use Rattle.std.proofs.Common.{◌≡◌, refl, sym, ap, subst, ℕ, zero, suc, false, true, [], ◌∷◌, inl, inr, arith, lit<, lit≤, Some}
 use Rattle.std.specs.Prelude.{nat_le, nat_lt}
 use Rattle.std.proofs.lemmas.Bool.{and_parts, eqb-true, false≢true, leb-true, ltb-true}
 use Rattle.event_machine.specs.Cell.{Values}
@@ -8,7 +8,7 @@ use Rattle.four_state.specs.Vector.{extend, truth}
 use Rattle.four_state.specs.declared.bit.Bit.{Bit}
 use Rattle.four_state.specs.declared.bit.Bit.TheVariants.{One, X, Zero}
 use Rattle.four_state.specs.declared.operator.Binary.TheVariants.{BitwiseAnd}
-use Rattle.four_state.specs.declared.truth.Truth.TheVariants.{False, True}
+use Rattle.four_state.specs.declared.truth.Truth.TheVariants.{True}
 use Rattle.design_model.specs.Tree.{Term, binary, signal}
 use Rattle.design_model.specs.Design.{In, IsThing, a_signal, a_word, body_at, cell}
 use Rattle.design_model.specs.Value.{head, value}

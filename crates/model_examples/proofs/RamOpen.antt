@@ -1,5 +1,5 @@
 -- At 15 the block knows we and the word that it reads, so one path is open.
-use Rattle.std.proofs.Common.{◌≡◌, ◌≢◌, refl, sym, ap, subst, ◌∙◌, ℕ, zero, suc, true, false, List, [], ◌∷◌, ◌++◌, inl, inr, arith, suc-ne-zero, lit<, lit≤, Option, Some}
+use Rattle.std.proofs.Common.{◌≡◌, ◌≢◌, refl, sym, ap, subst, ◌∙◌, ℕ, zero, suc, true, false, List, [], ◌∷◌, ◌++◌, inl, inr, arith, suc-ne-zero, lit<, lit≤, Some}
 use Rattle.std.specs.List.{list_any}
 use Rattle.std.proofs.lemmas.Bool.{false≢true}
 use Rattle.event_machine.specs.Cell.{Cell, Values}
@@ -15,7 +15,7 @@ use Rattle.design_model.specs.Tree.{Term, signal, word}
 use Rattle.design_model.specs.Design.{In, Thing, a_signal, a_word, body_at, cell, memory_at, thing_bits}
 use Rattle.design_model.specs.Value.{named_word, option_word, value, word_named}
 use Rattle.design_model.specs.Execution.{cases, node_visits, visits_of, word_read}
-use Rattle.design_model.specs.Paths.{Action, Path, paths, reaches}
+use Rattle.design_model.specs.Paths.{Path, paths, reaches}
 use Rattle.design_model.specs.Reads.{Agrees, AllInside, Known}
 use Rattle.design_model.specs.Machine.{is_input_cell, machine}
 use Rattle.design_model.specs.declared.point.Point.TheVariants.{Word as word_point}

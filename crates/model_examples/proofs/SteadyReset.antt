@@ -19,7 +19,7 @@ use Rattle.design_model.specs.Execution.{cases}
 use Rattle.design_model.specs.Paths.{Path, paths, reaches}
 use Rattle.design_model.specs.Reads.{Agrees, Known}
 use Rattle.design_model.specs.Machine.{is_input_cell, machine}
-use Rattle.design_model.specs.MayMove.{CanWakeAt, IsCleanAt, IsSingleAt, told_at}
+use Rattle.design_model.specs.MayMove.{IsCleanAt, IsSingleAt, told_at}
 use Rattle.design_model.specs.Early.{IsEarlyAt}
 use Rattle.design_model.specs.Clear.{clear, of_dump}
 use Rattle.design_model.specs.Open.{FollowsAll, HasAction, IsFixed, IsOpen, IsOpenPath, IsSurelyOpen, KnownOnEntry, is_true}
