@@ -33,3 +33,4 @@ pub mod TestLine
 pub mod SteadyReset
 pub mod PipeOpen
 pub mod RamOpen
+pub mod OtherLine

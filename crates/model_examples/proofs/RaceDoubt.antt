@@ -24,6 +24,7 @@ use Rattle.design_model.proofs.Bound.{clear_bound}
 use Rattle.model_examples.specs.Race.{IsRaceExample, line_one, race, race_dump, race_values}
 use Rattle.model_examples.proofs.Entry.{on_entry}
 use Rattle.model_examples.proofs.OneSet.{line_sure}
+use Rattle.model_examples.proofs.OtherLine.{line_away}
 use Rattle.model_examples.proofs.TestLine.{test_line_sure}
 
 Zero≢One : Zero ≢ One
@@ -139,6 +140,8 @@ race_example =
       reader_clean = reader_is_clean;
       early = a_early;
       none_early = none_is_early;
+      write_not_open = line_away race (KnownOnEntry race Free race_dump 5 1) (body_at race 1) 1 refl;
+      if_not_open = line_away race (KnownOnEntry race Free race_dump 5 0) (body_at race 0) 2 refl;
       write_surely_open = line_sure race (KnownOnEntry race Free race_dump 5 0) (at 25) 1 true 2 (signal plain 1);
       write_reached = ((lit< tt, lit< tt), refl, inl (cell 0 0, writer_is_clean, inl (at_line 1, refl, (race_values One One Zero Zero, writer_agrees, inl refl))));
       if_surely_open = test_line_sure race (KnownOnEntry race Free race_dump 5 1) (at 35) 2 _ _ _;

@@ -24,6 +24,7 @@ use Rattle.design_model.proofs.Bound.{clear_bound}
 use Rattle.model_examples.specs.Swap.{IsSwapExample, swap, swap_dump, swap_values}
 use Rattle.model_examples.proofs.Entry.{on_entry}
 use Rattle.model_examples.proofs.OneSet.{line_sure}
+use Rattle.model_examples.proofs.OtherLine.{line_away}
 use Rattle.model_examples.proofs.SwapContradicted.{is_contradicted}
 
 Zero≢One : Zero ≢ One
@@ -121,6 +122,7 @@ swap_example =
     record {
       clean = is_clean;
       none_early = none_is_early;
+      not_open = λ b. line_away swap (KnownOnEntry swap Free (swap_dump b) 5 1) (body_at swap 1) 1 refl;
       surely_open = λ b. line_sure swap (KnownOnEntry swap Free (swap_dump b) 5 1) (at 35) 2 false 2 (signal plain 1);
       reached = λ b. ((lit< tt, lit< tt), refl, inl (cell 0 0, is_clean b, inl (at_line 2, refl, (swap_values One Zero One, agrees b, inl refl))));
       forced = is_forced;
