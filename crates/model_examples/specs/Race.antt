@@ -59,7 +59,8 @@ line_if = line_point 1 2 (at 35) If
 abbrev pub line_one : Point
 line_one = line_point 1 3 (at 42) Assign
 
--- For the reader a is early, whatever the habit, so its if is surely open and reached and a is in doubt for a branch; for the writer nothing is early, and its line is surely open and reached. The line of the write is not open for the reader, nor that of the if for the writer.
+-- For the reader a is early, whatever the habit, so its if is surely open and reached and a is in doubt for a branch;
+-- for the writer nothing is early, and its line is surely open and reached. The line of the write is not open for the reader, nor that of the if for the writer.
 pub record IsRaceExample : Type 0 where
   pub writer_clean : IsCleanAt race race_dump 5 0 (cell 0 0)
   pub reader_clean : IsCleanAt race race_dump 5 1 (cell 0 0)

@@ -45,7 +45,8 @@ swap_dump b =
       values = λ t. if nat_le 10 t then swap_values Zero One b else (if nat_le 5 t then swap_values One One b else swap_values Zero Zero One);
     }
 
--- The block of b is clean, with nothing early, so its line, which is on the only path, is surely open and reached, the line of a is not open for it, and b is forced to 0 at 5, whatever the dump has there: no run shows a dump that has 1 up to 5.
+-- The block of b is clean, with nothing early, so its line, which is on the only path, is surely open and reached, and the line of a is not open for it.
+-- b is forced to 0 at 5, whatever the dump has there: no run shows a dump that has 1 up to 5.
 pub record IsSwapExample : Type 0 where
   pub clean : (b : Bit) → IsCleanAt swap (swap_dump b) 5 1 (cell 0 0)
   pub none_early : (b : Bit) (h : Habit) (x : ℕ) → IsEarlyAt swap h (swap_dump b) 5 1 (cell 0 0) x → ⊥
