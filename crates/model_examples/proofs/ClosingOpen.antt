@@ -23,11 +23,12 @@ use Rattle.design_model.specs.Run.{IsRun, settled}
 use Rattle.design_model.specs.Shows.{Shows}
 use Rattle.design_model.specs.Clear.{clear, of_dump}
 use Rattle.design_model.specs.Open.{FollowsAll, IsFixed, IsOpen, KnownAtEnd}
-use Rattle.design_model.specs.ExampleParts.{counted}
+use Rattle.design_model.specs.ExampleParts.{at, counted}
 use Rattle.design_model.proofs.Bound.{clear_bound}
 use Rattle.model_examples.specs.Closing.{IsClosingExample, closing, closing_dump, closing_events, closing_run, closing_start, closing_values, line_set}
 use Rattle.model_examples.proofs.Entry.{at_end}
 use Rattle.model_examples.proofs.PathSteps.{is_reaching, node_inside, reaching_found}
+use Rattle.model_examples.proofs.TestLine.{test_line_sure}
 
 Zero≢One : Zero ≢ One
 Zero≢One = grind arith
@@ -131,5 +132,6 @@ closing_example =
       shows = does_show;
       visited_before = inr (inr (inr (inl refl)));
       reached = ((lit< tt, lit< tt), refl, inr ((λ c. c), (cell 0 0, (lit< tt, lit< tt, (refl, refl)), refl, One≢Zero), inl (at_line 1, refl, (closing_values Zero One One, agrees, inl refl))));
+      surely_open = test_line_sure closing (KnownAtEnd closing Free closing_dump 5 0) (at 5) 1 _ _ _;
       not_open = is_not_open;
     }

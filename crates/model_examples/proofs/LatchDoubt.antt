@@ -1,6 +1,7 @@
 -- y is not written on each path of its block, so it is never clear, nor is the net that reads it.
-use Rattle.std.proofs.Common.{◌≡◌, ◌≢◌, ⊎_elim, refl, sym, ap, subst, ◌∙◌, inl, inr, ℕ, zero, suc, ◌<◌, ◌==◌, true, false, List, arith, suc-ne-zero, lit<}
+use Rattle.std.proofs.Common.{◌≡◌, ◌≢◌, ⊎_elim, refl, sym, ap, subst, ◌∙◌, inl, inr, ℕ, zero, suc, ◌<◌, ◌==◌, true, false, List, [], ◌∷◌, arith, suc-ne-zero, lit<, lit≤}
 use Rattle.std.specs.Prelude.{nat_le, nat_lt}
+use Rattle.std.specs.List.{list_any}
 use Rattle.std.proofs.lemmas.Bool.{and_parts, eqb-true, false≢true, leb-true, ltb-true, or_cases}
 use Rattle.event_machine.specs.Cell.{Cell}
 use Rattle.event_machine.specs.Machine.{Edge, Negedge, Posedge}
@@ -8,7 +9,11 @@ use Rattle.event_machine.specs.Habit.{Free}
 use Rattle.event_machine.specs.MayMove.{MayMove}
 use Rattle.four_state.specs.declared.bit.Bit.{Bit}
 use Rattle.four_state.specs.declared.bit.Bit.TheVariants.{One, X, Zero}
-use Rattle.design_model.specs.Design.{IsThing, Thing, a_signal, a_word, body_at, cell, signal_bits}
+use Rattle.design_model.specs.Tree.{signal}
+use Rattle.design_model.specs.Mentions.{body_blocks, mentions}
+use Rattle.design_model.specs.Execution.{cases}
+use Rattle.design_model.specs.Paths.{paths}
+use Rattle.design_model.specs.Design.{In, IsThing, Thing, a_signal, a_word, body_at, cell, signal_bits}
 use Rattle.design_model.specs.declared.point.NodeCase.TheVariants.{ValueTrue}
 use Rattle.design_model.specs.Reads.{Agrees, HasValue, IsTold, Known, nothing_known}
 use Rattle.design_model.specs.Machine.{machine}
@@ -17,12 +22,14 @@ use Rattle.design_model.specs.declared.point.Point.TheVariants.{Line as line_poi
 use Rattle.design_model.specs.MayMove.{IsCleanAt}
 use Rattle.design_model.specs.Early.{IsEarlyAt}
 use Rattle.design_model.specs.Clear.{EntryFrom, IsClearBy, IsClockedTarget, IsCombValue, IsNetValue, clear, clear_before, clear_in, is_driven, of_assigns, of_clean, of_comb, of_dump, of_unwoken}
-use Rattle.design_model.specs.Open.{IsOpen, KnownAtEnd, KnownOnEntry}
+use Rattle.design_model.specs.Open.{FollowsAll, IsFixed, IsOpen, KnownAtEnd, KnownOnEntry}
 use Rattle.design_model.specs.Doubt.{IsInDoubt, of_block, of_signal, unclear_at_start, unclear_signal}
-use Rattle.design_model.specs.ExampleParts.{at}
+use Rattle.design_model.specs.ExampleParts.{at, counted}
 use Rattle.design_model.proofs.Bound.{clear_in-thing, in_bound}
 use Rattle.model_examples.specs.Latch.{IsLatchExample, latch, latch_dump, latch_values}
 use Rattle.model_examples.proofs.Entry.{at_end, on_entry}
+use Rattle.model_examples.proofs.PathSteps.{is_reaching, node_inside, reaching_found}
+use Rattle.model_examples.proofs.TestLine.{test_line_sure}
 
 Zero≢One : Zero ≢ One
 Zero≢One = grind arith
@@ -164,6 +171,27 @@ settled = at_end latch Free latch_dump 5 2 (latch_dump.values 5) no_words (λ s 
 open_net : IsOpen latch (KnownAtEnd latch Free latch_dump 5 2) (body_at latch 2) (logic_point 2 3 (at 0) (Rattle.std.specs.Prelude.codes "y") ValueTrue)
 open_net = (_, record { is_path = inl refl; follows = (tt, (tt, tt)) }, (_, (_, inr (inl refl), refl, (_, (inl refl, refl), ((λ fixed. absurd (never 5 ((fixed.told (latch_dump.values 5) settled).0.0, (fixed.told (latch_dump.values 5) settled).0.1.1))), tt)))))
 
+-- the block of y at 5 knows en
+open_block : Agrees latch (KnownAtEnd latch Free latch_dump 5 0) (latch_dump.values 5)
+open_block = at_end latch Free latch_dump 5 0 (latch_dump.values 5) no_words (λ s below bits k. agrees_in 5 (clear latch Free latch_dump 4) k.0 (a_signal s) bits k.1)
+
+has_en : HasValue (KnownAtEnd latch Free latch_dump 5 0) (a_signal 1)
+has_en = (Zero ∷ [], (refl, (1, of_dump 1 (Zero ∷ []) (lit≤ tt, lit< tt) refl (lit< tt) refl)))
+
+fixed_en : IsFixed latch (KnownAtEnd latch Free latch_dump 5 0) (body_at latch 0) (signal (counted 1) 1)
+fixed_en = record { told = λ v a. (has_en, node_inside (KnownAtEnd latch Free latch_dump 5 0) (counted 1).node (cases latch v (signal (counted 1) 1))); unwritten = unwritten }
+  where
+    unwritten : (x : ℕ) → mentions x (signal (counted 1) 1) ≡ true → body_blocks x (body_at latch 0) ≡ false
+    unwritten x m = subst (λ y. body_blocks y (body_at latch 0) ≡ false) (eqb-true 1 x m) refl
+
+is_not_open : IsOpen latch (KnownAtEnd latch Free latch_dump 5 0) (body_at latch 0) (line_point 0 2 (at 21) Assign) → ⊥
+is_not_open h = go h.1.is_path
+  where
+    go : In h.0 (paths [] (body_at latch 0)) → ⊥
+    go (inl e) = false≢true ((subst (FollowsAll latch (KnownAtEnd latch Free latch_dump 5 0) (body_at latch 0)) (sym e) h.1.follows).1.0 fixed_en (latch_dump.values 5) open_block)
+    go (inr (inl e)) = false≢true (subst (λ p. list_any (λ y. is_reaching 2 y.action) p ≡ true) (sym e) (reaching_found 2 h.2.1.0 h.0 h.2.1.1 h.2.1.3))
+    go (inr (inr n)) = n
+
 pub latch_example : IsLatchExample
 latch_example =
     record {
@@ -172,4 +200,6 @@ latch_example =
       doubt_line = doubt_line;
       doubt_toggle = of_signal (lit< tt, lit< tt) refl (inl (inr (inl refl))) (inl (never 4));
       doubt_net = of_block 2 (lit< tt, lit< tt) refl (inr ((λ c. c), open_net)) (unclear_signal (record { place = 0; not_clocked = λ c. c; may_wake = inl (inr (inl refl)); wake_bit = (lit< tt, lit< tt, (refl, refl)); unclear = inl (never 4) }));
+      not_open = is_not_open;
+      surely_open = test_line_sure latch (KnownAtEnd latch Free latch_dump 5 0) (at 13) 1 _ _ _;
     }

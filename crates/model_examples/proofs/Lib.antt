@@ -29,3 +29,8 @@ pub mod UnreadClear
 pub mod UnreadDoubt
 pub mod RangesRead
 pub mod InnerReads
+pub mod TestLine
+pub mod SteadyReset
+pub mod PipeOpen
+pub mod RamOpen
+pub mod OtherLine

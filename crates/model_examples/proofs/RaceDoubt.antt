@@ -9,6 +9,7 @@ use Rattle.event_machine.specs.MayMove.{MayMove}
 use Rattle.event_machine.specs.Early.{IsEarly}
 use Rattle.four_state.specs.declared.bit.Bit.{Bit}
 use Rattle.four_state.specs.declared.bit.Bit.TheVariants.{One, Zero}
+use Rattle.design_model.specs.Tree.{signal}
 use Rattle.design_model.specs.Design.{IsThing, Thing, a_signal, a_word, body_at, cell, signal_bits}
 use Rattle.design_model.specs.Execution.{at_line}
 use Rattle.design_model.specs.Reads.{Agrees, HasValue}
@@ -18,9 +19,13 @@ use Rattle.design_model.specs.Early.{IsEarlyAt}
 use Rattle.design_model.specs.Clear.{EntryFrom, clear, clear_before}
 use Rattle.design_model.specs.Open.{IsOpen, KnownOnEntry}
 use Rattle.design_model.specs.Doubt.{early, of_block}
+use Rattle.design_model.specs.ExampleParts.{at, plain}
 use Rattle.design_model.proofs.Bound.{clear_bound}
 use Rattle.model_examples.specs.Race.{IsRaceExample, line_one, race, race_dump, race_values}
 use Rattle.model_examples.proofs.Entry.{on_entry}
+use Rattle.model_examples.proofs.OneSet.{line_sure}
+use Rattle.model_examples.proofs.OtherLine.{line_away}
+use Rattle.model_examples.proofs.TestLine.{test_line_sure}
 
 Zero≢One : Zero ≢ One
 Zero≢One = grind arith
@@ -135,7 +140,11 @@ race_example =
       reader_clean = reader_is_clean;
       early = a_early;
       none_early = none_is_early;
+      write_not_open = line_away race (KnownOnEntry race Free race_dump 5 1) (body_at race 1) 1 refl;
+      if_not_open = line_away race (KnownOnEntry race Free race_dump 5 0) (body_at race 0) 2 refl;
+      write_surely_open = line_sure race (KnownOnEntry race Free race_dump 5 0) (at 25) 1 true 2 (signal plain 1);
       write_reached = ((lit< tt, lit< tt), refl, inl (cell 0 0, writer_is_clean, inl (at_line 1, refl, (race_values One One Zero Zero, writer_agrees, inl refl))));
+      if_surely_open = test_line_sure race (KnownOnEntry race Free race_dump 5 1) (at 35) 2 _ _ _;
       if_reached = ((lit< tt, lit< tt), refl, inl (cell 0 0, reader_is_clean, inl (at_line 2, refl, (race_values One One Zero Zero, reader_agrees Zero, inl refl))));
       doubt = of_block 1 (lit< tt, lit< tt) refl (inl ((cell 0 0, reader_is_clean.can_wake), inr open_one)) (early (record { thing = a_signal 2; trigger = cell 0 0; of_owner = refl; is_clean = reader_is_clean; is_read = inl (race_values One One Zero Zero, reader_agrees Zero, inr (tt, inl refl)); is_early = a_early Free }));
     }

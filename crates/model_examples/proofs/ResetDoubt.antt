@@ -19,9 +19,11 @@ use Rattle.design_model.specs.Early.{IsEarlyAt}
 use Rattle.design_model.specs.Clear.{EntryFrom, clear, clear_before}
 use Rattle.design_model.specs.Open.{IsNotClean, IsOpen, IsOpenFor, IsReached, KnownOnEntry}
 use Rattle.design_model.specs.Doubt.{early, not_clean, of_block}
+use Rattle.design_model.specs.ExampleParts.{at}
 use Rattle.design_model.proofs.Bound.{clear_bound}
 use Rattle.model_examples.specs.Reset.{IsBothExample, IsReleaseExample, both_dump, line_if, line_reset, release_dump, reset, reset_values}
 use Rattle.model_examples.proofs.Entry.{on_entry}
+use Rattle.model_examples.proofs.TestLine.{test_line_sure}
 
 One≢Zero : One ≢ Zero
 One≢Zero = grind arith
@@ -30,12 +32,12 @@ Zero≢One : Zero ≢ One
 Zero≢One = grind arith
 
 -- the event signals of the block, by their edges
-pos_cell : (c : Cell) → (machine reset).edge 0 Posedge c ≡ true → c ≡ cell 0 0
+pub pos_cell : (c : Cell) → (machine reset).edge 0 Posedge c ≡ true → c ≡ cell 0 0
 pos_cell c h =
     let p = and_parts (c.place == 0) _ h in
     λ i. record { thing = ⊎_elim (λ e. sym (eqb-true 0 c.thing e)) (λ e. absurd (false≢true e)) (or_cases (0 == c.thing) false p.1) i; place = eqb-true c.place 0 p.0 i }
 
-neg_cell : (c : Cell) → (machine reset).edge 0 Negedge c ≡ true → c ≡ cell 1 0
+pub neg_cell : (c : Cell) → (machine reset).edge 0 Negedge c ≡ true → c ≡ cell 1 0
 neg_cell c h =
     let p = and_parts (c.place == 0) _ h in
     λ i. record { thing = ⊎_elim (λ e. sym (eqb-true 1 c.thing e)) (λ e. absurd (false≢true e)) (or_cases (1 == c.thing) false p.1) i; place = eqb-true c.place 0 p.0 i }
@@ -67,6 +69,7 @@ both_example =
       not_clean = is_not_clean;
       each_open = each_is_open;
       doubt = of_block 0 (lit< tt, lit< tt) refl (each_is_open line_if) (not_clean (record { event = cell 0 0; of_signal = refl; can_wake = clk_wakes; not_clean = is_not_clean }));
+      surely_open = test_line_sure reset (KnownOnEntry reset Free both_dump 5 0) (at 5) 1 _ _ _;
       none_reached = none_is_reached;
     }
 
@@ -96,7 +99,7 @@ only e clean = by_edge clean.can_wake.0.0 e clean.can_wake.0.1 clean.can_wake
 rst_early : IsEarlyAt reset Free release_dump 5 0 (cell 0 0) 1
 rst_early = IsEarly.of_input (cell 1 0) (refl, λ s. Zero≢One) (λ i. refl) (λ e. absurd (suc-ne-zero 0 e))
 
-no_words : (m i : ℕ) → IsThing reset (a_word m i) → ⊥
+pub no_words : (m i : ℕ) → IsThing reset (a_word m i) → ⊥
 no_words m i h = let p = and_parts (nat_le 4 m) (nat_lt m 4) h.0 in omega (arith, leb-true 4 m p.0, ltb-true m 4 p.1)
 
 -- on entry rst_n can be old or new
@@ -130,6 +133,7 @@ release_example =
     record {
       clean = is_clean;
       early = rst_early;
+      surely_open = test_line_sure reset (KnownOnEntry reset Free release_dump 5 0) (at 5) 1 _ _ _;
       reached = ((lit< tt, lit< tt), refl, inl (cell 0 0, is_clean, inl (at_line 1, refl, (reset_values One Zero One Zero, agrees Zero, inl refl))));
       doubt = of_block 0 (lit< tt, lit< tt) refl (inl ((cell 0 0, is_clean.can_wake), inr open_reset)) (early (record { thing = a_signal 1; trigger = cell 0 0; of_owner = refl; is_clean = is_clean; is_read = inl (reset_values One Zero One Zero, agrees Zero, inr (tt, inl refl)); is_early = rst_early }));
     }

@@ -9,6 +9,7 @@ use Rattle.event_machine.specs.MayMove.{MayMove}
 use Rattle.event_machine.specs.Early.{IsEarly}
 use Rattle.four_state.specs.declared.bit.Bit.{Bit}
 use Rattle.four_state.specs.declared.bit.Bit.TheVariants.{One, Zero}
+use Rattle.design_model.specs.Tree.{signal}
 use Rattle.design_model.specs.Design.{IsThing, Thing, a_signal, a_word, body_at, cell, signal_bits}
 use Rattle.design_model.specs.Execution.{at_line, execution}
 use Rattle.design_model.specs.Reads.{Agrees}
@@ -18,9 +19,12 @@ use Rattle.design_model.specs.MayMove.{IsCleanAt, MayMoveAt}
 use Rattle.design_model.specs.Early.{IsEarlyAt}
 use Rattle.design_model.specs.Clear.{EntryFrom, IsForced, IsWrittenValue, LeavesValue, all_writes, by_clocked, clear, of_dump}
 use Rattle.design_model.specs.Open.{KnownOnEntry}
+use Rattle.design_model.specs.ExampleParts.{at, plain}
 use Rattle.design_model.proofs.Bound.{clear_bound}
 use Rattle.model_examples.specs.Swap.{IsSwapExample, swap, swap_dump, swap_values}
 use Rattle.model_examples.proofs.Entry.{on_entry}
+use Rattle.model_examples.proofs.OneSet.{line_sure}
+use Rattle.model_examples.proofs.OtherLine.{line_away}
 use Rattle.model_examples.proofs.SwapContradicted.{is_contradicted}
 
 Zero≢One : Zero ≢ One
@@ -118,6 +122,8 @@ swap_example =
     record {
       clean = is_clean;
       none_early = none_is_early;
+      not_open = λ b. line_away swap (KnownOnEntry swap Free (swap_dump b) 5 1) (body_at swap 1) 1 refl;
+      surely_open = λ b. line_sure swap (KnownOnEntry swap Free (swap_dump b) 5 1) (at 35) 2 false 2 (signal plain 1);
       reached = λ b. ((lit< tt, lit< tt), refl, inl (cell 0 0, is_clean b, inl (at_line 2, refl, (swap_values One Zero One, agrees b, inl refl))));
       forced = is_forced;
       contradicted = is_contradicted (is_forced One);

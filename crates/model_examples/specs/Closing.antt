@@ -15,7 +15,7 @@ use Rattle.design_model.specs.declared.point.Point.{Point}
 use Rattle.design_model.specs.declared.point.Point.TheVariants.{Line as line_point}
 use Rattle.design_model.specs.Run.{IsRun, Run}
 use Rattle.design_model.specs.Shows.{BoundDump, Shows}
-use Rattle.design_model.specs.Open.{IsOpen, IsReached, KnownAtEnd}
+use Rattle.design_model.specs.Open.{IsOpen, IsReached, IsSurelyOpen, KnownAtEnd}
 use Rattle.design_model.specs.ExampleParts.{at, counted, one_bit, one_instance, plain}
 
 -- the design
@@ -64,10 +64,11 @@ line_if = line_point 0 1 (at 5) If
 abbrev pub line_set : Point
 line_set = line_point 0 2 (at 13) Assign
 
--- The run shows the dump, and its first evaluation visits line 2. But the one that counts is the last, on settled values: line 1 is reached, and line 2 is not open.
+-- The run shows the dump, and its first evaluation visits line 2. But the one that counts is the last, on settled values: line 1 is surely open and reached, and line 2 is not open.
 pub record IsClosingExample : Type 0 where
   pub run : IsRun closing Free closing_run
   pub shows : Shows closing closing_dump closing_run
   pub visited_before : In (at_line 2) (execution closing (body_at closing 0) (closing_values One One Zero)).visits
   pub reached : IsReached closing Free closing_dump 5 0 line_if
+  pub surely_open : IsSurelyOpen closing (KnownAtEnd closing Free closing_dump 5 0) (body_at closing 0) line_if
   pub not_open : IsOpen closing (KnownAtEnd closing Free closing_dump 5 0) (body_at closing 0) line_set → ⊥

@@ -9,14 +9,15 @@ use Rattle.four_state.specs.declared.bit.Bit.{Bit}
 use Rattle.four_state.specs.declared.bit.Bit.TheVariants.{One, X, Zero}
 use Rattle.four_state.specs.declared.edge.Edge.TheVariants.{Pos}
 use Rattle.design_model.specs.Tree.{a_stmt, all_of, assign, branch, clocked, comb, no_stmts, set, signal}
-use Rattle.design_model.specs.Design.{Design, a_signal, cell}
+use Rattle.design_model.specs.Design.{Design, a_signal, body_at, cell}
 use Rattle.design_model.specs.declared.point.NodeCase.TheVariants.{ValueTrue}
-use Rattle.design_model.specs.declared.point.LineWord.TheVariants.{Assign}
+use Rattle.design_model.specs.declared.point.LineWord.TheVariants.{Assign, If}
 use Rattle.design_model.specs.Reads.{HasValue}
 use Rattle.design_model.specs.Shows.{BoundDump}
 use Rattle.design_model.specs.declared.point.Point.TheVariants.{Line as line_point, Logic as logic_point, Toggle as toggle_point}
 use Rattle.design_model.specs.MayMove.{IsCleanAt}
 use Rattle.design_model.specs.Clear.{clear}
+use Rattle.design_model.specs.Open.{IsOpen, IsSurelyOpen, KnownAtEnd}
 use Rattle.design_model.specs.Doubt.{IsInDoubt}
 use Rattle.design_model.specs.ExampleParts.{at, bit_number, counted, one_bit, one_instance, plain}
 
@@ -51,10 +52,12 @@ latch_dump =
       values = λ t. if nat_le 15 t then latch_values Zero Zero One Zero X X else (if nat_le 10 t then latch_values One Zero One Zero X X else (if nat_le 5 t then latch_values Zero Zero One X X X else latch_values Zero Zero Zero X X X));
     }
 
--- y is never clear: at 10 it is in doubt for q <= 1, at 5 for its rise and for the value of the net that reads it.
+-- y is never clear: at 10 it is in doubt for q <= 1, at 5 for its rise and for the value of the net that reads it. As en is 0 the write of y is not open at 5, and the test of en is surely open.
 pub record IsLatchExample : Type 0 where
   pub never_clear : (t : ℕ) → HasValue (clear latch Free latch_dump t) (a_signal 4) → ⊥
   pub clean : IsCleanAt latch latch_dump 10 1 (cell 0 0)
   pub doubt_line : IsInDoubt latch Free latch_dump (line_point 1 4 (at 32) Assign) 10 4
   pub doubt_toggle : IsInDoubt latch Free latch_dump (toggle_point 4 0 true) 5 4
   pub doubt_net : IsInDoubt latch Free latch_dump (logic_point 2 3 (at 0) (codes "y") ValueTrue) 5 4
+  pub not_open : IsOpen latch (KnownAtEnd latch Free latch_dump 5 0) (body_at latch 0) (line_point 0 2 (at 21) Assign) → ⊥
+  pub surely_open : IsSurelyOpen latch (KnownAtEnd latch Free latch_dump 5 0) (body_at latch 0) (line_point 0 1 (at 13) If)

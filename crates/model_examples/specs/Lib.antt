@@ -17,3 +17,5 @@ pub mod Settling
 pub mod Unread
 pub mod Ranges
 pub mod Inner
+pub mod PipePoints
+pub mod RamPoints

@@ -8,14 +8,14 @@ use Rattle.four_state.specs.declared.bit.Bit.{Bit}
 use Rattle.four_state.specs.declared.bit.Bit.TheVariants.{One, X, Zero}
 use Rattle.four_state.specs.declared.edge.Edge.TheVariants.{Pos}
 use Rattle.design_model.specs.Tree.{a_stmt, all_of, branch, clocked, no_stmts, set, signal}
-use Rattle.design_model.specs.Design.{Design, cell}
+use Rattle.design_model.specs.Design.{Design, body_at, cell}
 use Rattle.design_model.specs.declared.point.LineWord.TheVariants.{Assign, If}
 use Rattle.design_model.specs.declared.point.Point.{Point}
 use Rattle.design_model.specs.declared.point.Point.TheVariants.{Line as line_point}
 use Rattle.design_model.specs.Shows.{BoundDump}
 use Rattle.design_model.specs.MayMove.{IsCleanAt}
 use Rattle.design_model.specs.Early.{IsEarlyAt}
-use Rattle.design_model.specs.Open.{IsReached}
+use Rattle.design_model.specs.Open.{IsOpen, IsReached, IsSurelyOpen, KnownOnEntry}
 use Rattle.design_model.specs.Doubt.{IsInDoubt}
 use Rattle.design_model.specs.ExampleParts.{at, bit_number, counted, one_bit, one_instance, plain}
 
@@ -59,12 +59,17 @@ line_if = line_point 1 2 (at 35) If
 abbrev pub line_one : Point
 line_one = line_point 1 3 (at 42) Assign
 
--- For the reader a is early, whatever the habit, so its if is reached and a is in doubt for a branch; for the writer nothing is early, and its line is reached.
+-- For the reader a is early, whatever the habit, so its if is surely open and reached and a is in doubt for a branch;
+-- for the writer nothing is early, and its line is surely open and reached. The line of the write is not open for the reader, nor that of the if for the writer.
 pub record IsRaceExample : Type 0 where
   pub writer_clean : IsCleanAt race race_dump 5 0 (cell 0 0)
   pub reader_clean : IsCleanAt race race_dump 5 1 (cell 0 0)
   pub early : (h : Habit) → IsEarlyAt race h race_dump 5 1 (cell 0 0) 2
   pub none_early : (h : Habit) (x : ℕ) → IsEarlyAt race h race_dump 5 0 (cell 0 0) x → ⊥
+  pub write_not_open : IsOpen race (KnownOnEntry race Free race_dump 5 1) (body_at race 1) line_write → ⊥
+  pub if_not_open : IsOpen race (KnownOnEntry race Free race_dump 5 0) (body_at race 0) line_if → ⊥
+  pub write_surely_open : IsSurelyOpen race (KnownOnEntry race Free race_dump 5 0) (body_at race 0) line_write
   pub write_reached : IsReached race Free race_dump 5 0 line_write
+  pub if_surely_open : IsSurelyOpen race (KnownOnEntry race Free race_dump 5 1) (body_at race 1) line_if
   pub if_reached : IsReached race Free race_dump 5 1 line_if
   pub doubt : IsInDoubt race Free race_dump line_one 5 2

@@ -8,14 +8,14 @@ use Rattle.four_state.specs.declared.bit.Bit.{Bit}
 use Rattle.four_state.specs.declared.bit.Bit.TheVariants.{One, X, Zero}
 use Rattle.four_state.specs.declared.edge.Edge.TheVariants.{Pos}
 use Rattle.design_model.specs.Tree.{all_of, clocked, set, signal}
-use Rattle.design_model.specs.Design.{Design, cell}
+use Rattle.design_model.specs.Design.{Design, body_at, cell}
 use Rattle.design_model.specs.declared.point.LineWord.TheVariants.{Assign}
 use Rattle.design_model.specs.declared.point.Point.TheVariants.{Line as line_point}
 use Rattle.design_model.specs.Shows.{BoundDump, IsContradicted}
 use Rattle.design_model.specs.MayMove.{IsCleanAt}
 use Rattle.design_model.specs.Early.{IsEarlyAt}
 use Rattle.design_model.specs.Clear.{IsForced}
-use Rattle.design_model.specs.Open.{IsReached}
+use Rattle.design_model.specs.Open.{IsOpen, IsReached, IsSurelyOpen, KnownOnEntry}
 use Rattle.design_model.specs.ExampleParts.{at, one_bit, one_instance, plain}
 
 -- the design
@@ -45,10 +45,13 @@ swap_dump b =
       values = λ t. if nat_le 10 t then swap_values Zero One b else (if nat_le 5 t then swap_values One One b else swap_values Zero Zero One);
     }
 
--- The block of b is clean, with nothing early, so its line is reached and b is forced to 0 at 5, whatever the dump has there: no run shows a dump that has 1 up to 5.
+-- The block of b is clean, with nothing early, so its line, which is on the only path, is surely open and reached, and the line of a is not open for it.
+-- b is forced to 0 at 5, whatever the dump has there: no run shows a dump that has 1 up to 5.
 pub record IsSwapExample : Type 0 where
   pub clean : (b : Bit) → IsCleanAt swap (swap_dump b) 5 1 (cell 0 0)
   pub none_early : (b : Bit) (h : Habit) (x : ℕ) → IsEarlyAt swap h (swap_dump b) 5 1 (cell 0 0) x → ⊥
+  pub not_open : (b : Bit) → IsOpen swap (KnownOnEntry swap Free (swap_dump b) 5 1) (body_at swap 1) (line_point 0 1 (at 25) Assign) → ⊥
+  pub surely_open : (b : Bit) → IsSurelyOpen swap (KnownOnEntry swap Free (swap_dump b) 5 1) (body_at swap 1) (line_point 1 2 (at 35) Assign)
   pub reached : (b : Bit) → IsReached swap Free (swap_dump b) 5 1 (line_point 1 2 (at 35) Assign)
   pub forced : (b : Bit) → IsForced swap Free (swap_dump b) 5 2 (Zero ∷ [])
   pub contradicted : IsContradicted swap Free (swap_dump One) 5

@@ -2,7 +2,7 @@
 //! of a function that does no work.
 #![tactic(auto)]
 
-ghost use Rattle.model_examples.specs.Reset.{IsBothExample, IsReleaseExample};
+ghost use Rattle.model_examples.specs.Reset.{IsBothExample, IsReleaseExample, IsSteadyResetExample};
 ghost use Rattle.model_examples.specs.Loop.{IsLoopExample};
 ghost use Rattle.model_examples.specs.Latch.{IsLatchExample};
 ghost use Rattle.model_examples.specs.Hold.{IsHoldExample};
@@ -18,6 +18,8 @@ ghost use Rattle.model_examples.specs.Pulse.{IsPulseExample};
 ghost use Rattle.model_examples.specs.Product.{IsProductExample};
 ghost use Rattle.model_examples.specs.HoldBit.{IsHoldBitExample};
 ghost use Rattle.model_examples.specs.Settling.{IsSettlingExample};
+ghost use Rattle.model_examples.specs.PipePoints.{IsPipePointsExample};
+ghost use Rattle.model_examples.specs.RamPoints.{IsRamPointsExample};
 ghost use Rattle.model_examples.specs.Unread.{IsOtherWordExample, IsUnknownWordExample};
 ghost use Rattle.model_examples.specs.Ranges.{IsRangesExample};
 ghost use Rattle.model_examples.specs.Inner.{IsInnerExample};
@@ -32,6 +34,12 @@ pub fn clock_and_reset()
 /// doubt for the branches.
 pub fn reset_ends()
     ensures { IsReleaseExample }
+{}
+
+/// A register whose reset stays away while the clock rises: the line of the reset is not open, and the other is surely
+/// open.
+pub fn reset_stays_away()
+    ensures { IsSteadyResetExample }
 {}
 
 /// A combinational block that reads its own target before writing it: the target is in doubt for its points.
@@ -108,6 +116,17 @@ pub fn tested_bit()
 /// The same gate before a register, with an output that the dump lacks: clear from the step on, and known to the register.
 pub fn settled_gate()
     ensures { IsSettlingExample }
+{}
+
+/// The gate before a register that the dump lacks, where both its operands are true.
+pub fn undumped_register_points()
+    ensures { IsPipePointsExample }
+{}
+
+/// A memory whose word is known when it is read: its read and the branch that it takes are surely open, and the others
+/// are not open.
+pub fn memory_word_points()
+    ensures { IsRamPointsExample }
 {}
 
 /// A memory of which another word is read than the one that was written: the memory is in doubt for what depends on it.
