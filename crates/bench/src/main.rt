@@ -1,11 +1,9 @@
-//! Measures a part of the program: `bench operators ROUNDS`, `bench lexer FILE`, or `bench database FILE`. It prints the
-//! speed, or the fault of what it read.
+//! Measures a part of the program that has no command of its own: `bench operators ROUNDS` or `bench points FILE TOP`.
 #![tactic(auto)]
 
-mod database;
-mod lexer;
 mod operators;
-mod plain;
+mod points;
+mod visits;
 
 use anyhow::Result;
 use std::env;
@@ -13,23 +11,18 @@ use std::rt::{Clock, Files};
 
 fn main(rt: HostRuntime) -> Result<()> {
     let mut words = env::args(&rt)?;
-    match (words.nth(1), words.next()) {
-        (Some(part), Some(word)) => measure(&rt, part.as_str(), word.as_str()),
+    match (words.nth(1), words.next(), words.next()) {
+        (Some(part), Some(rounds), None) if part.as_str() == "operators" => {
+            operators::measure(&rt, rounds.parse().unwrap_or(0))
+        }
+        (Some(part), Some(path), Some(top)) if part.as_str() == "points" => {
+            points::measure(&rt, path.as_str(), top.as_str())
+        }
         _ => usage(&rt),
     }
 }
 
-/// Measures one part.
-fn measure(rt: &(impl AllocGlobal + Clock + Files + Print), part: &str, word: &str) -> Result<()> {
-    match part {
-        "operators" => operators::measure(rt, word.parse().unwrap_or(0)),
-        "lexer" => lexer::measure(rt, word),
-        "database" => database::measure(rt, word),
-        _ => usage(rt),
-    }
-}
-
 fn usage(rt: &impl Print) -> Result<()> {
-    println!(rt; "usage: bench operators ROUNDS | lexer FILE | database FILE")?;
+    println!(rt; "usage: bench operators ROUNDS | bench points FILE TOP")?;
     Ok(())
 }

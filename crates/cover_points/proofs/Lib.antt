@@ -6,3 +6,6 @@ pub mod LineMembers
 pub mod NodeMembers
 pub mod ThingMembers
 pub mod Assembly
+pub mod Places
+pub mod Seen
+pub mod Apart

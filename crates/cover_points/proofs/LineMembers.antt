@@ -83,6 +83,12 @@ module _ (d : Design) (found kept : List LinePoint) (is : found ≡ each_from pr
           let x : LinePoint = record { instance = instance_of (process_at d p); line = n; process = p; place = at; word = w } in
           keeps x (subst (In x) (sym is) (line_is_from d x (record { instance_is = refl; stands = h })))
 
+-- each of those found, sorted and each once, is of the instance of its process
+pub lines_owned : (d : Design) (found sorted kept : List LinePoint) → found ≡ each_from process_lines 0 d.processes → IsPermutation found sorted → kept ≡ dedup (eq_by_cmp (line_cmp d.instances)) sorted → (x : LinePoint) → In x kept → x.instance ≡ instance_of (process_at d x.process)
+lines_owned d found sorted kept is moved kept_is x h =
+    let k = line_is_of d x (subst (In x) is (once_from (line_total d.instances) found sorted moved x (subst (In x) kept_is h))) in
+    k.instance_is
+
 -- those found, sorted and each once, are the points of the design
 pub lines_are : (d : Design) → IsLawfulDesign d → (found sorted kept : List LinePoint) → found ≡ each_from process_lines 0 d.processes → IsPermutation found sorted → kept ≡ dedup (eq_by_cmp (line_cmp d.instances)) sorted → (p n : ℕ) (at : Place) (w : LineWord) → In (line_point p n at w) (map line_view kept) ↔ IsPoint d [] (line_point p n at w)
 lines_are d lawful found sorted kept is moved kept_is =

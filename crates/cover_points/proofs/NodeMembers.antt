@@ -123,7 +123,7 @@ rank_back FalseTrue = refl
 rank_back TrueFalse = refl
 rank_back BothTrue = refl
 
-same_case : (a b : NodeCase) → case_rank a ≡ case_rank b → a ≡ b
+pub same_case : (a b : NodeCase) → case_rank a ≡ case_rank b → a ≡ b
 same_case a b e = sym (rank_back a) ∙ ap of_rank e ∙ rank_back b
 
 -- two cases that are equal in the order are the same point
@@ -154,6 +154,12 @@ module _ (d : Design) (found kept : List NodePoint) (is : found ≡ each_from pr
       back h =
           let x = point_is_node d p n at op c h in
           subst (λ z. In z (map node_view kept)) x.2 (keeps x.0 (subst (In x.0) (sym is) x.1))
+
+-- each of those found, sorted and each once, is of the instance of its process
+pub nodes_owned : (d : Design) (found sorted kept : List NodePoint) → found ≡ each_from process_nodes 0 d.processes → IsPermutation found sorted → kept ≡ dedup (eq_by_cmp (node_cmp d.instances)) sorted → (x : NodePoint) → In x kept → x.instance ≡ instance_of (process_at d x.process)
+nodes_owned d found sorted kept is moved kept_is x h =
+    let k = node_is_of d x (subst (In x) is (once_from (node_total d.instances) found sorted moved x (subst (In x) kept_is h))) in
+    k.instance_is
 
 -- those found, sorted and each once, are the points of the design
 pub nodes_are : (d : Design) → IsLawfulDesign d → (found sorted kept : List NodePoint) → found ≡ each_from process_nodes 0 d.processes → IsPermutation found sorted → kept ≡ dedup (eq_by_cmp (node_cmp d.instances)) sorted → (p n : ℕ) (at : Place) (op : List ℕ) (c : NodeCase) → In (logic_point p n at op c) (map node_view kept) ↔ IsPoint d [] (logic_point p n at op c)

@@ -1,6 +1,7 @@
 -- The points of the texts of a design's processes.
-use Rattle.std.specs.Prelude.{◌+◌, ◌++◌, ℕ, List, [], ◌∷◌}
+use Rattle.std.specs.Prelude.{◌≡◌, ◌+◌, ◌++◌, ℕ, List, [], ◌∷◌}
 use Rattle.design_model.specs.Tree.{Process}
+use Rattle.design_model.specs.Design.{Design, process_at}
 use Rattle.design_model.specs.Lawful.{instance_of}
 use Rattle.design_model.specs.Numbered.{counted_terms, lines_of}
 use Rattle.design_model.specs.declared.point.Point.{Point}
@@ -14,6 +15,10 @@ use Rattle.text_points.specs.declared.points.Owner.{Owner}
 -- a process with its number, as the owner of points
 abbrev pub owner : ℕ → Process → Owner
 owner k p = record { instance = instance_of p; process = k }
+
+-- the instance is that of process p
+abbrev pub IsOwner : Design → ℕ → ℕ → Type 0
+IsOwner d p i = i ≡ instance_of (process_at d p)
 
 -- what items have that are numbered from k on
 abbrev pub each_from : {A X : Type 0} → (ℕ → A → List X) → ℕ → List A → List X

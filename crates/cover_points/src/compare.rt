@@ -38,8 +38,8 @@ pub(crate) fn path_at(instances: &[Instance], instance: u32) -> &[u8]
     }
 }
 
-/// The place of a case in the order of the cases, from 0.
-fn case_rank(case: NodeCase) -> u8
+/// The place of a case in the order of the cases, from 0 to 9.
+pub fn case_rank(case: NodeCase) -> u8
     ensures { result ≡ case_rank case }
 {
     match case {

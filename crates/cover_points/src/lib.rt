@@ -8,10 +8,13 @@ mod listing;
 mod nodes;
 mod points;
 mod things;
+mod visit;
 
+pub use compare::case_rank;
 pub use fault::PointFault;
 pub use lines::line_points;
 pub use listing::{MOST_POINTS, Points, list};
 pub use nodes::node_points;
 pub use points::IndexPoint;
 pub use things::{toggle_points, word_points};
+pub use visit::Visit;

@@ -12,7 +12,8 @@ ghost use Rattle.design_model.specs.declared.point.Point.TheVariants.{Line as li
 ghost use Rattle.design_model.specs.declared.point.LineWord.{LineWord};
 ghost use Rattle.design_model.specs.View.{design_view, process_view};
 ghost use Rattle.cover_points.specs.Order.{line_cmp};
-ghost use Rattle.cover_points.specs.Texts.{each_from, line_view, owner, process_lines};
+ghost use Rattle.cover_points.specs.Texts.{IsOwner, each_from, line_view, owner, process_lines};
+ghost use Rattle.text_points.specs.declared.points.LinePoint.{LinePoint as TheLinePoint};
 
 use crate::compare::compare_lines;
 use cov_host::NoMemory;
@@ -24,6 +25,7 @@ use text_points::{LinePoint, Owner, push_lines};
 pub fn line_points(alloc: Global, design: &Design) -> Result<Vec<LinePoint>, NoMemory>
     requires { IsLawfulDesign (design_view design.now) }
     ensures rise { IfOk result (λ points. IsStrictlySortedBy (line_cmp design.now.instances) points.items) }
+    ensures owners { IfOk result (λ points. (x : TheLinePoint) → In x points.items → IsOwner (design_view design.now) x.process x.instance) }
     ensures members { IfOk result (λ points. (p n : ℕ) (at : Place) (w : LineWord) → In (line_point p n at w) (map line_view points.items) ↔ IsPoint (design_view design.now) [] (line_point p n at w)) }
 {
     let instances = design.instances.as_slice();

@@ -2,6 +2,7 @@ ghost use Rattle.std.specs.Prelude.{◌≡◌, ◌↔◌, ◌<◌, ◌≤◌, If
 ghost use Rattle.design_model.specs.Lawful.{IsLawfulDesign};
 ghost use Rattle.design_model.specs.View.{design_view};
 ghost use Rattle.cover_points.specs.Listed.{IsPointList, points_of};
+ghost use Rattle.cover_points.specs.Visits.{AreApart};
 
 use crate::{IndexPoint, PointFault, line_points, node_points, toggle_points, word_points};
 use cov_host::NoMemory;
@@ -25,6 +26,7 @@ pub struct Points {
 pub fn list(alloc: Global, design: &Design) -> Result<Points, PointFault>
     requires { IsLawfulDesign (design_view design.now) }
     ensures points { IfOk result (IsPointList (design_view design.now)) }
+    ensures apart { IfOk result AreApart }
     ensures few { IfOk result (λ points. length (points_of points) ≤ MOST_POINTS) }
     ensures many { result ≡ Err PointFault.TooManyPoints → (points : Points) × IsPointList (design_view design.now) points × (MOST_POINTS < length (points_of points)) }
 {

@@ -12,7 +12,8 @@ ghost use Rattle.design_model.specs.declared.point.Point.TheVariants.{Logic as l
 ghost use Rattle.design_model.specs.declared.point.NodeCase.{NodeCase};
 ghost use Rattle.design_model.specs.View.{design_view, process_view};
 ghost use Rattle.cover_points.specs.Order.{node_cmp};
-ghost use Rattle.cover_points.specs.Texts.{each_from, node_view, process_nodes};
+ghost use Rattle.cover_points.specs.Texts.{IsOwner, each_from, node_view, process_nodes};
+ghost use Rattle.text_points.specs.declared.points.NodePoint.{NodePoint as TheNodePoint};
 
 use crate::compare::compare_nodes;
 use crate::lines::owner_of;
@@ -25,6 +26,7 @@ use text_points::{NodePoint, push_nodes};
 pub fn node_points(alloc: Global, design: &Design) -> Result<Vec<NodePoint>, NoMemory>
     requires { IsLawfulDesign (design_view design.now) }
     ensures rise { IfOk result (λ points. IsStrictlySortedBy (node_cmp design.now.instances) points.items) }
+    ensures owners { IfOk result (λ points. (x : TheNodePoint) → In x points.items → IsOwner (design_view design.now) x.process x.instance) }
     ensures members { IfOk result (λ points. (p n : ℕ) (at : Place) (op : List ℕ) (c : NodeCase) → In (logic_point p n at op c) (map node_view points.items) ↔ IsPoint (design_view design.now) [] (logic_point p n at op c)) }
 {
     let instances = design.instances.as_slice();

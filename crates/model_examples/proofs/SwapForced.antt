@@ -21,6 +21,7 @@ use Rattle.design_model.specs.Open.{KnownOnEntry}
 use Rattle.design_model.proofs.Bound.{clear_bound}
 use Rattle.model_examples.specs.Swap.{IsSwapExample, swap, swap_dump, swap_values}
 use Rattle.model_examples.proofs.Entry.{on_entry}
+use Rattle.model_examples.proofs.SwapContradicted.{is_contradicted}
 
 Zero≢One : Zero ≢ One
 Zero≢One = grind arith
@@ -119,5 +120,5 @@ swap_example =
       none_early = none_is_early;
       reached = λ b. ((lit< tt, lit< tt), refl, inl (cell 0 0, is_clean b, inl (at_line 2, refl, (swap_values One Zero One, agrees b, inl refl))));
       forced = is_forced;
-      contradicted = refl;
+      contradicted = is_contradicted (is_forced One);
     }

@@ -8,3 +8,12 @@ pub mod Arms
 pub mod Swap
 pub mod Reverse
 pub mod Closing
+pub mod Divided
+pub mod Synced
+pub mod Pulse
+pub mod Product
+pub mod HoldBit
+pub mod Settling
+pub mod Unread
+pub mod Ranges
+pub mod Inner

@@ -1,17 +1,17 @@
 -- Two registers that swap, worked out: clk is signal 0, a is 1, b is 2.
 --   always @(posedge clk) a <= b;
 --   always @(posedge clk) b <= a;
-use Rattle.std.specs.Prelude.{◌≡◌, ◌∷◌, if◌then◌else◌, ℕ, true, false, [], nat_le, nat_lt, slice_index_or, codes}
+use Rattle.std.specs.Prelude.{◌∷◌, if◌then◌else◌, ℕ, true, false, [], nat_le, nat_lt, slice_index_or, codes}
 use Rattle.event_machine.specs.Cell.{Values}
 use Rattle.event_machine.specs.Habit.{Free, Habit}
 use Rattle.four_state.specs.declared.bit.Bit.{Bit}
 use Rattle.four_state.specs.declared.bit.Bit.TheVariants.{One, X, Zero}
 use Rattle.four_state.specs.declared.edge.Edge.TheVariants.{Pos}
 use Rattle.design_model.specs.Tree.{all_of, clocked, set, signal}
-use Rattle.design_model.specs.Design.{Design, cell, signal_bits}
+use Rattle.design_model.specs.Design.{Design, cell}
 use Rattle.design_model.specs.declared.point.LineWord.TheVariants.{Assign}
 use Rattle.design_model.specs.declared.point.Point.TheVariants.{Line as line_point}
-use Rattle.design_model.specs.Shows.{BoundDump}
+use Rattle.design_model.specs.Shows.{BoundDump, IsContradicted}
 use Rattle.design_model.specs.MayMove.{IsCleanAt}
 use Rattle.design_model.specs.Early.{IsEarlyAt}
 use Rattle.design_model.specs.Clear.{IsForced}
@@ -45,10 +45,10 @@ swap_dump b =
       values = λ t. if nat_le 10 t then swap_values Zero One b else (if nat_le 5 t then swap_values One One b else swap_values Zero Zero One);
     }
 
--- The block of b is clean, with nothing early, so its line is reached and b is forced to 0 at 5, whatever the dump has there: a dump that has 1 is contradicted.
+-- The block of b is clean, with nothing early, so its line is reached and b is forced to 0 at 5, whatever the dump has there: no run shows a dump that has 1 up to 5.
 pub record IsSwapExample : Type 0 where
   pub clean : (b : Bit) → IsCleanAt swap (swap_dump b) 5 1 (cell 0 0)
   pub none_early : (b : Bit) (h : Habit) (x : ℕ) → IsEarlyAt swap h (swap_dump b) 5 1 (cell 0 0) x → ⊥
   pub reached : (b : Bit) → IsReached swap Free (swap_dump b) 5 1 (line_point 1 2 (at 35) Assign)
   pub forced : (b : Bit) → IsForced swap Free (swap_dump b) 5 2 (Zero ∷ [])
-  pub contradicted : signal_bits swap ((swap_dump One).values 5) 2 ≡ One ∷ []
+  pub contradicted : IsContradicted swap Free (swap_dump One) 5

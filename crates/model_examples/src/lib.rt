@@ -12,6 +12,15 @@ ghost use Rattle.model_examples.specs.Arms.{IsArmsExample};
 ghost use Rattle.model_examples.specs.Swap.{IsSwapExample};
 ghost use Rattle.model_examples.specs.Reverse.{IsReverseExample};
 ghost use Rattle.model_examples.specs.Closing.{IsClosingExample};
+ghost use Rattle.model_examples.specs.Divided.{IsDividedExample};
+ghost use Rattle.model_examples.specs.Synced.{IsSyncedExample};
+ghost use Rattle.model_examples.specs.Pulse.{IsPulseExample};
+ghost use Rattle.model_examples.specs.Product.{IsProductExample};
+ghost use Rattle.model_examples.specs.HoldBit.{IsHoldBitExample};
+ghost use Rattle.model_examples.specs.Settling.{IsSettlingExample};
+ghost use Rattle.model_examples.specs.Unread.{IsOtherWordExample, IsUnknownWordExample};
+ghost use Rattle.model_examples.specs.Ranges.{IsRangesExample};
+ghost use Rattle.model_examples.specs.Inner.{IsInnerExample};
 
 /// A register whose clock rises and whose reset falls at one time: its block is not clean, so each point is open and in
 /// doubt, and none is reached.
@@ -69,4 +78,55 @@ pub fn reversed_bits()
 /// A latch that closes while its data moves: the execution that counts is the last, on settled values.
 pub fn closing_latch()
     ensures { IsClosingExample }
+{}
+
+/// A register as the clock of another: by the first round of single cells it is no trigger, in the next it is.
+pub fn divided_clock()
+    ensures { IsDividedExample }
+{}
+
+/// A reset that a register makes: as it stays, the clock alone wakes the block, once the register is known to be single.
+pub fn synchronised_reset()
+    ensures { IsSyncedExample }
+{}
+
+/// A register that one execution writes twice pulses within a step, which a dump does not show: it is never a trigger.
+pub fn pulse_in_step()
+    ensures { IsPulseExample }
+{}
+
+/// A gate whose two inputs move in one step: a run has both true for a moment, and that is not scored.
+pub fn both_inputs_move()
+    ensures { IsProductExample }
+{}
+
+/// A register with an enable that tests one bit of an input: the input is early, and the bit is the same old or new.
+pub fn tested_bit()
+    ensures { IsHoldBitExample }
+{}
+
+/// The same gate before a register, with an output that the dump lacks: clear from the step on, and known to the register.
+pub fn settled_gate()
+    ensures { IsSettlingExample }
+{}
+
+/// A memory of which another word is read than the one that was written: the memory is in doubt for what depends on it.
+pub fn other_word()
+    ensures { IsOtherWordExample }
+{}
+
+/// A memory that is written by an index with an x: no word is written, and none is clear.
+pub fn unknown_word()
+    ensures { IsUnknownWordExample }
+{}
+
+/// Selects on rising ranges and partly outside ones, read and written.
+pub fn selected_bits()
+    ensures { IsRangesExample }
+{}
+
+/// A combinational block that reads a variable which it has written before: that read is inner, and what the block does
+/// depends on its input alone.
+pub fn inner_read()
+    ensures { IsInnerExample }
 {}

@@ -8,7 +8,7 @@ use Rattle.cover_points.specs.Order.{line_cmp}
 use Rattle.cover_points.specs.Texts.{each_from, process_lines}
 use Rattle.cover_points.proofs.Orders.{line_total}
 use Rattle.cover_points.proofs.Members.{once_rise}
-use Rattle.cover_points.proofs.LineMembers.{lines_are}
+use Rattle.cover_points.proofs.LineMembers.{lines_are, lines_owned}
 use Rattle.cover_points.proofs.lines.line_points.Goals as goal
 
 pub returns-clause-rise : goal.returns-clause-rise
@@ -27,3 +27,12 @@ returns-clause-members c =
     c.in_ok-found.ensures ∙ ap (λ ps. each_from process_lines 0 (map process_view ps)) c.as_slice.ensures in
     let kept : c.keep_first_lines.new.found.items ≡ dedup (eq_by_cmp (line_cmp is)) c.sort_lines.new.found.items = rw c.as_slice-instances.ensures at c.keep_first_lines.ensures in
     lines_are d c.requires c.in_ok-found.found.items c.sort_lines.new.found.items c.keep_first_lines.new.found.items found c.sort_lines.ensures.permutation kept
+
+pub returns-clause-owners : goal.returns-clause-owners
+returns-clause-owners c =
+    let d = design_view c.args.design.now in
+    let is = c.args.design.now.instances in
+    let found : c.in_ok-found.found.items ≡ each_from process_lines 0 d.processes =
+    c.in_ok-found.ensures ∙ ap (λ ps. each_from process_lines 0 (map process_view ps)) c.as_slice.ensures in
+    let kept : c.keep_first_lines.new.found.items ≡ dedup (eq_by_cmp (line_cmp is)) c.sort_lines.new.found.items = rw c.as_slice-instances.ensures at c.keep_first_lines.ensures in
+    lines_owned d c.in_ok-found.found.items c.sort_lines.new.found.items c.keep_first_lines.new.found.items found c.sort_lines.ensures.permutation kept

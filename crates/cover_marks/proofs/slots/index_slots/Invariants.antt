@@ -1,0 +1,7 @@
+use Rattle.std.proofs.Common.{◌≡◌, take}
+use Rattle.cover_marks.specs.Slots.{index_slots}
+use Rattle.cover_marks.proofs.slots.index_slots.Given as goal
+
+-- the slots of the points so far
+abbrev pub invariant-loop-point : goal.invariant-loop-point
+invariant-loop-point l = l.slots.items ≡ index_slots (take l.point-index l.points)

@@ -1,0 +1,29 @@
+-- Slots in the tables of numbers.
+use Rattle.std.specs.Prelude.{◌+◌, ◌*◌, ℕ, Bool, List, map}
+use Rattle.design_model.specs.declared.point.NodeCase.{NodeCase}
+use Rattle.number_tables.specs.declared.slot.Slot.{Slot}
+use Rattle.text_points.specs.declared.points.LinePoint.{LinePoint}
+use Rattle.text_points.specs.declared.points.NodePoint.{NodePoint}
+use Rattle.cover_points.specs.Order.{case_rank, second_rank}
+use Rattle.cover_points.specs.declared.points.IndexPoint.{IndexPoint}
+
+-- of a statement: a row for each process, and a column for each number
+abbrev pub line_slot : ℕ → ℕ → Slot
+line_slot p n = record { row = p; column = n }
+
+-- of a case of a node: a row for each process, and ten columns for each number
+abbrev pub node_slot : ℕ → ℕ → NodeCase → Slot
+node_slot p n c = record { row = p; column = n * 10 + case_rank c }
+
+-- of a point of a bit or of a word: a row for each signal or memory, and two columns for each index
+abbrev pub index_slot : ℕ → ℕ → Bool → Slot
+index_slot x i second = record { row = x; column = i * 2 + second_rank second }
+
+abbrev pub line_slots : List LinePoint → List Slot
+line_slots xs = map (λ x. line_slot x.process x.line) xs
+
+abbrev pub node_slots : List NodePoint → List Slot
+node_slots xs = map (λ x. node_slot x.process x.node x.case) xs
+
+abbrev pub index_slots : List IndexPoint → List Slot
+index_slots xs = map (λ x. index_slot x.thing x.index x.second) xs

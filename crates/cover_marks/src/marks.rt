@@ -1,0 +1,79 @@
+ghost use Rattle.std.specs.Prelude.{◌≡◌, ◌<◌, ◌≤◌, ◌++◌, ◌∷◌, [], ℕ, List, IfOk, length};
+ghost use Rattle.point_marks.specs.Told.{IsMarked, IsVerdict, Told, doubt_of, hit_of};
+ghost use Rattle.point_marks.specs.declared.verdict.Doubt.{Doubt as TheDoubt};
+ghost use Rattle.cover_points.specs.Listed.{points_of};
+ghost use Rattle.cover_points.specs.Visits.{AreApart, IsVisitOf};
+ghost use Rattle.cover_points.specs.declared.listing.Points.{Points as ThePoints};
+ghost use Rattle.cover_marks.specs.Marks.{AreMarksOf};
+
+use crate::index::PointIndex;
+use cov_host::NoMemory;
+use cover_points::{MOST_POINTS, Points, Visit};
+use point_marks::{PointMarks, Verdict};
+use std::alloc::Global;
+
+/// What is known of each point of a list, by the number of the point, counted from 0.
+#[derive(Drop)]
+pub struct Marks {
+    index: PointIndex,
+    verdicts: PointMarks,
+}
+
+impl Marks {
+    /// The marks of these points, with nothing told of any.
+    pub fn new(alloc: Global, points: &Points) -> Result<Self, NoMemory>
+        requires apart { AreApart points.now }
+        requires few { length (points_of points.now) ≤ MOST_POINTS }
+        ensures points { IfOk result (AreMarksOf points.now) }
+        ensures told { IfOk result (λ marks. IsMarked [] marks.verdicts) }
+    {
+        let index = PointIndex::new(alloc, points)?;
+        let verdicts = PointMarks::new(alloc, count_of(points))?;
+        Ok(Marks { index, verdicts })
+    }
+
+    /// The number of the point of a visit, and some number where no point has the visit. It takes constant time and no
+    /// memory.
+    pub fn point(&self, visit: &Visit) -> u32
+        ensures { (points : ThePoints) (k : ℕ) → AreMarksOf points self.now → IsVisitOf points k visit.now → result ≡ k }
+    {
+        self.index.number(*visit)
+    }
+
+    /// The point was hit. It takes no memory.
+    pub fn hit(&mut self, point: u32)
+        requires { point < length self.old.verdicts }
+        ensures points { (points : ThePoints) → AreMarksOf points self.old → AreMarksOf points self.new }
+        ensures told { (told : List Told) → IsMarked told self.old.verdicts → IsMarked (told ++ hit_of point ∷ []) self.new.verdicts }
+    {
+        self.verdicts.hit(point);
+    }
+
+    /// The thing left the point open at this time. A point that was hit stays hit, and the first doubt is kept. It takes
+    /// no memory.
+    pub fn doubt(&mut self, point: u32, thing: u32, time: u64)
+        requires { point < length self.old.verdicts }
+        ensures points { (points : ThePoints) → AreMarksOf points self.old → AreMarksOf points self.new }
+        ensures told { let doubt : TheDoubt = record { thing = thing; time = time } in (told : List Told) → IsMarked told self.old.verdicts → IsMarked (told ++ doubt_of point doubt ∷ []) self.new.verdicts }
+    {
+        self.verdicts.doubt(point, thing, time);
+    }
+
+    /// How the point came out: hit where it was told to be, else undetermined by the first doubt told of it, else
+    /// missed. It takes no memory.
+    pub fn verdict(&self, point: u32) -> Verdict
+        requires { point < length self.now.verdicts }
+        ensures { (told : List Told) → IsMarked told self.now.verdicts → IsVerdict told point result }
+    {
+        self.verdicts.verdict(point)
+    }
+}
+
+/// How many points there are.
+fn count_of(points: &Points) -> u32
+    requires { length (points_of points.now) ≤ MOST_POINTS }
+    ensures { result ≡ length (points_of points.now) }
+{
+    let count = points.lines.len() + points.nodes.len() + points.toggles.len() + points.words.len();
+    count as u32
+}

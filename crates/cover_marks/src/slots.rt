@@ -1,0 +1,85 @@
+//! The slots of points and of visits in the tables of numbers.
+
+ghost use Rattle.std.specs.Prelude.{◌≡◌, IfOk, map};
+ghost use Rattle.cover_points.specs.Order.{second_rank};
+ghost use Rattle.cover_marks.specs.Slots.{index_slot, index_slots, line_slot, line_slots, node_slot, node_slots};
+
+use cov_host::NoMemory;
+use cover_points::{IndexPoint, case_rank};
+use design_model::NodeCase;
+use number_tables::Slot;
+use std::alloc::Global;
+use text_points::{LinePoint, NodePoint};
+
+/// How many cases there are.
+const CASES: usize = 10;
+
+/// The slots of line points.
+pub(crate) fn line_slots(alloc: Global, points: &[LinePoint]) -> Result<Vec<Slot>, NoMemory>
+    ensures { IfOk result (λ slots. slots.items ≡ line_slots points.now) }
+{
+    let mut slots = Vec::with_capacity(alloc, points.len())?;
+    for point in points {
+        slots.push(line_slot(point.process, point.line))?;
+    }
+    Ok(slots)
+}
+
+/// The slots of the cases of nodes.
+pub(crate) fn node_slots(alloc: Global, points: &[NodePoint]) -> Result<Vec<Slot>, NoMemory>
+    ensures { IfOk result (λ slots. slots.items ≡ node_slots points.now) }
+{
+    let mut slots = Vec::with_capacity(alloc, points.len())?;
+    for point in points {
+        slots.push(node_slot(point.process, point.node, point.case))?;
+    }
+    Ok(slots)
+}
+
+/// The slots of the points of bits or of words.
+pub(crate) fn index_slots(alloc: Global, points: &[IndexPoint]) -> Result<Vec<Slot>, NoMemory>
+    ensures { IfOk result (λ slots. slots.items ≡ index_slots points.now) }
+{
+    let mut slots = Vec::with_capacity(alloc, points.len())?;
+    for point in points {
+        slots.push(index_slot(point.thing, point.index, point.second))?;
+    }
+    Ok(slots)
+}
+
+/// The slot of a statement: a row for each process, and a column for each number.
+pub(crate) fn line_slot(process: u32, line: u32) -> Slot
+    ensures { result ≡ line_slot process line }
+{
+    Slot {
+        row: process,
+        column: line as usize,
+    }
+}
+
+/// The slot of a case of a node: a row for each process, and a column for each case of each number.
+pub(crate) fn node_slot(process: u32, node: u32, case: NodeCase) -> Slot
+    ensures { result ≡ node_slot process node case }
+{
+    Slot {
+        row: process,
+        column: node as usize * CASES + case_rank(case) as usize,
+    }
+}
+
+/// The slot of one of the two points of an index: a row for each signal or memory, and two columns for each index.
+pub(crate) fn index_slot(thing: u32, index: u32, second: bool) -> Slot
+    ensures { result ≡ index_slot thing index second }
+{
+    Slot {
+        row: thing,
+        column: index as usize * 2 + side_of(second),
+    }
+}
+
+/// The column of a point among the two of its index.
+fn side_of(second: bool) -> usize
+    ensures { result ≡ second_rank second }
+{
+    if second { 1 } else { 0 }
+}

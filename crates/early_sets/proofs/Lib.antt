@@ -1,0 +1,6 @@
+pub mod Membership
+pub mod Adding
+pub mod Closing
+pub mod EarlyAdding
+pub mod EarlyFound
+pub mod EventRows

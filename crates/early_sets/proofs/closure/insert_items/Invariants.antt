@@ -1,0 +1,8 @@
+use Rattle.std.proofs.Common.{◌≡◌, true, take}
+use Rattle.early_sets.specs.Adds.{Adds}
+use Rattle.early_sets.specs.Reached.{IsRowItem}
+use Rattle.early_sets.proofs.closure.insert_items.Given as goal
+
+-- the items so far are put in
+abbrev pub invariant-loop-item : goal.invariant-loop-item
+invariant-loop-item l = (l.set.size ≡ l.fn.set.size) × Adds (IsRowItem true (take l.item-index l.row) l.except) l.fn.set.items l.set.items

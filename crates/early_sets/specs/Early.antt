@@ -1,0 +1,45 @@
+-- What is early for a clean block, by tables.
+use Rattle.std.specs.Prelude.{◌≡◌, ◌⊎◌, ◌<◌, ◌==◌, ◌||◌, ℕ, Bool, true, false, not, List, [], ◌∷◌, Some, slice_index}
+use Rattle.std.specs.List.{Contains}
+use Rattle.index_sets.specs.Rows.{row_at}
+use Rattle.wake_tables.specs.declared.tables.WakeTables.{WakeTables}
+use Rattle.early_sets.specs.declared.habit.Habit.{Habit}
+use Rattle.early_sets.specs.declared.habit.Habit.TheVariants.{Free, Late}
+use Rattle.early_sets.specs.declared.rule.Rule.{Rule}
+use Rattle.early_sets.specs.Reached.{IsItem, IsRowItem, MayWakeBy, Reached, is_apart}
+use Rattle.early_sets.specs.WakeState.{WakeState}
+
+-- the list has an item
+abbrev pub has_items : List ℕ → Bool
+has_items [] = false
+has_items (x ∷ xs) = true
+
+-- an event list names the signal
+abbrev pub is_event_signal : WakeTables → ℕ → Bool
+is_event_signal t x = has_items (row_at t.rising x) || has_items (row_at t.falling x)
+
+-- by the habit an input may move at any point
+abbrev pub is_free : WakeTables → Habit → ℕ → Bool
+is_free t Free x = true
+is_free t Late x = is_event_signal t x
+
+-- a free one of the first n inputs of the list that is not the trigger
+abbrev pub IsEarlyInput : WakeTables → Habit → List ℕ → ℕ → ℕ → ℕ → Type 0
+IsEarlyInput t h inputs n trigger x = (k : ℕ) × (k < n) × (is_free t h (slice_index inputs k) ≡ true) × IsItem (slice_index inputs k) (Some trigger) x
+
+-- a blocking target, not the trigger, of one of the first n processes of the list that is not the block
+abbrev pub IsTriggerTarget : WakeTables → List ℕ → ℕ → ℕ → ℕ → ℕ → Type 0
+IsTriggerTarget t processes n block trigger y = (k : ℕ) × (k < n) × IsRowItem (not (slice_index processes k == block)) (row_at t.blocking (slice_index processes k)) (Some trigger) y
+
+-- what is early at first: an input that changes and is free, and a blocking target of another process that the trigger may wake; not the trigger
+abbrev pub IsEarlySeed : WakeState → Habit → ℕ → ℕ → ℕ → Type 0
+IsEarlySeed w h block trigger x =
+    ((Contains w.noted x × (is_free w.tables h x ≡ true)) ⊎ ((p : ℕ) × MayWakeBy w.tables w.edges trigger p × (is_apart (Some block) p ≡ true) × Contains (row_at w.tables.blocking p) x)) × (is_apart (Some trigger) x ≡ true)
+
+-- what the trigger and the members leave out
+abbrev pub early_rule : ℕ → ℕ → Rule
+early_rule block trigger = record { trigger = Some trigger; block = Some block }
+
+-- the least set with these and with what a process may write that a member may wake
+abbrev pub IsEarlyBy : WakeState → Habit → ℕ → ℕ → ℕ → Type 0
+IsEarlyBy w h block trigger = Reached w.tables w.edges (early_rule block trigger) (IsEarlySeed w h block trigger)

@@ -1,0 +1,6 @@
+pub mod Adds
+pub mod Edges
+pub mod Reached
+pub mod Sizes
+pub mod WakeState
+pub mod Early

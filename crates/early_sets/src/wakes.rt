@@ -1,0 +1,251 @@
+ghost use Rattle.std.specs.Prelude.{◌≡◌, ◌<◌, ◌↔◌, [], ℕ, IfOk, IfSome, IsSome, IsTrue, length, replicate, slice_set};
+ghost use Rattle.std.specs.List.{Contains};
+ghost use Rattle.early_sets.specs.Adds.{Adds};
+ghost use Rattle.early_sets.specs.Sizes.{AreSizes};
+
+use crate::closure::{close, wake};
+use crate::early::{insert_inputs, insert_targets};
+use crate::{Edges, Habit, Rule};
+use cov_host::NoMemory;
+use four_state::{Bit, Edge};
+use index_sets::IndexSet;
+use std::alloc::Global;
+use wake_tables::WakeTables;
+
+/// The sets of a step: which signals and memories may move, which processes can wake, and what is early for a clean
+/// block.
+#[derive(Drop)]
+pub struct Wakes {
+    tables: WakeTables,
+    /// For each signal or memory whether it is an input.
+    inputs: Vec<bool>,
+    /// For each signal or memory the edges that its change may be, where it may move.
+    edges: Vec<Edges>,
+    /// The inputs that change.
+    noted: IndexSet,
+    moves: IndexSet,
+    woken: IndexSet,
+    early: IndexSet,
+    /// The processes that what is early may wake.
+    early_woken: IndexSet,
+    ghost sizes: { AreSizes tables inputs.items edges.items noted moves woken early early_woken },
+}
+
+impl Wakes {
+    ghost use Rattle.early_sets.specs.Early.{IsEarlyBy};
+    ghost use Rattle.early_sets.specs.Edges.{any_edges, edges_between};
+    ghost use Rattle.early_sets.specs.Reached.{IsWoken, Reached};
+    ghost use Rattle.early_sets.specs.WakeState.{can_wake_by, nothing_left, state_of, trigger_of, waker_of, wakes_only_by};
+
+    /// The sets of a design with these tables and inputs, before a step.
+    pub fn new(alloc: Global, tables: WakeTables, inputs: Vec<bool>) -> Result<Self, NoMemory>
+        requires { length inputs.items ≡ tables.things }
+        ensures tables { IfOk result (λ wakes. (state_of wakes).tables ≡ tables) }
+        ensures inputs { IfOk result (λ wakes. (state_of wakes).inputs ≡ inputs.items) }
+        ensures edges { IfOk result (λ wakes. (state_of wakes).edges ≡ replicate tables.things any_edges) }
+        ensures noted { IfOk result (λ wakes. (state_of wakes).noted ≡ []) }
+    {
+        let edges = vec![in alloc; Edges {
+            rise: true,
+            fall: true
+        }; tables.things]?;
+        let noted = IndexSet::new(alloc, tables.things)?;
+        let moves = IndexSet::new(alloc, tables.things)?;
+        let woken = IndexSet::new(alloc, tables.processes)?;
+        let early = IndexSet::new(alloc, tables.things)?;
+        let early_woken = IndexSet::new(alloc, tables.processes)?;
+        Ok(Wakes {
+            tables,
+            inputs,
+            edges,
+            noted,
+            moves,
+            woken,
+            early,
+            early_woken,
+        })
+    }
+
+    /// Begins a step, in which no input changes yet. It takes no memory, and the same time whatever the last step did.
+    pub fn clear(&mut self)
+        ensures { state_of self.new ≡ record (state_of self.old) { noted = []; moves = []; woken = []; early = [] } }
+    {
+        self.noted.clear();
+        self.moves.clear();
+        self.woken.clear();
+        self.early.clear();
+    }
+
+    /// An input changes in this step. `old` and `new` are its lowest bit before and after the step. It takes no memory.
+    pub fn note(&mut self, input: u32, old: Bit, new: Bit)
+        requires { input < (state_of self.old).tables.things }
+        ensures tables { (state_of self.new).tables ≡ (state_of self.old).tables }
+        ensures inputs { (state_of self.new).inputs ≡ (state_of self.old).inputs }
+        ensures noted { Adds (λ x. input ≡ x) (state_of self.old).noted (state_of self.new).noted }
+        ensures edges { (state_of self.new).edges ≡ slice_set (state_of self.old).edges input (edges_between old new) }
+    {
+        let place = input as usize;
+        self.edges[place] = Edges::between(old, new);
+        let _ = self.noted.insert(place);
+    }
+
+    /// Finds what may move in the step and which processes that may wake. It takes no memory, and time for the members,
+    /// the processes that they may wake and what those may write.
+    pub fn settle(&mut self)
+        ensures tables { (state_of self.new).tables ≡ (state_of self.old).tables }
+        ensures inputs { (state_of self.new).inputs ≡ (state_of self.old).inputs }
+        ensures edges { (state_of self.new).edges ≡ (state_of self.old).edges }
+        ensures noted { (state_of self.new).noted ≡ (state_of self.old).noted }
+        ensures moves { (x : ℕ) → Contains (state_of self.new).moves x ↔ Reached (state_of self.old).tables (state_of self.old).edges nothing_left (Contains (state_of self.old).noted) x }
+        ensures woken { (p : ℕ) → Contains (state_of self.new).woken p ↔ IsWoken (state_of self.old).tables (state_of self.old).edges nothing_left (Contains (state_of self.old).noted) p }
+    {
+        self.moves.clear();
+        self.woken.clear();
+        insert_members(&self.noted, &mut self.moves);
+        let rule = Rule {
+            trigger: None,
+            block: None,
+        };
+        close(
+            &self.tables,
+            self.edges.as_slice(),
+            rule,
+            &mut self.moves,
+            &mut self.woken,
+        );
+    }
+
+    /// Whether the signal or memory may move in the step.
+    pub fn may_move(&self, thing: u32) -> bool
+        requires { thing < (state_of self.now).tables.things }
+        ensures { IsTrue result ↔ Contains (state_of self.now).moves thing }
+    {
+        self.moves.contains(thing as usize)
+    }
+
+    /// What may move in the step: the inputs that change first, then in the order in which it was found.
+    pub fn moves(&self) -> &[usize]
+        ensures { result.now ≡ (state_of self.now).moves }
+    {
+        self.moves.as_slice()
+    }
+
+    /// The processes that what may move may wake, in the order in which they were found.
+    pub fn woken(&self) -> &[usize]
+        ensures { result.now ≡ (state_of self.now).woken }
+    {
+        self.woken.as_slice()
+    }
+
+    /// Whether the process can wake in the step by an edge of its list.
+    pub fn can_wake(&self, process: u32) -> bool
+        requires { process < (state_of self.now).tables.processes }
+        ensures { IsTrue result ↔ IsSome (waker_of (state_of self.now) process) }
+    {
+        self.waker(process).is_some()
+    }
+
+    /// The first event signal of the list of the process by which it can wake.
+    pub fn waker(&self, process: u32) -> Option<u32>
+        requires { process < (state_of self.now).tables.processes }
+        ensures value { result ≡ waker_of (state_of self.now) process }
+        ensures below { IfSome result (λ signal. signal < (state_of self.now).tables.things) }
+    {
+        for (edge, signal) in self.tables.events.row(process as usize) {
+            if self.can_wake_by(*edge, *signal) {
+                return Some(*signal);
+            }
+        }
+        None
+    }
+
+    /// The trigger of a process, where it is clean: the one event signal by which it can wake, if that is an input.
+    pub fn trigger(&self, process: u32) -> Option<u32>
+        requires { process < (state_of self.now).tables.processes }
+        ensures value { result ≡ trigger_of (state_of self.now) process }
+        ensures below { IfSome result (λ signal. signal < (state_of self.now).tables.things) }
+    {
+        let signal = self.waker(process)?;
+        if self.inputs[signal as usize] && self.wakes_only_by(process, signal) {
+            Some(signal)
+        } else {
+            None
+        }
+    }
+
+    /// Finds what is early for a clean block: what may change in the step before the block is evaluated. It takes no
+    /// memory, and time for the members, the processes that they may wake and what those may write.
+    pub fn choose(&mut self, habit: Habit, process: u32)
+        requires process { process < (state_of self.old).tables.processes }
+        requires clean { IsSome (trigger_of (state_of self.old) process) }
+        ensures rest { state_of self.new ≡ record (state_of self.old) { early = (state_of self.new).early } }
+        ensures early { IfSome (trigger_of (state_of self.old) process) (λ trigger. (x : ℕ) → Contains (state_of self.new).early x ↔ IsEarlyBy (state_of self.old) habit process trigger x) }
+    {
+        match self.trigger(process) {
+            Some(trigger) => self.find_early(habit, process as usize, trigger as usize),
+            None => unreachable!(),
+        }
+    }
+
+    /// Whether the signal or memory is early for the block that was chosen last.
+    pub fn early(&self, thing: u32) -> bool
+        requires { thing < (state_of self.now).tables.things }
+        ensures { IsTrue result ↔ Contains (state_of self.now).early thing }
+    {
+        self.early.contains(thing as usize)
+    }
+
+    /// Finds what is early for a block with this trigger.
+    fn find_early(&mut self, habit: Habit, block: usize, trigger: usize)
+        requires block { block < (state_of self.old).tables.processes }
+        requires trigger { trigger < (state_of self.old).tables.things }
+        ensures rest { state_of self.new ≡ record (state_of self.old) { early = (state_of self.new).early } }
+        ensures early { (x : ℕ) → Contains (state_of self.new).early x ↔ IsEarlyBy (state_of self.old) habit block trigger x }
+    {
+        self.early.clear();
+        self.early_woken.clear();
+        let tables = &self.tables;
+        let edges = self.edges.as_slice();
+        insert_inputs(tables, habit, &self.noted, trigger, &mut self.early);
+        wake(tables, edges, trigger, &mut self.early_woken);
+        insert_targets(tables, &self.early_woken, block, trigger, &mut self.early);
+        self.early_woken.clear();
+        let rule = Rule {
+            trigger: Some(trigger),
+            block: Some(block),
+        };
+        close(tables, edges, rule, &mut self.early, &mut self.early_woken);
+    }
+
+    /// Whether the signal may move by this edge.
+    fn can_wake_by(&self, edge: Edge, signal: u32) -> bool
+        requires { signal < (state_of self.now).tables.things }
+        ensures { result ≡ can_wake_by (state_of self.now) (edge, signal) }
+    {
+        self.moves.contains(signal as usize) && self.edges[signal as usize].may_be(edge)
+    }
+
+    /// Whether the process can wake by no event signal but this one.
+    fn wakes_only_by(&self, process: u32, signal: u32) -> bool
+        requires { process < (state_of self.now).tables.processes }
+        ensures { result ≡ wakes_only_by (state_of self.now) process signal }
+    {
+        for (edge, other) in self.tables.events.row(process as usize) {
+            if *other != signal && self.can_wake_by(*edge, *other) {
+                return false;
+            }
+        }
+        true
+    }
+}
+
+/// Puts in the members of another set.
+fn insert_members(from: &IndexSet, into: &mut IndexSet)
+    requires { from.now.size ≡ into.old.size }
+    ensures size { into.new.size ≡ into.old.size }
+    ensures adds { Adds (λ x. Contains from.now.items x) into.old.items into.new.items }
+{
+    for place in 0..from.len() {
+        let _ = into.insert(from.get(place));
+    }
+}

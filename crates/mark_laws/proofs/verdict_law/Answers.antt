@@ -1,0 +1,5 @@
+use Rattle.mark_laws.proofs.Verdicts.{verdict_is}
+use Rattle.mark_laws.proofs.verdict_law.Goals as goal
+
+pub returns : goal.returns
+returns c d ps ns ms k v apart h l is = verdict_is d ps apart k l ns ms h v is

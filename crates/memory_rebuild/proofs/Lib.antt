@@ -1,0 +1,7 @@
+pub mod Joins
+pub mod Numbers
+pub mod Search
+pub mod Reading
+pub mod Kept
+pub mod Weakening
+pub mod Laws

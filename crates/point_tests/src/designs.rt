@@ -1,0 +1,36 @@
+//! The designs of sources.
+
+ghost use Rattle.std.specs.Prelude.{IfSome};
+ghost use Rattle.design_model.specs.Lawful.{IsLawfulDesign};
+ghost use Rattle.design_model.specs.View.{design_view};
+
+use cov_host::{Bytes, NoMemory};
+use design_model::Design;
+use std::alloc::Global;
+use verilog_lexer::Sources;
+
+/// A source: its name and its text.
+pub(crate) type Source = (&'static str, &'static str);
+
+/// The design that sources stand for under a top.
+pub(crate) fn design_of(alloc: Global, texts: &[Source], top: &str) -> Option<Design>
+    ensures { IfSome result (λ design. IsLawfulDesign (design_view design)) }
+{
+    let sources = sources_of(alloc, texts)?;
+    text_designs::design_of(alloc, &sources, top)
+}
+
+/// The sources, each read by itself.
+fn sources_of(alloc: Global, texts: &[Source]) -> Option<Sources> {
+    let mut sources = Sources::new(alloc);
+    for (name, text) in texts {
+        let bytes = bytes_of(alloc, text).ok()?;
+        sources.add_root(name, bytes).ok()?;
+    }
+    Some(sources)
+}
+
+/// The bytes of a text.
+fn bytes_of(alloc: Global, text: &str) -> Result<Bytes, NoMemory> {
+    Ok(Bytes::from_vec(Vec::from_slice(alloc, text.as_bytes())?))
+}

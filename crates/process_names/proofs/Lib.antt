@@ -1,0 +1,3 @@
+pub mod Naming
+pub mod NamesLaw
+pub mod AssignedLaw

@@ -1,0 +1,25 @@
+-- The sets of a step as the replay asks for them.
+use Rattle.std.specs.Prelude.{◌≡◌, ◌↔◌, ℕ, List, Some}
+use Rattle.std.specs.List.{Contains}
+use Rattle.design_model.specs.Design.{Design}
+use Rattle.design_model.specs.Shows.{BoundDump}
+use Rattle.early_sets.specs.declared.habit.Habit.{Habit}
+use Rattle.early_sets.specs.Early.{IsEarlyBy}
+use Rattle.early_sets.specs.WakeState.{WakeState, is_in, trigger_of, waker_of}
+use Rattle.replay_model.specs.Sets.{AreSets, Sets}
+use Rattle.wake_laws.specs.Laws.{AreNotes, IsSettled, habit_of}
+use Rattle.wake_laws.specs.OfDesign.{AreTablesOf}
+
+-- the answers of a step, with what was found to be early for each process
+abbrev pub sets_of : WakeState → (ℕ → List ℕ) → Sets
+sets_of w early = record { moves = is_in w.moves; trigger = trigger_of w; wakes = waker_of w; early = λ p. is_in (early p) }
+
+-- for each clean process the list is what is early for it
+abbrev pub AreChosen : WakeState → Habit → (ℕ → List ℕ) → Type 0
+AreChosen w h early = (p s : ℕ) → trigger_of w p ≡ Some s → (x : ℕ) → Contains (early p) x ↔ IsEarlyBy w h p s x
+
+-- the answers are the sets of the step at the time
+abbrev pub SetsLaw : Design → Type 0
+SetsLaw d =
+    (dump : BoundDump) (t : ℕ) (w : WakeState) (h : Habit) (early : ℕ → List ℕ)
+    → AreTablesOf d w.tables → AreNotes d dump t w → IsSettled w → AreChosen w h early → AreSets d (habit_of h) dump t (sets_of w early)

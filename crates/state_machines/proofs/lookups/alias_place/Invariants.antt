@@ -1,0 +1,7 @@
+use Rattle.std.proofs.Common.{ℕ, ◌<◌}
+use Rattle.state_machines.specs.Lookups.{IsAliasAt}
+use Rattle.state_machines.proofs.lookups.alias_place.Given as goal
+
+-- none of those so far has the name in the instance
+abbrev pub invariant-loop-place : goal.invariant-loop-place
+invariant-loop-place l = (k : ℕ) → k < l.place → IsAliasAt l.aliases l.instance l.name k → ⊥

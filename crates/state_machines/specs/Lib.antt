@@ -1,0 +1,5 @@
+pub mod Machines
+pub mod Entries
+pub mod Lookups
+pub mod Values
+pub mod Same

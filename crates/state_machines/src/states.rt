@@ -1,0 +1,67 @@
+ghost use Rattle.std.specs.Prelude.{◌≡◌, [], IfOk, OnErr, OnOk};
+ghost use Rattle.state_machines.specs.Machines.{machine_of, with_machine};
+
+use crate::names::names_of;
+use cov_host::{Name, NoMemory, Words};
+use indexmap::IndexMap;
+use std::alloc::Global;
+use std::marker::Model;
+
+/// A variable of a module.
+#[derive(Drop, PartialEq, Eq, Hash)]
+struct Variable {
+    module: Vec<u8>,
+    name: Vec<u8>,
+}
+
+/// State machines, in the order in which their variables were first named.
+#[derive(Drop)]
+pub struct States {
+    alloc: Global,
+    machines: IndexMap<Variable, Vec<Name>>,
+}
+
+impl Model for States {
+    ghost use Rattle.std.specs.Prelude.{List};
+    ghost use Rattle.design_model.specs.Points.{StateNames};
+
+    ghost Value = { List StateNames };
+
+    ghost use Rattle.state_machines.specs.Entries.{machines_in};
+
+    ghost view = { λ s. machines_in s.machines.entries };
+}
+
+impl States {
+    /// No machine yet. It takes no memory.
+    pub fn new(alloc: Global) -> Self
+        ensures { result ≡ [] }
+    {
+        States {
+            alloc,
+            machines: IndexMap::new(alloc),
+        }
+    }
+
+    /// Adds a machine. One of the same module and variable takes the place of the earlier. After a refusal nothing has
+    /// changed.
+    pub fn add(&mut self, module: &str, variable: &str, names: &Words) -> Result<(), NoMemory>
+        ensures ok { OnOk result (self.new ≡ with_machine (machine_of module.now variable.now names.now) self.old) }
+        ensures err { OnErr result (self.new ≡ self.old) }
+    {
+        let variable = variable_of(self.alloc, module, variable)?;
+        let names = names_of(self.alloc, names)?;
+        let _ = self.machines.insert(variable, names)?;
+        Ok(())
+    }
+}
+
+/// The variable with this name in a module.
+fn variable_of(alloc: Global, module: &str, name: &str) -> Result<Variable, NoMemory>
+    ensures { IfOk result (λ variable. (variable.module.items ≡ module.now) × (variable.name.items ≡ name.now)) }
+{
+    Ok(Variable {
+        module: Vec::from_slice(alloc, module.as_bytes())?,
+        name: Vec::from_slice(alloc, name.as_bytes())?,
+    })
+}

@@ -1,0 +1,5 @@
+use Rattle.term_replay.proofs.Standing.{binary_stands}
+use Rattle.term_replay.proofs.operate.binary.Goals as goal
+
+pub returns : goal.returns
+returns c = λ v first x y sa sc. binary_stands v first c.args.head c.args.op x y c.args.left.now c.args.right.now c.binary.result c.fitted.result sa sc c.requires.operands c.binary.ensures.sound c.binary.ensures.tight c.binary.ensures.unsure_shift c.binary.ensures.blame c.fitted.ensures

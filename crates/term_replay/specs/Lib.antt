@@ -1,0 +1,5 @@
+pub mod Noted
+pub mod Stands
+pub mod Questions
+pub mod Near
+pub mod Words

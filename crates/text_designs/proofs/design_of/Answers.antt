@@ -1,0 +1,9 @@
+use Rattle.design_model.specs.View.{design_view}
+use Rattle.flat_laws.proofs.LawfulDesigns.{answered_lawful}
+use Rattle.parsed_modules.proofs.Modules.{modules_of_tokens}
+use Rattle.verilog_lexer.proofs.KeptTokens.{tokens_are_sound}
+use Rattle.text_designs.proofs.design_of.Goals as goal
+
+pub returns-in-Ok-elaborate : goal.returns-in-Ok-elaborate
+returns-in-Ok-elaborate c =
+    answered_lawful _ _ (design_view c.in-Ok-elaborate.design) (modules_of_tokens _ _ (tokens_are_sound _ _ _ c.in-Ok.ensures.tokens) c.in-Ok-parse.ensures.found) c.in-Ok-elaborate.ensures.design

@@ -1,0 +1,51 @@
+-- How many updates the bodies of a design can queue between two flushes.
+use Rattle.std.specs.Prelude.{ℕ, ◌+◌, ◌-◌, ◌^◌, min, List, [], ◌∷◌, if◌then◌else◌}
+use Rattle.cov_host.specs.declared.place.Place.{Place}
+use Rattle.design_model.specs.Tree as t
+use Rattle.design_model.specs.Tree.{Arms, Process, Stmt, Stmts, Target, Targets, a_stmt, a_target, all_of, arm, assign, bits_of, block, branch, clocked, comb, empty, no_arms, no_stmts, no_targets, select, set, several, turns, word_of}
+use Rattle.design_model.specs.Design.{body}
+use Rattle.design_model.specs.View.{Arm, arm_step, stmt_form_step, stmt_step}
+use Rattle.design_model.specs.declared.tree.CaseArm.{CaseArm, fold-CaseArm}
+
+-- a target's signals, parts and words
+abbrev mutual
+  pub target_parts : Target → ℕ
+  target_parts (all_of s) = 1
+  target_parts (bits_of s low w) = 1
+  target_parts (word_of m i) = 1
+  target_parts (several ts) = all_parts ts
+
+  pub all_parts : Targets → ℕ
+  all_parts no_targets = 0
+  all_parts (a_target t ts) = target_parts t + all_parts ts
+
+-- those of the nonblocking assignments of a statement
+abbrev mutual
+  pub queued_parts : Stmt → ℕ
+  queued_parts (block p ss) = all_queued ss
+  queued_parts (branch p n t s other) = queued_parts s + all_queued other
+  queued_parts (select p n kind t arms) = arms_queued arms
+  queued_parts (turns p n ss) = all_queued ss
+  queued_parts (set p n blocking x t) = if blocking then 0 else target_parts x
+  queued_parts (empty p) = 0
+
+  pub all_queued : Stmts → ℕ
+  all_queued no_stmts = 0
+  all_queued (a_stmt s ss) = queued_parts s + all_queued ss
+
+  pub arms_queued : Arms → ℕ
+  arms_queued no_arms = 0
+  arms_queued (arm labels s arms) = queued_parts s + arms_queued arms
+
+-- those of the bodies of processes
+abbrev pub processes_queued : List Process → ℕ
+processes_queued [] = 0
+processes_queued (p ∷ ps) = queued_parts (body p) + processes_queued ps
+
+-- a number as a `usize` has it: the greatest one stands for all that are greater
+abbrev pub as_usize : ℕ → ℕ
+as_usize n = min n (2 ^ 64 - 1)
+
+-- the plain arm
+abbrev pub arm_view : CaseArm → Arm
+arm_view = fold-CaseArm (Place → t.Stmt) Arm t.Stmt stmt_form_step arm_step stmt_step

@@ -1,0 +1,129 @@
+-- What is early for a clean block, by tables, is the set of the definitions.
+use Rattle.std.proofs.Common.{◌≡◌, inl, inr, ⊎_elim, ◌∙◌, ℕ, ◌<◌, true, List, [], ◌∷◌, Some, refl, sym, subst, arith}
+use Rattle.std.specs.List.{Contains}
+use Rattle.std.proofs.lemmas.Bool.{false≢true, ne_eqb, not_from_false, not-true, or_cases, or_left, or_right, both_ways, eq-eqb}
+use Rattle.event_machine.specs.Early.{of_blocking, of_input, of_nonblocking, of_trigger}
+use Rattle.event_machine.specs.Habit.{is_free_input}
+use Rattle.event_machine.specs.Machine.{Edge as MachineEdge, Negedge, Posedge}
+use Rattle.design_model.specs.Design.{Design, cell, process_at}
+use Rattle.design_model.specs.Lawful.{IsLawfulDesign}
+use Rattle.design_model.specs.Machine.{machine}
+use Rattle.design_model.specs.Shows.{BoundDump}
+use Rattle.design_model.specs.Early.{IsEarlyAt}
+use Rattle.design_model.specs.MayMove.{IsCleanAt}
+use Rattle.design_model.proofs.Assigns.{machine_lawful}
+use Rattle.index_sets.specs.Rows.{row_at}
+use Rattle.wake_laws.specs.OfDesign.{AreTablesOf}
+use Rattle.early_sets.specs.declared.habit.Habit.{Habit}
+use Rattle.early_sets.specs.declared.habit.Habit.TheVariants.{Free, Late}
+use Rattle.early_sets.specs.Early.{IsEarlyBy, early_rule, has_items, is_event_signal, is_free}
+use Rattle.wake_laws.specs.Laws.{AreNotes, EarlyLaw, habit_of}
+use Rattle.early_sets.specs.Reached.{IsTargetBy, MayWakeBy, Reached, is_apart, of_seed, of_target}
+use Rattle.early_sets.specs.WakeState.{WakeState, nothing_left}
+use Rattle.wake_laws.proofs.MovesLaw.{edge_place, input_cell, lowest, moves_by, reached_below, single_input, wake_by, wake_of}
+
+has_items_from : (xs : List ℕ) (x : ℕ) → Contains xs x → has_items xs ≡ true
+has_items_from [] x c = absurd (omega (arith, c.1))
+has_items_from (y ∷ xs) x c = refl
+
+has_items_gives : (xs : List ℕ) → has_items xs ≡ true → (x : ℕ) × Contains xs x
+has_items_gives [] h = absurd (false≢true h)
+has_items_gives (y ∷ xs) h = (y, (0, omega arith, refl))
+
+-- a number is not that one
+pub apart_from : (a b : ℕ) → (b ≡ a → ⊥) → is_apart (Some a) b ≡ true
+apart_from a b ne = not_from_false _ (ne_eqb b a ne)
+
+pub apart_gives : (a b : ℕ) → is_apart (Some a) b ≡ true → b ≡ a → ⊥
+apart_gives a b h e = both_ways _ (not-true _ h) (eq-eqb b a e)
+
+module _ (d : Design) (lawful : IsLawfulDesign d) (dump : BoundDump) (t : ℕ) (w : WakeState) (tables : AreTablesOf d w.tables) (notes : AreNotes d dump t w) where
+  abbrev R : ℕ → Type 0
+  R x = Reached w.tables w.edges nothing_left (Contains w.noted) x
+
+  -- an event signal by the tables is one of the design
+  event_of : (x : ℕ) → x < w.tables.things → is_event_signal w.tables x ≡ true → (machine d).is_event_signal x ≡ true
+  event_of x l h =
+      ((machine_lawful d lawful).event_signals x).1
+      (⊎_elim
+      (λ r. let p = has_items_gives (row_at w.tables.rising x) r in (p.0, Posedge, cell x 0, refl, (tables.rising_is x p.0 l).0 p.1))
+      (λ f. let p = has_items_gives (row_at w.tables.falling x) f in (p.0, Negedge, cell x 0, refl, (tables.falling_is x p.0 l).0 p.1))
+      (or_cases (has_items (row_at w.tables.rising x)) _ h))
+
+  by_edge : (x p : ℕ) → x < w.tables.things → (e : MachineEdge) → (machine d).edge p e (cell x 0) ≡ true → is_event_signal w.tables x ≡ true
+  by_edge x p l Posedge h = or_left (has_items (row_at w.tables.rising x)) _ (has_items_from (row_at w.tables.rising x) p ((tables.rising_is x p l).1 h))
+  by_edge x p l Negedge h = or_right (has_items (row_at w.tables.rising x)) _ (has_items_from (row_at w.tables.falling x) p ((tables.falling_is x p l).1 h))
+
+  event_by : (x : ℕ) → x < w.tables.things → (machine d).is_event_signal x ≡ true → is_event_signal w.tables x ≡ true
+  event_by x l h =
+      let k = ((machine_lawful d lawful).event_signals x).0 h in
+      let low : k.2 ≡ cell x 0 = lowest k.2 x k.3 (edge_place (process_at d k.0) k.1 k.2 k.4) in
+      by_edge x k.0 l k.1 (subst (λ c. (machine d).edge k.0 k.1 c ≡ true) low k.4)
+
+  free_of : (h : Habit) (x : ℕ) → x < w.tables.things → is_free w.tables h x ≡ true → is_free_input (machine d) (habit_of h) x ≡ true
+  free_of Free x l f = refl
+  free_of Late x l f = event_of x l f
+
+  free_by : (h : Habit) (x : ℕ) → x < w.tables.things → is_free_input (machine d) (habit_of h) x ≡ true → is_free w.tables h x ≡ true
+  free_by Free x l f = refl
+  free_by Late x l f = event_by x l f
+
+  noted_below : (x : ℕ) → Contains w.noted x → x < w.tables.things
+  noted_below x c = reached_below d lawful dump t w tables notes x (of_seed x c)
+
+  -- with a clean block and its trigger
+  module _ (h : Habit) (b s : ℕ) (clean : IsCleanAt d dump t b (cell s 0)) where
+    abbrev E : ℕ → Type 0
+    E x = IsEarlyBy w h b s x
+
+    trigger_moves : R s
+    trigger_moves = moves_by d lawful dump t w tables notes s clean.can_wake.1
+
+    trigger_input : (machine d).is_input (cell s 0) ≡ true
+    trigger_input = input_cell d lawful dump t w tables notes s (single_input d lawful dump t w tables notes s clean.is_single)
+
+    -- what is early moves
+    target_moves : (x p y : ℕ) → R x → MayWakeBy w.tables w.edges x p → IsTargetBy w.tables (early_rule b s) p y → R y
+    target_moves x p y m wakes target = of_target x p y m wakes (⊎_elim (λ n. inl n) (λ k. inr (refl, k.1)) target.0, refl)
+
+    early_moves : (x : ℕ) → E x → R x
+    early_moves x (of_seed _ (inl c, apart)) = of_seed x c.0
+    early_moves x (of_seed _ (inr k, apart)) = of_target s k.0 x trigger_moves k.1 (inr (refl, k.3), refl)
+    early_moves y (of_target x p _ m wakes target) = target_moves x p y (early_moves x m) wakes target
+
+    to_early : (x y : ℕ) → x ≡ y → IsEarlyAt d (habit_of h) dump t b (cell s 0) x → IsEarlyAt d (habit_of h) dump t b (cell s 0) y
+    to_early x y e = subst (IsEarlyAt d (habit_of h) dump t b (cell s 0)) e
+
+    apart_at : (x y : ℕ) → y ≡ x → is_apart (Some s) x ≡ true → y ≡ s → ⊥
+    apart_at x y e apart same = apart_gives s x apart (sym e ∙ same)
+
+    early_of : (x : ℕ) → E x → IsEarlyAt d (habit_of h) dump t b (cell s 0) x
+    early_of x (of_seed _ (inl c, apart)) =
+        let k = (notes.noted_are x).0 c.0 in
+        let free = free_of h x (noted_below x c.0) c.1 in
+        to_early k.0.thing x k.1 (of_input k.0 k.2 (λ i. subst (λ y. is_free_input (machine d) (habit_of h) y ≡ true) (sym k.1) free) (apart_at x k.0.thing k.1 apart))
+    early_of x (of_seed _ (inr q, apart)) =
+        let k = (tables.blocking_is q.0 x).0 q.3 in
+        to_early k.0.thing x k.1 (of_trigger q.0 k.0 (wake_of d lawful dump t w tables notes s q.0 trigger_moves q.1) (apart_gives b q.0 q.2) k.2 (apart_at x k.0.thing k.1 apart))
+    early_of y (of_target x p _ m wakes (inl n, apart)) =
+        let k = (tables.nonblocking_is p y).0 n in
+        to_early k.0.thing y k.1 (of_nonblocking x p k.0 (early_of x m) (wake_of d lawful dump t w tables notes x p (early_moves x m) wakes) k.2 (apart_at y k.0.thing k.1 apart))
+    early_of y (of_target x p _ m wakes (inr q, apart)) =
+        let k = (tables.blocking_is p y).0 q.1 in
+        to_early k.0.thing y k.1 (of_blocking x p k.0 (early_of x m) (wake_of d lawful dump t w tables notes x p (early_moves x m) wakes) (apart_gives b p q.0) k.2 (apart_at y k.0.thing k.1 apart))
+
+    early_by : (x : ℕ) → IsEarlyAt d (habit_of h) dump t b (cell s 0) x → E x
+    early_by _ (of_input c moving free apart) =
+        let noted = (notes.noted_are c.thing).1 (c, refl, moving) in
+        of_seed c.thing (inl (noted, free_by h c.thing (noted_below c.thing noted) (free trigger_input)), apart_from s c.thing apart)
+    early_by _ (of_trigger p c wakes other target apart) =
+        of_seed c.thing (inr (p, wake_by d lawful dump t w tables notes s p trigger_moves wakes, apart_from b p other, (tables.blocking_is p c.thing).1 (c, refl, target)), apart_from s c.thing apart)
+    early_by _ (of_blocking x p c m wakes other target apart) =
+        let e = early_by x m in
+        of_target x p c.thing e (wake_by d lawful dump t w tables notes x p (early_moves x e) wakes) (inr (apart_from b p other, (tables.blocking_is p c.thing).1 (c, refl, target)), apart_from s c.thing apart)
+    early_by _ (of_nonblocking x p c m wakes target apart) =
+        let e = early_by x m in
+        of_target x p c.thing e (wake_by d lawful dump t w tables notes x p (early_moves x e) wakes) (inl ((tables.nonblocking_is p c.thing).1 (c, refl, target)), apart_from s c.thing apart)
+
+pub early_law : (d : Design) → IsLawfulDesign d → EarlyLaw d
+early_law d lawful dump t w tables notes h p s clean x = (early_of d lawful dump t w tables notes h p s clean x, early_by d lawful dump t w tables notes h p s clean x)

@@ -1,0 +1,4 @@
+pub mod MovesLaw
+pub mod EdgeLists
+pub mod WakesLaw
+pub mod EarlyLaw

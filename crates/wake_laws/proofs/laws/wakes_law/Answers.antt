@@ -1,0 +1,7 @@
+use Rattle.wake_laws.proofs.EarlyLaw.{early_law}
+use Rattle.wake_laws.proofs.MovesLaw.{moves_law}
+use Rattle.wake_laws.proofs.WakesLaw.{wakes_law}
+use Rattle.wake_laws.proofs.laws.wakes_law.Goals as goal
+
+pub returns : goal.returns
+returns c = record { moves = moves_law; wakes = wakes_law; early = early_law }

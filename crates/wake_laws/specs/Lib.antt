@@ -1,0 +1,2 @@
+pub mod OfDesign
+pub mod Laws
