@@ -1,4 +1,5 @@
-# make example        builds the program, scores two dumps of the example, merges their databases and shows the report
+# make example        builds the program, scores two dumps of the example, merges their databases, shows the report and
+#                     writes the tracefile
 # make try            shows the example with a program that is not proved, in a minute or two
 # make test           the gate: proves every crate, tries the wrong bodies, runs the tests, the program and the example cases
 # make cases          builds the program and runs the example cases of the stage that is reached
@@ -23,7 +24,8 @@ example: build
 	cd $(PADS) && COVERED=../../$(PROGRAM) \
 	  && $$COVERED score -t pads -i tb.dut -v pads.v -vcd pads.vcd -o pads.db && cat pads.db \
 	  && $$COVERED score -t pads -i tb.dut -v pads.v -vcd icarus.vcd -o icarus.db \
-	  && $$COVERED merge -o all.db pads.db icarus.db && $$COVERED report -d v all.db
+	  && $$COVERED merge -o all.db pads.db icarus.db && $$COVERED report -d v all.db \
+	  && $$COVERED lcov -o all.info all.db
 
 try:
 	@echo 'covered: this program is compiled without any proof; `make example` proves it first'

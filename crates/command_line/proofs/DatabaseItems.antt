@@ -1,11 +1,10 @@
 -- Items, and one more of them.
-use Rattle.std.proofs.Common.{◌≡◌, ◌∙◌, ℕ, ◌≤◌, Bool, true, false, cond, sym, ap, refl, subst, arith, List, [], ◌∷◌, ◌++◌, length, append_assoc, append-nil, length-append, Option, Some, None}
+use Rattle.std.proofs.Common.{◌≡◌, ◌∙◌, ℕ, ◌≤◌, ◌==◌, Bool, true, false, cond, sym, ap, refl, subst, arith, List, [], ◌∷◌, ◌++◌, length, append_assoc, append-nil, length-append, Option, Some, None}
 use Rattle.std.proofs.lemmas.Bool.{false≢true, eqb-true}
 use Rattle.std.proofs.lemmas.Option.{none-some}
 use Rattle.command_line.specs.declared.database_command.DatabaseCommand.{DatabaseCommand}
-use Rattle.command_line.specs.declared.database_command.DatabaseCommand.TheVariants.{Report}
 use Rattle.command_line.specs.declared.database_option.DatabaseOption.{DatabaseOption}
-use Rattle.command_line.specs.DatabaseOption.{is_same}
+use Rattle.command_line.specs.DatabaseOption.{has_room, is_same}
 use Rattle.command_line.specs.DatabaseWords.{Item, file, given, item_words, spelled, files_in, value_in, MayFollow, AreItems}
 use Rattle.command_line.proofs.DatabaseOptions.{is_same-both}
 
@@ -60,19 +59,20 @@ AreItems-push command before [] x are may = (subst (λ all. MayFollow command al
 AreItems-push command before (y ∷ items) x are may =
     (are.0, AreItems-push command (before ++ y ∷ []) items x are.1 (subst (λ all. MayFollow command all x) (sym (append_assoc before (y ∷ []) items)) may))
 
--- a report has at most one database among its items
-pub one_file : (before items : List Item) → AreItems Report before items → length (files_in before) ≤ 1 → length (files_in (before ++ items)) ≤ 1
-one_file before [] are few = subst (λ all. length (files_in all) ≤ 1) (sym (append-nil before)) few
-one_file before (file name ∷ items) are few =
-    let none : length (files_in before) ≡ 0 = eqb-true (length (files_in before)) 0 are.0.1 in
-    let one : length (files_in (before ++ file name ∷ [])) ≤ 1 = omega (arith, ap length (files_in-append before (file name ∷ [])), length-append (files_in before) (name ∷ [])) in
-    subst (λ all. length (files_in all) ≤ 1) (append_assoc before (file name ∷ []) items) (one_file (before ++ file name ∷ []) items are.1 one)
-one_file before (given option value ∷ items) are few =
-    let same : length (files_in (before ++ given option value ∷ [])) ≤ 1 = omega (arith, ap length (files_in-append before (given option value ∷ [])), length-append (files_in before) []) in
-    subst (λ all. length (files_in all) ≤ 1) (append_assoc before (given option value ∷ []) items) (one_file (before ++ given option value ∷ []) items are.1 same)
+-- a command that has room for the first database alone has at most one among its items
+module _ (command : DatabaseCommand) (first_alone : (first : Bool) → has_room command first ≡ true → first ≡ true) where
+  one_file : (before items : List Item) → AreItems command before items → length (files_in before) ≤ 1 → length (files_in (before ++ items)) ≤ 1
+  one_file before [] are few = subst (λ all. length (files_in all) ≤ 1) (sym (append-nil before)) few
+  one_file before (file name ∷ items) are few =
+      let none : length (files_in before) ≡ 0 = eqb-true (length (files_in before)) 0 (first_alone (length (files_in before) == 0) are.0.1) in
+      let one : length (files_in (before ++ file name ∷ [])) ≤ 1 = omega (arith, ap length (files_in-append before (file name ∷ [])), length-append (files_in before) (name ∷ [])) in
+      subst (λ all. length (files_in all) ≤ 1) (append_assoc before (file name ∷ []) items) (one_file (before ++ file name ∷ []) items are.1 one)
+  one_file before (given option value ∷ items) are few =
+      let same : length (files_in (before ++ given option value ∷ [])) ≤ 1 = omega (arith, ap length (files_in-append before (given option value ∷ [])), length-append (files_in before) []) in
+      subst (λ all. length (files_in all) ≤ 1) (append_assoc before (given option value ∷ []) items) (one_file (before ++ given option value ∷ []) items are.1 same)
 
--- so a list of its databases that begins with one ends with it
-pub the_one_file : (items : List Item) (name : List ℕ) (others : List (List ℕ)) → AreItems Report [] items → files_in items ≡ name ∷ others → files_in items ≡ name ∷ []
-the_one_file items name [] are is = is
-the_one_file items name (other ∷ others) are is =
-    let few = one_file [] items are (omega arith) in absurd (omega (arith, few, ap length is))
+  -- so a list of its databases that begins with one ends with it
+  pub the_one_file : (items : List Item) (name : List ℕ) (others : List (List ℕ)) → AreItems command [] items → files_in items ≡ name ∷ others → files_in items ≡ name ∷ []
+  the_one_file items name [] are is = is
+  the_one_file items name (other ∷ others) are is =
+      let few = one_file [] items are (omega arith) in absurd (omega (arith, few, ap length is))

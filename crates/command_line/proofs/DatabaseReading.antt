@@ -104,7 +104,7 @@ all_read None read are = are
 all_read (Some all) read are = sym (are.0 ∙ append-nil read)
 
 module _ (command : DatabaseCommand) (words : List (List ℕ)) (values : GivenWords) (read : HasRead command words [] values) where
-  files_are : files_in read.items ≡ unwrap_or (files_from values) []
+  pub files_are : files_in read.items ≡ unwrap_or (files_from values) []
   files_are = all_read (files_from values) (files_in read.items) read.files
 
   pub missing_stands : (word : List ℕ) → IsMissing command values word → missing_of command (value_in read.items Output) (files_in read.items) ≡ Some word
@@ -126,7 +126,7 @@ report_stands words values report read gives = (
   read.items,
   read.up_to,
   record {
-    file = the_one_file read.items report.file.now gives.others read.up_to.are_items (files_are Report words values read ∙ ap (λ found. unwrap_or found []) gives.files);
+    file = the_one_file Report (λ first room. room) read.items report.file.now gives.others read.up_to.are_items (files_are Report words values read ∙ ap (λ found. unwrap_or found []) gives.files);
     level = gives.level ∙ sym (ap level_of (read.same Level));
     metrics = gives.metrics ∙ sym (ap metrics_of (read.same Metrics));
     by_instance = gives.by_instance ∙ sym (ap is_some (read.same ByInstance));

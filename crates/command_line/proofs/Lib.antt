@@ -10,3 +10,4 @@ pub mod DatabaseReading
 pub mod DatabaseOutcome
 pub mod Outcome
 pub mod OneCommand
+pub mod LcovReading

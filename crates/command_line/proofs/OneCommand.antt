@@ -3,11 +3,12 @@ use Rattle.std.proofs.Common.{◌≡◌, ◌∙◌, ℕ, Bool, List, Option, Som
 use Rattle.std.specs.List.{last_or}
 use Rattle.command_line.specs.declared.report_level.ReportLevel.{ReportLevel}
 use Rattle.command_line.specs.declared.report_metrics.ReportMetrics.{ReportMetrics}
-use Rattle.command_line.specs.Command.{AreWordsOf, CommandValues, score, merge, report}
+use Rattle.command_line.specs.Command.{AreWordsOf, CommandValues, score, merge, report, lcov}
 use Rattle.command_line.specs.CommandWords.{at_most_one, AreValues, GivenOption, IsScore, ScoreValues}
 use Rattle.command_line.specs.Define.{Define}
 use Rattle.command_line.specs.DatabaseWords.{AreMergeValues, AreReportValues, IsMerge, IsReport, Item, MergeValues, ReportValues}
-use Rattle.command_line.proofs.Outcome.{outcome_of-score, outcome_of-merge, outcome_of-report}
+use Rattle.command_line.specs.LcovWords.{AreLcovValues, IsLcov, LcovValues}
+use Rattle.command_line.proofs.Outcome.{outcome_of-score, outcome_of-merge, outcome_of-report, outcome_of-lcov}
 
 -- the values as one
 all_values : (top instance : List ℕ) (sources : List (List ℕ)) (defines : List Define) (folder : Option (List ℕ)) (dump output : List ℕ) → ScoreValues
@@ -58,6 +59,20 @@ one_report words a b is_a is_b =
     let same : is_b.0 ≡ is_a.0 = cc in
     one_report_values is_a.0 a b is_a.2 (rw (same) at is_b.2)
 
+lcov_of : (output file : List ℕ) → LcovValues
+lcov_of output file = record { output = output; file = file }
+
+one_lcov_values : (items : List Item) (a b : LcovValues) → AreLcovValues items a → AreLcovValues items b → a ≡ b
+unfolding lcov_of
+one_lcov_values items a b are_a are_b =
+    let e : lcov_of a.output a.file ≡ lcov_of b.output b.file = cc in e
+
+pub one_lcov : (words : List (List ℕ)) (a b : LcovValues) → IsLcov words a → IsLcov words b → a ≡ b
+one_lcov words a b is_a is_b =
+    let e = sym (outcome_of-lcov words a is_a) ∙ outcome_of-lcov words b is_b in
+    let same : is_b.0 ≡ is_a.0 = cc in
+    one_lcov_values is_a.0 a b is_a.2 (rw (same) at is_b.2)
+
 -- words of one kind of command are none of another kind
 pub one_of_all : (words : List (List ℕ)) (a b : CommandValues) → AreWordsOf a words → AreWordsOf b words → a ≡ b
 one_of_all words (score a) (score b) is_a is_b = ap score (one_command words a b is_a is_b)
@@ -69,3 +84,10 @@ one_of_all words (merge a) (score b) is_a is_b = let e = sym (outcome_of-merge w
 one_of_all words (merge a) (report b) is_a is_b = let e = sym (outcome_of-merge words a is_a) ∙ outcome_of-report words b is_b in cc
 one_of_all words (report a) (score b) is_a is_b = let e = sym (outcome_of-report words a is_a) ∙ outcome_of-score words b is_b in cc
 one_of_all words (report a) (merge b) is_a is_b = let e = sym (outcome_of-report words a is_a) ∙ outcome_of-merge words b is_b in cc
+one_of_all words (lcov a) (lcov b) is_a is_b = ap lcov (one_lcov words a b is_a is_b)
+one_of_all words (lcov a) (score b) is_a is_b = let e = sym (outcome_of-lcov words a is_a) ∙ outcome_of-score words b is_b in cc
+one_of_all words (score a) (lcov b) is_a is_b = let e = sym (outcome_of-score words a is_a) ∙ outcome_of-lcov words b is_b in cc
+one_of_all words (lcov a) (merge b) is_a is_b = let e = sym (outcome_of-lcov words a is_a) ∙ outcome_of-merge words b is_b in cc
+one_of_all words (merge a) (lcov b) is_a is_b = let e = sym (outcome_of-merge words a is_a) ∙ outcome_of-lcov words b is_b in cc
+one_of_all words (lcov a) (report b) is_a is_b = let e = sym (outcome_of-lcov words a is_a) ∙ outcome_of-report words b is_b in cc
+one_of_all words (report a) (lcov b) is_a is_b = let e = sym (outcome_of-report words a is_a) ∙ outcome_of-lcov words b is_b in cc

@@ -3,7 +3,7 @@ use Rattle.std.specs.Prelude.{◌≡◌, ℕ, Bool, true, false, not, ◌&&◌, 
 use Rattle.std.specs.List.{find}
 use Rattle.std.specs.Str.{bytes_eq}
 use Rattle.command_line.specs.declared.database_command.DatabaseCommand.{DatabaseCommand}
-use Rattle.command_line.specs.declared.database_command.DatabaseCommand.TheVariants.{Merge, Report}
+use Rattle.command_line.specs.declared.database_command.DatabaseCommand.TheVariants.{Merge, Report, Lcov}
 use Rattle.command_line.specs.declared.database_option.DatabaseOption.{DatabaseOption}
 use Rattle.command_line.specs.declared.database_option.DatabaseOption.TheVariants.{Level, Metrics, ByInstance, Covered, Output}
 use Rattle.command_line.specs.ReportLevel.{level_named}
@@ -46,11 +46,13 @@ accepts ByInstance value = length value == 0
 accepts Covered value = length value == 0
 accepts Output value = is_file_name value
 
--- `merge` has `-o` alone, and `report` has all options
+-- `merge` and `lcov` have `-o` alone, and `report` has all options
 abbrev pub has_option : DatabaseCommand → DatabaseOption → Bool
 has_option Merge Output = true
 has_option Merge option = false
 has_option Report option = true
+has_option Lcov Output = true
+has_option Lcov option = false
 
 -- the word is this option of the command
 abbrev pub IsOptionOf : DatabaseCommand → DatabaseOption → List ℕ → Type 0
@@ -60,10 +62,11 @@ IsOptionOf command option word = IsTrue (has_option command option) × (word ≡
 abbrev pub IsNoOptionOf : DatabaseCommand → List ℕ → Type 0
 IsNoOptionOf command word = (option : DatabaseOption) → IsOptionOf command option word → ⊥
 
--- a report has room for one database, the first; a merge has room for any number
+-- `report` and `lcov` have room for one database, the first; a merge has room for any number
 abbrev pub has_room : DatabaseCommand → Bool → Bool
 has_room Merge first = true
 has_room Report first = first
+has_room Lcov first = first
 
 -- a database is named by a file's name that does not begin as an option does
 abbrev pub is_database_name : List ℕ → Bool

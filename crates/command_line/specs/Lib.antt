@@ -14,3 +14,4 @@ pub mod UsageFault
 pub mod Command
 pub mod GivenValues
 pub mod GivenWords
+pub mod LcovWords

@@ -4,10 +4,10 @@ ghost use Rattle.command_line.specs.CommandWords.{IsScore, score_values};
 ghost use Rattle.command_line.specs.UsageFault.{HasScoreFault, HasUsageFault};
 ghost use Rattle.command_line.specs.WordsLeft.{left_words};
 
-use crate::database_words::{read_merge, read_report};
+use crate::database_words::{read_lcov, read_merge, read_report};
 use crate::given_values::GivenValues;
 use crate::words_left::WordsLeft;
-use crate::{MergeWords, ReportWords, ScoreOption, ScoreWords, UsageFault};
+use crate::{LcovWords, MergeWords, ReportWords, ScoreOption, ScoreWords, UsageFault};
 use cov_host::Words;
 
 /// A command with its values.
@@ -19,6 +19,8 @@ pub enum Command<'a> {
     Merge(MergeWords<'a>),
     /// Shows a database.
     Report(ReportWords<'a>),
+    /// Writes a tracefile of lcov.
+    Lcov(LcovWords<'a>),
 }
 
 /// Reads the words that follow the name of the program. It takes no memory. The fault is the first one from
@@ -33,6 +35,7 @@ pub fn read_command<'a>(words: &'a Words) -> Result<Command<'a>, UsageFault<'a>>
         Some("score") => read_score(&mut left).map(Command::Score),
         Some("merge") => read_merge(&mut left).map(Command::Merge),
         Some("report") => read_report(&mut left).map(Command::Report),
+        Some("lcov") => read_lcov(&mut left).map(Command::Lcov),
         Some(word) => Err(UsageFault::UnknownCommand(word)),
     }
 }

@@ -10,6 +10,8 @@ pub enum DatabaseCommand {
     Merge,
     /// Shows a database.
     Report,
+    /// Writes a tracefile of lcov.
+    Lcov,
 }
 
 impl DatabaseCommand {
@@ -33,6 +35,7 @@ impl DatabaseCommand {
         match self {
             DatabaseCommand::Merge => option == DatabaseOption::Output,
             DatabaseCommand::Report => true,
+            DatabaseCommand::Lcov => option == DatabaseOption::Output,
         }
     }
 
@@ -43,6 +46,7 @@ impl DatabaseCommand {
         match self {
             DatabaseCommand::Merge => true,
             DatabaseCommand::Report => is_first,
+            DatabaseCommand::Lcov => is_first,
         }
     }
 }

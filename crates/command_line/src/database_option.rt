@@ -5,7 +5,7 @@ use crate::is_file_name;
 use crate::report_level::ReportLevel;
 use crate::report_metrics::is_letters;
 
-/// An option of the commands `merge` and `report`.
+/// An option of the commands that read databases.
 #[derive(Clone, Copy, Debug, PartialEq, Eq)]
 pub enum DatabaseOption {
     /// How much a report shows.

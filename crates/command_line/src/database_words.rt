@@ -3,13 +3,14 @@ ghost use Rattle.command_line.specs.DatabaseFault.{HasDatabaseFault};
 ghost use Rattle.command_line.specs.DatabaseOption.{takes_value};
 ghost use Rattle.command_line.specs.DatabaseWords.{IsMerge, IsReport, command_text, merge_values, report_values, value_words};
 ghost use Rattle.command_line.specs.GivenWords.{HasRead};
+ghost use Rattle.command_line.specs.LcovWords.{IsLcov, lcov_values};
 ghost use Rattle.command_line.specs.WordsLeft.{left_words};
-ghost use Rattle.command_line.specs.declared.database_command.DatabaseCommand.TheVariants.{Merge, Report};
+ghost use Rattle.command_line.specs.declared.database_command.DatabaseCommand.TheVariants.{Merge, Report, Lcov};
 
 use crate::given_words::GivenWords;
 use crate::value_form::is_database_name;
 use crate::words_left::WordsLeft;
-use crate::{DatabaseCommand, DatabaseOption, MergeWords, ReportWords, UsageFault};
+use crate::{DatabaseCommand, DatabaseOption, LcovWords, MergeWords, ReportWords, UsageFault};
 
 /// Reads the words that are left after `merge`.
 pub(crate) fn read_merge<'a>(left: &mut WordsLeft<'a>) -> Result<MergeWords<'a>, UsageFault<'a>>
@@ -31,6 +32,18 @@ pub(crate) fn read_report<'a>(left: &mut WordsLeft<'a>) -> Result<ReportWords<'a
     let given = read_words(DatabaseCommand::Report, left)?;
     match given.report_words() {
         Ok(report) => Ok(report),
+        Err(word) => Err(UsageFault::Missing(word)),
+    }
+}
+
+/// Reads the words that are left after `lcov`.
+pub(crate) fn read_lcov<'a>(left: &mut WordsLeft<'a>) -> Result<LcovWords<'a>, UsageFault<'a>>
+    ensures lcov { IfOk result (λ lcov. IsLcov (codes "lcov" ∷ left_words left.old) (lcov_values lcov)) }
+    ensures fault { IfErr result (λ fault. HasDatabaseFault Lcov (codes "lcov" ∷ left_words left.old) fault) }
+{
+    let given = read_words(DatabaseCommand::Lcov, left)?;
+    match given.lcov_words() {
+        Ok(lcov) => Ok(lcov),
         Err(word) => Err(UsageFault::Missing(word)),
     }
 }

@@ -1,14 +1,17 @@
 ghost use Rattle.std.specs.Prelude.{◌≡◌, if◌then◌else◌, ◌∷◌, Some, None, is_none, IfOk, IfErr};
 ghost use Rattle.std.specs.Option.{option_copied};
-ghost use Rattle.command_line.specs.declared.database_command.DatabaseCommand.TheVariants.{Merge, Report};
+ghost use Rattle.command_line.specs.declared.database_command.DatabaseCommand.TheVariants.{Merge, Report, Lcov};
 ghost use Rattle.command_line.specs.declared.database_option.DatabaseOption.{DatabaseOption as Named};
 ghost use Rattle.command_line.specs.DatabaseFiles.{files_among};
 ghost use Rattle.command_line.specs.DatabaseOption.{is_same};
 ghost use Rattle.command_line.specs.GivenWords.{GivesMerge, GivesReport, IsMissing, value_of, files_from};
+ghost use Rattle.command_line.specs.LcovWords.{GivesLcov};
 ghost use Rattle.command_line.specs.WordsLeft.{left_words};
 
 use crate::words_left::WordsLeft;
-use crate::{DatabaseFiles, DatabaseOption, MergeWords, ReportLevel, ReportMetrics, ReportWords};
+use crate::{
+    DatabaseFiles, DatabaseOption, LcovWords, MergeWords, ReportLevel, ReportMetrics, ReportWords,
+};
 
 /// What was read so far of the words of a command that reads databases.
 #[derive(Clone, Copy)]
@@ -122,5 +125,19 @@ impl<'a> GivenWords<'a> {
             covered: self.covered.is_some(),
             output: self.output,
         })
+    }
+
+    /// The values of an `lcov` command, or the first that is missing.
+    pub(crate) fn lcov_words(&self) -> Result<LcovWords<'a>, &'static str>
+        ensures lcov { IfOk result (λ lcov. GivesLcov self.now lcov) }
+        ensures missing { IfErr result (λ word. IsMissing Lcov self.now word.now) }
+    {
+        let Some(output) = self.output else {
+            return Err("-o");
+        };
+        let Some(file) = self.first else {
+            return Err("file");
+        };
+        Ok(LcovWords { output, file })
     }
 }

@@ -15,6 +15,7 @@ mod given_defines;
 mod given_values;
 mod given_words;
 mod laws;
+mod lcov_words;
 mod merge_words;
 mod option_values;
 mod report_level;
@@ -36,6 +37,7 @@ pub use given_defines::GivenDefines;
 pub use laws::{
     commands_have_no_fault, values_have_their_forms, words_are_one_command, words_have_one_fault,
 };
+pub use lcov_words::LcovWords;
 pub use merge_words::MergeWords;
 pub use report_level::ReportLevel;
 pub use report_metrics::ReportMetrics;

@@ -3,16 +3,19 @@ use Rattle.std.proofs.Common.{◌≡◌, ◌⊎◌, ℕ, ◌≤◌, List, [], �
 use Rattle.std.proofs.lemmas.List.Elements.{Contains-append_right}
 use Rattle.std.specs.Global.{Global}
 use Rattle.std.specs.Prelude.{Contains, MatchOption}
-use Rattle.command_line.specs.Command.{AreWordsOf, CommandValues, score as of_score, merge as of_merge, report as of_report}
+use Rattle.command_line.specs.Command.{AreWordsOf, CommandValues, score as of_score, merge as of_merge, report as of_report, lcov as of_lcov}
 use Rattle.command_line.specs.CommandWords.{IsScore, ScoreValues}
 use Rattle.command_line.specs.DatabaseWords.{IsMerge, IsReport, MergeValues, ReportValues}
-use Rattle.command_line.proofs.OneCommand.{one_merge, one_of_all, one_report}
+use Rattle.command_line.specs.LcovWords.{IsLcov, LcovValues}
+use Rattle.command_line.proofs.OneCommand.{one_lcov, one_merge, one_of_all, one_report}
 use Rattle.cov_host.specs.Outside.{Files as HostFiles, IsCounted, Outside}
 use Rattle.database_commands.specs.Faults.{ComesTo, IsMergeFault, IsNoTable, IsReading, IsRefused as IsRefusedFile, inputs_of}
 use Rattle.database_commands.specs.Reporting.{IsReportFault}
+use Rattle.database_commands.specs.Tracing.{IsLcovFault}
 use Rattle.database_commands.specs.declared.fault.CommandFault.{CommandFault}
 use Rattle.database_commands.specs.declared.fault.CommandFault.TheVariants as database
 use Rattle.database_commands.proofs.Complete.{good_merge, good_report, refused_write}
+use Rattle.database_commands.proofs.Tracing.{good_lcov}
 use Rattle.whole_files.specs.Effects.{CountsUp, IsMissing}
 use Rattle.whole_files.specs.declared.call.Call.{Call}
 use Rattle.whole_files.specs.declared.call.Call.TheVariants.{OpenRead, Read, OpenWrite, Write, CloseWrite}
@@ -51,23 +54,37 @@ early_status (Databases (database.DesignsDiffer file line first other)) early = 
 
 good_are_words : (words : List (List ℕ)) (before : Outside) → HasGoodDatabases words before → (values : CommandValues) × AreWordsOf values words
 good_are_words words before (inl good) = (of_merge good.0, good.1)
-good_are_words words before (inr good) = (of_report good.0, good.1)
+good_are_words words before (inr (inl good)) = (of_report good.0, good.1)
+good_are_words words before (inr (inr good)) = (of_lcov good.0, good.1)
 
 good_or_score : (words : List (List ℕ)) (before : Outside) (values : ScoreValues) → HasGoodDatabases words before → IsScore words values → ⊥
 good_or_score words before values (inl good) is = let e = one_of_all words (of_merge good.0) (of_score values) good.1 is in cc
-good_or_score words before values (inr good) is = let e = one_of_all words (of_report good.0) (of_score values) good.1 is in cc
+good_or_score words before values (inr (inl good)) is = let e = one_of_all words (of_report good.0) (of_score values) good.1 is in cc
+good_or_score words before values (inr (inr good)) is = let e = one_of_all words (of_lcov good.0) (of_score values) good.1 is in cc
 
 merge_or_report : (words : List (List ℕ)) (merge : MergeValues) (report : ReportValues) → IsMerge words merge → IsReport words report → ⊥
 merge_or_report words merge report is_merge is_report = let e = one_of_all words (of_merge merge) (of_report report) is_merge is_report in cc
+
+merge_or_lcov : (words : List (List ℕ)) (merge : MergeValues) (lcov : LcovValues) → IsMerge words merge → IsLcov words lcov → ⊥
+merge_or_lcov words merge lcov is_merge is_lcov = let e = one_of_all words (of_merge merge) (of_lcov lcov) is_merge is_lcov in cc
+
+report_or_lcov : (words : List (List ℕ)) (report : ReportValues) (lcov : LcovValues) → IsReport words report → IsLcov words lcov → ⊥
+report_or_lcov words report lcov is_report is_lcov = let e = one_of_all words (of_report report) (of_lcov lcov) is_report is_lcov in cc
 
 -- of good databases no fault but want of memory stands
 good_fault : (alloc : Global) (words : List (List ℕ)) (before after : Outside) → NoFaults before after → HasGoodDatabases words before → (f : CommandFault) → StandsInDatabases words before after f → f ≡ database.Memory
 good_fault alloc words before after none (inl good) f (inl stands) =
     good_merge alloc good.0 before after good.2 none f (subst (λ merge. IsMergeFault merge before after f) (one_merge words stands.0 good.0 stands.1 good.1) stands.2)
-good_fault alloc words before after none (inl good) f (inr stands) = absurd (merge_or_report words good.0 stands.0 good.1 stands.1)
-good_fault alloc words before after none (inr good) f (inl stands) = absurd (merge_or_report words stands.0 good.0 stands.1 good.1)
-good_fault alloc words before after none (inr good) f (inr stands) =
+good_fault alloc words before after none (inl good) f (inr (inl stands)) = absurd (merge_or_report words good.0 stands.0 good.1 stands.1)
+good_fault alloc words before after none (inl good) f (inr (inr stands)) = absurd (merge_or_lcov words good.0 stands.0 good.1 stands.1)
+good_fault alloc words before after none (inr (inl good)) f (inl stands) = absurd (merge_or_report words stands.0 good.0 stands.1 good.1)
+good_fault alloc words before after none (inr (inl good)) f (inr (inl stands)) =
     good_report good.0 before after good.2 none f (subst (λ report. IsReportFault report before after f) (one_report words stands.0 good.0 stands.1 good.1) stands.2)
+good_fault alloc words before after none (inr (inl good)) f (inr (inr stands)) = absurd (report_or_lcov words good.0 stands.0 good.1 stands.1)
+good_fault alloc words before after none (inr (inr good)) f (inl stands) = absurd (merge_or_lcov words stands.0 good.0 stands.1 good.1)
+good_fault alloc words before after none (inr (inr good)) f (inr (inl stands)) = absurd (report_or_lcov words stands.0 good.0 stands.1 good.1)
+good_fault alloc words before after none (inr (inr good)) f (inr (inr stands)) =
+    good_lcov good.0 before after good.2 none f (subst (λ lcov. IsLcovFault lcov before after f) (one_lcov words stands.0 good.0 stands.1 good.1) stands.2)
 
 pub good_databases_end : (alloc : Global) (words : List (List ℕ)) (before middle after : Outside) → CountsUp before middle → CountsUp middle after → NoFaults before after → (fault : Fault) → Stands words before middle fault → HasGoodDatabases words before → EndsWith status.Done (status_of fault)
 good_databases_end alloc words before middle after first second none (Usage usage) stands good = absurd (command_or_fault words (good_are_words words before good) (usage, stands))
@@ -90,11 +107,14 @@ database_fault_cause words before after database.Print stands is = absurd (cc)
 database_fault_cause words before after database.Memory stands is = absurd (cc)
 database_fault_cause words before after (database.NoDatabase file kind line) (inl (merge, is_merge, fault)) is =
     inl (merge, file.now, is_merge, comes_within (inputs_of merge) before file.now fault.0, inl (kind, line, fault.1))
-database_fault_cause words before after (database.NoDatabase file kind line) (inr (report, is_report, fault)) is =
-    inr (report, is_report, (kind, line, subst (λ name. IsNoTable name before kind line) fault.0 fault.1))
+database_fault_cause words before after (database.NoDatabase file kind line) (inr (inl (report, is_report, fault))) is =
+    inr (inl (report, is_report, (kind, line, subst (λ name. IsNoTable name before kind line) fault.0 fault.1)))
+database_fault_cause words before after (database.NoDatabase file kind line) (inr (inr (lcov, is_lcov, fault))) is =
+    inr (inr (lcov, is_lcov, (kind, line, subst (λ name. IsNoTable name before kind line) fault.0 fault.1)))
 database_fault_cause words before after (database.DesignsDiffer file line first other) (inl (merge, is_merge, fault)) is =
     inl (merge, file.now, is_merge, comes_within (inputs_of merge) before file.now fault.0, inr (line, first, other, fault.1))
-database_fault_cause words before after (database.DesignsDiffer file line first other) (inr (report, is_report, fault)) is = absurd fault
+database_fault_cause words before after (database.DesignsDiffer file line first other) (inr (inl (report, is_report, fault))) is = absurd fault
+database_fault_cause words before after (database.DesignsDiffer file line first other) (inr (inr (lcov, is_lcov, fault))) is = absurd fault
 
 source_no_database : (f : SourceFault) → source_status f ≡ status.Database → ⊥
 source_no_database source_fault.NoMemory same = cc
@@ -158,11 +178,15 @@ databases_files_cause : (words : List (List ℕ)) (before after : Outside) (f : 
 databases_files_cause words before after (database.Files call file) (inl (merge, is_merge, inl fault)) is =
     reading_call words before after call file.now fault.0 (of_merge merge, is_merge, comes_within (inputs_of merge) before file.now fault.1) fault.2
 databases_files_cause words before after (database.Files call file) (inl (merge, is_merge, inr fault)) is = inl (refused_write before after call file.now fault.0 fault.2)
-databases_files_cause words before after (database.Files call file) (inr (report, is_report, inl fault)) is =
+databases_files_cause words before after (database.Files call file) (inr (inl (report, is_report, inl fault))) is =
     reading_call words before after call file.now fault.0 (of_report report, is_report, (0, omega arith, sym fault.1)) fault.2
-databases_files_cause words before after (database.Files call file) (inr (report, is_report, inr fault)) is = inl (refused_write before after call file.now fault.0 fault.2)
+databases_files_cause words before after (database.Files call file) (inr (inl (report, is_report, inr fault))) is = inl (refused_write before after call file.now fault.0 fault.2)
+databases_files_cause words before after (database.Files call file) (inr (inr (lcov, is_lcov, inl fault))) is =
+    reading_call words before after call file.now fault.0 (of_lcov lcov, is_lcov, (0, omega arith, sym fault.1)) fault.2
+databases_files_cause words before after (database.Files call file) (inr (inr (lcov, is_lcov, inr fault))) is = inl (refused_write before after call file.now fault.0 fault.2)
 databases_files_cause words before after database.Print (inl (merge, is_merge, fault)) is = absurd fault
-databases_files_cause words before after database.Print (inr (report, is_report, fault)) is = inl fault.1
+databases_files_cause words before after database.Print (inr (inl (report, is_report, fault))) is = inl fault.1
+databases_files_cause words before after database.Print (inr (inr (lcov, is_lcov, fault))) is = absurd fault
 databases_files_cause words before after database.Memory stands is = absurd (cc)
 databases_files_cause words before after (database.NoDatabase file kind line) stands is = absurd (cc)
 databases_files_cause words before after (database.DesignsDiffer file line first other) stands is = absurd (cc)
@@ -245,9 +269,18 @@ module _ (before middle after : Outside) (first : CountsUp before middle) (secon
   report_fault_later report (database.NoDatabase file kind line) fault = fault
   report_fault_later report (database.DesignsDiffer file line one other) fault = absurd fault
 
+  lcov_fault_later : (lcov : LcovValues) (f : CommandFault) → IsLcovFault lcov before middle f → IsLcovFault lcov before after f
+  lcov_fault_later lcov (database.Files call file) (inl fault) = inl (fault.0, fault.1, refused_file_later call file.now fault.2)
+  lcov_fault_later lcov (database.Files call file) (inr fault) = inr (fault.0, fault.1, refused_file_later call file.now fault.2)
+  lcov_fault_later lcov database.Print fault = absurd fault
+  lcov_fault_later lcov database.Memory fault = tt
+  lcov_fault_later lcov (database.NoDatabase file kind line) fault = fault
+  lcov_fault_later lcov (database.DesignsDiffer file line one other) fault = absurd fault
+
   databases_stand_later : (words : List (List ℕ)) (f : CommandFault) → StandsInDatabases words before middle f → StandsInDatabases words before after f
   databases_stand_later words f (inl (merge, is, fault)) = inl (merge, is, merge_fault_later merge f fault)
-  databases_stand_later words f (inr (report, is, fault)) = inr (report, is, report_fault_later report f fault)
+  databases_stand_later words f (inr (inl (report, is, fault))) = inr (inl (report, is, report_fault_later report f fault))
+  databases_stand_later words f (inr (inr (lcov, is, fault))) = inr (inr (lcov, is, lcov_fault_later lcov f fault))
 
   pub stands_later : (words : List (List ℕ)) (fault : Fault) → Stands words before middle fault → Stands words before after fault
   stands_later words (Usage usage) stands = stands

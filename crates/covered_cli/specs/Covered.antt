@@ -1,14 +1,16 @@
 -- What a call of the program leaves outside, and why it ends with a status above 0.
 use Rattle.std.specs.Prelude.{◌≡◌, ◌≢◌, ◌⊎◌, ℕ, List, [], ◌∷◌, Contains, Option, Some, None, MatchOption}
-use Rattle.command_line.specs.Command.{AreWordsOf, CommandValues, score, merge, report}
+use Rattle.command_line.specs.Command.{AreWordsOf, CommandValues, score, merge, report, lcov}
 use Rattle.command_line.specs.CommandWords.{IsScore, ScoreValues}
 use Rattle.command_line.specs.DatabaseWords.{IsMerge, IsReport, MergeValues, ReportValues}
+use Rattle.command_line.specs.LcovWords.{IsLcov, LcovValues}
 use Rattle.command_line.specs.UsageFault.{HasUsageFault}
 use Rattle.command_line.specs.declared.usage_fault.UsageFault.{UsageFault}
 use Rattle.cov_host.specs.Outside.{Outside, Files, IsCounted}
 use Rattle.coverage_db.specs.declared.fault.DbKind.{DbKind}
 use Rattle.database_commands.specs.Complete.{IsGoodMerge, IsGoodReport}
 use Rattle.database_commands.specs.Faults.{IsNoTable, IsOtherDesign, inputs_of}
+use Rattle.database_commands.specs.Tracing.{IsGoodLcov}
 use Rattle.source_design.specs.Reading.{LacksAt}
 use Rattle.covered_cli.specs.Effects.{WarnsLine}
 use Rattle.covered_cli.specs.Fault.{Stands, line_of, status_of}
@@ -34,12 +36,14 @@ abbrev pub output_in : CommandValues → Option (List ℕ)
 output_in (score values) = Some values.output
 output_in (merge values) = Some values.output
 output_in (report values) = values.output
+output_in (lcov values) = Some values.output
 
 -- the files that a command reads
 abbrev pub inputs_in : CommandValues → List (List ℕ)
 inputs_in (score values) = values.dump ∷ values.sources
 inputs_in (merge values) = inputs_of values
 inputs_in (report values) = values.file ∷ []
+inputs_in (lcov values) = values.file ∷ []
 
 -- the words name the file for the output
 abbrev pub IsOutput : List (List ℕ) → List ℕ → Type 0
@@ -85,16 +89,19 @@ HasNoTable before name = (kind : DbKind) × (line : Option ℕ) × IsNoTable nam
 abbrev pub AreOfTwoDesigns : Outside → List ℕ → List ℕ → Type 0
 AreOfTwoDesigns before first name = (line : ℕ) × (a : List ℕ) × (b : List ℕ) × IsOtherDesign first name before line a b
 
--- the words merge a file that is no table's, or one of another design than the first, or report one that is no table's
+-- the words merge a file that is no table's, or one of another design than the first, or report or trace one that is no table's
 abbrev pub HasDatabaseCause : List (List ℕ) → Outside → Type 0
 HasDatabaseCause words before =
     ((values : MergeValues) × (name : List ℕ) × IsMerge words values × Contains (inputs_of values) name × (HasNoTable before name ⊎ AreOfTwoDesigns before values.first name))
     ⊎ ((values : ReportValues) × IsReport words values × HasNoTable before values.file)
+    ⊎ ((values : LcovValues) × IsLcov words values × HasNoTable before values.file)
 
--- the words merge files that have tables of one design, or report a file that has a table
+-- the words merge files that have tables of one design, or report or trace a file that has a table
 abbrev pub HasGoodDatabases : List (List ℕ) → Outside → Type 0
 HasGoodDatabases words before =
-    ((values : MergeValues) × IsMerge words values × IsGoodMerge values before) ⊎ ((values : ReportValues) × IsReport words values × IsGoodReport values before)
+    ((values : MergeValues) × IsMerge words values × IsGoodMerge values before)
+    ⊎ ((values : ReportValues) × IsReport words values × IsGoodReport values before)
+    ⊎ ((values : LcovValues) × IsLcov words values × IsGoodLcov values before)
 
 -- a fault of this status stands, and its line was warned
 abbrev pub WarnsFault : List (List ℕ) → Status → Outside → Outside → Type 0

@@ -2,7 +2,7 @@
 use Rattle.std.specs.Prelude.{◌≡◌, ℕ, false, List, map, slice_index_or, All}
 use Rattle.std.specs.List.{list_any}
 use Rattle.command_line.specs.CommandWords.{ScoreValues}
-use Rattle.command_line.specs.Command.{AreWordsOf, CommandValues, score as of_score, merge as of_merge, report as of_report, command_values}
+use Rattle.command_line.specs.Command.{AreWordsOf, CommandValues, score as of_score, merge as of_merge, report as of_report, lcov as of_lcov, command_values}
 use Rattle.command_line.specs.declared.command.Command.{Command}
 use Rattle.cov_host.specs.Outside.{Outside, HasFile, Told}
 use Rattle.coverage_db.specs.Table.{IsTable}
@@ -11,6 +11,7 @@ use Rattle.coverage_db.specs.declared.db.Db.{Db}
 use Rattle.design_model.specs.Design.{no_signal}
 use Rattle.database_commands.specs.Merging.{IsMergedIn}
 use Rattle.database_commands.specs.Reporting.{IsReportedIn}
+use Rattle.database_commands.specs.Tracing.{IsTracedIn}
 use Rattle.design_model.specs.declared.design.Design.{Design}
 use Rattle.vcd_reader.specs.Dump.{Dump, IsDump}
 use Rattle.vcd_reader.specs.declared.fault.DumpFault.TheVariants.{At}
@@ -103,6 +104,7 @@ abbrev pub IsDoneBy : CommandValues → Outside → Outside → Type 0
 IsDoneBy (of_score values) before after = IsDoneIn values before after
 IsDoneBy (of_merge values) before after = IsMergedIn values before after
 IsDoneBy (of_report values) before after = IsReportedIn values before after
+IsDoneBy (of_lcov values) before after = IsTracedIn values before after
 
 -- what the command asks for was done
 abbrev pub IsDoneWork : Command → Outside → Outside → Type 0

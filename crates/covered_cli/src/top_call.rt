@@ -13,7 +13,7 @@ use crate::message::warn_of;
 use crate::score::run_score;
 use command_line::{Command, read_command};
 use cov_host::{Host, Words};
-use database_commands::{run_merge, run_report};
+use database_commands::{run_lcov, run_merge, run_report};
 use std::alloc::Global;
 
 /// Does all that the program does with the words that follow its name. A status above 0 is warned of in one line,
@@ -31,7 +31,7 @@ pub fn covered<H: Host>(alloc: Global, words: &Words, host: &mut H) -> Status
 
     // With status 0 the output holds what the command asks for: of a score the table of the sources and the dump, with
     // each toggle point once and its verdict; of a merge the merge of the tables of the files; of a report its text,
-    // which was printed where no file is named.
+    // which was printed where no file is named; of `lcov` the tracefile of the table of the file.
     ensures done { result ≡ Status.Done → IsDone words.now (H.outside host.old) (H.outside host.new) }
 
     // Where the files are told and no call of the host fails, their texts decide the status, want of memory aside. A
@@ -98,6 +98,10 @@ fn run_command<'a, H: Host>(
             Err(fault) => Err(Fault::Databases(fault)),
         },
         Command::Report(words) => match run_report(alloc, words, host) {
+            Ok(()) => Ok(()),
+            Err(fault) => Err(Fault::Databases(fault)),
+        },
+        Command::Lcov(words) => match run_lcov(alloc, words, host) {
             Ok(()) => Ok(()),
             Err(fault) => Err(Fault::Databases(fault)),
         },

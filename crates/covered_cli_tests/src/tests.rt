@@ -60,6 +60,14 @@ const OTHER: &str = "covered-db 1\ntop ffr\nsource 1 ffr.v\ninstance ffr ffr\npo
 const REPORT: &str =
     "covered report 1\ntop ff\nmodule ff\nmetric       hit  missed   undet   pct\nline           2       1       0   66%\nlogic          1       1       0   50%\ntoggle         1       5       0   16%\nfsm            0       0       0    -%\nmemory         0       0       0    -%\nall            4       7       0   36%\n";
 
+/// A table of two modules and three instances.
+const CELLS: &str =
+    "covered-db 1\ntop top\nsource 1 top.v\nsource 2 cell.v\ninstance top top\ninstance top.a cell\ninstance top.b cell\npoints 30\nl top 1 1:9 case = missed\nl top.a 1 2:4 if = hit\nl top.a 2 2:4 assign = missed\nl top.a 3 2:5 assign = ? 10 top.a.s\nl top.a 4 2:7 assign = missed\nl top.b 1 2:4 if = missed\nl top.b 2 2:4 assign = missed\nl top.b 3 2:5 assign = missed\nl top.b 4 2:7 assign = hit\nc top 1 1:3 & 0- = hit\nc top 1 1:3 & -0 = missed\nc top 1 1:3 & 11 = ? 20 top.d\nc top 2 1:3 | 1- = missed\nc top 2 1:3 | -1 = missed\nc top 2 1:3 | 00 = missed\nc top 3 1:9 value 0 = missed\nc top 3 1:9 value 1 = ? 5 top.d\nc top.a 1 2:4 == 00 = hit\nc top.a 1 2:4 == 01 = missed\nc top.a 1 2:4 == 10 = missed\nc top.a 1 2:4 == 11 = ? 10 top.a.s\nc top.a 2 2:5 value 0 = missed\nc top.a 2 2:5 value 1 = missed\nc top.b 1 2:4 == 00 = missed\nc top.b 1 2:4 == 01 = hit\nc top.b 1 2:4 == 10 = missed\nc top.b 1 2:4 == 11 = missed\nc top.b 2 2:5 value 0 = missed\nc top.b 2 2:5 value 1 = missed\nt top clk - 01 = hit\nend\n";
+
+/// Its tracefile, worked by hand.
+const TRACED: &str =
+    "TN:top\nSF:top.v\nBRDA:3,0,0,1\nBRDA:3,0,1,0\nBRDA:3,0,2,0\nBRDA:3,1,0,0\nBRDA:3,1,1,0\nBRDA:3,1,2,0\nBRDA:9,0,0,-\nBRDA:9,0,1,-\nBRF:8\nBRH:1\nDA:9,0\nLF:1\nLH:0\nend_of_record\nSF:cell.v\nBRDA:4,0,0,1\nBRDA:4,0,1,1\nBRDA:4,0,2,0\nBRDA:4,0,3,0\nBRDA:5,0,0,-\nBRDA:5,0,1,-\nBRF:6\nBRH:2\nDA:4,1\nDA:5,0\nDA:7,1\nLF:3\nLH:2\nend_of_record\n";
+
 /// Scores the module `pads` where it is found in the dump.
 const SCORE: &[&str] = &[
     "score", "-t", "pads", "-i", "tb.dut", "-v", "pads.v", "-vcd", "D", "-o", "B",
@@ -130,6 +138,9 @@ const CASES: &[Case] = &[
     Case { words: &["merge", "-o", "m.db", "t2.db", "t1.db"], files: TABLES, status: Status::Done, output: ("m.db", MERGED), printed: "", warned: "" },
     Case { words: &["merge", "-o", "m.db", "t1.db", "t5.db"], files: TABLES, status: Status::Database, output: ("m.db", ""), printed: "", warned: "covered: database: t5.db: 4 DesignsDiffer 2\n< top ff\n> top ffr\n" },
     Case { words: &["report", "-m", "ltcfm", "t1.db"], files: TABLES, status: Status::Done, output: NONE, printed: REPORT, warned: "" },
+    Case { words: &["lcov", "-o", "x.info", "cells.db"], files: &[("cells.db", CELLS), ("x.info", "old")], status: Status::Done, output: ("x.info", TRACED), printed: "", warned: "" },
+    Case { words: &["lcov", "cells.db", "-o", "x.info"], files: &[("cells.db", "covered-db 1\ntop\n"), ("x.info", "old")], status: Status::Database, output: ("x.info", "old"), printed: "", warned: "covered: database: cells.db: 1 BadLine 2\n" },
+    Case { words: &["lcov", "-o", "x.info"], files: &[("x.info", "old")], status: Status::Usage, output: ("x.info", "old"), printed: "", warned: "covered: usage: missing file\n" },
 ];
 
 /// The words of a case.

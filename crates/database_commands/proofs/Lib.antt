@@ -4,3 +4,4 @@ pub mod Merging
 pub mod Complete
 pub mod AnyOrder
 pub mod Reporting
+pub mod Tracing

@@ -3,3 +3,4 @@ pub mod Faults
 pub mod Merging
 pub mod Complete
 pub mod Reporting
+pub mod Tracing

@@ -82,4 +82,12 @@ pub(crate) const FAULTS: &[(&[&str], &str)] = &[
     (&["report", "-x", "t1.db"], "unknown word -x"),
     (&["report", "a\tb"], "unknown word a\tb"),
     (&["report", "-o", "", "t1.db"], "bad value "),
+    (&["lcov"], "missing -o"),
+    (&["lcov", "t1.db"], "missing -o"),
+    (&["lcov", "-o", "x"], "missing file"),
+    (&["lcov", "-o", "x", "-o", "y", "t1.db"], "-o given twice"),
+    (&["lcov", "t1.db", "-o"], "-o needs a value"),
+    (&["lcov", "-o", "", "t1.db"], "bad value "),
+    (&["lcov", "-o", "x", "-d", "v", "t1.db"], "unknown word -d"),
+    (&["lcov", "-o", "x", "a.db", "b.db"], "unknown word b.db"),
 ];

@@ -1,8 +1,8 @@
 //! Each fault as it is reported, and a whole command of each kind.
 use crate::usage_cases::FAULTS;
 use command_line::{
-    Command, GivenDefine, GivenDefines, MergeWords, ReportLevel, ReportMetrics, ReportWords,
-    ScoreWords, SourceFiles, UsageFault, read_command,
+    Command, GivenDefine, GivenDefines, LcovWords, MergeWords, ReportLevel, ReportMetrics,
+    ReportWords, ScoreWords, SourceFiles, UsageFault, read_command,
 };
 use cov_host::{NoMemory, Words};
 use std::alloc::Global;
@@ -70,6 +70,14 @@ pub(crate) fn merge_of(words: &Words) -> Option<MergeWords<'_>> {
 pub(crate) fn report_of(words: &Words) -> Option<ReportWords<'_>> {
     match read_command(words) {
         Ok(Command::Report(report)) => Some(report),
+        _ => None,
+    }
+}
+
+/// The values of an `lcov` command.
+fn lcov_of(words: &Words) -> Option<LcovWords<'_>> {
+    match read_command(words) {
+        Ok(Command::Lcov(lcov)) => Some(lcov),
         _ => None,
     }
 }
@@ -230,4 +238,25 @@ fn reads_report(alloc: Global, texts: &[&str], wanted: ReportWords<'static>) -> 
 fn options_of_a_report(rt: HostRuntime) {
     assert!(rt; reads_report(rt.alloc(), &["report", "t1.db"], SUMMARY));
     assert!(rt; reads_report(rt.alloc(), OPTIONS, VERBOSE));
+}
+
+const TRACEFILES: &[&[&str]] = &[
+    &["lcov", "-o", "-d", "t1.db"],
+    &["lcov", "t1.db", "-o", "-d"],
+];
+
+fn reads_lcov(alloc: Global, texts: &[&str]) -> bool {
+    match words_of(alloc, texts) {
+        Ok(words) => {
+            lcov_of(&words).is_some_and(|lcov| lcov.output == "-d" && lcov.file == "t1.db")
+        }
+        Err(_) => false,
+    }
+}
+
+#[test]
+fn the_words_of_a_tracefile(rt: HostRuntime) {
+    for texts in TRACEFILES {
+        assert!(rt; reads_lcov(rt.alloc(), texts));
+    }
 }
