@@ -1,4 +1,16 @@
-//! The program over a host: it reads the words of a command, does the work, and answers with a status.
+//! The program over a host: [`covered`] reads the words of a command, does the work, and answers with a status.
+//!
+//! The clauses of [`covered`] are what the whole program promises, and `specs/Scoring.antt` has the one of a score: each
+//! coverage point of the design is listed once, and each verdict holds in every run of the design that shows the dump.
+//! Nothing here opens a file by itself: a host does, real (`cov_host::FileHost`) or in memory.
+//!
+//! ```text
+//! let mut words = Words::new(alloc);
+//! for word in ["score", "-t", "pads", "-i", "tb.dut", "-v", "pads.v", "-vcd", "pads.vcd", "-o", "pads.db"] {
+//!     words.push(word)?;
+//! }
+//! let status = covered(alloc, &words, &mut host); // Status::Done, and the host has the file pads.db
+//! ```
 #![tactic(auto)]
 
 mod database_message;
