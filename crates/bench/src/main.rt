@@ -15,18 +15,24 @@ use std::rt::{Clock, Files};
 fn main(rt: HostRuntime) -> Result<()> {
     let mut words = env::args(&rt)?;
     match (words.nth(1), words.next(), words.next()) {
-        (Some(part), Some(rounds), None) if part.as_str() == "operators" => {
-            operators::measure(&rt, rounds.parse().unwrap_or(0))
-        }
-        (Some(part), Some(first), Some(second)) => {
-            measure(&rt, part.as_str(), first.as_str(), second.as_str())
-        }
+        (Some(part), Some(first), second) => match second {
+            None => measure_by_one(&rt, part.as_str(), first.as_str()),
+            Some(second) => measure_by_two(&rt, part.as_str(), first.as_str(), second.as_str()),
+        },
         _ => usage(&rt),
     }
 }
 
+/// Measures a part that takes one word.
+fn measure_by_one(rt: &(impl Clock + Print), part: &str, word: &str) -> Result<()> {
+    match part {
+        "operators" => operators::measure(rt, word.parse().unwrap_or(0)),
+        _ => usage(rt),
+    }
+}
+
 /// Measures a part that takes two words.
-fn measure(
+fn measure_by_two(
     rt: &(impl AllocGlobal + Clock + Files + Print),
     part: &str,
     first: &str,

@@ -82,6 +82,11 @@ pub(crate) const FAULTS: &[(&[&str], &str)] = &[
     (&["report", "-x", "t1.db"], "unknown word -x"),
     (&["report", "a\tb"], "unknown word a\tb"),
     (&["report", "-o", "", "t1.db"], "bad value "),
+];
+
+/// Words of `lcov` that are no command, with the first fault.
+#[rattlefmt::skip]
+pub(crate) const LCOV_FAULTS: &[(&[&str], &str)] = &[
     (&["lcov"], "missing -o"),
     (&["lcov", "t1.db"], "missing -o"),
     (&["lcov", "-o", "x"], "missing file"),
