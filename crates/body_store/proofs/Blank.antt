@@ -1,25 +1,24 @@
 -- A store in which nothing is known.
-use Rattle.std.proofs.Common.{◌≡◌, ◌⊎◌, ℕ, zero, suc, ◌+◌, ◌-◌, ◌<◌, ◌≤◌, Bool, true, false, if◌then◌else◌, List, [], ◌∷◌, ◌++◌, length, map, get_or, replicate, Option, Some, None, refl, sym, ap, ap₂, subst, ◌∙◌, arith, ⊎_elim}
+use Rattle.std.proofs.Common.{◌≡◌, ℕ, zero, suc, ◌+◌, ◌-◌, ◌<◌, true, List, [], ◌∷◌, ◌++◌, length, map, get_or, replicate, None, refl, sym, ap, subst, ◌∙◌, arith, ⊎_elim}
 use Rattle.std.specs.Prelude.{nat_le}
 use Rattle.std.proofs.lemmas.Bool.Decides.{nat_tests}
 use Rattle.std.specs.List.{range_with_len}
 use Rattle.std.specs.Option.{unwrap_or}
 use Rattle.std.proofs.lemmas.List.{get_or-map, get_or_append_left, get_or_push, length-map}
 use Rattle.std.proofs.lemmas.Bool.{cases_eq}
-use Rattle.known_state.specs.Partly.{Partly}
 use Rattle.design_model.specs.declared.design.Memory.{Memory}
 use Rattle.design_model.specs.declared.design.Signal.{Signal}
-use Rattle.design_model.specs.Design.{Design, cell, memory_at, no_memory, no_signal, signal_at, signal_cells}
+use Rattle.design_model.specs.Design.{Design, cell, memory_at, no_memory, no_signal, signal_at}
 use Rattle.body_replay.specs.Store.{Kept}
 use Rattle.body_replay.specs.Replay.{Blames}
 use Rattle.memory_rebuild.proofs.Laws.{unwritten_stands}
-use Rattle.value_store.specs.Signals.{Shape, Signals, kept_at, hidden_at, no_shape, no_value, read_at, shape_of, unknown_from, unknown_of, unknown_signals}
+use Rattle.value_store.specs.Signals.{Shape, Signals, kept_at, hidden_at, no_shape, no_value, shape_of, unknown_from, unknown_of, unknown_signals}
 use Rattle.value_store.specs.Held.{HoldsSignals, IsSignal}
 use Rattle.body_store.specs.declared.memory.StoredMemory.{StoredMemory}
 use Rattle.body_store.specs.declared.store.Store.{Store}
 use Rattle.body_store.specs.Made as m
 use Rattle.body_store.specs.Made.{AreUnknown, nothing, unblamed, unknown_memory}
-use Rattle.body_store.specs.Held.{HoldsMemories, HoldsStore, IsMemory, ReadsSignals, ReadsStore, memory_in}
+use Rattle.body_store.specs.Held.{HoldsMemories, HoldsStore, IsMemory, ReadsSignals, ReadsStore}
 
 -- ---- the first memories of a list
 

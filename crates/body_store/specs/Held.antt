@@ -1,5 +1,5 @@
 -- When what a store holds is what is known of the cells of a design, as it is kept and as bodies read it.
-use Rattle.std.specs.Prelude.{◌≡◌, ◌+◌, ◌<◌, ℕ, Bool, false, List, [], length, map, slice_index_or}
+use Rattle.std.specs.Prelude.{◌≡◌, ◌+◌, ◌<◌, ℕ, List, length, map, slice_index_or}
 use Rattle.design_model.specs.Design.{Design, memory_at, no_memory}
 use Rattle.body_replay.specs.Store.{Kept}
 use Rattle.body_replay.specs.Replay.{Blames}
