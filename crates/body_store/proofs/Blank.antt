@@ -33,8 +33,8 @@ one_filled n i xs rs ss a b is pushed made size f =
       each = λ j r x l. ⊎_elim
           (λ e. ap (λ zs. get_or zs j r) pushed ∙ ap (λ k. get_or (rs ++ b ∷ []) k r) e ∙ get_or_push rs b r i f.count ∙ made ∙ ap (λ y. unknown_memory y (n + i)) (is x) ∙ ap (λ k. unknown_memory (get_or xs k x) (n + k)) (sym e))
           (λ ne. let less : j < i = omega (arith, l, ne) in
-              let count = f.count in
-              ap (λ zs. get_or zs j r) pushed ∙ get_or_append_left rs (b ∷ []) r j (omega (arith, less, count)) ∙ f.each j r x less)
+          let count = f.count in
+          ap (λ zs. get_or zs j r) pushed ∙ get_or_append_left rs (b ∷ []) r j (omega (arith, less, count)) ∙ f.each j r x less)
           (cases_eq j i);
     }
 

@@ -33,7 +33,11 @@ impl Store {
         ensures reads { IfOk result (λ made. ReadsStore (design_view design.now) nothing unblamed made) }
     {
         let signals = Signals::new(alloc, design.signals.as_slice())?;
-        let memories = memories(alloc, design.memories.as_slice(), design.signals.len() as u32)?;
+        let memories = memories(
+            alloc,
+            design.memories.as_slice(),
+            design.signals.len() as u32,
+        )?;
         Ok(Store { signals, memories })
     }
 }

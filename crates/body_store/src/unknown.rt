@@ -8,7 +8,11 @@ use design_model::Memory;
 use std::alloc::Global;
 
 /// The memories of a design, of which nothing is known, with the numbers from this one up.
-pub(crate) fn memories(alloc: Global, memories: &[Memory], first: u32) -> Result<Vec<StoredMemory>, NoMemory>
+pub(crate) fn memories(
+    alloc: Global,
+    memories: &[Memory],
+    first: u32,
+) -> Result<Vec<StoredMemory>, NoMemory>
     requires widths { All HasWordWidth memories.now }
     requires few { first + length memories.now ≤ 4294967295 }
     ensures { IfOk result (λ made. AreUnknown first memories.now made.items) }
