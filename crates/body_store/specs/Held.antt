@@ -1,0 +1,43 @@
+-- When what a store holds is what is known of the cells of a design, as it is kept and as bodies read it.
+use Rattle.std.specs.Prelude.{◌≡◌, ◌+◌, ◌<◌, ℕ, List, length, map, slice_index_or}
+use Rattle.design_model.specs.Design.{Design, memory_at, no_memory}
+use Rattle.body_replay.specs.Store.{Kept}
+use Rattle.body_replay.specs.Replay.{Blames}
+use Rattle.memory_rebuild.specs.Words.{StandsFor}
+use Rattle.value_store.specs.Signals.{Signals, read_at, shape_of}
+use Rattle.value_store.specs.Held.{HoldsSignals, IsSignal}
+use Rattle.body_store.specs.declared.memory.StoredMemory.{StoredMemory}
+use Rattle.body_store.specs.declared.store.Store.{Store}
+use Rattle.body_store.specs.Made.{bits_range, unknown_memory}
+
+-- what is held of the memory with this place in the list of memories
+abbrev pub memory_in : List StoredMemory → ℕ → StoredMemory
+memory_in rs i = slice_index_or rs i (unknown_memory no_memory 0)
+
+-- the words are those of memory m, as they are known, with its blame and whether the run has written it
+pub record IsMemory (d : Design) (k : Kept) (e : Blames) (m : ℕ) (r : StoredMemory) : Type 0 where
+  pub words : StandsFor d k m r.words
+  pub range : r.range ≡ bits_range (memory_at d m)
+  pub blame : r.words.shape.blame ≡ e.blame m
+  pub wrote : r.written ≡ e.wrote m
+
+-- the memories are those of the design, as they are known
+pub record HoldsMemories (d : Design) (k : Kept) (e : Blames) (rs : List StoredMemory) : Type 0 where
+  pub count : length rs ≡ length d.memories
+  pub each : (i : ℕ) → i < length d.memories → IsMemory d k e (length d.signals + i) (memory_in rs i)
+
+-- what bodies read of each signal is what is known of it
+pub record ReadsSignals (d : Design) (k : Kept) (e : Blames) (v : Signals) : Type 0 where
+  pub shapes : v.shapes ≡ map shape_of d.signals
+  pub count : length v.kept ≡ length d.signals
+  pub each : (s : ℕ) → s < length d.signals → IsSignal d k e.blame s (read_at v s)
+
+-- the store keeps what is known of the cells of the design, with these blames
+pub record HoldsStore (d : Design) (k : Kept) (e : Blames) (x : Store) : Type 0 where
+  pub signals : HoldsSignals d k e.blame x.signals
+  pub memories : HoldsMemories d k e x.memories.items
+
+-- what bodies read of the store is what is known of the cells of the design, with these blames
+pub record ReadsStore (d : Design) (k : Kept) (e : Blames) (x : Store) : Type 0 where
+  pub signals : ReadsSignals d k e x.signals
+  pub memories : HoldsMemories d k e x.memories.items

@@ -1,0 +1,38 @@
+-- What a store holds before anything is known.
+use Rattle.std.specs.Prelude.{◌≡◌, ℕ, ◌+◌, ◌<◌, ◌≤◌, false, List, length, slice_index_or, None}
+use Rattle.design_model.specs.declared.design.Memory.{Memory}
+use Rattle.design_model.specs.declared.design.Range.{Range}
+use Rattle.body_replay.specs.Store.{Kept}
+use Rattle.body_replay.specs.Replay.{Blames}
+use Rattle.memory_rebuild.specs.declared.shape.Shape.{Shape}
+use Rattle.memory_rebuild.specs.Words.{unwritten}
+use Rattle.body_store.specs.declared.memory.StoredMemory.{StoredMemory}
+
+-- the words of a memory of a design, blamed on this number
+abbrev pub shape_of : Memory → ℕ → Shape
+shape_of x m = record { first = x.first; last = x.last; width = x.width; signed = x.signed; blame = m }
+
+-- the declared range of the bits of a word
+abbrev pub bits_range : Memory → Range
+bits_range x = record { high = x.high; low = x.low }
+
+-- the memory with this number, none of whose words is known, and which no run has written
+abbrev pub unknown_memory : Memory → ℕ → StoredMemory
+unknown_memory x m = record { words = unwritten (shape_of x m); range = bits_range x; written = false }
+
+-- nothing is known of any cell
+abbrev pub nothing : Kept
+nothing c = None
+
+-- each signal and memory is to blame for itself, and the run has written no memory
+abbrev pub unblamed : Blames
+unblamed = record { blame = λ x. x; wrote = λ m. false }
+
+-- a word has 1 to 128 bits
+abbrev pub HasWordWidth : Memory → Type 0
+HasWordWidth x = (1 ≤ x.width) × (x.width ≤ 128)
+
+-- each memory of the list is held with nothing known of it, with the numbers from this one up
+pub record AreUnknown (n : ℕ) (xs : List Memory) (rs : List StoredMemory) : Type 0 where
+  pub count : length rs ≡ length xs
+  pub each : (i : ℕ) (r : StoredMemory) (x : Memory) → i < length xs → slice_index_or rs i r ≡ unknown_memory (slice_index_or xs i x) (n + i)

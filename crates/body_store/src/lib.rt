@@ -1,0 +1,9 @@
+//! What a body reads and writes while it is replayed: what is known of the signals and memories of a design.
+#![tactic(auto)]
+
+mod memory;
+mod store;
+mod unknown;
+
+pub use memory::StoredMemory;
+pub use store::Store;
