@@ -11,7 +11,7 @@ use std::alloc::Global;
 /// For each number below `count`, the numbers of the lists that contain it. It takes the time of `count` and of all
 /// items.
 pub fn transpose(alloc: Global, lists: &[Vec<u32>], count: usize) -> Result<Rows<u32>, NoMemory>
-    requires few { length lists.now ≤ 2 ^ 32 }
+    requires { length lists.now ≤ 2 ^ 32 }
     ensures { IfOk result (λ rows. IsTranspose (map (λ list. list.items) lists.now) count rows) }
 {
     let mut rows = empty_lists(alloc, count)?;

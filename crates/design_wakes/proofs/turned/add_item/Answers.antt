@@ -1,4 +1,4 @@
-use Rattle.std.proofs.Common.{◌≡◌, ◌<◌, ◌++◌, ◌∷◌, [], length, arith}
+use Rattle.std.proofs.Common.{◌<◌, length, arith}
 use Rattle.design_wakes.proofs.Adding.{item_added}
 use Rattle.design_wakes.proofs.turned.add_item.Goals as goal
 

@@ -1,4 +1,4 @@
-use Rattle.std.proofs.Common.{◌≡◌, map, take, subst, arith}
+use Rattle.std.proofs.Common.{◌≡◌, map, take, subst}
 use Rattle.std.specs.List.{Contains}
 use Rattle.std.proofs.lemmas.List.{take_all}
 use Rattle.design_wakes.specs.Transpose.{AddsPairs}
