@@ -17,10 +17,10 @@ both_added P Q xs ys zs h k =
     record {
       count = k.count ∙ h.count;
       has = λ x p l.
-        let m : x < length ys = omega (arith, h.count) in
-        let one = h.has x p l in
-        let two = k.has x p m in
-        (λ c. ⊎_elim (λ d. ⊎_elim (λ a. inl a) (λ q. inr (inl q)) (one.0 d)) (λ q. inr (inr q)) (two.0 c), ⊎_elim (λ a. two.1 (inl (one.1 (inl a)))) (⊎_elim (λ q. two.1 (inl (one.1 (inr q)))) (λ q. two.1 (inr q))));
+          let m : x < length ys = omega (arith, h.count) in
+          let one = h.has x p l in
+          let two = k.has x p m in
+          (λ c. ⊎_elim (λ d. ⊎_elim (λ a. inl a) (λ q. inr (inl q)) (one.0 d)) (λ q. inr (inr q)) (two.0 c), ⊎_elim (λ a. two.1 (inl (one.1 (inl a)))) (⊎_elim (λ q. two.1 (inl (one.1 (inr q)))) (λ q. two.1 (inr q))));
     }
 
 -- the same, said otherwise
@@ -112,10 +112,9 @@ all_added lists rows count h =
     record {
       count_is = h.count ∙ size;
       has = λ x p l.
-        let inside : x < length (replicate count []) = omega (arith, size) in
-        let empty : row_at (replicate count []) x ≡ [] = get_or-replicate count x [] [] l in
-        (
-          λ c. ⊎_elim (λ a. absurd (none_in p (subst (λ r. Contains r p) empty a))) (λ q. q.1) ((h.has x p inside).0 c),
-          λ c. (h.has x p inside).1 (inr (list_inside lists x p c, c)),
-        );
+          let inside : x < length (replicate count []) = omega (arith, size) in
+          let empty : row_at (replicate count []) x ≡ [] = get_or-replicate count x [] [] l in (
+            λ c. ⊎_elim (λ a. absurd (none_in p (subst (λ r. Contains r p) empty a))) (λ q. q.1) ((h.has x p inside).0 c),
+            λ c. (h.has x p inside).1 (inr (list_inside lists x p c, c)),
+          );
     }

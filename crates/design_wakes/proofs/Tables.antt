@@ -33,8 +33,7 @@ table_of : (names : Process → List ℕ) (test : Process → ℕ → Bool) (ps 
 table_of names test ps count rows none is t x p l =
     let process = get_or (map process_view ps) p no_process in
     let row : row_at (map (λ q. names (process_view q)) ps) p ≡ names process = names_row names ps p none in
-    let both = t.has x p l in
-    (
+    let both = t.has x p l in (
       λ c. let m : Contains (names process) x = subst (λ r. Contains r x) row (both.0 c) in sym (is process x) ∙ is_in_from (names process) x m.0 m.1 m.2,
       λ e. both.1 (subst (λ r. Contains r x) (sym row) (is_in_gives (names process) x (is process x ∙ e))),
     )

@@ -35,11 +35,7 @@ pub fn event_rows(alloc: Global, processes: &[Process]) -> Result<Rows<(Edge, u3
 }
 
 /// For each process the signals of which it lists this edge.
-fn edge_lists(
-    alloc: Global,
-    edge: Edge,
-    processes: &[Process],
-) -> Result<Vec<Vec<u32>>, NoMemory>
+fn edge_lists(alloc: Global, edge: Edge, processes: &[Process]) -> Result<Vec<Vec<u32>>, NoMemory>
     ensures { IfOk result (λ lists. map (λ list. list.items) lists.items ≡ map (λ process. edge_names (machine_edge edge) (process_view process)) processes.now) }
 {
     let mut lists = Vec::new(alloc);

@@ -16,4 +16,4 @@ transpose-requires c =
 pub returns : goal.returns
 returns c =
     let is : map (λ list. list.items) c.as_slice.result.now ≡ map (λ process. level_names (process_view process)) c.args.processes.now = ap (map (λ list. list.items)) c.as_slice.ensures.value ∙ c.in_ok-lists.ensures in
-    IfOk-weaker c.transpose.result (λ rows. IsTranspose (map (λ list. list.items) c.as_slice.result.now) c.args.things rows) (λ rows. IsLevelTable (map process_view c.args.processes.now) c.args.things rows) (λ rows t. level_table  c.args.processes.now c.args.things rows (subst (λ lists. IsTranspose lists c.args.things rows) is t)) c.transpose.ensures
+    IfOk-weaker c.transpose.result (λ rows. IsTranspose (map (λ list. list.items) c.as_slice.result.now) c.args.things rows) (λ rows. IsLevelTable (map process_view c.args.processes.now) c.args.things rows) (λ rows t. level_table c.args.processes.now c.args.things rows (subst (λ lists. IsTranspose lists c.args.things rows) is t)) c.transpose.ensures
