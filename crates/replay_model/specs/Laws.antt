@@ -21,7 +21,7 @@ use Rattle.replay_model.specs.Tables.{AreTables, Tables}
 use Rattle.replay_model.specs.Marks.{Hit, IsVerdict, Missed, Undetermined}
 use Rattle.replay_model.specs.Step.{Closing, Replay, closed, contradicts}
 use Rattle.replay_model.specs.Start.{contradicts_first, started}
-use Rattle.replay_model.specs.Stands.{AreForced, AreKnown, AreTold, IsSound, Stands}
+use Rattle.replay_model.specs.Stands.{AreForced, AreKnown, AreReasoned, IsSound, Stands}
 
 -- what is taken for granted of a replay: a lawful design, its tables, runs of its bodies and its points
 pub record IsReplayOf (d : Design) (h : Habit) (dump : BoundDump) (run : Runs) (tables : Tables) (points : List Point) : Type 0 where
@@ -93,20 +93,20 @@ RestKnownLaw =
     → OwnLaws d → (t : ℕ) (a : Replay) → IsWindow dump (suc t) → (IsListed dump (suc t) → ⊥) → AreKnown d h dump tables t a
     → AreKnown d h dump tables (suc t) a
 
--- Told laws: a closing step without a contradiction keeps it that what is reported is reasoned.
-abbrev pub StepToldLaw : Habit → Type 0
-StepToldLaw h =
+-- Marking laws: a closing step without a contradiction keeps it that what is reported is reasoned.
+abbrev pub StepReasonedLaw : Habit → Type 0
+StepReasonedLaw h =
     (d : Design) (dump : BoundDump) (run : Runs) (tables : Tables) (points : List Point) → IsReplayOf d h dump run tables points → OwnLaws d
     → (t : ℕ) (sets : Sets) (a : Replay) → IsWindow dump (suc t) → IsListed dump (suc t) → AreSets d h dump (suc t) sets
-    → AreKnown d h dump tables t a → ((c : Cell) → contradicts (closing_at d dump run tables sets t a) c ≡ false) → AreTold d h dump t a
-    → AreTold d h dump (suc t) (closed_at d dump run tables points sets t a)
+    → AreKnown d h dump tables t a → ((c : Cell) → contradicts (closing_at d dump run tables sets t a) c ≡ false) → AreReasoned d h dump t a
+    → AreReasoned d h dump (suc t) (closed_at d dump run tables points sets t a)
 
 -- so does a time that the dump does not list
-abbrev pub RestToldLaw : Type 0
-RestToldLaw =
+abbrev pub RestReasonedLaw : Type 0
+RestReasonedLaw =
     (d : Design) (h : Habit) (dump : BoundDump) (run : Runs) (tables : Tables) (points : List Point) → IsReplayOf d h dump run tables points
-    → (t : ℕ) (a : Replay) → IsWindow dump (suc t) → (IsListed dump (suc t) → ⊥) → AreTold d h dump t a
-    → AreTold d h dump (suc t) a
+    → (t : ℕ) (a : Replay) → IsWindow dump (suc t) → (IsListed dump (suc t) → ⊥) → AreReasoned d h dump t a
+    → AreReasoned d h dump (suc t) a
 
 -- Forced laws: where there was no contradiction, no forced value differs from the dump's at the first step.
 abbrev pub FirstForcedLaw : Type 0
@@ -193,5 +193,5 @@ SoundVerdictLaw =
 abbrev pub ReasonedVerdictLaw : Type 0
 ReasonedVerdictLaw =
     (d : Design) (h : Habit) (dump : BoundDump) (points : List Point) (t : ℕ) (a : Replay) → ((u : ℕ) → IsWindow dump u → u ≤ t) → IsShown dump t
-    → IsSound d h dump points t a → AreTold d h dump t a
+    → IsSound d h dump points t a → AreReasoned d h dump t a
     → AreReasonedVerdicts d h dump points a
