@@ -198,7 +198,7 @@ open_2 = (_, record { is_path = inl refl; follows = (tt, ((λ fixed. absurd (not
 pub doubt_2 : IsInDoubt flip_flop Free falling_dump line_two 5 1
 doubt_2 =
     of_block 0 (lit< tt, lit< tt) refl (inl ((cell 0 0, (is_clean Zero).can_wake), inr open_2))
-    (early
+    (read_early
     (record {
       thing = a_signal 1;
       trigger = cell 0 0;

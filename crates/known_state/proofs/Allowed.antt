@@ -86,10 +86,10 @@ sure_whole b [] h = refl
 sure_whole b (None ∷ ps) h = cc
 sure_whole b (Some a ∷ ps) h = ap (λ qs. Some a ∷ qs) (sure_whole b ps h)
 
--- a vector of which all bits are sure and nothing is to blame is sure whole
-pub whole_whole : (ps : List (Option Bit)) (v : Vector) (thing : ℕ) → filled Zero ps ≡ v.bits → are_sure ps ≡ true → thing ≡ 0 → record { bits = ps; signed = v.signed; blame = thing } ≡ whole_of v
-whole_whole ps v thing bits sure spared =
-    ap (λ qs. record { bits = qs; signed = v.signed; blame = thing }) (sure_whole Zero ps sure ∙ ap sure bits) ∙ ap (λ n. record { bits = sure v.bits; signed = v.signed; blame = n }) spared
+-- a vector of which all bits are sure and nothing is to blame is whole
+pub whole_is : (ps : List (Option Bit)) (v : Vector) (thing : ℕ) → filled Zero ps ≡ v.bits → are_sure ps ≡ true → thing ≡ 0 → record { bits = ps; signed = v.signed; blame = thing } ≡ whole_of v
+whole_is ps v thing bits all_sure spared =
+    ap (λ qs. record { bits = qs; signed = v.signed; blame = thing }) (sure_whole Zero ps all_sure ∙ ap sure bits) ∙ ap (λ n. record { bits = sure v.bits; signed = v.signed; blame = n }) spared
 
 -- ---- what a join allows
 
