@@ -5,15 +5,15 @@ ghost use Rattle.verilog_tree.specs.View.{modules_view};
 ghost use Rattle.grammar_rules.specs.Grammar.{whole};
 ghost use Rattle.verilog_grammar.specs.Language.{verilog};
 ghost use Rattle.verilog_grammar.specs.Verilog.{grammar};
-ghost use Rattle.verilog_parser.specs.Gives.{fault_view};
+ghost use Rattle.verilog_expressions.specs.Gives.{fault_view};
 ghost use Rattle.verilog_parser.specs.Parses.{AreModules, IsAnswer, IsRefusalOf, StandsIn};
 
-use crate::cursor::Cursor;
-use crate::fault::{Fault, ParseFault, ParseKind, ReadFault, Wrong};
+use crate::fault::{ParseFault, ParseKind};
 use crate::left_out::form_of;
 use crate::module::modules;
 use cov_host::Name;
 use std::alloc::Global;
+use verilog_expressions::{Cursor, Fault, ReadFault, Wrong};
 use verilog_grammar::Kind;
 use verilog_lexer::{Token, Tokens};
 use verilog_tree::Modules;

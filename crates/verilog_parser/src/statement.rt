@@ -13,17 +13,17 @@ ghost use Rattle.verilog_grammar.specs.Parts.{after, in_parentheses as in_parent
 ghost use Rattle.verilog_grammar.specs.Statements.{case_kind as kind_of_case, statement_rule, statements_rule, block_rule, if_rule, case_rule, arms_rule};
 ghost use Rattle.verilog_grammar.specs.Statements.{label_arm_rule, label_arms_rule, default_arm_rule, default_arms_rule, set_rule, header_rule, for_rule};
 ghost use Rattle.verilog_grammar.specs.Statements.{sign_rule, assignment_rule, argument_rule, arguments_rule, task_or_null_rule, null_rule};
-ghost use Rattle.verilog_parser.specs.Gives.{Gives, Fails, same};
+ghost use Rattle.verilog_expressions.specs.Gives.{Gives, Fails, same};
 ghost use Rattle.verilog_parser.specs.Statements.{case_words, task_words, argument_words, default_arms_view, header_view, no_value, task_end_rule};
-ghost use Rattle.verilog_parser.specs.Views.{set_view};
+ghost use Rattle.verilog_expressions.specs.Views.{set_view};
 
-use crate::cursor::Cursor;
-use crate::expr::{begins_expression, expression, expressions, in_parentheses};
-use crate::fault::ReadFault;
-use crate::select::{begins_target, target};
 use cov_host::{NoMemory, Place};
 use four_state::CaseKind;
 use std::alloc::Global;
+use verilog_expressions::{
+    Cursor, ReadFault, begins_expression, begins_target, expression, expressions, in_parentheses,
+    target,
+};
 use verilog_grammar::{Body, Kind};
 use verilog_lexer::Token;
 use verilog_tree::{Arm, Expr, Statement};
@@ -195,7 +195,7 @@ fn case_kind(kind: Kind) -> CaseKind
 }
 
 /// The word of a case, and how the labels match.
-#[tactic(auto, using(crate::proofs::Statements::any_taken, crate::proofs::Statements::any_refused))]
+#[tactic(auto, using(verilog_expressions::proofs::Taken::any_taken, verilog_expressions::proofs::Taken::any_refused))]
 fn case_word<'a>(cursor: &mut Cursor<'_, 'a>) -> Result<(Token<'a>, CaseKind), ReadFault>
     ensures reads { Gives (λ p. lexeme p.0) (take_one verilog case_words cursor.old) result cursor.new }
     ensures kind { IfOk result (λ p. p.1 ≡ kind_of_case (kind_of (lexeme p.0))) }
