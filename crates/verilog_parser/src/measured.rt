@@ -227,7 +227,7 @@ impl Measured {
     }
 }
 
-/// Expressions, and the depth of the deepest of them and of what stood before them.
+/// Expressions, and the depth of the deepest of them and of what came before them.
 #[derive(Drop)]
 pub(crate) struct MeasuredList {
     exprs: Vec<Expr>,
@@ -239,7 +239,7 @@ pub(crate) struct MeasuredList {
 impl MeasuredList {
     ghost use Rattle.verilog_parser.specs.Measured.{measured_view, list_view};
 
-    /// One expression, behind what has this depth.
+    /// One expression, after what has this depth.
     pub(crate) fn one(
         alloc: Global,
         start: Depth,
