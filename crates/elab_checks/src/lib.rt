@@ -1,4 +1,10 @@
-//! The faults of expressions, targets, loops and event lists in a scope (IEEE 1364-2001 clauses 4, 6 and 9).
+//! The faults of expressions, targets, statements, loops and event lists in a scope (IEEE 1364-2001 clauses 4, 6 and
+//! 9). Nothing is built here.
+//!
+//! [`check`] reports the faults of an expression, [`check_target`] those of a target, [`check_statement`] all that is
+//! found in a statement, with its loops in their turns, and [`check_when`] those of an event list;
+//! [`target_writings`] gives what the parts of a target write. Each is proved to add to a tally exactly the faults
+//! and writings of its definition, in their order, and to say whether there was a fault.
 #![tactic(auto)]
 
 mod expressions;
