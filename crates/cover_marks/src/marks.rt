@@ -20,7 +20,7 @@ pub struct Marks {
 }
 
 impl Marks {
-    /// The marks of these points, of which nothing is reported yet.
+    /// The marks of these points, with nothing told of any.
     pub fn new(alloc: Global, points: &Points) -> Result<Self, NoMemory>
         requires apart { AreApart points.now }
         requires few { length (points_of points.now) ≤ MOST_POINTS }
@@ -49,8 +49,8 @@ impl Marks {
         self.verdicts.hit(point);
     }
 
-    /// The thing left the point open at this time. A point that was hit stays hit, and the first doubt is kept. It
-    /// takes no memory.
+    /// The thing left the point open at this time. A point that was hit stays hit, and the first doubt is kept. It takes
+    /// no memory.
     pub fn doubt(&mut self, point: u32, thing: u32, time: u64)
         requires { point < length self.old.verdicts }
         ensures points { (points : ThePoints) → AreMarksOf points self.old → AreMarksOf points self.new }
@@ -59,8 +59,8 @@ impl Marks {
         self.verdicts.doubt(point, thing, time);
     }
 
-    /// How the point came out: hit where it was reported to be, else undetermined by the first doubt reported of it,
-    /// else missed. It takes no memory.
+    /// How the point came out: hit where it was told to be, else undetermined by the first doubt told of it, else
+    /// missed. It takes no memory.
     pub fn verdict(&self, point: u32) -> Verdict
         requires { point < length self.now.verdicts }
         ensures { (told : List Told) → IsMarked told self.now.verdicts → IsVerdict told point result }
