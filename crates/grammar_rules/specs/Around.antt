@@ -15,12 +15,14 @@ module _ (L : Language) where
   HasDeepPart d P place = (n : ℕ) × (j : Tokens L) × (d ≤ n) × P n j × StandsAt L j place
 
   -- the parts of all values of a list
-  abbrev pub ChainParts : {A : Type 0} (S : A → Tokens L → Tokens L → Type 0) → ((v : A) (i o : Tokens L) → S v i o → ℕ → Tokens L → Type 0) → (vs : List A) (i o : Tokens L) → Chain S vs i o → ℕ → Tokens L → Type 0
+  abbrev pub ChainParts : {A : Type 0} (S : A → Tokens L → Tokens L → Type 0) → ((v : A) (i o : Tokens L) → S v i o → ℕ → Tokens L → Type 0)
+      → (vs : List A) (i o : Tokens L) → Chain S vs i o → ℕ → Tokens L → Type 0
   ChainParts S Y [] i o s n j = ⊥
   ChainParts S Y (v ∷ vs) i o s n j = Y v i s.0 s.1 n j ⊎ ChainParts S Y vs s.0 o s.2 n j
 
   -- the parts of what a value with these parts grows to, of which it becomes a part each time
-  abbrev pub GrownParts : {A : Type 0} (S : A → Tokens L → Tokens L → Type 0) → ((v : A) (i o : Tokens L) → S v i o → ℕ → Tokens L → Type 0) → (bs : List A) (m o : Tokens L) → Chain S bs m o → Tokens L → (ℕ → Tokens L → Type 0) → ℕ → Tokens L → Type 0
+  abbrev pub GrownParts : {A : Type 0} (S : A → Tokens L → Tokens L → Type 0) → ((v : A) (i o : Tokens L) → S v i o → ℕ → Tokens L → Type 0)
+      → (bs : List A) (m o : Tokens L) → Chain S bs m o → Tokens L → (ℕ → Tokens L → Type 0) → ℕ → Tokens L → Type 0
   GrownParts S Y [] m o s i P n j = P n j
   GrownParts S Y (b ∷ bs) m o s i P n j = GrownParts S Y bs s.0 o s.2 i (λ k u. Whole i P k u ⊎ Y b m s.0 s.1 k u) n j
 
