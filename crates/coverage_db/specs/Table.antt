@@ -16,7 +16,7 @@ use Rattle.coverage_db.specs.declared.verdict.DbVerdict.TheVariants.{Hit, Missed
 use Rattle.coverage_db.specs.Order.{bytes_cmp, address_cmp}
 use Rattle.coverage_db.specs.Words.{can_have}
 
--- each item stands before the next one
+-- each item comes before the next one
 abbrev pub Rises : {T : Type 0} → (T → T → Ordering) → List T → Type 0
 Rises cmp [] = Unit {0}
 Rises cmp (x ∷ []) = Unit {0}

@@ -116,6 +116,6 @@ text_of_lines lines = flat_map ended lines
 abbrev pub text_of : Db → List ℕ
 text_of db = text_of_lines (lines_with_count (decimal (length db.points)) db)
 
--- what stands between the line feeds of a text: its lines, and at last what stands behind the last line feed
+-- what is between the line feeds of a text: its lines, and at last what is after the last line feed
 abbrev pub lines_of : List ℕ → List (List ℕ)
 lines_of text = slice_split (λ byte. byte == 10) text

@@ -103,6 +103,6 @@ HasGoodDatabases words before =
     ⊎ ((values : ReportValues) × IsReport words values × IsGoodReport values before)
     ⊎ ((values : LcovValues) × IsLcov words values × IsGoodLcov values before)
 
--- a fault of this status stands, and its line was warned
+-- there is a fault of this status, and its line was warned
 abbrev pub WarnsFault : List (List ℕ) → Status → Outside → Outside → Type 0
 WarnsFault words status before after = (fault : Fault) × (status_of fault ≡ status) × Stands words before after fault × WarnsLine (line_of fault) before after

@@ -93,7 +93,7 @@ size_of (assign i x t counted) = 0
 size_of (comb i wakes s) = size s
 size_of (clocked i events s) = size s
 
--- the instance that a process stands in
+-- the instance that a process is in
 abbrev pub instance_of : Process → ℕ
 instance_of (assign i x t counted) = i
 instance_of (comb i wakes s) = i
@@ -125,7 +125,7 @@ is_shallow path = nat_lt (count_by (λ b. b == 46) path) 64
 abbrev pub is_instance : Instance → Bool
 is_instance i = is_shallow i.path && nat_le (length i.path) 256
 
--- an alias stands in an instance and names a signal
+-- an alias is in an instance and names a signal
 abbrev pub is_alias : Design → Alias → Bool
 is_alias d a = nat_lt a.instance (length d.instances) && nat_lt a.signal (length d.signals)
 

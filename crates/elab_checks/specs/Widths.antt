@@ -1,4 +1,4 @@
--- The widths of parts that stand side by side.
+-- The widths of parts that are side by side.
 use Rattle.std.specs.Prelude.{ℕ, if◌then◌else◌, List, [], Option, Some, None}
 use Rattle.cov_host.specs.declared.place.Place.{Place}
 use Rattle.verilog_tree.specs.Tree.{Exprs}

@@ -30,12 +30,12 @@ pub record StandsFor (before t : Tally) (n : ℕ) (st : Sofar) : Type 0 where
 abbrev pub with_process : t.Process → model.Design → model.Design
 with_process p d = record d { processes = d.processes ++ p ∷ [] }
 
--- nothing was told, and no limit is passed
+-- nothing was reported, and no limit is passed
 pub record IsClean (t : Tally) : Type 0 where
   pub open' : t.ended ≡ false
   pub none : t.first ≡ None
 
--- the walk builds the design whose memories are numbered from b on, and nothing was told
+-- the walk builds the design whose memories are numbered from b on, and nothing was reported
 pub record IsBuilding (base b : ℕ) (w : Walk) (d : Design) : Type 0 where
   pub same : b ≡ base
   pub draft : w.draft ≡ Some d
@@ -51,7 +51,7 @@ pub record IsAmong (before : Tally) (base b : ℕ) (w : Walk) (numbers : Numbers
   pub at : IsAt before base b w st
   pub numbered : (d : Design) → IsBuilding base b w d → (numbers.instance ≡ i) × (numbers.line ≡ l) × (numbers.node ≡ n)
 
--- where the later walk builds a design and nothing was told, so it was before
+-- where the later walk builds a design and nothing was reported, so it was before
 abbrev pub Remains : Walk → Walk → Type 0
 Remains w later = (d : Design) → later.draft ≡ Some d → IsClean later.tally → (o : Design) × (w.draft ≡ Some o) × IsClean w.tally
 
@@ -60,7 +60,7 @@ abbrev pub GoesBy : ℕ → Walk → Numbers → Walk → Numbers → (ℕ → �
 GoesBy base w numbers later others f lines nodes =
     (before : Tally) (b : ℕ) (st : Sofar) (i l n : ℕ) → IsAmong before base b w numbers st i l n → IsAmong before base b later others (f b i l n st) i (l + lines) (n + nodes) × Remains w later
 
--- this was met, and the process added to the design, if one is built and nothing was told
+-- this was found, and the process added to the design, if one is built and nothing was reported
 pub record Adds (w later : Walk) (ms : List Met) (p : t.Process) : Type 0 where
   pub met : later.tally ≡ after_all w.tally ms
   pub memories : later.memories ≡ w.memories
@@ -74,7 +74,7 @@ WalksBy base w later f = (before : Tally) (b : ℕ) (st : Sofar) → IsAt before
 abbrev pub opened_design : Instantiation → model.Design → model.Design
 opened_design i d = (opened i (record { design = d; met = [] })).design
 
--- the instance was opened, and its own parts are added to the design, if one is built and nothing was told
+-- the instance was opened, and its own parts are added to the design, if one is built and nothing was reported
 pub record Opens (w later : Walk) (numbers : Numbers) (i : Instantiation) : Type 0 where
   pub met : later.tally ≡ after_all w.tally (opening_met i)
   pub memories : later.tally.ended ≡ false → later.memories ≡ w.memories + length (filter is_memory (declared i.overrides i.of_module))

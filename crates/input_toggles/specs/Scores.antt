@@ -1,4 +1,4 @@
--- What a scorer stands for: a design under what a dump has said so far.
+-- What a scorer keeps: a design under what a dump has said so far.
 use Rattle.std.specs.Prelude.{◌≡◌, ◌-◌, ◌<◌, ◌≤◌, ◌↔◌, ℕ, Bool, true, false, IsTrue, IsSome, List, [], map, length, take, slice_index_or, All}
 use Rattle.std.specs.List.{list_any}
 use Rattle.coverage_db.specs.declared.db.Db.{Db}

@@ -42,7 +42,7 @@ pub record StandsFor (values : ℕ → Option Vector) (count : ℕ) (value : Opt
   pub value_is : value ≡ values count
   pub toggles_are : (place : ℕ) (rise : Bool) → IsTrue (has_toggle toggles place rise) ↔ ToggledBy values count place rise
 
--- what is followed of a code stands for the steps before that of its last change, and has changed in no later one
+-- what is kept of a code accounts for the steps before that of its last change, and it has changed in no later step
 pub record IsTrack (values : ℕ → Option Vector) (count mark : ℕ) (track : Track) : Type 0 where
   pub none : values 0 ≡ None
   pub number : ℕ
@@ -52,7 +52,7 @@ pub record IsTrack (values : ℕ → Option Vector) (count mark : ℕ) (track : 
   pub earlier : number + 1 < count → track.mark < mark
   pub latest : number + 1 ≡ count → track.mark ≡ mark
 
--- what is followed of a code stands for all steps but the open one
+-- what is kept of a code accounts for all steps except the open one
 pub record IsClosed (values : ℕ → Option Vector) (count mark : ℕ) (track : Track) : Type 0 where
   pub none : values 0 ≡ None
   pub some : 1 ≤ count
@@ -82,7 +82,7 @@ abbrev pub IsMark : Option ℕ → ℕ → Type 0
 IsMark None mark = mark ≡ 0
 IsMark (Some last) mark = mark ≤ last
 
--- what is followed stands for what was said
+-- what is kept accounts for what was said
 pub record Follows (tracks : Tracks) (entries : List Entry) : Type 0 where
   pub last : tracks.last ≡ last_time None entries
   pub first : tracks.is_first ≡ nat_lt (count_of entries) 2

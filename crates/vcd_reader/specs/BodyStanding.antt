@@ -1,4 +1,4 @@
--- Where the reader of a body stands after a text.
+-- The state of the reader of a body after a text.
 use Rattle.std.specs.Prelude.{◌≡◌, ◌<◌, ◌≤◌, ℕ, ◌+◌, true, false, List, [], ◌∷◌, ◌++◌, length, take, Option, None, Some}
 use Rattle.std.specs.Option.{option_to_list}
 use Rattle.vcd_reader.specs.Reading.{Body, body}
@@ -33,7 +33,7 @@ pub record HasSaid (says : Option Entry) (b next : Body) : Type 0 where
   pub items : next.items ≡ b.items ++ option_to_list says
   pub vars : next.vars ≡ b.vars
 
--- the reader stands behind this text, which says so much more than the body
+-- the reader is after this text, which says this entry more than the body
 pub record SaysNext (says : Option Entry) (reader : BodyReader) (text : List ℕ) (b : Body) : Type 0 where
   pub next : Body
   pub stands : BodyStands reader text next

@@ -52,11 +52,11 @@ digits_length Octal text = run (is_part Octal) text
 digits_length Decimal text = decimal_digits_length text
 digits_length Hexadecimal text = run (is_part Hexadecimal) text
 
--- where the letter of the base stands, behind the quote and the letter of the sign if there is one
+-- where the letter of the base is, after the quote and the letter of the sign if there is one
 abbrev pub letter_at : List ℕ → ℕ
 letter_at text = if slice_index text 1 == 115 || slice_index text 1 == 83 then 2 else 1
 
--- where the digits begin, behind the letter of the base and white space
+-- where the digits begin, after the letter of the base and white space
 unfoldable pub digits_at : List ℕ → ℕ
 digits_at text = letter_at text + 1 + run is_white (drop (letter_at text + 1) text)
 

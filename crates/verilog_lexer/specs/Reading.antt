@@ -1,4 +1,4 @@
--- What sources say: their tokens under definitions, or the fault that stands first (IEEE 1364-2001 clause 19).
+-- What sources say: their tokens under definitions, or the fault that is first (IEEE 1364-2001 clause 19).
 use Rattle.std.specs.Prelude.{ℕ, zero, suc, ◌+◌, ◌-◌, Bool, false, ◌==◌, List, [], ◌∷◌, Option, None, Some, Ok, Err, if◌then◌else◌, length, slice_get, slice_index, is_none, ◌&&◌, take}
 use Rattle.cov_host.specs.declared.place.Place.{Place}
 use Rattle.verilog_lexer.specs.Answer.{Answer, ◌>>=◌, fault_at}
@@ -61,7 +61,7 @@ front_piece in_macro conditions text =
     else if is_left_out conditions then left_out_piece text
     else read_piece text
 
--- what is left of a text: where it stands, and, for a file, the open conditions of what is round it
+-- what is left of a text: where it begins, and, for a file, the open conditions of what is round it
 pub record PassageText : Type 0 where
   pub text : List ℕ
   pub spot : Spot
@@ -147,6 +147,6 @@ read_roots all number (source ∷ others) reading = read_source all number sourc
 abbrev pub beginning : List DefineText → Reading
 beginning defines = record { tokens = []; macros = with_macros no_macros defines; conditions = [] }
 
--- the tokens of sources under defines, or the fault that stands first
+-- the tokens of sources under defines, or the fault that is first
 unfoldable pub tokens_of : List SourceText → List DefineText → Answer (List Lexeme)
 tokens_of sources defines = read_roots sources 1 sources (beginning defines) >>= λ reading. Ok reading.tokens
