@@ -78,7 +78,8 @@ opened_design i d = (opened i (record { design = d; met = [] })).design
 pub record Opens (w later : Walk) (numbers : Numbers) (i : Instantiation) : Type 0 where
   pub met : later.tally ≡ after_all w.tally (opening_met i)
   pub memories : later.tally.ended ≡ false → later.memories ≡ w.memories + length (filter is_memory (declared i.overrides i.of_module))
-  pub draft : (d : Design) → later.draft ≡ Some d → IsClean later.tally → (o : Design) × (w.draft ≡ Some o) × (design_view d ≡ opened_design i (design_view o)) × (numbers.instance ≡ length (design_view o).instances)
+  pub draft : (d : Design) → later.draft ≡ Some d → IsClean later.tally
+      → (o : Design) × (w.draft ≡ Some o) × (design_view d ≡ opened_design i (design_view o)) × (numbers.instance ≡ length (design_view o).instances)
   pub line : numbers.line ≡ 1
   pub node : numbers.node ≡ 1
 

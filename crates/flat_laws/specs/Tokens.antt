@@ -43,5 +43,6 @@ pub record AreOfTokens (ms : List Module) : Type 0 where
   pub modules : (m : Module) → In m ms → has_dot m.name.name ≡ false  -- for the names in a path
   pub instances : (m : Module) → In m ms → (x : Item) → In x m.items → (k : InstanceItem) → x.form ≡ instance_item k → (o : One) → In o k.ones → has_dot o.name.name ≡ false  -- the same
   pub names : (m : Module) → In m ms → (x : Named) → In x (names_of m) → x.name ≡ [] → ⊥  -- for targets: what begins with no name names nothing
-  pub blocking : (m : Module) → In m ms → (x : Item) → In x m.items → (w : When) (s : Statement) → x.form ≡ always_item w s → has_edges w ≡ false → is_blocking s ≡ true  -- for what is combinational: the grammar's body without edges has no `<=`
+  pub blocking : (m : Module) → In m ms → (x : Item) → In x m.items → (w : When) (s : Statement) → x.form ≡ always_item w s → has_edges w ≡ false
+      → is_blocking s ≡ true  -- for what is combinational: the grammar's body without edges has no `<=`
   pub literals : (m : Module) → In m ms → (v : Vector) → In v (literals_of m) → HasWidth v  -- for the widths of terms
