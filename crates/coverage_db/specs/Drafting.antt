@@ -1,4 +1,5 @@
 -- Reading a table line by line: what is read of it after one more line, or the fault of that line.
+-- Bytes are written as numbers: 32 space.
 use Rattle.std.specs.Prelude.{◌≡◌, ◌==◌, ◌<◌, ◌^◌, ℕ, ◌+◌, ◌-◌, Bool, true, ◌&&◌, bytes_eq, if◌then◌else◌, List, [], ◌∷◌, ◌++◌, length, codes, decimal, slice_get, Option, Some, None, Result, Ok, Err}
 use Rattle.std.specs.declared.cmp.Ordering.{Ordering}
 use Rattle.std.specs.Global.{Global}

@@ -1,4 +1,5 @@
 -- Reading a point from the fields of its line, from left to right.
+-- Bytes are written as numbers: 46 dot, 58 colon.
 use Rattle.std.specs.Prelude.{ℕ, ◌+◌, Bool, true, false, not, ◌&&◌, bytes_eq, if◌then◌else◌, List, [], ◌∷◌, codes, Option, Some, None, option_map}
 use Rattle.std.specs.Option.{is_some}
 use Rattle.cov_host.specs.Identifier.{is_identifier}

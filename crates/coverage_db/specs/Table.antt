@@ -1,4 +1,5 @@
 -- The tables that have a text.
+-- Bytes are written as numbers: 46 dot; those below 32 are in no name of a file.
 use Rattle.std.specs.Prelude.{◌≡◌, ◌≢◌, ℕ, ◌+◌, ◌<◌, ◌≤◌, ◌^◌, Bool, ◌&&◌, ◌||◌, nat_le, ◌==◌, IfSome, IsTrue, List, [], ◌∷◌, ◌++◌, length, All, Contains}
 use Rattle.std.specs.declared.cmp.Ordering.{Ordering}
 use Rattle.std.specs.declared.cmp.Ordering.TheVariants.{Less}

@@ -1,4 +1,5 @@
 -- The body of a dump (IEEE 1364-2001 clauses 18.2.1 and 18.2.2): times, changes, and which word is a fault.
+-- Bytes are written as numbers: 35 number sign, 66 B, 82 R, 83 S, 98 b, 114 r, 115 s.
 use Rattle.std.specs.Prelude.{ℕ, ◌==◌, ◌^◌, nat_le, nat_lt, Bool, true, false, not, ◌&&◌, ◌||◌, bytes_eq, if◌then◌else◌, List, [], ◌∷◌, length, codes, Option, Some, None, Ok, Err}
 use Rattle.std.specs.List.{list_all}
 use Rattle.cov_host.specs.Decimal.{decimal_value}

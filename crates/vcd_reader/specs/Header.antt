@@ -1,5 +1,6 @@
 -- The header of a dump (IEEE 1364-2001 clause 18.2.3): sections, what they declare, and which of their words is a fault.
 -- A section is a keyword, fields and `$end`, which always ends it.
+-- Bytes are written as numbers: 36 dollar sign, 46 dot, 91 open bracket; 33 to 126 are printable and no space.
 use Rattle.std.specs.Prelude.{ℕ, ◌-◌, ◌==◌, nat_le, nat_lt, Bool, false, not, ◌&&◌, bytes_eq, if◌then◌else◌, List, [], ◌∷◌, ◌++◌, take, length, codes, is_none, Option, Some, None, option_map}
 use Rattle.std.specs.List.{list_all, before_first, join_with_byte}
 use Rattle.std.specs.Char.{digit_value}

@@ -1,4 +1,5 @@
 -- The vectors of number literals (IEEE 1364-2001 clause 2.5.1).
+-- Bytes are written as numbers: 98 b, 100 d, 104 h, 111 o; digits begin at 48, 65 and 97.
 use Rattle.std.specs.Prelude.{ℕ, ◌-◌, nat_le, Bool, true, not, ◌||◌, ◌==◌, List, if◌then◌else◌, slice_index, drop, filter, flat_map, reverse}
 use Rattle.four_state.specs.declared.bit.Bit.{Bit}
 use Rattle.four_state.specs.declared.bit.Bit.TheVariants.{Zero, X, Z}

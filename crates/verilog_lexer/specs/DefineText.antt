@@ -1,4 +1,5 @@
 -- The text of a macro, which a directive defines (IEEE 1364-2001 clause 19.3.1).
+-- Bytes are written as numbers: 10 line feed, 34 double quote, 42 star, 47 slash, 92 backslash.
 use Rattle.std.specs.Prelude.{ℕ, ◌+◌, Bool, true, false, ◌&&◌, ◌==◌, List, [], ◌∷◌, Option, None, Some, if◌then◌else◌, slice_index}
 use Rattle.std.specs.Option.{option_map_or}
 use Rattle.verilog_lexer.specs.declared.define_text.Within.{Within}

@@ -1,4 +1,5 @@
 -- What is at the front of a text: a token, or a directive with what belongs to it (IEEE 1364-2001 clauses 2 and 19).
+-- Bytes are written as numbers: 34 double quote, 36 dollar sign, 39 quote, 40 open parenthesis, 41 close parenthesis, 42 star, 47 slash, 96 grave accent; 32 to 126 are printable.
 use Rattle.std.specs.Prelude.{ℕ, ◌+◌, ◌-◌, nat_le, Bool, false, not, ◌&&◌, ◌||◌, ◌==◌, List, [], Option, None, Some, if◌then◌else◌, slice_index, take, drop, length}
 use Rattle.std.specs.List.{list_all}
 use Rattle.std.specs.Char.{is_ascii_digit}

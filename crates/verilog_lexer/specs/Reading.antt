@@ -1,4 +1,5 @@
 -- What sources say: their tokens under definitions, or the fault that is first (IEEE 1364-2001 clause 19).
+-- Bytes are written as numbers: 10 line feed, 92 backslash.
 use Rattle.std.specs.Prelude.{ℕ, zero, suc, ◌+◌, ◌-◌, Bool, false, ◌==◌, List, [], ◌∷◌, Option, None, Some, Ok, Err, if◌then◌else◌, length, slice_get, slice_index, is_none, ◌&&◌, take}
 use Rattle.cov_host.specs.declared.place.Place.{Place}
 use Rattle.verilog_lexer.specs.Answer.{Answer, ◌>>=◌, fault_at}

@@ -1,4 +1,5 @@
 -- Places in the sources.
+-- Bytes are written as numbers: 10 line feed.
 use Rattle.std.specs.Prelude.{ℕ, ◌≡◌, ◌⊎◌, length, ◌+◌, ◌^◌, ◌<◌, true, false, ◌==◌, List, [], ◌∷◌, if◌then◌else◌}
 use Rattle.cov_host.specs.declared.place.Place.{Place}
 use Rattle.verilog_lexer.specs.declared.spot.Spot.{Spot}

@@ -1,4 +1,5 @@
 -- The places of the tokens of sources.
+-- Bytes are written as numbers: 96 grave accent.
 use Rattle.std.specs.Prelude.{ℕ, ◌≡◌, ◌<◌, ◌+◌, List, [], ◌∷◌, ◌++◌, Some, true, false, length, slice_get}
 use Rattle.std.specs.List.{All}
 use Rattle.cov_host.specs.Identifier.{has_name_form}
