@@ -1,5 +1,6 @@
 -- Based numbers (IEEE 1364-2001 clause 2.5.1).
--- Bytes are written as numbers: 63 question mark, 66 B, 68 D, 72 H, 79 O, 83 S, 88 X, 90 Z, 95 underscore, 98 b, 100 d, 104 h, 111 o, 115 s, 120 x, 122 z; 48 to 57 the digits, 65 to 70 and 97 to 102 the digits above 9.
+-- Bytes are written as numbers: 63 question mark, 66 B, 68 D, 72 H, 79 O, 83 S, 88 X, 90 Z, 95 underscore, 98 b, 100 d, 104 h, 111 o, 115 s, 120 x, 122 z;
+-- 48 to 57 the digits, 65 to 70 and 97 to 102 the digits above 9.
 use Rattle.std.specs.Prelude.{ℕ, ◌+◌, ◌^◌, ◌-◌, nat_le, is_some, Bool, true, false, not, ◌&&◌, ◌||◌, ◌==◌, List, Option, None, Some, if◌then◌else◌, slice_index, drop}
 use Rattle.std.specs.List.{list_any}
 use Rattle.std.specs.Char.{is_ascii_digit}
