@@ -108,7 +108,7 @@ module _ (d : Design) (h : Habit) (early_law : EarlyLaw (machine d)) (dump : Bou
 
           told : (c : Cell) (inside : In c (cells d x)) → ReadsWithin d (sure_in d (seen_of (left c inside).0.store)) (body_at d p)
           told c inside =
-              subst (λ f. ReadsWithin d (sure_in d f) (body_at d p)) (sym (reads_as (left c inside).0.store (left c inside).0.reads)) (reads_within d (EntryFrom d h dump (suc t) (clear d h dump t) p c0) (sure_in d (entry_kept st p s)) (body_at d p) within0 value.told)
+              subst (λ f. ReadsWithin d (sure_in d f) (body_at d p)) (sym (reads_as (left c inside).0.store (left c inside).0.reads)) (reads_within d (EntryFrom d h dump (suc t) (clear d h dump t) p c0) (sure_in d (entry_kept st p s)) (body_at d p) within0 value.within)
 
           gives : LeavesValue d (clear d h dump t) (sample (entry_kept st p s)) (all_writes (execution d (body_at d p) (sample (entry_kept st p s)))) x bits
           gives = value.gives (sample (entry_kept st p s)) (within_agrees d (EntryFrom d h dump (suc t) (clear d h dump t) p c0) (sure_in d (entry_kept st p s)) within0 (sample (entry_kept st p s)) (sample_agrees d (entry_kept st p s)))

@@ -323,7 +323,7 @@ module _ (d : Design) (h : Habit) (dump : BoundDump) (run : Runs) (tables : Tabl
         told : ReadsWithin d (sure_in d (made_kept d dump.bound p final)) (body_at d p)
         told =
             within_by d (sure_in d (made_kept d dump.bound p final)) (body_at d p) v0 (made_agrees p)
-            (inside_as K (sure_in d (made_kept d dump.bound p final)) (execution d (body_at d p) v0).visits (λ x read v. (v.0, made_same p x v.0 (and_left _ _ (own x v.0 read v.1)) (k.sure x v.0 v.1))) (value.told v0 (agrees K k)))
+            (inside_as K (sure_in d (made_kept d dump.bound p final)) (execution d (body_at d p) v0).visits (λ x read v. (v.0, made_same p x v.0 (and_left _ _ (own x v.0 read v.1)) (k.sure x v.0 v.1))) (value.within v0 (agrees K k)))
 
         each : (c : Cell) → In c (signal_cells d s) → final c ≡ Some (put_all v0 (execution d (body_at d p) v0).blocking c)
         each c inside =

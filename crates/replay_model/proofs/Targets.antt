@@ -6,7 +6,7 @@ use Rattle.event_machine.specs.Machine.{IsTarget}
 use Rattle.event_machine.specs.Habit.{Habit, Free, Late, is_free_input}
 use Rattle.event_machine.specs.MayMove.{MayWake}
 use Rattle.event_machine.specs.Early.{of_blocking, of_input, of_nonblocking, of_trigger}
-use Rattle.event_machine.specs.Marking.{IsMovingInput, IsToldInput}
+use Rattle.event_machine.specs.Told.{IsMovingInput, IsToldInput}
 use Rattle.event_machine.specs.Single.{IsSingle}
 use Rattle.event_machine.specs.Laws.{EarlyLaw}
 use Rattle.design_model.specs.Tree.{Process, Stmt, assign, clocked, comb}
