@@ -133,7 +133,7 @@ pub record IsOpened (name : List ℕ) (before after : Outside) : Type 0 where
 abbrev pub IsAbsent : List ℕ → Outside → Type 0
 IsAbsent name before = IfSome before.files (λ files. files name ≡ None)
 
--- so many first bytes of the piece are the next ones of the file, and none only at its end
+-- this number of first bytes of the piece are the next ones of the file, and 0 only at its end
 pub record IsRead (count : ℕ) (piece : List ℕ) (before after : Outside) : Type 0 where
   pub within : count ≤ length piece
   pub bytes : Told (λ rest left. rest ≡ take count piece ++ left) before.rest after.rest
@@ -150,7 +150,7 @@ pub record IsNotCreated (name : List ℕ) (before after : Outside) : Type 0 wher
   pub writing : after.writing ≡ false
   pub files : Told (λ old new. SameFiles old new ⊎ HasFile name [] old new) before.files after.files
 
--- so many first bytes of the piece were appended, at least one of a piece that is not empty
+-- this number of first bytes of the piece was appended, at least one of a piece that is not empty
 pub record IsWritten (count : ℕ) (piece : List ℕ) (before after : Outside) : Type 0 where
   pub within : count ≤ length piece
   pub some : piece ≢ [] → 0 < count

@@ -48,12 +48,12 @@ pub record IsInstance (instance : DbInstance) : Type 0 where
 abbrev pub IsNumber : ℕ → Type 0
 IsNumber number = (1 ≤ number) × (number < 2 ^ 32)
 
--- the line is of one of so many sources
+-- the line is of one of this number of sources
 pub record IsSourceLine (sources : ℕ) (at : SourceLine) : Type 0 where
   pub source : (1 ≤ at.source) × (at.source ≤ sources)
   pub line : IsNumber at.line
 
--- what a point of a table with so many sources may count
+-- what a point of a table with this number of sources may count
 abbrev pub IsSubject : ℕ → Subject → Type 0
 IsSubject sources (Line number at word) = IsNumber number × IsSourceLine sources at
 IsSubject sources (Logic number at operator case) = IsNumber number × IsSourceLine sources at × IsTrue (can_have operator case)
@@ -72,7 +72,7 @@ IsVerdict instances Hit = Unit {0}
 IsVerdict instances Missed = Unit {0}
 IsVerdict instances (Undetermined time path) = (time < 2 ^ 63) × IsThingIn instances path
 
--- a point of a table with so many sources and these instances
+-- a point of a table with this number of sources and these instances
 pub record IsPoint (sources : ℕ) (instances : List DbInstance) (point : DbPoint) : Type 0 where
   pub instance : point.address.instance < length instances
   pub subject : IsSubject sources point.address.subject

@@ -19,7 +19,7 @@ use Rattle.covered_cli.specs.declared.dump_refusal.DumpRefusal.TheVariants as re
 use Rattle.covered_cli.specs.declared.status.Status.{Status}
 use Rattle.covered_cli.specs.declared.status.Status.TheVariants.{Dump, Memory}
 
--- the host tells the files, and this one has this text
+-- the files of the host are known, and this one has this text
 abbrev pub HasText : Outside → List ℕ → List ℕ → Type 0
 HasText outside name text = IsSomeAnd outside.files (λ files. files name ≡ Some text)
 

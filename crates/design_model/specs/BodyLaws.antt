@@ -83,7 +83,7 @@ MentionReadLaw d =
 abbrev pub DrivesAndMentions : Design → ℕ → ℕ → Type 0
 DrivesAndMentions d p y = (is_assign (process_at d p) ≡ true) × (body_mentions y (body_at d p) ≡ true) × (body_assigns y (body_at d p) ≡ true)
 
--- what is clear at t by so many rounds
+-- what is clear at t by this number of rounds
 abbrev pub clear_round : Design → Habit → BoundDump → ℕ → ℕ → PartialMap
 clear_round d h dump t n = clear_in d h dump t (clear_start d h dump t) n
 

@@ -68,7 +68,7 @@ abbrev pub option_word : Design → Values Bit → ℕ → Option ℕ → List B
 option_word d v m None = fill (memory_at d m).width X
 option_word d v m (Some i) = word_bits d v m i
 
--- so many copies, one after the other
+-- this number of copies, one after the other
 abbrev pub copies : ℕ → List Bit → List Bit
 copies zero bs = []
 copies (suc n) bs = bs ++ copies n bs

@@ -55,7 +55,7 @@ abbrev pub more_if : Result (List Vector) Fault → Bool → Result (List Vector
 more_if more true = more
 more_if more false = Ok []
 
--- the turns from this value of the variable on, at most so many
+-- the turns from this value of the variable on, at most this number of them
 abbrev pub turns_from : Names → Place → List ℕ → Expr → Expr → ℕ → Vector → Result (List Vector) Fault
 turns_from g p x test step zero v = on_ok (begins (with_turn x v g) p test) (more_if (Err (fault_at LoopTooLong p)))
 turns_from g p x test step (suc k) v =

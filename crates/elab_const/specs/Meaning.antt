@@ -43,7 +43,7 @@ entry_shape (Some (Turn v)) = vector_shape v
 entry_shape (Some (Signal high low ranged width signed)) = shape_as width signed
 entry_shape (Some (Memory first last high low ranged width signed)) = shape_as width signed
 
--- the bits of a constant; what is none reads x
+-- the bits of a constant; without a value they read x
 abbrev pub entry_bits : Option Entry → List Bit
 entry_bits (Some (Constant v)) = v.bits
 entry_bits (Some (Turn v)) = v.bits
@@ -99,7 +99,7 @@ number_in v = index_of (index v.signed v.bits)
 abbrev pub number_alone : Meaning → Index
 number_alone m = number_in (vector_in m m.shape)
 
--- the number, 0 where it is none
+-- the number, 0 where there is no number
 abbrev pub count_of : Index → ℕ
 count_of (number.At n) = n
 count_of _ = 0

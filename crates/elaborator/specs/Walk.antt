@@ -13,7 +13,7 @@ use Rattle.elab_scope.specs.Tally.{Tally, after_all}
 use Rattle.elaborator.specs.declared.walk.Numbers.{Numbers}
 use Rattle.elaborator.specs.declared.walk.Walk.{Walk}
 
--- what the limits count is as many as the design has, and so many memories were met
+-- the counts of the limits are those of the design, and this number of memories was counted
 pub record HasNumbers (t : Tally) (n : ℕ) (d : model.Design) : Type 0 where
   pub signals : t.counts.signals ≡ length d.signals
   pub processes : t.counts.processes ≡ length d.processes
@@ -55,7 +55,7 @@ pub record IsAmong (before : Tally) (base b : ℕ) (w : Walk) (numbers : Numbers
 abbrev pub Remains : Walk → Walk → Type 0
 Remains w later = (d : Design) → later.draft ≡ Some d → IsClean later.tally → (o : Design) × (w.draft ≡ Some o) × IsClean w.tally
 
--- from one moment to the next the walk in an instance goes by this step, which takes so many line points and counted nodes
+-- from one moment to the next the walk in an instance goes by this step, which takes this number of line points and counted nodes
 abbrev pub GoesBy : ℕ → Walk → Numbers → Walk → Numbers → (ℕ → ℕ → ℕ → ℕ → Sofar → Sofar) → ℕ → ℕ → Type 0
 GoesBy base w numbers later others f lines nodes =
     (before : Tally) (b : ℕ) (st : Sofar) (i l n : ℕ) → IsAmong before base b w numbers st i l n → IsAmong before base b later others (f b i l n st) i (l + lines) (n + nodes) × Remains w later

@@ -41,7 +41,7 @@ limit_fault l p = of_modules Limit (Some p) ((48 + limit_number l) ∷ [])
 abbrev pub missing_top : List ℕ → Fault
 missing_top top = of_modules NoModule None top
 
--- a fault of a constant, as elaboration tells it
+-- a fault of a constant, as elaboration reports it
 abbrev pub told_constant : ConstFault → ElabFault
 told_constant const_fault.NoMemory = elab_fault.NoMemory
 told_constant fault = elab_fault.Const fault
@@ -55,7 +55,7 @@ told (of_modules k p x) = elab_fault.At k p x
 abbrev pub fault_if : Bool → Fault → List Fault
 fault_if test f = if test then f ∷ [] else []
 
--- the fault that an answer on constants tells, if it tells one
+-- the fault of an answer on constants, if it has one
 abbrev pub answer_faults : {A : Type 0} → Result A ConstFault → List Fault
 answer_faults (Err (const_fault.At k p)) = of_constant k p ∷ []
 answer_faults _ = []

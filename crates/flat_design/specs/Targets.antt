@@ -49,7 +49,7 @@ with_sign_bit base g e n = if nat_lt (shape g e).width 128 && not (shape g e).si
 abbrev pub signed_term : ℕ → Scope → ℕ → Expr → ℕ → Term
 signed_term base g w e n = t.sign (head_as (place_of e) (shape_as w true) None) true (with_sign_bit base g e n)
 
--- the bits of an index that is moved: so many that it does not wrap
+-- the number of bits of an index that is moved, such that it does not wrap
 abbrev pub moved_width : Scope → Expr → ℕ
 moved_width g e = min 128 (max ((shape g e).width + 1) 8 + 1)
 
@@ -165,7 +165,7 @@ offsets_from size w (Some (negsuc k)) = filter (λ i. nat_lt i size) (range_with
 abbrev pub all_offsets : SignalEntry → List ℕ
 all_offsets s = range_with_len 0 (range_width s.range)
 
--- so many bits of a signal from this offset, where that is constant, and else all of them
+-- this number of bits of a signal from this offset, where that is constant, and else all of them
 abbrev pub offsets_if : Bool → SignalEntry → ℕ → Option ℤ → List ℕ
 offsets_if is_constant s w from = if is_constant then offsets_from (range_width s.range) w from else all_offsets s
 

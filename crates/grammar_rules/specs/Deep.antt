@@ -40,7 +40,7 @@ module _ (L : Language) (G : Grammar L) where
   abbrev pub NestsAtAll : (p : L.Phrase) → L.Value p → Tokens L → Tokens L → Type 0
   NestsAtAll p v i o = (d : ℕ) × Nests L G d p v i o
 
-  -- the same of a phrase, in which so many may nest; with none the phrase itself is beyond the limits, where its first token is
+  -- the same of a phrase, in which this number may nest; with 0 the phrase itself is beyond the limits, where its first token is
   abbrev pub NestsTooDeep : ℕ → (p : L.Phrase) → Tokens L → Tokens L → L.Place → Type 0
   NestsTooDeep zero p i o place = (i ≡ o) × StandsAt L i place × Begins L (NestsAtAll p) i
   NestsTooDeep (suc d) p i o place = Exceeds L (λ h. nat_le h d) (Nests L G d) NestsAtAll (NestsTooDeep d) (G.rule_of p) i o place

@@ -6,7 +6,7 @@ use Rattle.grammar_rules.specs.Deep.{IsFirstTooDeep}
 use Rattle.grammar_rules.specs.Around.{IsDeepInEach}
 
 module _ (L : Language) (G : Grammar L) where
-  -- what is wrong where so many tokens are left
+  -- what is wrong where this number of tokens are left
   abbrev pub Stands : ℕ → Tokens L → Wrong L → ℕ → Type 0
   Stands d i unexpected zero = EndsEarly L G i
   Stands d i unexpected (suc n) = IsUnexpected L G i (length i - suc n)

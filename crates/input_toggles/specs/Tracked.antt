@@ -26,18 +26,18 @@ count_of entries = length (open_steps entries)
 abbrev pub value_after : List DumpStep → ℕ → Option Vector
 value_after steps code = last_value code (flat_map (λ step. step.changes) steps)
 
--- the value of a code after so many of the steps so far
+-- the value of a code after this number of the steps so far
 abbrev pub value_so_far : List Entry → ℕ → ℕ → Option Vector
 value_so_far entries code count = value_after (take count (open_steps entries)) code
 
--- the bit toggles in a direction from one of so many steps to the next, where these are the values after each
+-- the bit toggles in a direction from one of this number of steps to the next, where these are the values after each
 pub record ToggledBy (values : ℕ → Option Vector) (count place : ℕ) (rise : Bool) : Type 0 where
   pub number : ℕ
   pub inside : number + 1 < count
   pub before : bit_at (values (number + 1)) place ≡ old_bit rise
   pub after : bit_at (values (number + 2)) place ≡ new_bit rise
 
--- the value and the toggles are those of so many steps
+-- the value and the toggles are those of this number of steps
 pub record StandsFor (values : ℕ → Option Vector) (count : ℕ) (value : Option Vector) (toggles : Toggles) : Type 0 where
   pub value_is : value ≡ values count
   pub toggles_are : (place : ℕ) (rise : Bool) → IsTrue (has_toggle toggles place rise) ↔ ToggledBy values count place rise

@@ -8,7 +8,7 @@ use Rattle.verilog_lexer.specs.Sources.{AreWithinLimits, SourceText}
 use Rattle.verilog_lexer.specs.declared.fault.LexFault.TheVariants as lex_fault
 use Rattle.verilog_lexer.specs.declared.fault.LexKind.TheVariants.{IncludeMissing}
 
--- the file has this text, where the host tells the files
+-- the file has this text, where the files of the host are known
 abbrev pub IsFile : Outside → List ℕ → List ℕ → Type 0
 IsFile outside name text = IfSome outside.files (λ files. files name ≡ Some text)
 

@@ -45,7 +45,7 @@ pub record EndsSaying (says : Option Entry) (text : List ℕ) (b : Body) : Type 
   pub ends : EndsAs text next
   pub said : HasSaid says b next
 
--- so many bytes of the next piece were used for an entry
+-- this number of bytes of the next piece was used for an entry
 pub record HasEntry (says : Entry) (used : ℕ) (reader : BodyReader) (text piece : List ℕ) (b : Body) : Type 0 where
   pub at_least : 1 ≤ used
   pub at_most : used ≤ length piece

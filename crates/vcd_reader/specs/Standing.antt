@@ -45,7 +45,7 @@ pub record HasMore (reader : HeaderReader) (text piece : List ℕ) : Type 0 wher
   pub goes_on : is_going reader.progress ≡ true
   pub stands : HeaderStands reader (text ++ piece)
 
--- so many bytes of the next piece were used, and the header is done, at the end of the input only where the piece is empty
+-- this number of bytes of the next piece was used, and the header is done, at the end of the input only where the piece is empty
 pub record IsDone (used : ℕ) (reader : HeaderReader) (text piece : List ℕ) : Type 0 where
   pub within : used ≤ length piece
   pub done : is_going reader.progress ≡ false

@@ -117,7 +117,7 @@ opened sources spot (file name) reading = included sources spot name (include_pl
 abbrev pub scan_passage : Inner → PassageText → Reading → Answer Reading
 scan_passage inner passage reading = scan inner passage.ending 0 passage.spot passage.text reading
 
--- the reading of what is entered, where so many more may be entered inside one another
+-- the reading of what is entered, where this number of others may be entered inside one another
 unfoldable pub inner_at : ℕ → List SourceText → Inner
 inner_at zero sources spot entry reading = fault_at MacroDepth spot.place
 inner_at (suc depth) sources spot entry reading =

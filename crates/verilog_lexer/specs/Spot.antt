@@ -19,7 +19,7 @@ abbrev pub after_all : Spot → List ℕ → Spot
 after_all spot [] = spot
 after_all spot (byte ∷ others) = after_all (after spot byte) others
 
--- the line and the column stay in range over so many bytes
+-- the line and the column stay in range over this number of bytes
 pub record IsInRange (spot : Spot) (bytes : ℕ) : Type 0 where
   pub line : spot.inside ≡ false → spot.place.line + bytes < 2 ^ 32
   pub column : spot.inside ≡ false → spot.place.column + bytes < 2 ^ 32

@@ -17,7 +17,7 @@ pub record Stand : Type 0 where
 abbrev pub stand_of : Reader → Stand
 stand_of reader = record { waiting = map passage_view reader.waiting.items; passage = passage_view reader.passage; reading = reading_view reader.reading }
 
--- the reading of what is left of a text, inside which so many more may be entered
+-- the reading of what is left of a text, inside which this number of others may be entered
 abbrev pub resumed : ℕ → List SourceText → PassageText → Reading → Answer Reading
 resumed depth sources passage reading = scan_passage (inner_at depth sources) passage reading
 

@@ -15,7 +15,7 @@ pub record OnlyReads (before after : Outside) : Type 0 where
   pub streams : KeepsStreams before after
   pub counts : CountsUp before after
 
--- the file is not among those that the host tells; where it tells none, an absence was counted
+-- the file is not among the known files of the host; where they are not known, an absence was counted
 abbrev pub IsMissing : List ℕ → Outside → Outside → Type 0
 IsMissing name before after = MatchOption before.files (IsCounted before.absences after.absences) (λ files. files name ≡ None)
 
