@@ -3,8 +3,9 @@
 //!
 //! [`check`] reports the faults of an expression, [`check_target`] those of a target, [`check_statement`] all that is
 //! found in a statement, with its loops in their turns, and [`check_when`] those of an event list;
-//! [`target_writings`] gives what the parts of a target write. Each is proved to add to a tally exactly the faults
-//! and writings of its definition, in their order, and to say whether there was a fault.
+//! [`target_writings`] gives what the parts of a target write. Each is proved to report to a tally exactly what its
+//! definition lists, in order; [`check`] and [`check_target`] also say whether there was no fault, and the writings
+//! are exactly those of the definition.
 #![tactic(auto)]
 
 mod expressions;
