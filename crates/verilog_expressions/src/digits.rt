@@ -1,4 +1,4 @@
-//! Digits that stand for 1, 3 or 4 bits each (IEEE 1364-2001 clause 2.5.1).
+//! Digits of 1, 3 or 4 bits each (IEEE 1364-2001 clause 2.5.1).
 
 ghost use Rattle.std.specs.Prelude.{◌≡◌, ◌-◌, ◌^◌, ◌≤◌, ◌<◌, ◌++◌, Some, None, if◌then◌else◌, slice_index, filter};
 ghost use Rattle.four_state.specs.Vector.{fill, fit};
@@ -17,7 +17,7 @@ struct Masks {
     strange: u128,
 }
 
-/// The mask of so many low bits.
+/// The mask of the `width` lowest bits.
 pub(crate) fn low_mask(width: u8) -> u128
     requires low { 1 ≤ width }
     requires high { width ≤ 128 }
@@ -63,7 +63,7 @@ pub(crate) fn first_digit(digits: &[u8]) -> u8
     0
 }
 
-/// So many bits that are all this one.
+/// `width` bits that are all this one.
 fn copies(width: u8, bit: Bit) -> Masks
     requires low { 1 ≤ width }
     requires high { width ≤ 128 }
@@ -128,7 +128,7 @@ fn digits_masks(bits: u8, digits: &[u8]) -> Masks
     masks
 }
 
-/// The value of digits of so many bits each, cut or filled up to a width.
+/// The value of digits of `bits` bits each, cut or filled up to a width.
 pub(crate) fn digits_value(width: u8, signed: bool, bits: u8, digits: &[u8]) -> Four
     requires low { 1 ≤ width }
     requires high { width ≤ 128 }

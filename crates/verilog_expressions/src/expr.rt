@@ -95,7 +95,7 @@ fn choice(
     Ok(Measured::choice(alloc, test, yes, no)?)
 }
 
-/// A fault where what stands before the next token is too high to become a part of a greater expression.
+/// A fault where the expression before the next token is too high to become a part of a greater expression.
 pub(crate) fn may_grow(
     cursor: &Cursor<'_, '_>,
     before: &Measured,
@@ -135,7 +135,7 @@ fn operand(
     Ok(left)
 }
 
-/// What operators of a level and their operands make of what stands before them. They group to the left.
+/// The expression that operators of a level and their operands make with the one before them. They group to the left.
 #[cycle(expr)]
 fn grown(
     alloc: Global,
@@ -153,7 +153,7 @@ fn grown(
     Ok(left)
 }
 
-/// What stands before an operator of a level, with the operand behind it.
+/// The expression before an operator of a level, with the operand after it.
 #[cycle(expr)]
 #[tactic(auto, unfolding(verilog_grammar::specs::Expressions::operation_rule))]
 fn operation(
@@ -272,7 +272,7 @@ fn braced(alloc: Global, cursor: &mut Cursor<'_, '_>, depth: u32) -> Result<Meas
     Ok(Measured::repeat(alloc, open.place, head, parts)?)
 }
 
-/// An expression with those that follow it behind commas. It stands behind what has the depth `start`.
+/// An expression with those that follow it after commas. It comes after what has the depth `start`.
 #[cycle(expr)]
 fn with_others(
     alloc: Global,

@@ -111,7 +111,7 @@ fn byte_at(text: &[u8], place: usize) -> u8
     }
 }
 
-/// Where the letter of the base stands.
+/// The place of the letter of the base.
 fn letter_at(text: &[u8]) -> usize
     ensures value { result ≡ letter_at text.now }
     ensures within { result ≤ 2 }
@@ -122,21 +122,21 @@ fn letter_at(text: &[u8]) -> usize
     }
 }
 
-/// What stands behind so many bytes.
+/// What follows the first `start` bytes.
 fn tail(text: &[u8], start: usize) -> &[u8]
     ensures { result.now ≡ drop start text.now }
 {
     text.get(start..).unwrap_or(&[])
 }
 
-/// How many bytes of white space stand at the front.
+/// The number of bytes of white space at the front.
 fn white_length(text: &[u8]) -> usize
     ensures { result ≡ run is_white text.now }
 {
     text.iter().take_while(|byte| is_white(**byte)).count()
 }
 
-/// The digits behind the letter of the base and white space.
+/// The digits after the letter of the base and white space.
 #[tactic(auto, using(crate::proofs::Numbers::tails), unfolding(verilog_lexer::specs::Based::digits_at))]
 fn digits(text: &[u8]) -> &[u8]
     ensures { result.now ≡ drop (digits_at text.now) text.now }
@@ -152,7 +152,7 @@ fn is_white(byte: u8) -> bool
     byte == b' ' || (9 <= byte && byte <= 13)
 }
 
-/// A based number of so many bits. A letter that names no base stands for 0.
+/// A based number of `width` bits. It is 0 where the letter names no base.
 #[tactic(auto, unfolding(verilog_grammar::specs::Literal::based_vector))]
 fn based_value(width: u8, text: &[u8]) -> Four
     requires low { 1 ≤ width }

@@ -213,7 +213,7 @@ impl Measured {
     }
 }
 
-/// Expressions, and the depth of the deepest of them and of what stood before them.
+/// Expressions, and the depth of the deepest of them and of what came before them.
 #[derive(Drop)]
 pub struct MeasuredList {
     exprs: Vec<Expr>,
@@ -225,7 +225,7 @@ pub struct MeasuredList {
 impl MeasuredList {
     ghost use Rattle.verilog_expressions.specs.Measured.{measured_view, list_view};
 
-    /// One expression, behind what has this depth.
+    /// One expression, after what has this depth.
     pub fn one(alloc: Global, start: Depth, first: Measured) -> Result<MeasuredList, NoMemory>
         ensures { IfOk result (λ l. list_view l ≡ record { exprs = measured_view first ∷ []; start = start }) }
     {

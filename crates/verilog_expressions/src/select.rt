@@ -53,7 +53,7 @@ pub(crate) fn selects(
     selected(alloc, cursor, depth, part)
 }
 
-/// The select that is next, of what stands before it.
+/// The select that is next, of the expression before it.
 #[cycle(expr)]
 #[tactic(auto, unfolding(verilog_grammar::specs::Expressions::select_rule, verilog_grammar::specs::Expressions::select_end_rule))]
 fn selected(
@@ -82,7 +82,7 @@ fn selected(
     }
 }
 
-/// What stands in a bracket behind a token of this kind.
+/// The inside of a bracket, after a token of this kind.
 #[cycle(expr)]
 fn bound(
     alloc: Global,
@@ -166,7 +166,7 @@ fn targets(alloc: Global, cursor: &mut Cursor<'_, '_>, depth: u32) -> Result<Mea
     Ok(Measured::concat(alloc, open.place, all)?)
 }
 
-/// A left side with those that follow it behind commas. It stands behind what has the depth `start`.
+/// A left side with those that follow it after commas. It comes after what has the depth `start`.
 #[cycle(left_side)]
 fn with_targets(
     alloc: Global,

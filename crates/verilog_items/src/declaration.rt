@@ -19,7 +19,7 @@ use verilog_expressions::{Cursor, ReadFault, expression};
 use verilog_grammar::Kind;
 use verilog_tree::{Declared, Expr, Item, ItemForm, Named, Range};
 
-/// An identifier where it stands.
+/// An identifier with its place.
 pub fn name(alloc: Global, cursor: &mut Cursor<'_, '_>) -> Result<Named, ReadFault>
     ensures { Gives same (reads verilog grammar 0 name_rule cursor.old) result cursor.new }
 {
@@ -30,7 +30,7 @@ pub fn name(alloc: Global, cursor: &mut Cursor<'_, '_>) -> Result<Named, ReadFau
     })
 }
 
-/// The same name.
+/// A copy of the name.
 pub(crate) fn copied(alloc: Global, named: &Named) -> Result<Named, NoMemory>
     ensures { IfOk result (λ copy. copy ≡ named.now) }
 {
@@ -55,7 +55,7 @@ pub(crate) fn names(alloc: Global, cursor: &mut Cursor<'_, '_>) -> Result<Vec<Na
     Ok(all)
 }
 
-/// The names that follow behind commas.
+/// The names that follow after commas.
 pub(crate) fn names_behind(
     alloc: Global,
     cursor: &mut Cursor<'_, '_>,
@@ -71,7 +71,7 @@ pub(crate) fn names_behind(
     Ok(all)
 }
 
-/// A word that may stand there, and whether it does.
+/// A word that may be next, and whether it is.
 pub(crate) fn present(cursor: &mut Cursor<'_, '_>, kind: Kind) -> Result<bool, ReadFault>
     ensures { Gives same (reads verilog grammar 0 (present_rule kind) cursor.old) result cursor.new }
 {
@@ -114,7 +114,7 @@ pub(crate) fn optional_range(
     Ok(Some(range(alloc, cursor, depth)?))
 }
 
-/// The value behind an equals sign.
+/// The value after an equals sign.
 pub(crate) fn value(
     alloc: Global,
     cursor: &mut Cursor<'_, '_>,
@@ -126,7 +126,7 @@ pub(crate) fn value(
     Ok(expression(alloc, cursor, depth)?.into_expr())
 }
 
-/// The value behind an equals sign, which may be left out.
+/// The value after an equals sign, which may be left out.
 fn optional_value(
     alloc: Global,
     cursor: &mut Cursor<'_, '_>,
@@ -140,10 +140,12 @@ fn optional_value(
     Ok(Some(value(alloc, cursor, depth)?))
 }
 
-/// Whether `signed` stands there, and the range.
+/// Whether `signed` is next, and the range.
 #[derive(Drop)]
 pub(crate) struct Shape {
+    /// Whether `signed` is there.
     pub signed: bool,
+    /// The range, if there is one.
     pub range: Option<Range>,
 }
 

@@ -190,7 +190,7 @@ fn connection_by_place(
     Ok(Given { name: None, value })
 }
 
-/// What stands between commas, as connections by position. An empty pair of parentheses has one without value.
+/// What is between commas, as connections by position. An empty pair of parentheses has one without value.
 fn places(alloc: Global, cursor: &mut Cursor<'_, '_>, depth: u32) -> Result<Vec<Given>, ReadFault>
     ensures read { Gives (λ v. given_values v.items) (reads verilog grammar depth (listed (optional an_expression)) cursor.old) result cursor.new }
     ensures unnamed { IfOk result (λ v. givens_view v.items ≡ map connected_by_place (given_values v.items)) }

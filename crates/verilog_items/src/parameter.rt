@@ -23,7 +23,7 @@ use verilog_grammar::Kind;
 use verilog_lexer::Token;
 use verilog_tree::{Expr, Item, ItemForm, Named, Param, Range};
 
-/// Whether `signed` or `integer` stands there, and the range.
+/// Whether `signed` or `integer` is next, and the range.
 #[derive(Drop)]
 pub(crate) struct ParamType {
     signed: bool,
@@ -62,7 +62,7 @@ impl ParamType {
     }
 }
 
-/// Whether `signed` or `integer` stands there.
+/// Whether `signed` or `integer` is next.
 fn type_word(cursor: &mut Cursor<'_, '_>) -> Result<(bool, bool), ReadFault>
     ensures { Gives same (reads verilog grammar 0 type_word_rule cursor.old) result cursor.new }
 {
@@ -185,7 +185,7 @@ fn header_type(
     Ok(Some(param_type(alloc, cursor, depth)?))
 }
 
-/// A parameter of a header, with its type if one stands there.
+/// A parameter of a header, with its type if there is one.
 #[derive(Drop)]
 pub(crate) struct HeaderParam {
     kind: Option<ParamType>,

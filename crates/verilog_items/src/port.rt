@@ -92,7 +92,7 @@ fn port(alloc: Global, cursor: &mut Cursor<'_, '_>, depth: u32) -> Result<PortHe
 }
 
 impl PortHead {
-    /// The item of the port and the plain names behind it.
+    /// The item of the port and the plain names after it.
     fn into_item(self, alloc: Global, others: Vec<Named>) -> Result<Item, NoMemory>
         ensures { IfOk result (λ i. item_view i ≡ port_item_of (head_view self) others.items) }
     {
@@ -118,7 +118,7 @@ impl PortHead {
     }
 }
 
-/// A port, and plain names behind it.
+/// A port, and plain names after it.
 #[tactic(auto, unfolding(verilog_grammar::specs::Modules::port_item_rule))]
 pub fn port_item(alloc: Global, cursor: &mut Cursor<'_, '_>, depth: u32) -> Result<Item, ReadFault>
     ensures { Gives one_item_view (reads verilog grammar depth port_item_rule cursor.old) result cursor.new }
@@ -129,7 +129,7 @@ pub fn port_item(alloc: Global, cursor: &mut Cursor<'_, '_>, depth: u32) -> Resu
     Ok(head.into_item(alloc, others)?)
 }
 
-/// What stands behind a comma in a list of ports.
+/// What follows a comma in a list of ports.
 #[derive(Drop)]
 pub(crate) enum Entry {
     Port(PortHead),
@@ -153,7 +153,7 @@ pub struct Ports {
     pub items: Vec<Item>,
 }
 
-/// The ports of a list so far. Plain names may still follow behind the last of them.
+/// The ports of a list so far. Plain names may still follow after the last of them.
 #[derive(Drop)]
 pub(crate) struct OpenPorts {
     names: Vec<Named>,
@@ -226,7 +226,7 @@ impl OpenPorts {
     }
 }
 
-/// Ports, with plain names behind them.
+/// Ports, with plain names after them.
 #[tactic(auto, unfolding(verilog_grammar::specs::Modules::entries_rule))]
 fn declared_ports(
     alloc: Global,
@@ -245,7 +245,7 @@ fn declared_ports(
     Ok(ports.close(alloc)?)
 }
 
-/// What stands between the parentheses of a port list.
+/// What is between the parentheses of a port list.
 #[tactic(auto, unfolding(verilog_grammar::specs::Modules::plist_rule, verilog_grammar::specs::Modules::entries_rule, verilog_grammar::specs::Modules::port_rule, verilog_grammar::specs::Modules::direction_rule))]
 fn port_list(alloc: Global, cursor: &mut Cursor<'_, '_>, depth: u32) -> Result<Ports, ReadFault>
     ensures { Gives ports_view (reads verilog grammar depth (either plist_rule (made no_ports empty)) cursor.old) result cursor.new }

@@ -21,8 +21,8 @@ use verilog_tree::Modules;
 /// How deep statements and expressions nest at most.
 const MOST_DEPTH: u32 = 256;
 
-/// The modules that the tokens spell (IEEE 1364-2001 annex A, as far as the language has it), or the fault that
-/// stands first in them.
+/// The modules that the tokens spell (IEEE 1364-2001 annex A, as far as the language has it), or the first
+/// fault in them.
 #[tactic(auto, using(crate::proofs::Refusals::found, crate::proofs::Refusals::only, crate::proofs::Refusals::none))]
 pub fn parse<'a>(alloc: Global, tokens: &Tokens<'a>) -> Result<Modules, ParseFault>
     ensures found { IfOk result (λ found. AreModules (lexemes tokens.now) (modules_view found)) }

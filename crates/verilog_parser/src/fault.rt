@@ -22,8 +22,11 @@ pub enum ParseFault {
     NoMemory,
     #[error("{kind:?}")]
     At {
+        /// What is wrong.
         kind: ParseKind,
+        /// Of the token, or of the part that nests too deep. None where the tokens end.
         place: Option<Place>,
+        /// The form that is left out.
         detail: Option<Name>,
     },
 }

@@ -25,7 +25,7 @@ use verilog_items::name;
 use verilog_lexer::Token;
 use verilog_tree::{Expr, Item, ItemForm, Named, Statement, When};
 
-/// An item for each assignment behind an `assign`.
+/// An item for each assignment after an `assign`.
 #[tactic(auto, unfolding(verilog_grammar::specs::Modules::continuous_item_rule))]
 pub(crate) fn continuous_items(
     alloc: Global,
@@ -114,7 +114,7 @@ fn separated_names(alloc: Global, cursor: &mut Cursor<'_, '_>) -> Result<Vec<Nam
     Ok(all)
 }
 
-/// A name behind `or` or a comma.
+/// A name after `or` or a comma.
 fn next_name(alloc: Global, cursor: &mut Cursor<'_, '_>) -> Result<Named, ReadFault>
     ensures { Gives same (reads verilog grammar 0 (next_rule name_rule) cursor.old) result cursor.new }
 {
@@ -139,7 +139,7 @@ fn separated_edges(
     Ok(all)
 }
 
-/// An edge behind `or` or a comma.
+/// An edge after `or` or a comma.
 fn next_edge(alloc: Global, cursor: &mut Cursor<'_, '_>) -> Result<(Edge, Named), ReadFault>
     ensures { Gives same (reads verilog grammar 0 (next_rule edge_rule) cursor.old) result cursor.new }
 {
@@ -162,7 +162,7 @@ fn edge(alloc: Global, cursor: &mut Cursor<'_, '_>) -> Result<(Edge, Named), Rea
     Ok((Edge::Neg, name))
 }
 
-/// The parenthesis behind what a block waits for, and its body.
+/// The parenthesis after what a block waits for, and its body.
 fn closed(
     alloc: Global,
     cursor: &mut Cursor<'_, '_>,

@@ -225,7 +225,7 @@ fn case(
     Ok(Statement::case(alloc, word.place, kind, on, found)?)
 }
 
-/// An arm and the arms behind it.
+/// An arm and the arms that follow it.
 fn with_front(first: Arm, mut others: Vec<Arm>) -> Result<Vec<Arm>, NoMemory>
     ensures { IfOk result (λ v. arms_view v.items ≡ arm_view first ∷ arms_view others.items) }
 {
@@ -259,7 +259,7 @@ fn arms(
     Ok(all)
 }
 
-/// The default, and the arms with labels behind it.
+/// The default, and the arms with labels that follow it.
 #[cycle(statement)]
 #[tactic(auto, unfolding(verilog_grammar::specs::Statements::default_arms_rule))]
 fn default_arms(
@@ -343,7 +343,7 @@ pub(crate) fn set(
     Ok((left.into_expr(), right.into_expr()))
 }
 
-/// What stands in the parentheses of a `for`.
+/// What is in the parentheses of a `for`.
 #[derive(Drop)]
 struct LoopHeader {
     start: (Expr, Expr),
@@ -441,7 +441,7 @@ fn empty(alloc: Global, cursor: &mut Cursor<'_, '_>) -> Result<Statement, ReadFa
     Ok(Statement::empty(alloc, semicolon.place)?)
 }
 
-/// What stands behind the word of a system task, which has this place. Its arguments are read and dropped.
+/// What follows the word of a system task, which has this place. Its arguments are read and dropped.
 #[tactic(auto, unfolding(verilog_grammar::specs::Statements::arguments_rule, verilog_grammar::specs::Statements::argument_rule))]
 fn task(
     alloc: Global,
