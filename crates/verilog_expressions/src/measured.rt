@@ -31,21 +31,21 @@ impl Measured {
     }
 
     /// How deep the expression nests.
-    pub fn depth(&self) -> Depth
+    pub(crate) fn depth(&self) -> Depth
         ensures { result ≡ depth_of (measured_view self.now) }
     {
         self.depth
     }
 
     /// Whether it is a select of one bit.
-    pub fn is_bit(&self) -> bool
+    pub(crate) fn is_bit(&self) -> bool
         ensures { result ≡ is_bit_select (measured_view self.now) }
     {
         matches!(&*self.expr.form, ExprForm::Bit { .. })
     }
 
     /// A number.
-    pub fn number(alloc: Global, place: Place, value: Four) -> Result<Measured, NoMemory>
+    pub(crate) fn number(alloc: Global, place: Place, value: Four) -> Result<Measured, NoMemory>
         ensures { IfOk result (λ e. measured_view e ≡ t.literal place value) }
     {
         Ok(Measured {
@@ -55,7 +55,7 @@ impl Measured {
     }
 
     /// A name.
-    pub fn name(alloc: Global, place: Place, name: Name) -> Result<Measured, NoMemory>
+    pub(crate) fn name(alloc: Global, place: Place, name: Name) -> Result<Measured, NoMemory>
         ensures { IfOk result (λ e. measured_view e ≡ t.identifier place name) }
     {
         Ok(Measured {
@@ -65,7 +65,7 @@ impl Measured {
     }
 
     /// `of[index]`.
-    pub fn bit(alloc: Global, of: Measured, index: Measured) -> Result<Measured, NoMemory>
+    pub(crate) fn bit(alloc: Global, of: Measured, index: Measured) -> Result<Measured, NoMemory>
         ensures { IfOk result (λ e. measured_view e ≡ t.bit_select (place_of (measured_view of)) (measured_view of) (measured_view index)) }
     {
         let depth = of.depth().deeper(index.depth()).under()?;
@@ -76,7 +76,7 @@ impl Measured {
     }
 
     /// `of[high:low]`.
-    pub fn part(
+    pub(crate) fn part(
         alloc: Global,
         of: Measured,
         high: Measured,
@@ -94,7 +94,7 @@ impl Measured {
     }
 
     /// `of[base +: width]`, or where `up` is false `of[base -: width]`.
-    pub fn slide(
+    pub(crate) fn slide(
         alloc: Global,
         of: Measured,
         base: Measured,
@@ -117,7 +117,12 @@ impl Measured {
     }
 
     /// An operator before its operand.
-    pub fn unary(alloc: Global, place: Place, op: Unary, a: Measured) -> Result<Measured, NoMemory>
+    pub(crate) fn unary(
+        alloc: Global,
+        place: Place,
+        op: Unary,
+        a: Measured,
+    ) -> Result<Measured, NoMemory>
         ensures { IfOk result (λ e. measured_view e ≡ t.unary_operator place op (measured_view a)) }
     {
         let depth = a.depth().under()?;
@@ -128,7 +133,12 @@ impl Measured {
     }
 
     /// An operator between its operands.
-    pub fn binary(alloc: Global, op: Binary, a: Measured, b: Measured) -> Result<Measured, NoMemory>
+    pub(crate) fn binary(
+        alloc: Global,
+        op: Binary,
+        a: Measured,
+        b: Measured,
+    ) -> Result<Measured, NoMemory>
         ensures { IfOk result (λ e. measured_view e ≡ t.binary_operator (place_of (measured_view a)) op (measured_view a) (measured_view b)) }
     {
         let depth = a.depth().deeper(b.depth()).under()?;
@@ -139,7 +149,7 @@ impl Measured {
     }
 
     /// `test ? yes : no`.
-    pub fn choice(
+    pub(crate) fn choice(
         alloc: Global,
         test: Measured,
         yes: Measured,
@@ -156,7 +166,7 @@ impl Measured {
     }
 
     /// `$signed(a)`, or where the flag is false `$unsigned(a)`.
-    pub fn sign(
+    pub(crate) fn sign(
         alloc: Global,
         place: Place,
         signed: bool,
@@ -172,7 +182,7 @@ impl Measured {
     }
 
     /// `(a)`.
-    pub fn paren(alloc: Global, place: Place, a: Measured) -> Result<Measured, NoMemory>
+    pub(crate) fn paren(alloc: Global, place: Place, a: Measured) -> Result<Measured, NoMemory>
         ensures { IfOk result (λ e. measured_view e ≡ t.parentheses place (measured_view a)) }
     {
         let depth = a.depth().under()?;
@@ -183,7 +193,11 @@ impl Measured {
     }
 
     /// A concatenation of all these, of which this is the depth.
-    pub fn concat(alloc: Global, place: Place, parts: MeasuredList) -> Result<Measured, NoMemory>
+    pub(crate) fn concat(
+        alloc: Global,
+        place: Place,
+        parts: MeasuredList,
+    ) -> Result<Measured, NoMemory>
         requires { parts.start ≡ none place }
         ensures { IfOk result (λ e. measured_view e ≡ t.concatenation place (exprs_of (list_view parts).exprs)) }
     {
@@ -195,7 +209,7 @@ impl Measured {
     }
 
     /// A repeated concatenation.
-    pub fn repeat(
+    pub(crate) fn repeat(
         alloc: Global,
         place: Place,
         count: Measured,
@@ -215,7 +229,7 @@ impl Measured {
 
 /// Expressions, and the depth of the deepest of them and of what came before them.
 #[derive(Drop)]
-pub struct MeasuredList {
+pub(crate) struct MeasuredList {
     exprs: Vec<Expr>,
     start: Depth,
     deepest: Depth,
@@ -226,7 +240,11 @@ impl MeasuredList {
     ghost use Rattle.verilog_expressions.specs.Measured.{measured_view, list_view};
 
     /// One expression, after what has this depth.
-    pub fn one(alloc: Global, start: Depth, first: Measured) -> Result<MeasuredList, NoMemory>
+    pub(crate) fn one(
+        alloc: Global,
+        start: Depth,
+        first: Measured,
+    ) -> Result<MeasuredList, NoMemory>
         ensures { IfOk result (λ l. list_view l ≡ record { exprs = measured_view first ∷ []; start = start }) }
     {
         let mut list = MeasuredList {
@@ -239,7 +257,7 @@ impl MeasuredList {
     }
 
     /// Adds an expression at the end.
-    pub fn push(&mut self, expr: Measured) -> Result<(), NoMemory>
+    pub(crate) fn push(&mut self, expr: Measured) -> Result<(), NoMemory>
         ensures { IfOk result (λ _. list_view self.new ≡ record { exprs = exprs_view self.old.exprs.items ++ measured_view expr ∷ []; start = self.old.start }) }
     {
         let depth = expr.depth();
@@ -262,7 +280,7 @@ impl MeasuredList {
     }
 
     /// The expressions.
-    pub fn into_exprs(self) -> Vec<Expr>
+    pub(crate) fn into_exprs(self) -> Vec<Expr>
         ensures { result ≡ self.exprs }
     {
         self.into_parts().0
