@@ -1,5 +1,10 @@
+pub mod Alike
 pub mod Blank
 pub mod Changed
 pub mod Fit
 pub mod Inside
+pub mod Memories
 pub mod Rows
+pub mod Signs
+pub mod Words
+pub mod Writes

@@ -5,6 +5,7 @@ mod memory;
 mod reads;
 mod store;
 mod unknown;
+mod write;
 
 pub use memory::StoredMemory;
 pub use store::Store;
