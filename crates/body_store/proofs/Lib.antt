@@ -1,1 +1,5 @@
 pub mod Blank
+pub mod Changed
+pub mod Fit
+pub mod Inside
+pub mod Rows

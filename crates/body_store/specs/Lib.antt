@@ -1,2 +1,4 @@
+pub mod Fitting
 pub mod Held
 pub mod Made
+pub mod Scenes

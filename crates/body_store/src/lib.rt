@@ -2,6 +2,7 @@
 #![tactic(auto)]
 
 mod memory;
+mod reads;
 mod store;
 mod unknown;
 

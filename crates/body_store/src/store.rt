@@ -2,6 +2,7 @@ ghost use Rattle.std.specs.Prelude.{◌≡◌, ◌+◌, ◌≤◌, IfOk, length}
 ghost use Rattle.std.specs.List.{All};
 ghost use Rattle.design_model.specs.View.{design_view};
 ghost use Rattle.value_store.specs.Signals.{HasWidth};
+ghost use Rattle.body_store.specs.Fitting.{FitsDesign};
 
 use crate::StoredMemory;
 use crate::unknown::memories;
@@ -12,19 +13,22 @@ use value_store::Signals;
 
 /// What is known of the signals and memories of a design, between the runs of bodies and while one runs.
 #[derive(Drop)]
-pub struct Store {
+pub struct Store<'a> {
+    /// The design, whose declared ranges are read.
+    pub(crate) design: &'a Design,
     /// What is known of the signals.
-    pub signals: Signals,
+    pub(crate) signals: Signals,
     /// What is known of the memories, in the design's order.
-    pub memories: Vec<StoredMemory>,
+    pub(crate) memories: Vec<StoredMemory>,
+    ghost fits: { FitsDesign design.now.signals design.now.memories signals memories.items },
 }
 
-impl Store {
+impl<'a> Store<'a> {
     ghost use Rattle.body_store.specs.Made.{HasWordWidth, nothing, unblamed};
     ghost use Rattle.body_store.specs.Held.{HoldsStore, ReadsStore};
 
     /// Nothing is known of any signal or memory, each is to blame for itself, and no signal is shown or veiled.
-    pub fn new(alloc: Global, design: &Design) -> Result<Self, NoMemory>
+    pub fn new(alloc: Global, design: &'a Design) -> Result<Self, NoMemory>
         requires widths { All HasWidth design.now.signals }
         requires word_widths { All HasWordWidth design.now.memories }
         requires few_signals { length design.now.signals ≤ 65536 }
@@ -38,6 +42,10 @@ impl Store {
             design.memories.as_slice(),
             design.signals.len() as u32,
         )?;
-        Ok(Store { signals, memories })
+        Ok(Store {
+            design,
+            signals,
+            memories,
+        })
     }
 }

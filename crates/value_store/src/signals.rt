@@ -122,6 +122,23 @@ impl Signals {
         }
     }
 
+    /// What is kept of each signal, and what bodies read of it, has the width and sign of the signal. It does nothing.
+    pub fn fitting(&self)
+        ensures kept { (x : ℕ) → x < length self.now.kept → HasShape (shape_at self.now x) (kept_at self.now x) }
+        ensures read { (x : ℕ) → x < length self.now.kept → HasShape (shape_at self.now x) (read_at self.now x) }
+    {
+        let _slots = self.slots.as_slice();
+    }
+
+    /// What a write of a part leaves of what bodies read of a signal, from the bit with this index up.
+    pub fn with_part(&self, signal: u32, index: &Known, part: &Known) -> Known
+        requires { signal < length self.now.kept }
+        ensures value { result ≡ part_written (shape_at self.now signal).range index.now part.now (read_at self.now signal) }
+        ensures shape { HasShape (shape_at self.now signal) result }
+    {
+        with_part(&self.read(signal), self.range(signal), index, part)
+    }
+
     /// Keeps the bits of a part of a signal, from the bit with this index up. The part is to blame where it is not whole;
     /// by an index that is not whole any bit of the part can come to each bit of the signal, and the index is to blame.
     pub fn set_part(&mut self, signal: u32, index: &Known, part: &Known)
