@@ -15,9 +15,9 @@ use Rattle.design_model.specs.Value.{head, offset_option, named_word, value}
 use Rattle.design_model.specs.Assignment.{bit_writes, bit_writes_option, option_cell, signal_range, target_width, targets_width, writes_to}
 use Rattle.design_model.specs.Execution.{Visit, at_line, at_node, reads, writes_word}
 use Rattle.design_model.specs.Mentions.{any_set, any_set_in, any_set_of, are_constant, blank, blocking_target, has_cell, is_constant, may_write, mentions, mentions_any, nonblocking_target, some_may_write, static_writes}
-use Rattle.design_model.specs.Reads.{AllInside, HasValue, IsInside, Known}
+use Rattle.design_model.specs.Reads.{AllInside, HasValue, IsInside, PartialMap}
 use Rattle.design_model.proofs.Execution.{each_fails, each_gives}
-use Rattle.body_replay.specs.KnownBits.{KnownBits, extend_partly, on_told, sure, told}
+use Rattle.body_replay.specs.KnownBits.{KnownBits, extend_partly, on_whole, sure, whole_bits}
 use Rattle.body_replay.specs.Store.{Kept, KnownWrite, keep_all, known_bit_option, known_bit_writes, known_value, known_word_writes, known_writes, known_writes_all, may_name, perhaps_cells, perhaps_words, set_bits, weaken, words, write_bits, writes_of}
 use Rattle.body_replay.specs.Replay.{Blames, Mode, State, clean_run, flush, queued, run_set, set_known, started}
 use Rattle.body_replay.specs.Contract.{Certainty, Store, clean, outcome, perhaps, quiet, read_of, shown_of, sure_in, unread, weak, weak_queue, weak_queue_in, weak_queue_of, weak_set, weak_writes, weak_writes_in, weak_writes_of}
@@ -68,7 +68,7 @@ map_sure [] = refl
 map_sure (c ∷ cs) = ap (λ z. Some X ∷ z) (map_sure cs)
 
 module _ (d : Design) where
-  abbrev all_sure_known : Known
+  abbrev all_sure_known : PartialMap
   all_sure_known = sure_in d everything
 
   inside_one : (x : Visit) → IsInside all_sure_known x
@@ -162,13 +162,13 @@ module _ (d : Design) (b : Kept) (c : Cell) where
   bit_option_outside s None ps out = tt
   bit_option_outside s (Some from) ps out = bits_outside s ps from out
 
-  either_told : {A : Type 0} (P : A → Type 0) (o : Option (List Bit)) (f : List Bit → A) (x : A) → ((bs : List Bit) → P (f bs)) → P x → P (on_told o f x)
-  either_told P None f x h k = k
-  either_told P (Some bs) f x h k = h bs
+  either_whole : {A : Type 0} (P : A → Type 0) (o : Option (List Bit)) (f : List Bit → A) (x : A) → ((bs : List Bit) → P (f bs)) → P x → P (on_whole o f x)
+  either_whole P None f x h k = k
+  either_whole P (Some bs) f x h k = h bs
 
   write_outside : (s : ℕ) (signed : Bool) (is ps : KnownBits) → Outside s → Misses c (write_bits d s signed is ps)
   write_outside s signed is ps out =
-      either_told (Misses c) (told is) (λ bs. known_bit_option s (signal_at d s).width (offset_option (signal_range d s) (index signed bs)) ps) (perhaps_cells (signal_cells d s) ps) (λ bs. bit_option_outside s (offset_option (signal_range d s) (index signed bs)) ps out) (away_cells (signal_cells d s) ps (signal_outside s out))
+      either_whole (Misses c) (whole_bits is) (λ bs. known_bit_option s (signal_at d s).width (offset_option (signal_range d s) (index signed bs)) ps) (perhaps_cells (signal_cells d s) ps) (λ bs. bit_option_outside s (offset_option (signal_range d s) (index signed bs)) ps out) (away_cells (signal_cells d s) ps (signal_outside s out))
 
   -- what writes of bits miss, writes of known bits miss
   cell_missed : (s : ℕ) (o : Option ℕ) (x : Bit) (p : Option Bit) (ws : List (Write Bit)) → has_cell (writes_to (option_cell s o) (x ∷ []) ++ ws) c ≡ false → Misses c (writes_of (option_cell s o) (p ∷ [])) × (has_cell ws c ≡ false)
@@ -243,7 +243,7 @@ module _ (d : Design) (b : Kept) (c : Cell) where
     target_missed (all_of s) ps l e = away_writes (signal_cells d s) ps (signal_outside s e)
     target_missed (bits_of s low w) ps l e = part_missed s low w ps l e
     target_missed (word_of m i) ps l e =
-        either_told (Misses c) (told (known_value d b i)) (λ bs. known_word_writes d m (named_word (memory_at d m) (index (head i).signed bs)) ps) (perhaps_words d m (may_name (memory_at d m) (head i).signed (known_value d b i)) (words (memory_at d m)) ps) (λ bs. option_word_missed m (named_word (memory_at d m) (index (head i).signed bs)) ps e) (words_missed m (may_name (memory_at d m) (head i).signed (known_value d b i)) (words (memory_at d m)) ps e)
+        either_whole (Misses c) (whole_bits (known_value d b i)) (λ bs. known_word_writes d m (named_word (memory_at d m) (index (head i).signed bs)) ps) (perhaps_words d m (may_name (memory_at d m) (head i).signed (known_value d b i)) (words (memory_at d m)) ps) (λ bs. option_word_missed m (named_word (memory_at d m) (index (head i).signed bs)) ps e) (words_missed m (may_name (memory_at d m) (head i).signed (known_value d b i)) (words (memory_at d m)) ps e)
     target_missed (several ts) ps l e = targets_missed ts ps l e
 
     pub targets_missed : (ts : Targets) (ps : KnownBits) → length ps ≡ targets_width d ts → some_may_write d ts c ≡ false → Misses c (known_writes_all d b ts ps)

@@ -13,7 +13,7 @@ use Rattle.design_model.specs.Value.{head, range_of, offset_option, slide_offset
 use Rattle.design_model.specs.Assignment.{signal_range, target_width, targets_width}
 use Rattle.design_model.specs.Mentions.{index_mentions, indexes_mention, mentions, mentions_any}
 use Rattle.design_model.specs.declared.point.NodeCase.TheVariants.{ValueFalse, ValueTrue}
-use Rattle.body_replay.specs.KnownBits.{KnownBits, all_sure, choose_partly, copies_partly, extend_partly, known_match, known_truth, on_told, select_option, told, unary_partly, unknown}
+use Rattle.body_replay.specs.KnownBits.{KnownBits, all_sure, choose_partly, copies_partly, extend_partly, known_match, known_truth, on_whole, select_option, whole_bits, unary_partly, unknown}
 use Rattle.body_replay.specs.Store.{Kept, KnownWrite, binary_of, choice_partly, join_words, known_joined, known_value, known_writes, known_writes_all, kept_word, may_name, option_kept, read_word, set_bits, words, write_bits, write_word}
 use Rattle.body_replay.specs.Replay.{Blames, Case, Mark, Spot, ask, blame_of, blame_of_all, choice_blame, first_read, first_of, first_reads, index_first, indexes_first, index_marks, indexes_marks, node_marks, note, one_case, term_marks, terms_marks, two_known, word_blame, word_marks, word_read, word_write, written_marks, all_written_marks}
 
@@ -65,9 +65,9 @@ module _ (d : Design) (b b' : Kept) (e e' : Blames) where
   join_same m may (i ∷ is) h = ap₂ (λ x y. if may i then Rattle.known_state.specs.Join.joined x y else y) (word_same m i h) (join_same m may is h)
 
   pub read_same : (m : ℕ) (signed : Bool) (ps : KnownBits) → SameThing b b' e e' m → read_word d b m signed ps ≡ read_word d b' m signed ps
-  read_same m signed ps h = go (told ps)
+  read_same m signed ps h = go (whole_bits ps)
     where
-      go : (o : Option (List Bit)) → on_told o (λ is. option_kept d b m (named_word (memory_at d m) (index signed is))) (join_words d b m (may_name (memory_at d m) signed ps) (words (memory_at d m))) ≡ on_told o (λ is. option_kept d b' m (named_word (memory_at d m) (index signed is))) (join_words d b' m (may_name (memory_at d m) signed ps) (words (memory_at d m)))
+      go : (o : Option (List Bit)) → on_whole o (λ is. option_kept d b m (named_word (memory_at d m) (index signed is))) (join_words d b m (may_name (memory_at d m) signed ps) (words (memory_at d m))) ≡ on_whole o (λ is. option_kept d b' m (named_word (memory_at d m) (index signed is))) (join_words d b' m (may_name (memory_at d m) signed ps) (words (memory_at d m)))
       go None = join_same m (may_name (memory_at d m) signed ps) (words (memory_at d m)) h
       go (Some is) = option_same m (named_word (memory_at d m) (index signed is)) h
 
@@ -81,13 +81,13 @@ module _ (d : Design) (b b' : Kept) (e e' : Blames) where
         let of = value_same i (right_of (λ x. m == x) (λ x. mentions x i) s) in
         ap (extend_partly h.width h.signed) (ap (read_word d b m (head i).signed) of ∙ read_same m (head i).signed (known_value d b' i) at)
     value_same (bit h t i) s =
-        ap₂ (λ x y. on_told (told y) (λ is. extend_partly h.width h.signed (select_option x (offset_option (range_of d t) (index (head i).signed is)) 1)) (unknown h.width)) (value_same t (left_of (λ x. mentions x t) (λ x. mentions x i) s)) (value_same i (right_of (λ x. mentions x t) (λ x. mentions x i) s))
+        ap₂ (λ x y. on_whole (whole_bits y) (λ is. extend_partly h.width h.signed (select_option x (offset_option (range_of d t) (index (head i).signed is)) 1)) (unknown h.width)) (value_same t (left_of (λ x. mentions x t) (λ x. mentions x i) s)) (value_same i (right_of (λ x. mentions x t) (λ x. mentions x i) s))
     value_same (part h t i j) s =
         let rest = right_of (λ x. mentions x t) (λ x. mentions x i || mentions x j) s in
-        ap₃ (λ x y z. on_told (told y) (λ is. on_told (told z) (λ js. extend_partly h.width h.signed (select_option x (offset_option (range_of d t) (index (head j).signed js)) (part_width is js))) (unknown h.width)) (unknown h.width)) (value_same t (left_of (λ x. mentions x t) (λ x. mentions x i || mentions x j) s)) (value_same i (left_of (λ x. mentions x i) (λ x. mentions x j) rest)) (value_same j (right_of (λ x. mentions x i) (λ x. mentions x j) rest))
+        ap₃ (λ x y z. on_whole (whole_bits y) (λ is. on_whole (whole_bits z) (λ js. extend_partly h.width h.signed (select_option x (offset_option (range_of d t) (index (head j).signed js)) (part_width is js))) (unknown h.width)) (unknown h.width)) (value_same t (left_of (λ x. mentions x t) (λ x. mentions x i || mentions x j) s)) (value_same i (left_of (λ x. mentions x i) (λ x. mentions x j) rest)) (value_same j (right_of (λ x. mentions x i) (λ x. mentions x j) rest))
     value_same (slide h t i w up) s =
         let rest = right_of (λ x. mentions x t) (λ x. mentions x i || mentions x w) s in
-        ap₃ (λ x y z. on_told (told y) (λ xs. on_told (told z) (λ ws. extend_partly h.width h.signed (select_option x (slide_offset (range_of d t) up (natural ws) (index (head i).signed xs)) (natural ws))) (unknown h.width)) (unknown h.width)) (value_same t (left_of (λ x. mentions x t) (λ x. mentions x i || mentions x w) s)) (value_same i (left_of (λ x. mentions x i) (λ x. mentions x w) rest)) (value_same w (right_of (λ x. mentions x i) (λ x. mentions x w) rest))
+        ap₃ (λ x y z. on_whole (whole_bits y) (λ xs. on_whole (whole_bits z) (λ ws. extend_partly h.width h.signed (select_option x (slide_offset (range_of d t) up (natural ws) (index (head i).signed xs)) (natural ws))) (unknown h.width)) (unknown h.width)) (value_same t (left_of (λ x. mentions x t) (λ x. mentions x i || mentions x w) s)) (value_same i (left_of (λ x. mentions x i) (λ x. mentions x w) rest)) (value_same w (right_of (λ x. mentions x i) (λ x. mentions x w) rest))
     value_same (unary h op t) s = ap (λ x. extend_partly h.width h.signed (unary_partly op x)) (value_same t s)
     value_same (binary h op t u) s = ap₂ (binary_of h op (head t).signed) (value_same t (left_of (λ x. mentions x t) (λ x. mentions x u) s)) (value_same u (right_of (λ x. mentions x t) (λ x. mentions x u) s))
     value_same (choice h c t u) s =
@@ -95,7 +95,7 @@ module _ (d : Design) (b b' : Kept) (e e' : Blames) where
         ap₃ (choice_partly h) (value_same c (left_of (λ x. mentions x c) (λ x. mentions x t || mentions x u) s)) (value_same t (left_of (λ x. mentions x t) (λ x. mentions x u) rest)) (value_same u (right_of (λ x. mentions x t) (λ x. mentions x u) rest))
     value_same (concat h ts) s = ap (extend_partly h.width h.signed) (joined_same ts s)
     value_same (repeat h n ts) s =
-        ap₂ (λ x y. on_told (told x) (λ ns. extend_partly h.width h.signed (copies_partly (natural ns) y)) (unknown h.width)) (value_same n (left_of (λ x. mentions x n) (λ x. mentions_any x ts) s)) (joined_same ts (right_of (λ x. mentions x n) (λ x. mentions_any x ts) s))
+        ap₂ (λ x y. on_whole (whole_bits x) (λ ns. extend_partly h.width h.signed (copies_partly (natural ns) y)) (unknown h.width)) (value_same n (left_of (λ x. mentions x n) (λ x. mentions_any x ts) s)) (joined_same ts (right_of (λ x. mentions x n) (λ x. mentions_any x ts) s))
     value_same (sign h g t) s = ap (extend_partly h.width h.signed) (value_same t s)
 
     joined_same : (ts : Terms) → Same (λ x. mentions_any x ts) → known_joined d b ts ≡ known_joined d b' ts

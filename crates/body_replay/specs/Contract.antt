@@ -13,8 +13,8 @@ use Rattle.design_model.specs.Shape.{is_body}
 use Rattle.design_model.specs.Value.{head}
 use Rattle.design_model.specs.Numbered.{LineAt, lines}
 use Rattle.design_model.specs.Mentions.{body_mentions, body_terms, body_assigns, has_cell}
-use Rattle.design_model.specs.Paths.{Path, PathStep, ReadsUnwritten, action_mentions, paths, reads_signal_unwritten}
-use Rattle.design_model.specs.Reads.{Known, Agrees, IsTold, VisitsFrom}
+use Rattle.design_model.specs.Paths.{Path, PlacedAction, ReadsUnwritten, action_mentions, paths, reads_signal_unwritten}
+use Rattle.design_model.specs.Reads.{PartialMap, Agrees, ReadsWithin, VisitsFrom}
 use Rattle.design_model.specs.Open.{IsOpen, IsSurelyOpen}
 use Rattle.design_model.specs.declared.point.Point.{Point}
 use Rattle.design_model.specs.declared.point.Point.TheVariants.{Line as line_point, Logic as logic_point, Word as word_point}
@@ -237,7 +237,7 @@ HasDoubt x thing [] = ⊥
 HasDoubt x thing (n ∷ ns) = ((n.spot ≡ x) × ((time : ℕ) × (n.doubt ≡ Some (record { time = time; thing = thing })))) ⊎ HasDoubt x thing ns
 
 -- the things that are wholly sure, with their bits
-abbrev pub sure_in : Design → Kept → Known
+abbrev pub sure_in : Design → Kept → PartialMap
 sure_in d b x bits = map b (cells d x) ≡ sure bits
 
 -- *writes sound*: what an execution on an agreeing state writes is allowed after the flush, and what it does not write stays allowed as it was kept
@@ -263,7 +263,7 @@ PrefixHit =
 -- *no doubt added*: where every read is wholly sure, no doubt is noted
 abbrev pub NoDoubtAdded : Type 0
 NoDoubtAdded =
-    (d : Design) (s : Stmt) (st : Store) (time : ℕ) (v : Values Bit) → Agrees d (sure_in d (read_of st)) v → IsTold d (sure_in d (read_of st)) s → (x : Spot) (thing : ℕ) → HasDoubt x thing (outcome d s st (clean time)).notes → ⊥
+    (d : Design) (s : Stmt) (st : Store) (time : ℕ) (v : Values Bit) → Agrees d (sure_in d (read_of st)) v → ReadsWithin d (sure_in d (read_of st)) s → (x : Spot) (thing : ℕ) → HasDoubt x thing (outcome d s st (clean time)).notes → ⊥
 
 -- all that an execution writes, the updates last
 abbrev pub all_written : Design → Stmt → Values Bit → List (Write Bit)
@@ -272,7 +272,7 @@ all_written d s v = (execution d s v).blocking ++ join (execution d s v).nonbloc
 -- *sure writes*: where every read is wholly sure, each bit that is written is sure after the flush, and no other bit that is kept changes
 abbrev pub SureWrites : Type 0
 SureWrites =
-    (d : Design) (s : Stmt) (st : Store) (how : Certainty) → IsStrong how → (v : Values Bit) → Agrees d (sure_in d (read_of st)) v → IsTold d (sure_in d (read_of st)) s → (c : Cell) → st.hidden c.thing ≡ false → ((has_cell (all_written d s v) c ≡ true → (flushed (outcome d s st how) c) ≡ Some (left_by d s v v c)) × (has_cell (all_written d s v) c ≡ false → (flushed (outcome d s st how) c) ≡ st.kept c))
+    (d : Design) (s : Stmt) (st : Store) (how : Certainty) → IsStrong how → (v : Values Bit) → Agrees d (sure_in d (read_of st)) v → ReadsWithin d (sure_in d (read_of st)) s → (c : Cell) → st.hidden c.thing ≡ false → ((has_cell (all_written d s v) c ≡ true → (flushed (outcome d s st how) c) ≡ Some (left_by d s v v c)) × (has_cell (all_written d s v) c ≡ false → (flushed (outcome d s st how) c) ≡ st.kept c))
 
 -- *frame*: what no target of the body names stays as it was, at the run and at the flush
 abbrev pub Frame : Type 0

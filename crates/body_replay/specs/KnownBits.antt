@@ -43,19 +43,19 @@ prepend b None = None
 prepend b (Some bs) = Some (b ∷ bs)
 
 -- the vector, if all bits are sure
-abbrev pub told : KnownBits → Option (List Bit)
-told [] = Some []
-told (None ∷ ps) = None
-told (Some b ∷ ps) = prepend b (told ps)
+abbrev pub whole_bits : KnownBits → Option (List Bit)
+whole_bits [] = Some []
+whole_bits (None ∷ ps) = None
+whole_bits (Some b ∷ ps) = prepend b (whole_bits ps)
 
 -- there is a vector
-abbrev pub is_told : Option (List Bit) → Bool
-is_told None = false
-is_told (Some bs) = true
+abbrev pub is_whole : Option (List Bit) → Bool
+is_whole None = false
+is_whole (Some bs) = true
 
 -- all bits are sure
 abbrev pub all_sure : KnownBits → Bool
-all_sure ps = is_told (told ps)
+all_sure ps = is_whole (whole_bits ps)
 
 -- a vector of which all bits are sure
 abbrev pub sure : List Bit → KnownBits
@@ -66,9 +66,9 @@ abbrev pub unknown : ℕ → KnownBits
 unknown n = replicate n None
 
 -- what f gives of the vector, or x if not all bits are sure
-abbrev pub on_told : {A : Type 0} → Option (List Bit) → (List Bit → A) → A → A
-on_told None f x = x
-on_told (Some bs) f x = f bs
+abbrev pub on_whole : {A : Type 0} → Option (List Bit) → (List Bit → A) → A → A
+on_whole None f x = x
+on_whole (Some bs) f x = f bs
 
 -- the bit is surely 1
 abbrev pub is_sure_one : Option Bit → Bool
@@ -83,7 +83,7 @@ truth_from None false = None
 
 -- the truth, if all allowed values have the same
 abbrev pub known_truth : KnownBits → Option Truth
-known_truth ps = truth_from (told ps) (list_any is_sure_one ps)
+known_truth ps = truth_from (whole_bits ps) (list_any is_sure_one ps)
 
 -- whether the truth is True
 abbrev pub holds : Option Truth → Option Bool
@@ -136,7 +136,7 @@ is_unsure_shift op qs = is_shift op && (not (are_sure qs) && all_known (filled Z
 abbrev pub binary_partly : Binary → Bool → KnownBits → KnownBits → KnownBits
 binary_partly op signed ps qs = if is_unsure_shift op qs then unknown (length ps) else both_agreed (binary_value op signed) ps qs
 
--- the operands have the widths that the operator takes, or are both told whole
+-- the operands have the widths that the operator takes, or all their bits are sure
 abbrev pub fits : Binary → KnownBits → KnownBits → Bool
 fits op ps qs = (are_sure ps && are_sure qs) || (not (takes_same_shape op) || (length ps == length qs))
 

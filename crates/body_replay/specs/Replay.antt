@@ -17,7 +17,7 @@ use Rattle.design_model.specs.Value.{head, named_word}
 use Rattle.design_model.specs.declared.point.NodeCase.{NodeCase}
 use Rattle.design_model.specs.declared.point.NodeCase.TheVariants.{ValueFalse, ValueTrue, LeftFalse, RightFalse, LeftTrue, RightTrue, BothFalse, FalseTrue, TrueFalse, BothTrue}
 use Rattle.design_model.specs.Execution.{Visit, at_line, at_node, reads, writes_word, is_default}
-use Rattle.body_replay.specs.KnownBits.{KnownBits, told, all_sure, on_told, known_truth, holds, both, known_match}
+use Rattle.body_replay.specs.KnownBits.{KnownBits, whole_bits, all_sure, on_whole, known_truth, holds, both, known_match}
 use Rattle.body_replay.specs.Store.{Kept, words, may_name, read_word, known_value, KnownWrite, keep_all, weaken, known_writes, set_bits}
 
 -- what a visit counts for: a line, a case of a node, a word read, a word written
@@ -228,7 +228,7 @@ perhaps_marks at may (i ∷ is) blame = if may i then doubted (at i) blame ∷ p
 -- the marks on the words of a memory: a hit of the named one, or doubts on those that may be named
 abbrev pub word_marks : Design → (ℕ → Spot) → ℕ → Bool → KnownBits → ℕ → List Mark
 word_marks d at m signed ps blame =
-    on_told (told ps) (λ is. named_mark at (named_word (memory_at d m) (index signed is))) (perhaps_marks at (may_name (memory_at d m) signed ps) (words (memory_at d m)) blame)
+    on_whole (whole_bits ps) (λ is. named_mark at (named_word (memory_at d m) (index signed is))) (perhaps_marks at (may_name (memory_at d m) signed ps) (words (memory_at d m)) blame)
 
 -- the marks that the evaluation of a term makes, where it is certain that it is evaluated
 abbrev mutual

@@ -6,7 +6,7 @@ use Rattle.four_state.specs.declared.bit.Bit.{Bit}
 use Rattle.design_model.specs.Design.{Design, body_at}
 use Rattle.design_model.specs.Mentions.{blocking_target, body_mentions, has_cell, nonblocking_target}
 use Rattle.design_model.specs.Execution.{Visit, execution}
-use Rattle.design_model.specs.Reads.{Agrees, IsTold, VisitsFrom}
+use Rattle.design_model.specs.Reads.{Agrees, ReadsWithin, VisitsFrom}
 use Rattle.design_model.specs.declared.point.Point.{Point}
 use Rattle.design_model.specs.Lawful.{IsLawfulDesign}
 use Rattle.design_model.specs.Open.{IsOpen, IsSurelyOpen}
@@ -53,10 +53,10 @@ pub record AreRuns (d : Design) (run : Runs) : Type 0 where
   -- what is visited up to the first read that is not wholly sure is hit
   pub prefix_hit : (p : ℕ) (st : StoreView) (time : ℕ) (x : Spot) (y : Visit) → spot_of y ≡ Some x → VisitsFrom d (sure_in d (seen_of st)) (body_at d p) y → HasHitNote x (run p st (clean time)).notes
   -- where every read is wholly sure no doubt is noted
-  pub no_doubt : (p : ℕ) (st : StoreView) (time : ℕ) → ((v : Values Bit) × Agrees d (sure_in d (seen_of st)) v) → IsTold d (sure_in d (seen_of st)) (body_at d p) → (x : Spot) (y : Doubted) → HasDoubtNote x y (run p st (clean time)).notes → ⊥
+  pub no_doubt : (p : ℕ) (st : StoreView) (time : ℕ) → ((v : Values Bit) × Agrees d (sure_in d (seen_of st)) v) → ReadsWithin d (sure_in d (seen_of st)) (body_at d p) → (x : Spot) (y : Doubted) → HasDoubtNote x y (run p st (clean time)).notes → ⊥
   -- and each bit that is written is sure after the flush, and no other bit that is kept changes
-  pub sure_written : (p : ℕ) (st : StoreView) (how : Certainty) → IsStrong how → (v : Values Bit) → Agrees d (sure_in d (seen_of st)) v → IsTold d (sure_in d (seen_of st)) (body_at d p) → (c : Cell) → st.hidden c.thing ≡ false → has_cell (all_written d (body_at d p) v) c ≡ true → flushed (run p st how) c ≡ Some (put_all v (all_written d (body_at d p) v) c)
-  pub sure_kept : (p : ℕ) (st : StoreView) (how : Certainty) → IsStrong how → (v : Values Bit) → Agrees d (sure_in d (seen_of st)) v → IsTold d (sure_in d (seen_of st)) (body_at d p) → (c : Cell) → st.hidden c.thing ≡ false → has_cell (all_written d (body_at d p) v) c ≡ false → flushed (run p st how) c ≡ st.kept c
+  pub sure_written : (p : ℕ) (st : StoreView) (how : Certainty) → IsStrong how → (v : Values Bit) → Agrees d (sure_in d (seen_of st)) v → ReadsWithin d (sure_in d (seen_of st)) (body_at d p) → (c : Cell) → st.hidden c.thing ≡ false → has_cell (all_written d (body_at d p) v) c ≡ true → flushed (run p st how) c ≡ Some (put_all v (all_written d (body_at d p) v) c)
+  pub sure_kept : (p : ℕ) (st : StoreView) (how : Certainty) → IsStrong how → (v : Values Bit) → Agrees d (sure_in d (seen_of st)) v → ReadsWithin d (sure_in d (seen_of st)) (body_at d p) → (c : Cell) → st.hidden c.thing ≡ false → has_cell (all_written d (body_at d p) v) c ≡ false → flushed (run p st how) c ≡ st.kept c
   -- a run by itself changes only cells that a blocking assignment may write, its queued writes only those that a nonblocking one may
   pub frame : (p : ℕ) (st : StoreView) (how : Certainty) (c : Cell) → blocking_target d (body_at d p) c ≡ false → (run p st how).kept c ≡ st.kept c
   pub frame_queue : (p : ℕ) (st : StoreView) (how : Certainty) (c : Cell) → nonblocking_target d (body_at d p) c ≡ false → (k : Kept) → flush k (run p st how).queue c ≡ k c

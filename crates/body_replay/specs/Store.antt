@@ -16,7 +16,7 @@ use Rattle.design_model.specs.declared.design.Memory.{Memory}
 use Rattle.design_model.specs.Design.{Design, signal_at, memory_at, signal_cells, word_cells}
 use Rattle.design_model.specs.Value.{head, range_of, offset_option, slide_offset, named_word, part_width}
 use Rattle.design_model.specs.Assignment.{option_cell, signal_range, target_width, targets_width}
-use Rattle.body_replay.specs.KnownBits.{KnownBits, Allows, told, sure, unknown, on_told, known_truth, extend_partly, unary_partly, binary_partly, fits, choose_partly, select_option, copies_partly}
+use Rattle.body_replay.specs.KnownBits.{KnownBits, Allows, whole_bits, sure, unknown, on_whole, known_truth, extend_partly, unary_partly, binary_partly, fits, choose_partly, select_option, copies_partly}
 
 -- what is known of each cell
 abbrev pub Kept : Type 0
@@ -58,7 +58,7 @@ join_words d b m may (i ∷ is) = if may i then joined (kept_word d b m i) (join
 -- a read of a memory
 abbrev pub read_word : Design → Kept → ℕ → Bool → KnownBits → KnownBits
 read_word d b m signed ps =
-    on_told (told ps) (λ is. option_kept d b m (named_word (memory_at d m) (index signed is))) (join_words d b m (may_name (memory_at d m) signed ps) (words (memory_at d m)))
+    on_whole (whole_bits ps) (λ is. option_kept d b m (named_word (memory_at d m) (index signed is))) (join_words d b m (may_name (memory_at d m) signed ps) (words (memory_at d m)))
 
 -- where the condition is undecided, sides of different widths, which lawful designs have not, are not known
 abbrev pub choice_of : Head → Option Truth → KnownBits → KnownBits → KnownBits
@@ -80,17 +80,17 @@ abbrev mutual
   known_value d b (signal h s) = extend_partly h.width h.signed (map b (signal_cells d s))
   known_value d b (word h m i) = extend_partly h.width h.signed (read_word d b m (head i).signed (known_value d b i))
   known_value d b (bit h t i) =
-      on_told (told (known_value d b i)) (λ is. extend_partly h.width h.signed (select_option (known_value d b t) (offset_option (range_of d t) (index (head i).signed is)) 1)) (unknown h.width)
+      on_whole (whole_bits (known_value d b i)) (λ is. extend_partly h.width h.signed (select_option (known_value d b t) (offset_option (range_of d t) (index (head i).signed is)) 1)) (unknown h.width)
   known_value d b (part h t i j) =
-      on_told (told (known_value d b i)) (λ is. on_told (told (known_value d b j)) (λ js. extend_partly h.width h.signed (select_option (known_value d b t) (offset_option (range_of d t) (index (head j).signed js)) (part_width is js))) (unknown h.width)) (unknown h.width)
+      on_whole (whole_bits (known_value d b i)) (λ is. on_whole (whole_bits (known_value d b j)) (λ js. extend_partly h.width h.signed (select_option (known_value d b t) (offset_option (range_of d t) (index (head j).signed js)) (part_width is js))) (unknown h.width)) (unknown h.width)
   known_value d b (slide h t x w up) =
-      on_told (told (known_value d b x)) (λ xs. on_told (told (known_value d b w)) (λ ws. extend_partly h.width h.signed (select_option (known_value d b t) (slide_offset (range_of d t) up (natural ws) (index (head x).signed xs)) (natural ws))) (unknown h.width)) (unknown h.width)
+      on_whole (whole_bits (known_value d b x)) (λ xs. on_whole (whole_bits (known_value d b w)) (λ ws. extend_partly h.width h.signed (select_option (known_value d b t) (slide_offset (range_of d t) up (natural ws) (index (head x).signed xs)) (natural ws))) (unknown h.width)) (unknown h.width)
   known_value d b (unary h op t) = extend_partly h.width h.signed (unary_partly op (known_value d b t))
   known_value d b (binary h op t u) = binary_of h op (head t).signed (known_value d b t) (known_value d b u)
   known_value d b (choice h c t u) = choice_partly h (known_value d b c) (known_value d b t) (known_value d b u)
   known_value d b (concat h ts) = extend_partly h.width h.signed (known_joined d b ts)
   known_value d b (repeat h n ts) =
-      on_told (told (known_value d b n)) (λ ns. extend_partly h.width h.signed (copies_partly (natural ns) (known_joined d b ts))) (unknown h.width)
+      on_whole (whole_bits (known_value d b n)) (λ ns. extend_partly h.width h.signed (copies_partly (natural ns) (known_joined d b ts))) (unknown h.width)
   known_value d b (sign h s t) = extend_partly h.width h.signed (known_value d b t)
 
   pub known_joined : Design → Kept → Terms → KnownBits
@@ -161,12 +161,12 @@ perhaps_words d m may (i ∷ is) ps = if may i then weaken (writes_of (word_cell
 -- a write of a memory
 abbrev pub write_word : Design → ℕ → Bool → KnownBits → KnownBits → List KnownWrite
 write_word d m signed is ps =
-    on_told (told is) (λ bs. known_word_writes d m (named_word (memory_at d m) (index signed bs)) ps) (perhaps_words d m (may_name (memory_at d m) signed is) (words (memory_at d m)) ps)
+    on_whole (whole_bits is) (λ bs. known_word_writes d m (named_word (memory_at d m) (index signed bs)) ps) (perhaps_words d m (may_name (memory_at d m) signed is) (words (memory_at d m)) ps)
 
 -- a write of a part of a signal from the bit with this index up; by an unsure index any bit may be written
 abbrev pub write_bits : Design → ℕ → Bool → KnownBits → KnownBits → List KnownWrite
 write_bits d s signed is ps =
-    on_told (told is) (λ bs. known_bit_option s (signal_at d s).width (offset_option (signal_range d s) (index signed bs)) ps) (perhaps_cells (signal_cells d s) ps)
+    on_whole (whole_bits is) (λ bs. known_bit_option s (signal_at d s).width (offset_option (signal_range d s) (index signed bs)) ps) (perhaps_cells (signal_cells d s) ps)
 
 -- the writes that put these bits into a target
 abbrev mutual

@@ -1,5 +1,5 @@
 ghost use Rattle.std.specs.Prelude.{◌≡◌, ◌<◌, ◌≤◌, ◌++◌, ◌∷◌, [], ℕ, List, IfOk, length};
-ghost use Rattle.point_marks.specs.Told.{IsMarked, IsVerdict, Told, doubt_of, hit_of};
+ghost use Rattle.point_marks.specs.Marking.{IsMarked, IsVerdict, Marking, doubt_of, hit_of};
 ghost use Rattle.point_marks.specs.declared.verdict.Doubt.{Doubt as TheDoubt};
 ghost use Rattle.cover_points.specs.Listed.{points_of};
 ghost use Rattle.cover_points.specs.Visits.{AreApart, IsVisitOf};
@@ -20,12 +20,12 @@ pub struct Marks {
 }
 
 impl Marks {
-    /// The marks of these points, with nothing told of any.
+    /// The marks of these points, none of which is marked yet.
     pub fn new(alloc: Global, points: &Points) -> Result<Self, NoMemory>
         requires apart { AreApart points.now }
         requires few { length (points_of points.now) ≤ MOST_POINTS }
         ensures points { IfOk result (AreMarksOf points.now) }
-        ensures told { IfOk result (λ marks. IsMarked [] marks.verdicts) }
+        ensures markings { IfOk result (λ marks. IsMarked [] marks.verdicts) }
     {
         let index = PointIndex::new(alloc, points)?;
         let verdicts = PointMarks::new(alloc, count_of(points))?;
@@ -44,7 +44,7 @@ impl Marks {
     pub fn hit(&mut self, point: u32)
         requires { point < length self.old.verdicts }
         ensures points { (points : ThePoints) → AreMarksOf points self.old → AreMarksOf points self.new }
-        ensures told { (told : List Told) → IsMarked told self.old.verdicts → IsMarked (told ++ hit_of point ∷ []) self.new.verdicts }
+        ensures markings { (markings : List Marking) → IsMarked markings self.old.verdicts → IsMarked (markings ++ hit_of point ∷ []) self.new.verdicts }
     {
         self.verdicts.hit(point);
     }
@@ -54,16 +54,16 @@ impl Marks {
     pub fn doubt(&mut self, point: u32, thing: u32, time: u64)
         requires { point < length self.old.verdicts }
         ensures points { (points : ThePoints) → AreMarksOf points self.old → AreMarksOf points self.new }
-        ensures told { let doubt : TheDoubt = record { thing = thing; time = time } in (told : List Told) → IsMarked told self.old.verdicts → IsMarked (told ++ doubt_of point doubt ∷ []) self.new.verdicts }
+        ensures markings { let doubt : TheDoubt = record { thing = thing; time = time } in (markings : List Marking) → IsMarked markings self.old.verdicts → IsMarked (markings ++ doubt_of point doubt ∷ []) self.new.verdicts }
     {
         self.verdicts.doubt(point, thing, time);
     }
 
-    /// How the point came out: hit where it was told to be, else undetermined by the first doubt told of it, else
+    /// How the point came out: hit where it was marked so, else undetermined by its first doubt, else
     /// missed. It takes no memory.
     pub fn verdict(&self, point: u32) -> Verdict
         requires { point < length self.now.verdicts }
-        ensures { (told : List Told) → IsMarked told self.now.verdicts → IsVerdict told point result }
+        ensures { (markings : List Marking) → IsMarked markings self.now.verdicts → IsVerdict markings point result }
     {
         self.verdicts.verdict(point)
     }

@@ -12,7 +12,7 @@ use Rattle.design_model.specs.Tree.{Arms, Stmt, Stmts, Target, Term, Terms, a_st
 use Rattle.design_model.specs.Design.{Design, In}
 use Rattle.design_model.specs.Value.{value}
 use Rattle.design_model.specs.Execution.{Execution, Visit, assignment_writes, at_line, choose, evaluate, execute, execute_all, execute_arms, execute_assignment, execute_default, index_visits, is_default, is_inner, label_visits, queue_update, some_match, visits_of, with_visits, words_written, write_now}
-use Rattle.design_model.specs.Paths.{Action, Path, PathStep, assigns, compares, followed_by, matching_ways, passing_steps, paths, paths_all, paths_default, paths_of, preceded_by, reaches, selects, step, tests}
+use Rattle.design_model.specs.Paths.{Action, Path, PlacedAction, assigns, compares, followed_by, matching_ways, passing_actions, paths, paths_all, paths_default, paths_of, preceded_by, reaches, selects, action_at, tests}
 use Rattle.design_model.specs.Open.{is_true}
 use Rattle.design_model.proofs.Execution.{EachSet, EachSetIn, EachSetOf}
 
@@ -77,7 +77,7 @@ pub In-right : {A : Type 0} (x : A) (xs ys : List A) → In x ys → In x (xs ++
 In-right x [] ys h = h
 In-right x (z ∷ xs) ys h = inr (In-right x xs ys h)
 
-In-preceded : (xs : List PathStep) (p : Path) (ps : List Path) → In p ps → In (xs ++ p) (preceded_by xs ps)
+In-preceded : (xs : List PlacedAction) (p : Path) (ps : List Path) → In p ps → In (xs ++ p) (preceded_by xs ps)
 In-preceded xs p [] h = absurd h
 In-preceded xs p (q ∷ ps) (inl e) = inl (ap (λ y. xs ++ y) e)
 In-preceded xs p (q ∷ ps) (inr h) = inr (In-preceded xs p ps h)
@@ -105,7 +105,7 @@ module _ (d : Design) (S : Bool → Target → Term → Type 0) where
   along_right : (ps qs : List Path) (r s : Execution) → Along d S qs r s → Along d S (ps ++ qs) r s
   along_right ps qs r s a = record { path = a.path; is_path = In-right a.path ps qs a.is_path; actions = a.actions; is = a.is; decides = a.decides }
 
-  along_preceded : (xs : List PathStep) (ps : List Path) (r s : Execution) → AllActions S xs → Decides d xs r → Along d S ps (do_path d xs r) s → Along d S (preceded_by xs ps) r s
+  along_preceded : (xs : List PlacedAction) (ps : List Path) (r s : Execution) → AllActions S xs → Decides d xs r → Along d S ps (do_path d xs r) s → Along d S (preceded_by xs ps) r s
   along_preceded xs ps r s h k a = record { path = xs ++ a.path; is_path = In-preceded xs a.path ps a.is_path; actions = actions_append S xs a.path h a.actions; is = a.is ∙ sym (do_append d xs a.path r); decides = decides_append d xs a.path r k a.decides }
 
   along_each : (ps qs : List Path) (r s t : Execution) → Along d S ps r s → Along d S qs s t → Along d S (followed_by ps qs) r t
@@ -135,14 +135,14 @@ module _ (d : Design) (S : Bool → Target → Term → Type 0) where
   labels_later kind on r vs (a_term t ts) = ap (λ ys. visits_of d r.values (is_inner d r) t ++ (if matches kind on (value d r.values t) then [] else ys)) (labels_later kind on r vs ts)
 
   -- the labels of an arm: passed, or up to the one that matches
-  passing_is : (kind : CaseKind) (on : Term) (bits : List Bit) (at : List ℕ) (k : ℕ) (r : Execution) (ts : Terms) → bits ≡ value d r.values on → some_match d kind bits r.values ts ≡ false → AllActions S (passing_steps at k kind on ts) × Decides d (passing_steps at k kind on ts) r × (with_visits r (label_visits d kind bits r ts) ≡ do_path d (passing_steps at k kind on ts) r)
+  passing_is : (kind : CaseKind) (on : Term) (bits : List Bit) (at : List ℕ) (k : ℕ) (r : Execution) (ts : Terms) → bits ≡ value d r.values on → some_match d kind bits r.values ts ≡ false → AllActions S (passing_actions at k kind on ts) × Decides d (passing_actions at k kind on ts) r × (with_visits r (label_visits d kind bits r ts) ≡ do_path d (passing_actions at k kind on ts) r)
   passing_is kind on bits at k r no_terms same e = (tt, tt, λ i. record { values = r.values; blocking = r.blocking; nonblocking = r.nonblocking; visits = append-nil r.visits i })
   passing_is kind on bits at k r (a_term t ts) same e = go (matches kind bits (value d r.values t)) refl e (λ f. passing_is kind on bits at (suc k) (evaluate d t r) ts same f)
     where
       vs : List Visit
       vs = visits_of d r.values (is_inner d r) t
 
-      go : (b : Bool) → matches kind bits (value d r.values t) ≡ b → (b || some_match d kind bits r.values ts) ≡ false → (some_match d kind bits r.values ts ≡ false → AllActions S (passing_steps at (suc k) kind on ts) × Decides d (passing_steps at (suc k) kind on ts) (evaluate d t r) × (with_visits (evaluate d t r) (label_visits d kind bits (evaluate d t r) ts) ≡ do_path d (passing_steps at (suc k) kind on ts) (evaluate d t r))) → AllActions S (passing_steps at k kind on (a_term t ts)) × Decides d (passing_steps at k kind on (a_term t ts)) r × (with_visits r (vs ++ (if b then [] else label_visits d kind bits r ts)) ≡ do_path d (passing_steps at (suc k) kind on ts) (evaluate d t r))
+      go : (b : Bool) → matches kind bits (value d r.values t) ≡ b → (b || some_match d kind bits r.values ts) ≡ false → (some_match d kind bits r.values ts ≡ false → AllActions S (passing_actions at (suc k) kind on ts) × Decides d (passing_actions at (suc k) kind on ts) (evaluate d t r) × (with_visits (evaluate d t r) (label_visits d kind bits (evaluate d t r) ts) ≡ do_path d (passing_actions at (suc k) kind on ts) (evaluate d t r))) → AllActions S (passing_actions at k kind on (a_term t ts)) × Decides d (passing_actions at k kind on (a_term t ts)) r × (with_visits r (vs ++ (if b then [] else label_visits d kind bits r ts)) ≡ do_path d (passing_actions at (suc k) kind on ts) (evaluate d t r))
       go true m e ih = absurd (true≢false e)
       go false m e ih =
           ((tt, (ih e).0), (ap (λ y. matches kind y (value d r.values t)) (sym same) ∙ m, (ih e).1), visit_parts r vs (label_visits d kind bits r ts) ∙ ap (with_visits (evaluate d t r)) (sym (labels_later kind bits r vs ts)) ∙ (ih e).2)
@@ -158,12 +158,12 @@ module _ (d : Design) (S : Bool → Target → Term → Type 0) where
       decided b m = ap (λ y. matches kind y (value d r.values t)) (sym same) ∙ m
 
       go : (b : Bool) → matches kind bits (value d r.values t) ≡ b → (b || some_match d kind bits r.values ts) ≡ true → (some_match d kind bits r.values ts ≡ true → Along d S (matching_ways at (suc k) kind on ts) (evaluate d t r) (with_visits (evaluate d t r) (label_visits d kind bits (evaluate d t r) ts))) → Along d S (matching_ways at k kind on (a_term t ts)) r (with_visits r (vs ++ (if b then [] else label_visits d kind bits r ts)))
-      go true m e ih = record { path = step (k ∷ at) (compares kind on t true) ∷ []; is_path = inl refl; actions = (tt, tt); is = ap (with_visits r) (append-nil vs); decides = (decided true m, tt) }
+      go true m e ih = record { path = action_at (k ∷ at) (compares kind on t true) ∷ []; is_path = inl refl; actions = (tt, tt); is = ap (with_visits r) (append-nil vs); decides = (decided true m, tt) }
       go false m e ih =
-          along_right ((step (k ∷ at) (compares kind on t true) ∷ []) ∷ []) (preceded_by (step (k ∷ at) (compares kind on t false) ∷ []) (matching_ways at (suc k) kind on ts)) r _
-          (subst (Along d S (preceded_by (step (k ∷ at) (compares kind on t false) ∷ []) (matching_ways at (suc k) kind on ts)) r)
+          along_right ((action_at (k ∷ at) (compares kind on t true) ∷ []) ∷ []) (preceded_by (action_at (k ∷ at) (compares kind on t false) ∷ []) (matching_ways at (suc k) kind on ts)) r _
+          (subst (Along d S (preceded_by (action_at (k ∷ at) (compares kind on t false) ∷ []) (matching_ways at (suc k) kind on ts)) r)
           (sym (visit_parts r vs (label_visits d kind bits r ts) ∙ ap (with_visits (evaluate d t r)) (sym (labels_later kind bits r vs ts))))
-          (along_preceded (step (k ∷ at) (compares kind on t false) ∷ []) (matching_ways at (suc k) kind on ts) r _ (tt, tt) (decided false m, tt) (ih e)))
+          (along_preceded (action_at (k ∷ at) (compares kind on t false) ∷ []) (matching_ways at (suc k) kind on ts) r _ (tt, tt) (decided false m, tt) (ih e)))
 
   choose_along : (x y : Truth) → y ≡ x → (ps qs : List Path) (r a b : Execution) → (is_true y ≡ true → Along d S ps r a) → (is_true y ≡ false → Along d S qs r b) → Along d S (ps ++ qs) r (choose x a b)
   choose_along True y e ps qs r a b f g = along_left ps qs r a (f (ap is_true e))
@@ -176,15 +176,15 @@ module _ (d : Design) (S : Bool → Target → Term → Type 0) where
     execute_along at (branch p n t b other) e r =
         let r1 : Execution = with_visits r (at_line n ∷ []) in
         let tested : Execution = evaluate d t r1 in
-        choose_along (truth (value d r.values t)) (truth (value d r.values t)) refl (preceded_by (step at (reaches n) ∷ step at (tests t true) ∷ []) (paths (0 ∷ at) b)) (preceded_by (step at (reaches n) ∷ step at (tests t false) ∷ []) (paths_all at 1 other)) r (execute d b tested) (execute_all d other tested)
-        (λ yes'. along_preceded (step at (reaches n) ∷ step at (tests t true) ∷ []) (paths (0 ∷ at) b) r (execute d b tested) (tt, (tt, tt)) (tt, (yes', tt)) (execute_along (0 ∷ at) b e.0 tested))
-        (λ no'. along_preceded (step at (reaches n) ∷ step at (tests t false) ∷ []) (paths_all at 1 other) r (execute_all d other tested) (tt, (tt, tt)) (tt, (no', tt)) (all_along at 1 other e.1 tested))
+        choose_along (truth (value d r.values t)) (truth (value d r.values t)) refl (preceded_by (action_at at (reaches n) ∷ action_at at (tests t true) ∷ []) (paths (0 ∷ at) b)) (preceded_by (action_at at (reaches n) ∷ action_at at (tests t false) ∷ []) (paths_all at 1 other)) r (execute d b tested) (execute_all d other tested)
+        (λ yes'. along_preceded (action_at at (reaches n) ∷ action_at at (tests t true) ∷ []) (paths (0 ∷ at) b) r (execute d b tested) (tt, (tt, tt)) (tt, (yes', tt)) (execute_along (0 ∷ at) b e.0 tested))
+        (λ no'. along_preceded (action_at at (reaches n) ∷ action_at at (tests t false) ∷ []) (paths_all at 1 other) r (execute_all d other tested) (tt, (tt, tt)) (tt, (no', tt)) (all_along at 1 other e.1 tested))
     execute_along at (select p n kind t arms) e r =
         let r1 : Execution = with_visits r (at_line n ∷ []) in
         let tested : Execution = evaluate d t r1 in
-        along_preceded (step at (reaches n) ∷ step at (selects t) ∷ []) (paths_of at 0 kind t arms (paths_default at 0 arms)) r _ (tt, (tt, tt)) (tt, (tt, tt)) (arms_along at 0 kind t (value d r.values t) arms e (paths_default at 0 arms) (execute_default d arms) (λ s. default_along at 0 arms e s) tested refl)
-    execute_along at (turns p n ss) e r = along_preceded (step at (reaches n) ∷ []) (paths_all at 0 ss) r _ (tt, tt) (tt, tt) (all_along at 0 ss e (with_visits r (at_line n ∷ [])))
-    execute_along at (set p n b x t) e r = record { path = step at (reaches n) ∷ step at (assigns b x t) ∷ []; is_path = inl refl; actions = (tt, (e, tt)); is = set_along n b x t r; decides = (tt, (tt, tt)) }
+        along_preceded (action_at at (reaches n) ∷ action_at at (selects t) ∷ []) (paths_of at 0 kind t arms (paths_default at 0 arms)) r _ (tt, (tt, tt)) (tt, (tt, tt)) (arms_along at 0 kind t (value d r.values t) arms e (paths_default at 0 arms) (execute_default d arms) (λ s. default_along at 0 arms e s) tested refl)
+    execute_along at (turns p n ss) e r = along_preceded (action_at at (reaches n) ∷ []) (paths_all at 0 ss) r _ (tt, tt) (tt, tt) (all_along at 0 ss e (with_visits r (at_line n ∷ [])))
+    execute_along at (set p n b x t) e r = record { path = action_at at (reaches n) ∷ action_at at (assigns b x t) ∷ []; is_path = inl refl; actions = (tt, (e, tt)); is = set_along n b x t r; decides = (tt, (tt, tt)) }
     execute_along at (empty p) e r = along_end r
 
     pub all_along : (at : List ℕ) (k : ℕ) (ss : Stmts) → EachSetOf SetOf ss → (r : Execution) → Along d S (paths_all at k ss) r (execute_all d ss r)
@@ -196,12 +196,12 @@ module _ (d : Design) (S : Bool → Target → Term → Type 0) where
     arms_along at k kind on bits (arm labels b arms) e ps otherwise o r same =
         either (some_match d kind bits r.values labels) refl (execute_along (0 ∷ k ∷ at) b e.0 (with_visits r (label_visits d kind bits r labels))) (arms_along at (suc k) kind on bits arms e.1 ps otherwise o (with_visits r (label_visits d kind bits r labels)) same)
       where
-        either : (m : Bool) → some_match d kind bits r.values labels ≡ m → Along d S (paths (0 ∷ k ∷ at) b) (with_visits r (label_visits d kind bits r labels)) (execute d b (with_visits r (label_visits d kind bits r labels))) → Along d S (paths_of at (suc k) kind on arms ps) (with_visits r (label_visits d kind bits r labels)) (execute_arms d kind bits arms otherwise (with_visits r (label_visits d kind bits r labels))) → Along d S (followed_by (matching_ways (k ∷ at) 1 kind on labels) (paths (0 ∷ k ∷ at) b) ++ preceded_by (passing_steps (k ∷ at) 1 kind on labels) (paths_of at (suc k) kind on arms ps)) r (if m then execute d b (with_visits r (label_visits d kind bits r labels)) else execute_arms d kind bits arms otherwise (with_visits r (label_visits d kind bits r labels)))
+        either : (m : Bool) → some_match d kind bits r.values labels ≡ m → Along d S (paths (0 ∷ k ∷ at) b) (with_visits r (label_visits d kind bits r labels)) (execute d b (with_visits r (label_visits d kind bits r labels))) → Along d S (paths_of at (suc k) kind on arms ps) (with_visits r (label_visits d kind bits r labels)) (execute_arms d kind bits arms otherwise (with_visits r (label_visits d kind bits r labels))) → Along d S (followed_by (matching_ways (k ∷ at) 1 kind on labels) (paths (0 ∷ k ∷ at) b) ++ preceded_by (passing_actions (k ∷ at) 1 kind on labels) (paths_of at (suc k) kind on arms ps)) r (if m then execute d b (with_visits r (label_visits d kind bits r labels)) else execute_arms d kind bits arms otherwise (with_visits r (label_visits d kind bits r labels)))
         either true m yes' no' = along_left (followed_by (matching_ways (k ∷ at) 1 kind on labels) (paths (0 ∷ k ∷ at) b)) _ r _ (along_each (matching_ways (k ∷ at) 1 kind on labels) (paths (0 ∷ k ∷ at) b) r _ _ (matching_is kind on bits (k ∷ at) 1 r labels same m) yes')
         either false m yes' no' =
             let q = passing_is kind on bits (k ∷ at) 1 r labels same m in
-            along_right (followed_by (matching_ways (k ∷ at) 1 kind on labels) (paths (0 ∷ k ∷ at) b)) (preceded_by (passing_steps (k ∷ at) 1 kind on labels) (paths_of at (suc k) kind on arms ps)) r _
-            (along_preceded (passing_steps (k ∷ at) 1 kind on labels) (paths_of at (suc k) kind on arms ps) r _ q.0 q.1 (subst (λ s. Along d S (paths_of at (suc k) kind on arms ps) s (execute_arms d kind bits arms otherwise (with_visits r (label_visits d kind bits r labels)))) q.2 no'))
+            along_right (followed_by (matching_ways (k ∷ at) 1 kind on labels) (paths (0 ∷ k ∷ at) b)) (preceded_by (passing_actions (k ∷ at) 1 kind on labels) (paths_of at (suc k) kind on arms ps)) r _
+            (along_preceded (passing_actions (k ∷ at) 1 kind on labels) (paths_of at (suc k) kind on arms ps) r _ q.0 q.1 (subst (λ s. Along d S (paths_of at (suc k) kind on arms ps) s (execute_arms d kind bits arms otherwise (with_visits r (label_visits d kind bits r labels)))) q.2 no'))
 
     pub default_along : (at : List ℕ) (k : ℕ) (arms : Arms) → EachSetIn SetOf arms → (r : Execution) → Along d S (paths_default at k arms) r (execute_default d arms r)
     default_along at k no_arms e r = along_end r

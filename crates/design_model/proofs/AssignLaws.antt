@@ -23,7 +23,7 @@ use Rattle.design_model.specs.Shape.{are_alone, are_targets, has_shape, is_body,
 use Rattle.design_model.specs.Lawful.{IsLawfulDesign, are_fixed_targets, is_fixed_target, is_plain, is_signal, may_read, slide_writes, some_may_read, target_once}
 use Rattle.design_model.specs.WellFormed.{are_among, are_well_formed, are_well_formed_targets, is_counted_rightly, is_right, is_well_formed, is_well_formed_body, is_well_formed_target}
 use Rattle.design_model.specs.Machine.{is_level}
-use Rattle.design_model.specs.Reads.{Agrees, AllInside, HasValue, IsInside, Known, nothing_known}
+use Rattle.design_model.specs.Reads.{Agrees, AllInside, HasValue, IsInside, PartialMap, nothing_known}
 use Rattle.design_model.specs.Shows.{BoundDump}
 use Rattle.design_model.specs.Clear.{IsClearBy, IsNetValue, clear, clear_from, clear_in, clear_start, of_assigns, of_clean, of_comb, of_dump, of_unwoken}
 use Rattle.design_model.specs.BodyLaws.{AssignVisitsLaw, MentionReadLaw, OwnNotClearLaw, OwnUnclearLaw, OwnWakeLaw, is_unknown_select}
@@ -195,7 +195,7 @@ mention_read_law d lawful p x a m less v = assign_reads d (process_at d p) x a (
 
 -- ---- own signals are not clear
 
-inside_in : (K : Known) (x : Thing) (xs : List Visit) → AllInside K xs → In (reads x false) xs → HasValue K x
+inside_in : (K : PartialMap) (x : Thing) (xs : List Visit) → AllInside K xs → In (reads x false) xs → HasValue K x
 inside_in K x [] a h = absurd h
 inside_in K x (y ∷ ys) a (inl e) = subst (IsInside K) e a.0
 inside_in K x (y ∷ ys) a (inr h) = inside_in K x ys a.1 h
@@ -220,7 +220,7 @@ module _ (d : Design) (lawful : IsLawfulDesign d) (h : Habit) (dump : BoundDump)
   assigning = is_assign_from (process_at d p) is_a
 
   -- only the rule of nets gives it a value
-  by_net : (start K : Known) (x : Thing) (bits : List Bit) → IsClearBy d h dump t start K x bits → x ≡ a_signal y → (w : List Bit) × IsNetValue d K y w
+  by_net : (start K : PartialMap) (x : Thing) (bits : List Bit) → IsClearBy d h dump t start K x bits → x ≡ a_signal y → (w : List Bit) × IsNetValue d K y w
   by_net start K x bits (of_dump s w shown bound one is) e = absurd (both_ways (dump.bound y) free (subst (λ z. dump.bound z ≡ true) (ap owner e) bound))
   by_net start K x bits (of_assigns s w unbound is) e = (w, subst (λ z. IsNetValue d K z w) (ap owner e) is)
   by_net start K x bits (of_comb q s w unbound is) e = absurd (no_comb (process_at d q) (lawful.apart p q y assigning mine (subst (λ z. body_assigns z (body_at d q) ≡ true) (ap owner e) is.target)) is.is_comb)
@@ -228,17 +228,17 @@ module _ (d : Design) (lawful : IsLawfulDesign d) (h : Habit) (dump : BoundDump)
   by_net start K x bits (of_clean q c x0 w window unbound is) e = absurd (no_clocked (process_at d q) (lawful.apart p q y assigning mine (subst (λ z. body_assigns z (body_at d q) ≡ true) (ap owner e) is.writer.target)) is.writer.is_clocked)
 
   -- so it had one the round before
-  one_before : (start K : Known) (v : Values Bit) → Agrees d K v → (bits : List Bit) → IsClearBy d h dump t start K (a_signal y) bits → HasValue K (a_signal y)
+  one_before : (start K : PartialMap) (v : Values Bit) → Agrees d K v → (bits : List Bit) → IsClearBy d h dump t start K (a_signal y) bits → HasValue K (a_signal y)
   one_before start K v agrees bits rule =
       let net = by_net start K (a_signal y) bits rule refl in
-      let told = net.1.told p (and_from (is_assign (process_at d p)) _ is_a mine) v agrees in
+      let told = net.1.within p (and_from (is_assign (process_at d p)) _ is_a mine) v agrees in
       inside_in K (a_signal y) _ told (mention_read_law d lawful p y is_a mentioned net.1.is_signal v)
 
-  not_in_round : (start : Known) (n : ℕ) (v : Values Bit) → Agrees d (clear_in d h dump t start n) v → HasValue (clear_in d h dump t start (suc n)) (a_signal y) → ⊥
+  not_in_round : (start : PartialMap) (n : ℕ) (v : Values Bit) → Agrees d (clear_in d h dump t start n) v → HasValue (clear_in d h dump t start (suc n)) (a_signal y) → ⊥
   not_in_round start zero v agrees has = (one_before start (clear_in d h dump t start zero) v agrees has.0 has.1).1
   not_in_round start (suc n) v agrees has = not_in_round start n v (λ x bits e. agrees x bits (rounds_grow d h dump t start n x bits e)) (one_before start (clear_in d h dump t start (suc n)) v agrees has.0 has.1)
 
-  not_clear_from : (start : Known) (v : Values Bit) → Agrees d (clear_from d h dump t start) v → (n : ℕ) (bits : List Bit) → clear_in d h dump t start n (a_signal y) bits → ⊥
+  not_clear_from : (start : PartialMap) (v : Values Bit) → Agrees d (clear_from d h dump t start) v → (n : ℕ) (bits : List Bit) → clear_in d h dump t start n (a_signal y) bits → ⊥
   not_clear_from start v agrees zero bits k = k
   not_clear_from start v agrees (suc n) bits k = not_in_round start n v (λ x w e. agrees x w (n, e)) (bits, k)
 

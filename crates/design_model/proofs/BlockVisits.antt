@@ -8,7 +8,7 @@ use Rattle.design_model.specs.Design.{Design, In, IsThing, Thing, a_word, body_a
 use Rattle.design_model.specs.Mentions.{any_set, body_mentions, may_write, some_may_write}
 use Rattle.design_model.specs.Execution.{Execution, Visit, at_line, at_node, execution, execution_start, reads, writes_word}
 use Rattle.design_model.specs.Paths.{Action, Path, assigns, compares, reaches, selects, tests}
-use Rattle.design_model.specs.Reads.{Agrees, AllInside, HasValue, Known, UpToOutside}
+use Rattle.design_model.specs.Reads.{Agrees, AllInside, HasValue, PartialMap, UpToOutside}
 use Rattle.design_model.specs.Run.{Run, StepOf}
 use Rattle.design_model.specs.Scored.{VisitsIn}
 use Rattle.design_model.specs.Points.{HitIn, IsBlock, Point, arc_point, line_point, logic_point, state_point, toggle_point, word_point}
@@ -18,11 +18,11 @@ use Rattle.design_model.proofs.Along.{ActionHas, AllActions, do_action, do_path,
 use Rattle.design_model.proofs.Mentions.{AllReads, IsReadOf, execute_reads}
 use Rattle.design_model.proofs.OpenPath.{each_any}
 use Rattle.design_model.proofs.ReadThings.{AllThings, IsThingRead}
-use Rattle.design_model.proofs.Told.{execution_same, inside_outer}
+use Rattle.design_model.proofs.WithinMap.{execution_same, inside_outer}
 use Rattle.design_model.proofs.VisitedOpen.{action_seen}
 
 -- it cannot be that neither the visits are inside nor a thing outside is read
-pub all_inside : (K : Known) (xs : List Visit) → ((y : Thing) → UpToOutside K (reads y false) xs → (HasValue K y → ⊥) → ⊥) → (AllInside K xs → ⊥) → ⊥
+pub all_inside : (K : PartialMap) (xs : List Visit) → ((y : Thing) → UpToOutside K (reads y false) xs → (HasValue K y → ⊥) → ⊥) → (AllInside K xs → ⊥) → ⊥
 all_inside K [] out done = done tt
 all_inside K (at_line n ∷ xs) out done = all_inside K xs (λ y u. out y (inr (tt, u))) (λ a. done (tt, a))
 all_inside K (at_node n c ∷ xs) out done = all_inside K xs (λ y u. out y (inr (tt, u))) (λ a. done (tt, a))
@@ -30,13 +30,13 @@ all_inside K (writes_word m i ∷ xs) out done = all_inside K xs (λ y u. out y 
 all_inside K (reads x true ∷ xs) out done = all_inside K xs (λ y u. out y (inr (tt, u))) (λ a. done (tt, a))
 all_inside K (reads x false ∷ xs) out done = out x (inl refl) (λ has. all_inside K xs (λ y u. out y (inr (has, u))) (λ a. done (has, a)))
 
-pub upto_thing : (d : Design) (K : Known) (y : Thing) (xs : List Visit) → AllThings d xs → UpToOutside K (reads y false) xs → IsThing d y
+pub upto_thing : (d : Design) (K : PartialMap) (y : Thing) (xs : List Visit) → AllThings d xs → UpToOutside K (reads y false) xs → IsThing d y
 upto_thing d K y [] a u = absurd u
 upto_thing d K y (x ∷ xs) a (inl e) = subst (IsThingRead d) e a.0
 upto_thing d K y (x ∷ xs) a (inr u) = upto_thing d K y xs a.1 u.1
 
 -- where the visits are inside, each state that agrees has them
-pub same_visit : (d : Design) (K : Known) (b : Stmt) (v w : Values Bit) → Agrees d K v → Agrees d K w → AllInside K (execution d b v).visits → (y : Visit) → In y (execution d b v).visits → In y (execution d b w).visits
+pub same_visit : (d : Design) (K : PartialMap) (b : Stmt) (v w : Values Bit) → Agrees d K v → Agrees d K w → AllInside K (execution d b v).visits → (y : Visit) → In y (execution d b v).visits → In y (execution d b w).visits
 same_visit d K b v w av aw inside y h = subst (In y) (execution_same d v w b (inside_outer d K v w av aw (execution d b v).visits inside)).visits h
 
 read_mentioned : (Q : ℕ → Type 0) (x : Thing) (inner : Bool) (xs : List Visit) → AllReads Q xs → In (reads x inner) xs → Q (owner x)

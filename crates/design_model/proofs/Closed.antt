@@ -6,14 +6,14 @@ use Rattle.std.specs.List.{list_all, list_any}
 use Rattle.std.specs.Prelude.{slice_index_or}
 use Rattle.event_machine.specs.Cell.{Cell, Values, Write, WritesCell, put_all}
 use Rattle.event_machine.specs.Machine.{wakes}
-use Rattle.event_machine.specs.Event.{writes}
+use Rattle.event_machine.specs.Event.{event_writes}
 use Rattle.event_machine.specs.Habit.{Habit}
 use Rattle.four_state.specs.declared.bit.Bit.{Bit}
 use Rattle.design_model.specs.Tree.{Process, Stmt, assign, clocked, comb}
 use Rattle.design_model.specs.Design.{Design, Thing, a_signal, body, body_at, cell, is_assign, no_process, process_at, signal_cells, thing_bits}
 use Rattle.design_model.specs.Mentions.{any_set, blocking_target, body_assigns, has_cell, may_write, target_names}
 use Rattle.design_model.specs.Execution.{Visit, at_line, at_node, covers, execution, reads, writes_word}
-use Rattle.design_model.specs.Reads.{Agrees, AllInside, HasValue, IsTold, Known, nothing_known}
+use Rattle.design_model.specs.Reads.{Agrees, AllInside, HasValue, ReadsWithin, PartialMap, nothing_known}
 use Rattle.design_model.specs.Machine.{is_level}
 use Rattle.design_model.specs.Shows.{BoundDump}
 use Rattle.design_model.specs.Clear.{IsClearBy, IsCombValue, IsNetValue, IsSignal, bits_after, clear, clear_from, clear_in, driven_writes, drives, of_assigns, of_clean, of_comb, of_dump, of_unwoken}
@@ -27,7 +27,7 @@ use Rattle.design_model.proofs.Lawful.{any_weaker, names_from}
 use Rattle.design_model.proofs.MadeSound.{comb_blocks}
 use Rattle.design_model.proofs.Named.{WritesCell-left, WritesCell-right, has_cell-from}
 use Rattle.design_model.proofs.Rounds.{inside_more, rounds_grow}
-use Rattle.design_model.proofs.Told.{cells_covered, told_blocking, told_by}
+use Rattle.design_model.proofs.WithinMap.{cells_covered, within_blocking, within_by}
 
 -- an Assign that may write a bit of signal s drives it
 drives_by : (d : Design) (s : ℕ) (c : Cell) (p : Process) → c.thing ≡ s → (is_assign p && any_set (λ blocking y t. may_write d y c) (body p)) ≡ true → drives s p ≡ true
@@ -65,11 +65,11 @@ blocking_of d c (assign i x t counted) h = (refl, h)
 blocking_of d c (comb i wakes s) h = absurd (false≢true h)
 blocking_of d c (clocked i events s) h = absurd (false≢true h)
 
-module _ (d : Design) (lawful : IsLawfulDesign d) (h : Habit) (dump : BoundDump) (t : ℕ) (start : Known) (v : Values Bit) (agrees : (x : Thing) (bits : List Bit) → clear_from d h dump t start x bits → thing_bits d v x ≡ bits) where
-  Round : ℕ → Known
+module _ (d : Design) (lawful : IsLawfulDesign d) (h : Habit) (dump : BoundDump) (t : ℕ) (start : PartialMap) (v : Values Bit) (agrees : (x : Thing) (bits : List Bit) → clear_from d h dump t start x bits → thing_bits d v x ≡ bits) where
+  Round : ℕ → PartialMap
   Round n = clear_in d h dump t start n
 
-  pub Clear : Known
+  pub Clear : PartialMap
   Clear = clear_from d h dump t start
 
   up : (n m : ℕ) → n ≤ m → (x : Thing) (bits : List Bit) → Round n x bits → Round m x bits
@@ -110,12 +110,12 @@ module _ (d : Design) (lawful : IsLawfulDesign d) (h : Habit) (dump : BoundDump)
         ),
       )
 
-  told_round : (b : Stmt) → IsTold d Clear b → (n : ℕ) × AllInside (Round n) (execution d b v).visits
+  within_round : (b : Stmt) → ReadsWithin d Clear b → (n : ℕ) × AllInside (Round n) (execution d b v).visits
   unfolding Clear
-  told_round b told = inside_round (execution d b v).visits (told v agrees)
+  within_round b told = inside_round (execution d b v).visits (told v agrees)
 
   -- the Assigns of signal s, of the first k processes, are told in some round
-  drivers_round : (s : ℕ) → ((p : ℕ) → drives s (process_at d p) ≡ true → IsTold d Clear (body_at d p)) → (k : ℕ) → (n : ℕ) × ((p : ℕ) → p < k → drives s (process_at d p) ≡ true → AllInside (Round n) (execution d (body_at d p) v).visits)
+  drivers_round : (s : ℕ) → ((p : ℕ) → drives s (process_at d p) ≡ true → ReadsWithin d Clear (body_at d p)) → (k : ℕ) → (n : ℕ) × ((p : ℕ) → p < k → drives s (process_at d p) ≡ true → AllInside (Round n) (execution d (body_at d p) v).visits)
   drivers_round s told zero = (0, λ p below drives_it. absurd (omega (arith, below)))
   drivers_round s told (suc k) = go (cases_Bool (drives s (process_at d k))) (drivers_round s told k)
     where
@@ -124,7 +124,7 @@ module _ (d : Design) (lawful : IsLawfulDesign d) (h : Habit) (dump : BoundDump)
 
       go : (drives s (process_at d k) ≡ true) ⊎ (drives s (process_at d k) ≡ false) → ((n : ℕ) × ((p : ℕ) → p < k → drives s (process_at d p) ≡ true → AllInside (Round n) (execution d (body_at d p) v).visits)) → (n : ℕ) × ((p : ℕ) → p < suc k → drives s (process_at d p) ≡ true → AllInside (Round n) (execution d (body_at d p) v).visits)
       go (inl is) before =
-          let here = told_round (body_at d k) (told k is) in (
+          let here = within_round (body_at d k) (told k is) in (
             here.0 + before.0,
             λ p below drives_it.
                 ⊎_elim
@@ -161,16 +161,16 @@ module _ (d : Design) (lawful : IsLawfulDesign d) (h : Habit) (dump : BoundDump)
   closed_net : (s : ℕ) (bits : List Bit) → dump.bound s ≡ false → IsNetValue d Clear s bits → Clear (a_signal s) bits
   unfolding Clear Round
   closed_net s bits unbound is =
-      let found = drivers_round s is.told (length d.processes) in (
+      let found = drivers_round s is.within (length d.processes) in (
         suc found.0,
         of_assigns s bits unbound
             (record {
               is_signal = is.is_signal;
               driven = is.driven;
-              told = λ p drives_it. told_by d (Round found.0) (body_at d p) v (agrees_in found.0) (found.1 p (driver_below s p drives_it) drives_it);
+              within = λ p drives_it. within_by d (Round found.0) (body_at d p) v (agrees_in found.0) (found.1 p (driver_below s p drives_it) drives_it);
               gives = λ u fits.
                   ap (λ (ws : List (Write Bit)). bits_after d u ws (a_signal s))
-                  (writes_same d s u v d.processes (λ j drives_it. sym (told_blocking d (Round found.0) (body_at d j) v u (agrees_in found.0) fits (found.1 j (driver_below s j drives_it) drives_it))))
+                  (writes_same d s u v d.processes (λ j drives_it. sym (within_blocking d (Round found.0) (body_at d j) v u (agrees_in found.0) fits (found.1 j (driver_below s j drives_it) drives_it))))
                   ∙ cells_covered d u v (driven_writes d v s d.processes) (put_all u (driven_writes d v s d.processes)) (put_all v (driven_writes d v s d.processes)) (signal_cells d s) (λ c. refl) (λ c. refl) (driven_covered s _ is.driven)
                   ∙ is.gives v agrees;
             }),
@@ -219,7 +219,7 @@ module _ (d : Design) (lawful : IsLawfulDesign d) (h : Habit) (dump : BoundDump)
   unfolding Clear Round
   closed_comb p s bits unbound is =
       let found = signals_round p is.all_clear (length d.signals) (omega arith) in
-      let read = told_round (body_at d p) is.told in
+      let read = within_round (body_at d p) is.within in
       let n : ℕ = read.0 + found.0 in
       let inside : AllInside (Round n) (execution d (body_at d p) v).visits = up_inside read.0 n (omega arith) _ read.1 in (
         suc n,
@@ -231,10 +231,10 @@ module _ (d : Design) (lawful : IsLawfulDesign d) (h : Habit) (dump : BoundDump)
               written_whole = is.written_whole;
               writes_first = is.writes_first;
               all_clear = λ x level other signal. let has = found.1 x signal level other in (has.0, up found.0 n (omega arith) (a_signal x) has.0 has.1);
-              told = told_by d (Round n) (body_at d p) v (agrees_in n) inside;
+              within = within_by d (Round n) (body_at d p) v (agrees_in n) inside;
               has_changed = is.has_changed;
               gives = λ u fits.
-                  ap (λ (ws : List (Write Bit)). bits_after d u ws (a_signal s)) (sym (told_blocking d (Round n) (body_at d p) v u (agrees_in n) fits inside))
+                  ap (λ (ws : List (Write Bit)). bits_after d u ws (a_signal s)) (sym (within_blocking d (Round n) (body_at d p) v u (agrees_in n) fits inside))
                   ∙ cells_covered d u v (execution d (body_at d p) v).blocking (put_all u (execution d (body_at d p) v).blocking) (put_all v (execution d (body_at d p) v).blocking) (signal_cells d s) (λ c. refl) (λ c. refl) (body_writes d (body_at d p) s v (comb_blocks d (process_at d p) is.is_comb (lawful.targets p)) is.written_whole)
                   ∙ is.gives v agrees;
             }),

@@ -11,7 +11,7 @@ use Rattle.four_state.specs.declared.bit.Bit.{Bit}
 use Rattle.design_model.specs.Tree.{Process, Stmt, assign, clocked, comb}
 use Rattle.design_model.specs.Design.{Design, In, IsClocked, IsThing, Thing, a_signal, body_at, owner, process_at, thing_bits}
 use Rattle.design_model.specs.Execution.{Visit, execution, execution_start, reads}
-use Rattle.design_model.specs.Reads.{Agrees, HasValue, Known, ReadsFrom, UpToOutside}
+use Rattle.design_model.specs.Reads.{Agrees, HasValue, PartialMap, ReadsFrom, UpToOutside}
 use Rattle.design_model.specs.Machine.{is_level, machine}
 use Rattle.design_model.specs.Run.{IsRun, Run, StepOf, evaluations_of, settled, start_of, state_after_steps}
 use Rattle.design_model.specs.Shows.{BoundDump, IsDumpOf, IsShown, IsWindow, Shows, ShowsUpTo}
@@ -20,7 +20,7 @@ use Rattle.design_model.specs.Points.{HitAt, IsBlock, Point, arc_point, line_poi
 use Rattle.design_model.specs.MayMove.{CanWakeSome, IsCleanAt, IsSingleAt, told_at}
 use Rattle.design_model.specs.Clear.{EntryFrom, clear, clear_before}
 use Rattle.design_model.specs.Open.{IsNotClean, IsOpenFor, IsVisitOf, KnownOnEntry}
-use Rattle.design_model.specs.Doubt.{BlockDoubt, IsInDoubt, early, not_clean, of_block, unclear_at_start}
+use Rattle.design_model.specs.Doubt.{BlockDoubt, IsInDoubt, read_early, not_clean, of_block, unclear_at_start}
 use Rattle.design_model.specs.Lawful.{IsLawfulDesign}
 use Rattle.design_model.specs.DecidedLaw.{ClockedDecidedLaw, IsBlockPoint}
 use Rattle.design_model.proofs.BlockVisits.{all_inside, hit_visit, same_visit, upto_thing, visit_hit}
@@ -124,7 +124,7 @@ module _ (d : Design) (lawful : IsLawfulDesign d) (h : Habit) (laws : StepLaws (
   abbrev b : Stmt
   b = body_at d p
 
-  abbrev K : Known
+  abbrev K : PartialMap
   K = KnownOnEntry d h dump (suc t) p
 
   evaluated : In visits.0 (evaluations_of d r k p)
@@ -146,7 +146,7 @@ module _ (d : Design) (lawful : IsLawfulDesign d) (h : Habit) (laws : StepLaws (
 
     -- what it reads from outside would be in doubt
     outside : (z : Thing) → UpToOutside (KnownOnEntry d h dump (suc t) p) (reads z false) (execution d (body_at d p) visits.0).visits → (HasValue (KnownOnEntry d h dump (suc t) p) z → ⊥) → ⊥
-    outside z upto unknown = unclear (λ has. unknown (has.0, (c, clean, inr (apart c clean, (λ e. doubt (owner z) (early (record { thing = z; trigger = c; of_owner = refl; is_clean = clean; is_read = from; is_early = e }))), has.1))))
+    outside z upto unknown = unclear (λ has. unknown (has.0, (c, clean, inr (apart c clean, (λ e. doubt (owner z) (read_early (record { thing = z; trigger = c; of_owner = refl; is_clean = clean; is_read = from; is_early = e }))), has.1))))
       where
         from : ReadsFrom d (KnownOnEntry d h dump (suc t) p) (body_at d p) z
         from = inl (visits.0, agrees, upto)

@@ -15,7 +15,7 @@ use Rattle.design_model.specs.Design.{Design, In, IsClocked, IsComb, IsThing, Th
 use Rattle.design_model.specs.Mentions.{body_assigns, body_mentions, may_write}
 use Rattle.design_model.specs.Execution.{Visit, at_line, at_node, execution, execution_start, reads, writes_word}
 use Rattle.design_model.specs.Paths.{reads_signal_before_writing}
-use Rattle.design_model.specs.Reads.{Agrees, HasValue, Known, UpToOutside}
+use Rattle.design_model.specs.Reads.{Agrees, HasValue, PartialMap, UpToOutside}
 use Rattle.design_model.specs.Machine.{machine}
 use Rattle.design_model.specs.Run.{IsRun, Run, StepOf, evaluations_of, settled, start_of}
 use Rattle.design_model.specs.Shows.{BoundDump, IsDumpOf, IsShown, IsWindow, Shows, ShowsUpTo}
@@ -46,7 +46,7 @@ use Rattle.design_model.proofs.Sound.{IsSeen, cells_eq, pick_cell, step_or}
 use Rattle.design_model.proofs.StepLaws.{StepLaws}
 use Rattle.design_model.proofs.Times.{StepTo}
 use Rattle.design_model.proofs.Toggles.{end_values, no_window_at, split_steps, start_values, window_shown_at}
-use Rattle.design_model.proofs.Told.{execution_same}
+use Rattle.design_model.proofs.WithinMap.{execution_same}
 use Rattle.design_model.proofs.Untouched.{untouched}
 use Rattle.design_model.proofs.VisitedOpen.{visited_open}
 
@@ -211,7 +211,7 @@ module _ (d : Design) (lawful : IsLawfulDesign d) (h : Habit) (laws : StepLaws (
     abbrev v : Values Bit
     v = state d lawful h laws dump fits t window r r_run r_shows p plain.not_clocked k at c wake changes
 
-    abbrev K : Known
+    abbrev K : PartialMap
     K = KnownAtEnd d h dump (suc t) p
 
     av : Agrees d (KnownAtEnd d h dump (suc t) p) v

@@ -4,7 +4,7 @@ use Rattle.std.proofs.Common.{◌≡◌, ◌≢◌, inl, inr, ℕ, zero, suc, �
 use Rattle.std.proofs.lemmas.Bool.{and_parts, leb-true}
 use Rattle.event_machine.specs.Cell.{Cell}
 use Rattle.event_machine.specs.Machine.{Machine, wakes}
-use Rattle.event_machine.specs.Event.{writes}
+use Rattle.event_machine.specs.Event.{event_writes}
 use Rattle.event_machine.specs.Habit.{Habit}
 use Rattle.event_machine.specs.Told.{Told}
 use Rattle.event_machine.specs.Early.{IsEarly}
@@ -13,27 +13,27 @@ use Rattle.design_model.specs.Design.{Design, IsClocked, IsComb, IsThing, Thing,
 use Rattle.design_model.specs.Value.{value}
 use Rattle.design_model.specs.Mentions.{body_mentions}
 use Rattle.design_model.specs.Execution.{Visit, execution, execution_start, reads}
-use Rattle.design_model.specs.Reads.{HasValue, Known, ReadsFrom, UpToOutside}
+use Rattle.design_model.specs.Reads.{HasValue, PartialMap, ReadsFrom, UpToOutside}
 use Rattle.design_model.specs.Machine.{machine}
 use Rattle.design_model.specs.Shows.{BindsSignals, BoundDump, IsShown, IsShownOf, IsWindow, IsWindowOf}
 use Rattle.design_model.specs.Points.{IsBlock, Point, arc_point, line_point, logic_point, state_point, toggle_point, word_point}
 use Rattle.design_model.specs.MayMove.{IsSingleAt, told_at}
 use Rattle.design_model.specs.Clear.{clear, clear_before, of_dump}
 use Rattle.design_model.specs.Open.{KnownOnEntry}
-use Rattle.design_model.specs.Doubt.{BlockDoubt, IsInDoubt, IsPointOn, IsUnclear, early, not_clean, of_block, of_signal, own_target, unclear_at_start, unclear_signal, unclear_word}
+use Rattle.design_model.specs.Doubt.{BlockDoubt, IsInDoubt, IsPointOn, IsUnclear, read_early, not_clean, of_block, of_signal, own_target, unclear_at_start, unclear_signal, unclear_word}
 use Rattle.design_model.specs.Lawful.{is_signal}
 use Rattle.design_model.specs.Laws.{BoundClearLaw, BoundPointLaw, DefinitenessLaw, IsDefinite, IsLineOrLogic}
 use Rattle.design_model.specs.ExampleParts.{at, counted}
 use Rattle.design_model.proofs.Mentions.{AllReads, IsReadOf, execute_reads}
 
 -- what is visited as a read, before the first read outside or as it, is mentioned
-read_owner : (Q : ℕ → Type 0) (K : Known) (x : Thing) (xs : List Visit) → AllReads Q xs → UpToOutside K (reads x false) xs → Q (owner x)
+read_owner : (Q : ℕ → Type 0) (K : PartialMap) (x : Thing) (xs : List Visit) → AllReads Q xs → UpToOutside K (reads x false) xs → Q (owner x)
 read_owner Q K x [] all up = absurd up
 read_owner Q K x (y ∷ xs) all (inl is) = subst (IsReadOf Q) is all.0
 read_owner Q K x (y ∷ xs) all (inr later) = read_owner Q K x xs all.1 later.1
 
 -- what a body reads from a map it mentions
-reads_mentioned : (d : Design) (K : Known) (b : Stmt) (x : Thing) → ReadsFrom d K b x → body_mentions (owner x) b ≡ true
+reads_mentioned : (d : Design) (K : PartialMap) (b : Stmt) (x : Thing) → ReadsFrom d K b x → body_mentions (owner x) b ≡ true
 reads_mentioned d K b x (inl from) =
     read_owner (λ y. body_mentions y b ≡ true) K x (execution d b from.0).visits
     (execute_reads (λ y. body_mentions y b ≡ true) d b (λ y m. m) (execution_start from.0) tt)
@@ -74,7 +74,7 @@ module _ (d : Design) (h : Habit) (dump : BoundDump) (binds : BindsSignals d dum
   no_block_doubt : (t s : ℕ) → IsWindow dump t → BlockDoubt d h dump t s p → ⊥
   no_block_doubt t s window (unclear_at_start why) =
       why.unclear (mentioned_clear t window why.thing why.is_thing (reads_mentioned d (KnownOnEntry d h dump t p) (body_at d p) why.thing why.is_read))
-  no_block_doubt t s window (early why) =
+  no_block_doubt t s window (read_early why) =
       let mentioned : body_mentions s (body_at d p) ≡ true = subst (λ y. body_mentions y (body_at d p) ≡ true) why.of_owner (reads_mentioned d (KnownOnEntry d h dump t p) (body_at d p) why.thing why.is_read) in
       definite.none_early t why.trigger window why.is_clean s mentioned (early_apart (machine d) (told_at dump t) (IsSingleAt d dump t) h p why.trigger s why.is_early) why.is_early
   no_block_doubt t s window (not_clean why) = let clean = definite.clean t window (why.event, why.can_wake) in why.not_clean clean.0 clean.1

@@ -20,7 +20,7 @@ use Rattle.design_model.specs.MayMove.{IsCleanAt, told_at}
 use Rattle.design_model.specs.Early.{IsEarlyAt}
 use Rattle.design_model.specs.Clear.{EntryFrom, clear_before, of_dump}
 use Rattle.design_model.specs.Open.{IsOpen, IsReached, KnownOnEntry}
-use Rattle.design_model.specs.Doubt.{IsInDoubt, early, of_block}
+use Rattle.design_model.specs.Doubt.{IsInDoubt, read_early, of_block}
 use Rattle.design_model.specs.FlipFlop.{falling_dump, flip_flop, flip_flop_dump, flip_flop_values, line_two, steady_dump}
 use Rattle.design_model.proofs.Bound.{clear-thing, clear_bound}
 
@@ -192,13 +192,13 @@ not_known k = zero_one (sym (agrees_2 Zero (a_signal 1) k.0 k.1) ∙ refl) (agre
 
 -- the test is not fixed, so line 2 is open
 pub open_2 : IsOpen flip_flop (KnownOnEntry flip_flop Free falling_dump 5 0) (body_at flip_flop 0) line_two
-open_2 = (_, record { is_path = inl refl; follows = (tt, ((λ fixed. absurd (not_known (fixed.told (flip_flop_values One Zero X) (agrees_2 Zero)).0)), (tt, (tt, tt)))) }, (_, (_, inr (inr (inl refl)), refl, refl)))
+open_2 = (_, record { is_path = inl refl; follows = (tt, ((λ fixed. absurd (not_known (fixed.within (flip_flop_values One Zero X) (agrees_2 Zero)).0)), (tt, (tt, tt)))) }, (_, (_, inr (inr (inl refl)), refl, refl)))
 
 -- a is in doubt for line 2 at 5
 pub doubt_2 : IsInDoubt flip_flop Free falling_dump line_two 5 1
 doubt_2 =
     of_block 0 (lit< tt, lit< tt) refl (inl ((cell 0 0, (is_clean Zero).can_wake), inr open_2))
-    (early
+    (read_early
     (record {
       thing = a_signal 1;
       trigger = cell 0 0;

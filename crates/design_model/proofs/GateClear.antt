@@ -9,7 +9,7 @@ use Rattle.four_state.specs.declared.bit.Bit.{Bit}
 use Rattle.four_state.specs.declared.bit.Bit.TheVariants.{One, X, Z, Zero}
 use Rattle.design_model.specs.Design.{Thing, a_signal, a_word, body_at, cell, is_memory, process_at, signal_bits, thing_bits}
 use Rattle.design_model.specs.Execution.{BothTrue, at_node, execution}
-use Rattle.design_model.specs.Reads.{Agrees, AllInside, HasValue, IsTold, Known, nothing_known}
+use Rattle.design_model.specs.Reads.{Agrees, AllInside, HasValue, ReadsWithin, PartialMap, nothing_known}
 use Rattle.design_model.specs.Shows.{IsShown}
 use Rattle.design_model.specs.Points.{logic_point}
 use Rattle.design_model.specs.Clear.{IsClearBy, IsClockedTarget, IsCombValue, IsNetValue, bits_after, clear, clear_from, clear_in, driven_writes, drives, is_driven, of_assigns, of_clean, of_comb, of_dump, of_unwoken}
@@ -18,7 +18,7 @@ use Rattle.design_model.specs.Lawful.{is_signal}
 use Rattle.design_model.specs.ExampleParts.{at}
 use Rattle.design_model.specs.Gate.{IsGateExample, gate, gate_dump, gate_values}
 use Rattle.design_model.proofs.Bound.{clear-thing, clear_bound, clear_in-thing, in_bound}
-use Rattle.design_model.proofs.Told.{told_blocking, told_by}
+use Rattle.design_model.proofs.WithinMap.{within_blocking, within_by}
 
 no_memory : (m : ℕ) → is_memory gate m ≡ true → ⊥
 no_memory m h = let p = and_parts (nat_le 3 m) (nat_lt m 3) h in omega (arith, leb-true 3 m p.0, ltb-true m 3 p.1)
@@ -28,7 +28,7 @@ not_clocked : (p : ℕ) (x : Thing) → IsClockedTarget gate p x → ⊥
 not_clocked zero x h = h.is_clocked
 not_clocked (suc p) x h = h.is_clocked
 
-no_comb : (p t s : ℕ) (K : Known) (bits : List Bit) → IsCombValue gate gate_dump t K p s bits → ⊥
+no_comb : (p t s : ℕ) (K : PartialMap) (bits : List Bit) → IsCombValue gate gate_dump t K p s bits → ⊥
 no_comb zero t s K bits h = h.is_comb
 no_comb (suc p) t s K bits h = false≢true h.target
 
@@ -44,10 +44,10 @@ only_y (suc (suc zero)) driven unbound below = refl
 only_y (suc (suc (suc s))) driven unbound below = absurd (omega (arith, below))
 
 no_value_from_nothing : (s : ℕ) (bits : List Bit) → s ≡ 2 → IsNetValue gate nothing_known s bits → ⊥
-no_value_from_nothing s bits is h = (h.told 0 (subst (λ y. drives y (process_at gate 0) ≡ true) (sym is) refl) (gate_values X X X) (λ x b none. absurd none)).1.0.1
+no_value_from_nothing s bits is h = (h.within 0 (subst (λ y. drives y (process_at gate 0) ≡ true) (sym is) refl) (gate_values X X X) (λ x b none. absurd none)).1.0.1
 
 -- in the first round y is not clear
-not_first : (t : ℕ) (start : Known) (x : Thing) (bits : List Bit) → IsClearBy gate Free gate_dump t start nothing_known x bits → x ≡ a_signal 2 → ⊥
+not_first : (t : ℕ) (start : PartialMap) (x : Thing) (bits : List Bit) → IsClearBy gate Free gate_dump t start nothing_known x bits → x ≡ a_signal 2 → ⊥
 not_first t start x bits (of_dump s w0 is_shown is_bound is_signal is) e = false≢true (subst IsBoundHere e is_bound)
 not_first t start x bits (of_assigns s w0 unbound is) e = no_value_from_nothing s w0 (only_y s is.driven unbound is.is_signal) is
 not_first t start x bits (of_comb p s w0 unbound is) e = no_comb p t s nothing_known w0 is
@@ -55,8 +55,8 @@ not_first t start x bits (of_unwoken p x0 w0 w unbound target still old) e = not
 not_first t start x bits (of_clean p c x0 w0 w unbound is) e = not_clocked p x0 is.writer
 
 -- at a shown time at which a and b have these values, y is clear in the second round
-module _ (t : ℕ) (start : Known) (shown : IsShown gate_dump t) (a : Bit) (now : gate_dump.values t ≡ gate_values a One X) where
-  First : Known
+module _ (t : ℕ) (start : PartialMap) (shown : IsShown gate_dump t) (a : Bit) (now : gate_dump.values t ≡ gate_values a One X) where
+  First : PartialMap
   First = clear_in gate Free gate_dump t start 1
 
   agrees : Agrees gate First (gate_values a One X)
@@ -86,15 +86,15 @@ module _ (t : ℕ) (start : Known) (shown : IsShown gate_dump t) (a : Bit) (now 
 
   gives : (v : Values Bit) → Agrees gate First v → bits_after gate v (driven_writes gate v 2 gate.processes) (a_signal 2) ≡ and_bit a One ∷ []
   unfolding put
-  gives v fits = subst (λ ws. bits_after gate v (ws ++ []) (a_signal 2) ≡ and_bit a One ∷ []) (told_blocking gate First (body_at gate 0) (gate_values a One X) v agrees fits inside) refl
+  gives v fits = subst (λ ws. bits_after gate v (ws ++ []) (a_signal 2) ≡ and_bit a One ∷ []) (within_blocking gate First (body_at gate 0) (gate_values a One X) v agrees fits inside) refl
 
-  only_driver : (p : ℕ) → drives 2 (process_at gate p) ≡ true → IsTold gate First (body_at gate p)
-  only_driver zero h = told_by gate First (body_at gate 0) (gate_values a One X) agrees inside
+  only_driver : (p : ℕ) → drives 2 (process_at gate p) ≡ true → ReadsWithin gate First (body_at gate p)
+  only_driver zero h = within_by gate First (body_at gate 0) (gate_values a One X) agrees inside
   only_driver (suc p) h = absurd (false≢true h)
 
   pub y_is_clear : clear_from gate Free gate_dump t start (a_signal 2) (and_bit a One ∷ [])
   unfolding First
-  y_is_clear = (2, of_assigns 2 (and_bit a One ∷ []) refl (record { is_signal = lit< tt; driven = refl; told = only_driver; gives = gives }))
+  y_is_clear = (2, of_assigns 2 (and_bit a One ∷ []) refl (record { is_signal = lit< tt; driven = refl; within = only_driver; gives = gives }))
 
 -- what the assignment knows at 5
 known_at_5 : (x : Thing) (bits : List Bit) → KnownAtEnd gate Free gate_dump 5 0 x bits → thing_bits gate (gate_values One One X) x ≡ bits

@@ -13,7 +13,7 @@ use Rattle.four_state.specs.declared.bit.Bit.{Bit}
 use Rattle.design_model.specs.Tree.{Process, assign, clocked, comb}
 use Rattle.design_model.specs.Design.{Design, In, body_at, process_at}
 use Rattle.design_model.specs.Execution.{Visit, at_line, at_node}
-use Rattle.design_model.specs.Reads.{Agrees, Known, UpToOutside, VisitsFrom}
+use Rattle.design_model.specs.Reads.{Agrees, PartialMap, UpToOutside, VisitsFrom}
 use Rattle.design_model.specs.Machine.{lists_edge, machine}
 use Rattle.design_model.specs.Run.{IsRun, Run, StepOf, evaluations_of, settled, start_of, state_after_steps}
 use Rattle.design_model.specs.Shows.{BindsSignals, BoundDump, InWindow, IsWindow, ShowsUpTo}
@@ -76,7 +76,7 @@ module _ (d : Design) (h : Habit) (r : Run) (is_run : IsRun d h r) where
       go (inl same) = inl same
       go (inr k) = inr (record { step = k.0; at = k.1; to = record { start = k.2; events = k.0.step.events; is_step = k.4; starts = k.5; ends = k.6 }; start = k.3; events = refl })
 
-pub upto_in : (K : Known) (y : Visit) (xs : List Visit) → UpToOutside K y xs → In y xs
+pub upto_in : (K : PartialMap) (y : Visit) (xs : List Visit) → UpToOutside K y xs → In y xs
 upto_in K y [] h = h
 upto_in K y (x ∷ xs) (inl e) = inl e
 upto_in K y (x ∷ xs) (inr h) = inr (upto_in K y xs h.1)

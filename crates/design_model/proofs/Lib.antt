@@ -4,7 +4,7 @@ pub mod Named
 pub mod Lawful
 pub mod EventSignals
 pub mod Agree
-pub mod Told
+pub mod WithinMap
 pub mod Bound
 pub mod BitReads
 pub mod Along

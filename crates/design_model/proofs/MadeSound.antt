@@ -14,7 +14,7 @@ use Rattle.design_model.specs.Design.{Design, IsComb, a_signal, a_word, body, bo
 use Rattle.design_model.specs.Mentions.{body_assigns, body_mentions, has_cell, may_write}
 use Rattle.design_model.specs.Execution.{Execution, Visit, at_line, at_node, covers, execute_assignment, execution, execution_start, reads, writes_word}
 use Rattle.design_model.specs.Paths.{each_writes_whole, reads_signal_before_writing}
-use Rattle.design_model.specs.Reads.{Agrees, Known}
+use Rattle.design_model.specs.Reads.{Agrees, PartialMap}
 use Rattle.design_model.specs.Machine.{is_level, machine}
 use Rattle.design_model.specs.Run.{IsRun, Run, settled}
 use Rattle.design_model.specs.Shows.{BindsSignals, BoundDump, IsWindow, ShowsUpTo}
@@ -29,7 +29,7 @@ use Rattle.design_model.proofs.Mentions.{AllReads, execute_reads}
 use Rattle.design_model.proofs.Named.{WritesCell-from}
 use Rattle.design_model.proofs.Sound.{IsSeen, cells_eq, clear_sound, no_window, step_or, window_shown}
 use Rattle.design_model.proofs.Times.{StepTo}
-use Rattle.design_model.proofs.Told.{SameExecution, execution_same}
+use Rattle.design_model.proofs.WithinMap.{SameExecution, execution_same}
 use Rattle.design_model.proofs.Untouched.{put_other}
 
 -- a Comb of a lawful design has blocking assignments alone
@@ -180,7 +180,7 @@ module _ (d : Design) (lawful : IsLawfulDesign d) (h : Habit) (dump : BoundDump)
           subst (λ y. IsFollowing p c (W y)) there
           (goes_on_to (t - suc w) (suc w) p c cb (begins_by w p h'.by c is_comb cb shown_at.0 shown_at.1 h'.mentioned h'.is_bound (λ e. changed (subst (λ y. signal_bits d (dump.values y) h'.by ≡ signal_bits d (dump.values (suc w)) h'.by) (sym start) e))))
 
-  pub made_sound : (t p s : ℕ) (K : Known) (bits : List Bit) → IsSeen dump end t → Agrees d K (W t) → IsCombValue d dump t K p s bits → signal_bits d (W t) s ≡ bits
+  pub made_sound : (t p s : ℕ) (K : PartialMap) (bits : List Bit) → IsSeen dump end t → Agrees d K (W t) → IsCombValue d dump t K p s bits → signal_bits d (W t) s ≡ bits
   made_sound t p s K bits now agrees is = cells_eq d (W t) (put_all (W t) (execution d (body_at d p) (W t)).blocking) (a_signal s) (λ c at. ⊎_elim (driven c at) (λ nope. sym (put_other (W t) (execution d (body_at d p) (W t)).blocking c (λ has. both_ways _ nope ((machine_lawful d lawful).blocking_kept p (W t) c has)))) (cases_Bool ((machine d).blocking p c))) ∙ is.gives (W t) agrees
     where
       driven : (c : Cell) → c.thing ≡ s → (machine d).blocking p c ≡ true → W t c ≡ put_all (W t) (execution d (body_at d p) (W t)).blocking c

@@ -9,17 +9,17 @@ use Rattle.four_state.specs.Vector.{truth}
 use Rattle.design_model.specs.Paths.{Action, Path, assigns, compares, reaches, selects, tests}
 use Rattle.design_model.specs.Points.{Point, arc_point, line_point, logic_point, state_point, toggle_point, word_point}
 use Rattle.design_model.specs.Open.{ActionOnWord, AreAsked, Asked, FollowsAll, FollowsFixed, IsFixed, IsNode, IsOpen, IsOpenPath, IsSurelyOpen, MayBeAsked, NamesWord, OnEachPath, ReachesFrom, asks, is_true, outer}
-use Rattle.design_model.specs.Reads.{Agrees, AllInside, IsInside, IsTold, Known, UpToOutside, VisitsFrom}
+use Rattle.design_model.specs.Reads.{Agrees, AllInside, IsInside, ReadsWithin, PartialMap, UpToOutside, VisitsFrom}
 use Rattle.design_model.specs.Design.{Design, Thing, memory_at}
 use Rattle.design_model.specs.Tree.{Stmt, Term}
 use Rattle.design_model.specs.Execution.{Visit, at_line, at_node, execution, reads, writes_word}
 use Rattle.design_model.specs.Value.{head, named_word, value}
 use Rattle.design_model.specs.MoreKnown.{MoreKnownLaw}
-use Rattle.design_model.proofs.Told.{inside_outer}
+use Rattle.design_model.proofs.WithinMap.{inside_outer}
 use Rattle.design_model.proofs.Agree.{value_same}
 use Rattle.design_model.proofs.Prefix.{visits_on_all}
 
-module _ (d : Design) (b : Stmt) (K L : Known) (more : (x : Thing) (bits : List Bit) → K x bits → L x bits) (v : Values Bit) (agrees : Agrees d L v) where
+module _ (d : Design) (b : Stmt) (K L : PartialMap) (more : (x : Thing) (bits : List Bit) → K x bits → L x bits) (v : Values Bit) (agrees : Agrees d L v) where
   pub agrees_less : (u : Values Bit) → Agrees d L u → Agrees d K u
   agrees_less u a x bits k = a x bits (more x bits k)
 
@@ -31,8 +31,8 @@ module _ (d : Design) (b : Stmt) (K L : Known) (more : (x : Thing) (bits : List 
   inside_more (reads x false ∷ xs) a = ((a.0.0, more x a.0.0 a.0.1), inside_more xs a.1)
   inside_more (writes_word m i ∷ xs) a = (tt, inside_more xs a.1)
 
-  pub told_more : IsTold d K b → IsTold d L b
-  told_more told u a = inside_more (execution d b u).visits (told u (agrees_less u a))
+  pub within_more : ReadsWithin d K b → ReadsWithin d L b
+  within_more told u a = inside_more (execution d b u).visits (told u (agrees_less u a))
 
   one_inside : (y : Visit) → IsInside K y → IsInside L y
   one_inside (at_line n) h = tt
@@ -50,11 +50,11 @@ module _ (d : Design) (b : Stmt) (K L : Known) (more : (x : Thing) (bits : List 
   visits_more y from = (v, agrees, upto_more y (execution d b v).visits (visits_on_all d K b y from v (agrees_less v agrees)))
 
   pub fixed_more : (t : Term) → IsFixed d K b t → IsFixed d L b t
-  fixed_more t f = record { told = λ u a. inside_more _ (f.told u (agrees_less u a)); unwritten = f.unwritten }
+  fixed_more t f = record { within = λ u a. inside_more _ (f.within u (agrees_less u a)); unwritten = f.unwritten }
 
   -- a term that is fixed by the lesser map has one value on all states that agree with it
   pub same_value : (t : Term) → IsFixed d K b t → (u : Values Bit) → Agrees d K u → value d u t ≡ value d v t
-  same_value t f u a = value_same d u v outer (λ x e. absurd (false≢true e)) t (inside_outer d K u v a (agrees_less v agrees) _ (f.told u a))
+  same_value t f u a = value_same d u v outer (λ x e. absurd (false≢true e)) t (inside_outer d K u v a (agrees_less v agrees) _ (f.within u a))
 
   follows_less : (x : Action) → FollowsFixed d L b x → FollowsFixed d K b x
   follows_less (reaches n) h = tt
@@ -103,10 +103,10 @@ module _ (d : Design) (b : Stmt) (K L : Known) (more : (x : Thing) (bits : List 
   pub reaches_more : (p : Point) → ReachesFrom d K b p → ReachesFrom d L b p
   reaches_more p h = ⊎_elim (λ y. inl (y.0, y.1, visits_more y.0 y.2)) (λ sure. inr (surely_open_more p sure)) h
 
-pub more_known_law : (d : Design) (K L : Known) → MoreKnownLaw d K L
+pub more_known_law : (d : Design) (K L : PartialMap) → MoreKnownLaw d K L
 more_known_law d K L v agrees more b =
     record {
-      is_told = told_more d b K L more v agrees;
+      reads_within = within_more d b K L more v agrees;
       visits = visits_more d b K L more v agrees;
       surely_open = surely_open_more d b K L more v agrees;
       reaches = reaches_more d b K L more v agrees;

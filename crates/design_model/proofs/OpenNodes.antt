@@ -9,8 +9,8 @@ use Rattle.design_model.specs.Design.{Design, In, Thing, a_signal}
 use Rattle.design_model.specs.Value.{head, word_named}
 use Rattle.design_model.specs.Mentions.{all_index_terms, all_subterms, index_terms, subterms}
 use Rattle.design_model.specs.Execution.{Execution, NodeCase, Visit, at_node, cases, execution, execution_start, index_visits, indexes_visits, is_inner, node_visits, reads, visits_of, visits_of_all, word_read, words_written}
-use Rattle.design_model.specs.Paths.{Action, Path, PathStep, assigns, compares, reaches, selects, tests}
-use Rattle.design_model.specs.Reads.{Agrees, Known}
+use Rattle.design_model.specs.Paths.{Action, Path, PlacedAction, assigns, compares, reaches, selects, tests}
+use Rattle.design_model.specs.Reads.{Agrees, PartialMap}
 use Rattle.design_model.specs.Points.{logic_point}
 use Rattle.design_model.specs.Open.{AreAsked, Asked, IsNode, IsSurelyOpen, action_terms, asks}
 use Rattle.design_model.proofs.Along.{AllActions, assign_visits, do_action, do_path}
@@ -104,8 +104,8 @@ action_node d n c t (assigns k x u) r e a h = go k
     go true = In-right (at_node n c) r.visits (assign_visits d x u r) seen
     go false = In-right (at_node n c) r.visits (assign_visits d x u r) seen
 
-module _ (d : Design) (K : Known) (b : Stmt) (v : Values Bit) (av : Agrees d K v) (n : ℕ) (c : NodeCase) (t : Term) where
-  path_node : (path : Path) (r : Execution) → IsUnchanged d K b v av r → AllActions (IsOfBody d K b v av) path → ((r2 : Execution) → IsUnchanged d K b v av r2 → In c (cases d r2.values t)) → (z : PathStep) → In z path → IsNode n z.action t → In (at_node n c) (do_path d path r).visits
+module _ (d : Design) (K : PartialMap) (b : Stmt) (v : Values Bit) (av : Agrees d K v) (n : ℕ) (c : NodeCase) (t : Term) where
+  path_node : (path : Path) (r : Execution) → IsUnchanged d K b v av r → AllActions (IsOfBody d K b v av) path → ((r2 : Execution) → IsUnchanged d K b v av r2 → In c (cases d r2.values t)) → (z : PlacedAction) → In z path → IsNode n z.action t → In (at_node n c) (do_path d path r).visits
   path_node [] r u s holds z h node = absurd h
   path_node (x ∷ xs) r u s holds z (inl e) node =
       let node' : IsNode n x.action t = subst (λ w. IsNode n w t) (sym (ap (λ w. w.action) e)) node in
@@ -118,7 +118,7 @@ module _ (d : Design) (K : Known) (b : Stmt) (v : Values Bit) (av : Agrees d K v
   asked_hold (a ∷ rest) r u h = (ap truth (fixed_value d K b v av a.operand r u h.0 v av) ∙ h.1 v av, asked_hold rest r u h.2)
 
 -- a logic point that is surely open from K is visited on each state that agrees with K
-pub logic_visited : (d : Design) (K : Known) (b : Stmt) (v : Values Bit) (av : Agrees d K v) (p n : ℕ) (at : Place) (op : List ℕ) (c : NodeCase) (sure : IsSurelyOpen d K b (logic_point p n at op c)) → In (at_node n c) (execution d b v).visits
+pub logic_visited : (d : Design) (K : PartialMap) (b : Stmt) (v : Values Bit) (av : Agrees d K v) (p n : ℕ) (at : Place) (op : List ℕ) (c : NodeCase) (sure : IsSurelyOpen d K b (logic_point p n at op c)) → In (at_node n c) (execution d b v).visits
 logic_visited d K b v av p n at op c sure =
     let a = the_path d K b v av in
     let here = sure.3.1 a.path (open_path d K b v av a) in

@@ -13,8 +13,8 @@ use Rattle.design_model.specs.Assignment.{target_width}
 use Rattle.design_model.specs.Mentions.{any_set, any_set_in, any_set_of, body_blocks, may_write, mentions, target_names}
 use Rattle.design_model.specs.Execution.{Execution, Visit, assignment_writes, at_line, at_node, execution, execution_start, reads, writes_word}
 use Rattle.design_model.specs.Numbered.{LineWord}
-use Rattle.design_model.specs.Paths.{Action, Path, PathStep, assigns, compares, paths, reaches, selects, tests}
-use Rattle.design_model.specs.Reads.{Agrees, Known}
+use Rattle.design_model.specs.Paths.{Action, Path, PlacedAction, assigns, compares, paths, reaches, selects, tests}
+use Rattle.design_model.specs.Reads.{Agrees, PartialMap}
 use Rattle.design_model.specs.Points.{line_point}
 use Rattle.design_model.specs.Open.{FollowsAll, FollowsFixed, IsFixed, IsOpenPath, IsSurelyOpen, is_true, outer}
 use Rattle.design_model.proofs.Agree.{AllOuter, value_same}
@@ -24,7 +24,7 @@ use Rattle.design_model.proofs.Lawful.{names_from}
 use Rattle.design_model.proofs.Mentions.{AllReads, term_reads}
 use Rattle.design_model.proofs.Named.{length-fit, writes_named}
 use Rattle.design_model.proofs.Sound.{cells_eq}
-use Rattle.design_model.proofs.Told.{inside_outer}
+use Rattle.design_model.proofs.WithinMap.{inside_outer}
 use Rattle.design_model.proofs.Untouched.{put_other}
 
 -- where an assignment passes a test, the body has one that does
@@ -57,7 +57,7 @@ mentioned_outer d u w t same (reads x false ∷ xs) a = (cells_eq d u w x (λ c 
 value_mentions : (d : Design) (u w : Values Bit) (t : Term) → ((c : Cell) → mentions c.thing t ≡ true → u c ≡ w c) → value d u t ≡ value d w t
 value_mentions d u w t same = value_same d u w outer (λ x e. absurd (false≢true e)) t (mentioned_outer d u w t same _ (term_reads (λ y. mentions y t ≡ true) d u outer t (λ y e. e)))
 
-module _ (d : Design) (K : Known) (b : Stmt) (v : Values Bit) (av : Agrees d K v) where
+module _ (d : Design) (K : PartialMap) (b : Stmt) (v : Values Bit) (av : Agrees d K v) where
   -- what the body does not write by blocking assignments is as on entry
   abbrev pub IsUnchanged : Execution → Type 0
   IsUnchanged r = (c : Cell) → body_blocks c.thing b ≡ false → r.values c ≡ v c
@@ -81,7 +81,7 @@ module _ (d : Design) (K : Known) (b : Stmt) (v : Values Bit) (av : Agrees d K v
   -- a fixed term has on the way the value that it has on each state that agrees
   pub fixed_value : (t : Term) (r : Execution) → IsUnchanged r → IsFixed d K b t → (w : Values Bit) → Agrees d K w → value d r.values t ≡ value d w t
   fixed_value t r u fixed w aw =
-      value_mentions d r.values v t (λ c m. u c (fixed.unwritten c.thing m)) ∙ value_same d v w outer (λ x e. absurd (false≢true e)) t (inside_outer d K v w av aw _ (fixed.told v av))
+      value_mentions d r.values v t (λ c m. u c (fixed.unwritten c.thing m)) ∙ value_same d v w outer (λ x e. absurd (false≢true e)) t (inside_outer d K v w av aw _ (fixed.within v av))
 
   follows_here : (x : Action) (r : Execution) → IsUnchanged r → ActionDecides d x r → FollowsFixed d K b x
   follows_here (reaches n) r u e = tt
@@ -123,13 +123,13 @@ seen_stays d y (x ∷ xs) r h = seen_stays d y xs (do_action d x.action r) (one 
     one (assigns true x t) = In-first y r.visits (assign_visits d x t r) h
     one (assigns false x t) = In-first y r.visits (assign_visits d x t r) h
 
-line_seen : (d : Design) (n : ℕ) (x : PathStep) (path : Path) (r : Execution) → In x path → x.action ≡ reaches n → In (at_line n) (do_path d path r).visits
+line_seen : (d : Design) (n : ℕ) (x : PlacedAction) (path : Path) (r : Execution) → In x path → x.action ≡ reaches n → In (at_line n) (do_path d path r).visits
 line_seen d n x [] r h e = absurd h
 line_seen d n x (z ∷ zs) r (inl is) e = seen_stays d (at_line n) zs (do_action d z.action r) (subst (λ y. In (at_line n) (do_action d y r).visits) (sym (ap (λ y. y.action) is ∙ e)) (In-last (at_line n) r.visits))
 line_seen d n x (z ∷ zs) r (inr h) e = line_seen d n x zs (do_action d z.action r) h e
 
 -- a line point that is surely open from K is visited on each state that agrees with K
-pub line_visited : (d : Design) (K : Known) (b : Stmt) (v : Values Bit) → Agrees d K v → (p n : ℕ) (at : Place) (w : LineWord) → IsSurelyOpen d K b (line_point p n at w) → In (at_line n) (execution d b v).visits
+pub line_visited : (d : Design) (K : PartialMap) (b : Stmt) (v : Values Bit) → Agrees d K v → (p n : ℕ) (at : Place) (w : LineWord) → IsSurelyOpen d K b (line_point p n at w) → In (at_line n) (execution d b v).visits
 line_visited d K b v av p n at w sure =
     let a = the_path d K b v av in
     let here = sure.1 a.path (open_path d K b v av a) in

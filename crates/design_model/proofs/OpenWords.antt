@@ -8,8 +8,8 @@ use Rattle.design_model.specs.Design.{Design, In, Thing, a_word, memory_at}
 use Rattle.design_model.specs.Value.{head, named_word, word_named}
 use Rattle.design_model.specs.Mentions.{all_index_terms, all_subterms, index_terms, subterms}
 use Rattle.design_model.specs.Execution.{Execution, Visit, all_words_written, cases, execution, execution_start, index_visits, indexes_visits, is_inner, node_visits, reads, visits_of, visits_of_all, word_read, word_written, words_written, writes_word}
-use Rattle.design_model.specs.Paths.{Action, Path, PathStep, assigns, compares, reaches, selects, tests}
-use Rattle.design_model.specs.Reads.{Agrees, Known}
+use Rattle.design_model.specs.Paths.{Action, Path, PlacedAction, assigns, compares, reaches, selects, tests}
+use Rattle.design_model.specs.Reads.{Agrees, PartialMap}
 use Rattle.design_model.specs.Points.{word_point}
 use Rattle.design_model.specs.Open.{ActionOnWord, ActionReads, ActionWrites, IsSurelyOpen, SomeTargetWord, TargetWord}
 use Rattle.design_model.proofs.Along.{AllActions, assign_visits, do_action, do_path}
@@ -130,14 +130,14 @@ sees_stays : (d : Design) (m k : ℕ) (w : Bool) (path : Path) (r : Execution) �
 sees_stays d m k true path r h = seen_stays d (writes_word m k) path r h
 sees_stays d m k false path r h = (h.0, seen_stays d (reads (a_word m k) h.0) path r h.1)
 
-module _ (d : Design) (K : Known) (b : Stmt) (v : Values Bit) (av : Agrees d K v) (m k : ℕ) (w : Bool) (i : Term) where
-  path_word : (path : Path) (r : Execution) → IsUnchanged d K b v av r → AllActions (IsOfBody d K b v av) path → ((r2 : Execution) → IsUnchanged d K b v av r2 → word_named d r2.values m i ≡ Some k) → (z : PathStep) → In z path → ActionOnWord w m z.action i → SeesWord m k w (do_path d path r).visits
+module _ (d : Design) (K : PartialMap) (b : Stmt) (v : Values Bit) (av : Agrees d K v) (m k : ℕ) (w : Bool) (i : Term) where
+  path_word : (path : Path) (r : Execution) → IsUnchanged d K b v av r → AllActions (IsOfBody d K b v av) path → ((r2 : Execution) → IsUnchanged d K b v av r2 → word_named d r2.values m i ≡ Some k) → (z : PlacedAction) → In z path → ActionOnWord w m z.action i → SeesWord m k w (do_path d path r).visits
   path_word [] r u s named z h a = absurd h
   path_word (x ∷ xs) r u s named z (inl e) a = sees_stays d m k w xs (do_action d x.action r) (word_deed d m k w i x.action r (named r u) (subst (λ y. ActionOnWord w m y i) (sym (ap (λ y. y.action) e)) a))
   path_word (x ∷ xs) r u s named z (inr h) a = path_word xs (do_action d x.action r) (unchanged_after d K b v av x.action r s.0 u) s.1 named z h a
 
 -- a memory point that is surely open from K is visited on each state that agrees with K
-pub word_visited : (d : Design) (K : Known) (b : Stmt) (v : Values Bit) → Agrees d K v → (m k : ℕ) (w : Bool) → IsSurelyOpen d K b (word_point m k w) → SeesWord m k w (execution d b v).visits
+pub word_visited : (d : Design) (K : PartialMap) (b : Stmt) (v : Values Bit) → Agrees d K v → (m k : ℕ) (w : Bool) → IsSurelyOpen d K b (word_point m k w) → SeesWord m k w (execution d b v).visits
 word_visited d K b v av m k w sure =
     let a = the_path d K b v av in
     let here = sure.3.1 a.path (open_path d K b v av a) in

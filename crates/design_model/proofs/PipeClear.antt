@@ -11,7 +11,7 @@ use Rattle.four_state.specs.declared.bit.Bit.TheVariants.{One, X, Zero}
 use Rattle.design_model.specs.Design.{Thing, a_signal, a_word, body_at, is_memory, process_at, signal_bits, thing_bits}
 use Rattle.design_model.specs.Execution.{BothTrue, at_line, at_node, execution, reads}
 use Rattle.design_model.specs.Paths.{reads_signal_before_writing}
-use Rattle.design_model.specs.Reads.{Agrees, AllInside, HasValue, Known, nothing_known}
+use Rattle.design_model.specs.Reads.{Agrees, AllInside, HasValue, PartialMap, nothing_known}
 use Rattle.design_model.specs.Machine.{is_level}
 use Rattle.design_model.specs.Points.{toggle_point}
 use Rattle.design_model.specs.Clear.{HasChanged, IsClearBy, IsClockedTarget, IsCombValue, bits_after, clear, clear_in, is_driven, of_assigns, of_clean, of_comb, of_dump, of_unwoken}
@@ -20,7 +20,7 @@ use Rattle.design_model.specs.Lawful.{is_signal}
 use Rattle.design_model.specs.Pipe.{IsPipeExample, pipe, pipe_dump, pipe_values}
 use Rattle.design_model.proofs.Bound.{clear_in-thing, in_bound}
 use Rattle.design_model.proofs.FlipFlopDoubt.{agrees}
-use Rattle.design_model.proofs.Told.{told_blocking, told_by}
+use Rattle.design_model.proofs.WithinMap.{within_blocking, within_by}
 
 -- the gate on a 1 and b 1
 pub gate_visits : (execution pipe (body_at pipe 0) (pipe_values Zero One One X X)).visits ≡ at_line 1 ∷ reads (a_signal 1) false ∷ reads (a_signal 2) false ∷ at_node 1 BothTrue ∷ []
@@ -36,7 +36,7 @@ not_clocked (suc zero) h = false≢true h.target
 not_clocked (suc (suc p)) h = h.is_clocked
 
 -- nothing gives y a value but the gate
-only_gate : (p : ℕ) (K : Known) (t : ℕ) (bits : List Bit) → IsCombValue pipe pipe_dump t K p 4 bits → p ≡ 0
+only_gate : (p : ℕ) (K : PartialMap) (t : ℕ) (bits : List Bit) → IsCombValue pipe pipe_dump t K p 4 bits → p ≡ 0
 only_gate zero K t bits h = refl
 only_gate (suc zero) K t bits h = absurd h.is_comb
 only_gate (suc (suc p)) K t bits h = absurd (false≢true h.target)
@@ -65,7 +65,7 @@ no_gate t p s bits e h = go p (only_gate p nothing_known t bits h') h'
     go p e h = at_zero t bits (subst (λ y. IsCombValue pipe pipe_dump t nothing_known y 4 bits) e h)
 
 -- y is not clear before the block's inputs are
-by_first : (t : ℕ) (start : Known) (x : Thing) (bits : List Bit) → IsClearBy pipe Free pipe_dump t start nothing_known x bits → x ≡ a_signal 4 → ⊥
+by_first : (t : ℕ) (start : PartialMap) (x : Thing) (bits : List Bit) → IsClearBy pipe Free pipe_dump t start nothing_known x bits → x ≡ a_signal 4 → ⊥
 by_first t start x bits (of_dump s w0 is_shown is_bound is_signal is) e = false≢true (subst IsBoundHere e is_bound)
 by_first t start x bits (of_assigns s w0 unbound is) e = no_net s e is.driven
 by_first t start x bits (of_comb p s w0 unbound is) e = no_gate t p s w0 e is
@@ -73,7 +73,7 @@ by_first t start x bits (of_unwoken p x0 w0 w unbound target still old) e = not_
 by_first t start x bits (of_clean p c x0 w0 w unbound is) e = not_clocked p (subst (IsClockedTarget pipe p) e is.writer)
 
 -- what is clear at 5 in the first round
-abbrev clear_1 : Known
+abbrev clear_1 : PartialMap
 clear_1 = clear_in pipe Free pipe_dump 5 (clear pipe Free pipe_dump 4) 1
 
 -- the values at 5 agree with what is clear in the first round
@@ -99,7 +99,7 @@ all_inside y = (tt, (clear_a, (clear_b, (tt, tt))))
 -- what the gate writes on all values that agree
 gives : (v : Values Bit) → Agrees pipe (clear_in pipe Free pipe_dump 5 (clear pipe Free pipe_dump 4) 1) v → bits_after pipe v (execution pipe (body_at pipe 0) v).blocking (a_signal 4) ≡ One ∷ []
 unfolding put
-gives v agrees = subst (λ ws. bits_after pipe v ws (a_signal 4) ≡ One ∷ []) (told_blocking pipe _ (body_at pipe 0) (pipe_values Zero One One X X) v (agrees_1 X) agrees (all_inside X)) refl
+gives v agrees = subst (λ ws. bits_after pipe v ws (a_signal 4) ≡ One ∷ []) (within_blocking pipe _ (body_at pipe 0) (pipe_values Zero One One X X) v (agrees_1 X) agrees (all_inside X)) refl
 
 mentioned : (x : ℕ) → is_level (process_at pipe 0) x ≡ true → HasValue (clear_in pipe Free pipe_dump 5 (clear pipe Free pipe_dump 4) 1) (a_signal x)
 mentioned x h = ⊎_elim (λ e. ⊎_elim (λ f. subst (λ y. HasValue clear_1 (a_signal y)) (eqb-true 1 x f) clear_a) (λ f. subst (λ y. HasValue clear_1 (a_signal y)) (eqb-true 2 x f) clear_b) (or_cases (1 == x) (2 == x) e)) (λ e. absurd (false≢true e)) (or_cases ((1 == x) || (2 == x)) false h)
@@ -120,7 +120,7 @@ clear_y = (2, of_comb 0 4 (One ∷ []) refl is_made)
           written_whole = refl;
           writes_first = λ x h. subst (λ y. reads_signal_before_writing pipe (body_at pipe 0) y ≡ false) (eqb-true 4 x h) refl;
           all_clear = λ x h away is_signal. mentioned x h;
-          told = told_by pipe _ (body_at pipe 0) (pipe_values Zero One One X X) (agrees_1 X) (all_inside X);
+          within = within_by pipe _ (body_at pipe 0) (pipe_values Zero One One X X) (agrees_1 X) (all_inside X);
           has_changed = record { by = 1; time = 5; mentioned = refl; is_bound = refl; until = lit≤ tt; in_window = (lit< tt, lit< tt); changed = zero_one };
           gives = gives;
         }
@@ -135,17 +135,17 @@ unchanged h =
     let then' : pipe_dump.values (h.time - 1) ≡ pipe_values Zero Zero One X X = values_early (h.time - 1) (omega (arith, h.until)) in
     h.changed (ap (λ v. signal_bits pipe v h.by) (then' ∙ sym now))
 
-made_early : (p : ℕ) (K : Known) (bits : List Bit) → IsCombValue pipe pipe_dump 4 K p 4 bits → ⊥
+made_early : (p : ℕ) (K : PartialMap) (bits : List Bit) → IsCombValue pipe pipe_dump 4 K p 4 bits → ⊥
 made_early p K bits h = unchanged (subst (λ q. HasChanged pipe_dump pipe (body_at pipe q) 4) (only_gate p K 4 bits h) h.has_changed)
 
-by_early : (start K : Known) (x : Thing) (bits : List Bit) → IsClearBy pipe Free pipe_dump 4 start K x bits → x ≡ a_signal 4 → ⊥
+by_early : (start K : PartialMap) (x : Thing) (bits : List Bit) → IsClearBy pipe Free pipe_dump 4 start K x bits → x ≡ a_signal 4 → ⊥
 by_early start K x bits (of_dump s w0 is_shown is_bound is_signal is) e = false≢true (subst IsBoundHere e is_bound)
 by_early start K x bits (of_assigns s w0 unbound is) e = no_net s e is.driven
 by_early start K x bits (of_comb p s w0 unbound is) e = made_early p K w0 (subst (λ y. IsCombValue pipe pipe_dump 4 K p y w0) (ap signal_of e) is)
 by_early start K x bits (of_unwoken p x0 w0 w unbound target still old) e = not_clocked p (subst (IsClockedTarget pipe p) e target)
 by_early start K x bits (of_clean p c x0 w0 w unbound is) e = not_clocked p (subst (IsClockedTarget pipe p) e is.writer)
 
-in_early : (start : Known) (n : ℕ) (bits : List Bit) → clear_in pipe Free pipe_dump 4 start n (a_signal 4) bits → ⊥
+in_early : (start : PartialMap) (n : ℕ) (bits : List Bit) → clear_in pipe Free pipe_dump 4 start n (a_signal 4) bits → ⊥
 in_early start zero bits k = k
 in_early start (suc n) bits k = by_early start (clear_in pipe Free pipe_dump 4 start n) (a_signal 4) bits k refl
 

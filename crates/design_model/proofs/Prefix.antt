@@ -13,44 +13,44 @@ use Rattle.design_model.specs.Tree.{Arms, Stmt, Stmts, Target, Targets, Term, Te
 use Rattle.design_model.specs.Design.{Design, Thing, a_signal, memory_at, thing_bits}
 use Rattle.design_model.specs.Value.{head, named_word, value, word_named}
 use Rattle.design_model.specs.Execution.{Execution, NodeCase, ValueFalse, ValueTrue, Visit, assignment_visits, at_line, cases, choose, evaluate, execute, execute_all, execute_arms, execute_assignment, execute_default, execution, execution_start, if_false, if_true, index_visits, indexes_visits, is_default, is_inner, label_visits, node_visits, reads, some_match, two_cases, visits_of, visits_of_all, with_visits, word_read, words_written}
-use Rattle.design_model.specs.Reads.{Agrees, AllInside, IsInside, Known, UpToOutside, VisitsFrom}
+use Rattle.design_model.specs.Reads.{Agrees, AllInside, IsInside, PartialMap, UpToOutside, VisitsFrom}
 use Rattle.design_model.proofs.Agree.{AllOuter, outer_halves, value_same, words_same}
 use Rattle.design_model.proofs.Execution.{all_keeps, arms_keep, default_keeps, each_all, each_all_in, each_all_of, execute_keeps}
-use Rattle.design_model.proofs.Told.{SameExecution, exec_same, inner_same, inside_outer, is_inner_same, labels_same, outer_now, value_now, visit_same, visits_now}
+use Rattle.design_model.proofs.WithinMap.{SameExecution, exec_same, inner_same, inside_outer, is_inner_same, labels_same, outer_now, value_now, visit_same, visits_now}
 
 -- two lists of visits are the same up to the first read outside the map, that read included
-abbrev pub UpSame : Known → List Visit → List Visit → Type 0
+abbrev pub UpSame : PartialMap → List Visit → List Visit → Type 0
 UpSame K [] [] = ⊤
 UpSame K [] (y ∷ ys) = ⊥
 UpSame K (x ∷ xs) [] = ⊥
 UpSame K (x ∷ xs) (y ∷ ys) = (x ≡ y) × (IsInside K x → UpSame K xs ys)
 
-up_self : (K : Known) (xs : List Visit) → UpSame K xs xs
+up_self : (K : PartialMap) (xs : List Visit) → UpSame K xs xs
 up_self K [] = tt
 up_self K (x ∷ xs) = (refl, λ inside. up_self K xs)
 
-pub up_same : (K : Known) (xs ys : List Visit) → xs ≡ ys → UpSame K xs ys
+pub up_same : (K : PartialMap) (xs ys : List Visit) → xs ≡ ys → UpSame K xs ys
 up_same K xs ys e = subst (UpSame K xs) e (up_self K xs)
 
-up_append : (K : Known) (xs ys as' bs : List Visit) → UpSame K xs ys → (AllInside K xs → UpSame K as' bs) → UpSame K (xs ++ as') (ys ++ bs)
+up_append : (K : PartialMap) (xs ys as' bs : List Visit) → UpSame K xs ys → (AllInside K xs → UpSame K as' bs) → UpSame K (xs ++ as') (ys ++ bs)
 up_append K [] [] as' bs e h = h tt
 up_append K [] (y ∷ ys) as' bs e h = absurd e
 up_append K (x ∷ xs) [] as' bs e h = absurd e
 up_append K (x ∷ xs) (y ∷ ys) as' bs e h = (e.0, λ inside. up_append K xs ys as' bs (e.1 inside) (λ all. h (inside, all)))
 
 -- what follows the first read outside does not matter
-up_extend : (K : Known) (xs ys as' bs : List Visit) → UpSame K xs ys → (AllInside K xs → UpSame K (xs ++ as') (ys ++ bs)) → UpSame K (xs ++ as') (ys ++ bs)
+up_extend : (K : PartialMap) (xs ys as' bs : List Visit) → UpSame K xs ys → (AllInside K xs → UpSame K (xs ++ as') (ys ++ bs)) → UpSame K (xs ++ as') (ys ++ bs)
 up_extend K [] [] as' bs e h = h tt
 up_extend K [] (y ∷ ys) as' bs e h = absurd e
 up_extend K (x ∷ xs) [] as' bs e h = absurd e
 up_extend K (x ∷ xs) (y ∷ ys) as' bs e h = (e.0, λ inside. up_extend K xs ys as' bs (e.1 inside) (λ all. (h (inside, all)).1 inside))
 
-inside_halves : (K : Known) (xs ys : List Visit) → AllInside K (xs ++ ys) → AllInside K xs × AllInside K ys
+inside_halves : (K : PartialMap) (xs ys : List Visit) → AllInside K (xs ++ ys) → AllInside K xs × AllInside K ys
 inside_halves K [] ys h = (tt, h)
 inside_halves K (x ∷ xs) ys h = let r = inside_halves K xs ys h.1 in ((h.0, r.0), r.1)
 
 -- what is visited up to the first read outside on one is so on the other
-pub up_visits : (K : Known) (x : Visit) (xs ys : List Visit) → UpSame K xs ys → UpToOutside K x xs → UpToOutside K x ys
+pub up_visits : (K : PartialMap) (x : Visit) (xs ys : List Visit) → UpSame K xs ys → UpToOutside K x xs → UpToOutside K x ys
 up_visits K x [] ys e h = absurd h
 up_visits K x (z ∷ xs) [] e h = absurd e
 up_visits K x (z ∷ xs) (y ∷ ys) e (inl is) = inl (sym e.0 ∙ is)
@@ -65,7 +65,7 @@ node_outer d u v None cs = tt
 node_outer d u v (Some n) [] = tt
 node_outer d u v (Some n) (c ∷ cs) = (tt, node_outer d u v (Some n) cs)
 
-module _ (d : Design) (K : Known) (u v : Values Bit) (f : Thing → Bool) (inner : (x : Thing) → f x ≡ true → thing_bits d u x ≡ thing_bits d v x) (agree : (xs : List Visit) → AllInside K xs → AllOuter d u v xs) where
+module _ (d : Design) (K : PartialMap) (u v : Values Bit) (f : Thing → Bool) (inner : (x : Thing) → f x ≡ true → thing_bits d u x ≡ thing_bits d v x) (agree : (xs : List Visit) → AllInside K xs → AllOuter d u v xs) where
   own_same : (t : Term) → value d u t ≡ value d v t → (if_false (truth (value d u t)) ValueFalse ++ if_true (truth (value d u t)) ValueTrue) ≡ (if_false (truth (value d v t)) ValueFalse ++ if_true (truth (value d v t)) ValueTrue)
   own_same t e = ap (λ x. if_false (truth x) ValueFalse ++ if_true (truth x) ValueTrue) e
 
@@ -184,7 +184,7 @@ if_extends : (d : Design) (r0 : Execution) (x : Bool) (a b : Execution) → Exte
 if_extends d r0 true a b f g = f
 if_extends d r0 false a b f g = g
 
-module _ (d : Design) (K : Known) (u v : Values Bit) (au : Agrees d K u) (av : Agrees d K v) where
+module _ (d : Design) (K : PartialMap) (u v : Values Bit) (au : Agrees d K u) (av : Agrees d K v) where
   -- two executions that are the same up to the first read outside
   record Up (r s : Execution) : Type 0 where
     visits : UpSame K r.visits s.visits
@@ -325,5 +325,5 @@ module _ (d : Design) (K : Known) (u v : Values Bit) (au : Agrees d K u) (av : A
   execution_up b = exec_up b (execution_start u) (execution_start v) (record { visits = tt; same = λ a. record { blocking = refl; nonblocking = refl; visits = refl; left = λ c. refl; right = λ c. refl } })
 
 -- so what one of them visits up to there, each does
-pub visits_on_all : (d : Design) (K : Known) (b : Stmt) (x : Visit) → VisitsFrom d K b x → (v : Values Bit) → Agrees d K v → UpToOutside K x (execution d b v).visits
+pub visits_on_all : (d : Design) (K : PartialMap) (b : Stmt) (x : Visit) → VisitsFrom d K b x → (v : Values Bit) → Agrees d K v → UpToOutside K x (execution d b v).visits
 visits_on_all d K b x from v av = up_visits K x (execution d b from.0).visits (execution d b v).visits (execution_up d K from.0 v from.1 av b) from.2

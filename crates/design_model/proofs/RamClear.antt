@@ -14,7 +14,7 @@ use Rattle.four_state.specs.declared.bit.Bit.TheVariants.{One, X, Z, Zero}
 use Rattle.design_model.specs.Design.{Thing, a_signal, a_word, body_at, cell, cells, is_memory, thing_bits}
 use Rattle.design_model.specs.Execution.{ValueFalse, ValueTrue, at_line, at_node, covers, execution, reads, writes_word}
 use Rattle.design_model.specs.Numbered.{Assign}
-use Rattle.design_model.specs.Reads.{Agrees, AllInside, HasValue, Known}
+use Rattle.design_model.specs.Reads.{Agrees, AllInside, HasValue, PartialMap}
 use Rattle.design_model.specs.Machine.{is_edge, is_input_cell, machine}
 use Rattle.design_model.specs.Points.{line_point, word_point}
 use Rattle.design_model.specs.MayMove.{CanWakeSome, IsCleanAt, told_at}
@@ -26,7 +26,7 @@ use Rattle.design_model.specs.ExampleParts.{at}
 use Rattle.design_model.specs.Ram.{IsRamExample, ram, ram_dump, ram_values}
 use Rattle.design_model.proofs.Bound.{clear-thing, clear_bound}
 use Rattle.design_model.proofs.FlipFlopDoubt.{agrees}
-use Rattle.design_model.proofs.Told.{told_blocking, told_by, told_nonblocking}
+use Rattle.design_model.proofs.WithinMap.{within_blocking, within_by, within_nonblocking}
 
 abbrev unknown : List Bit
 unknown = X ∷ X ∷ X ∷ X ∷ []
@@ -97,14 +97,14 @@ no_word : (s m i : ℕ) → a_signal s ≡ a_word m i → ⊥
 no_word s m i e = subst IsWordThing (sym e) tt
 
 -- a word is clear by its old value, or by a write of a block that can wake
-by_word : (t : ℕ) (start K : Known) (m i : ℕ) (x : Thing) (bits : List Bit) → IsClearBy ram Free ram_dump t start K x bits → x ≡ a_word m i → start (a_word m i) bits ⊎ ((p : ℕ) × (c : Cell) × CanWakeSome ram ram_dump t p × IsWrittenValue ram Free ram_dump t start p c (a_word m i) bits)
+by_word : (t : ℕ) (start K : PartialMap) (m i : ℕ) (x : Thing) (bits : List Bit) → IsClearBy ram Free ram_dump t start K x bits → x ≡ a_word m i → start (a_word m i) bits ⊎ ((p : ℕ) × (c : Cell) × CanWakeSome ram ram_dump t p × IsWrittenValue ram Free ram_dump t start p c (a_word m i) bits)
 by_word t start K m i x bits (of_dump s w0 is_shown is_bound is_signal is) e = absurd (no_word s m i e)
 by_word t start K m i x bits (of_assigns s w0 unbound is) e = absurd (no_word s m i e)
 by_word t start K m i x bits (of_comb p s w0 unbound is) e = absurd (no_word s m i e)
 by_word t start K m i x bits (of_unwoken p x0 w0 w unbound target still old) e = inl (subst (λ y. start y w0) e old)
 by_word t start K m i x bits (of_clean p c x0 w0 w unbound is) e = inr (p, c, (c, is.is_clean.can_wake), subst (λ y. IsWrittenValue ram Free ram_dump t start p c y w0) e is)
 
-in_word : (t : ℕ) (start : Known) (n m i : ℕ) (bits : List Bit) → clear_in ram Free ram_dump t start n (a_word m i) bits → start (a_word m i) bits ⊎ ((p : ℕ) × (c : Cell) × CanWakeSome ram ram_dump t p × IsWrittenValue ram Free ram_dump t start p c (a_word m i) bits)
+in_word : (t : ℕ) (start : PartialMap) (n m i : ℕ) (bits : List Bit) → clear_in ram Free ram_dump t start n (a_word m i) bits → start (a_word m i) bits ⊎ ((p : ℕ) × (c : Cell) × CanWakeSome ram ram_dump t p × IsWrittenValue ram Free ram_dump t start p c (a_word m i) bits)
 in_word t start zero m i bits k = absurd k
 in_word t start (suc n) m i bits k = by_word t start (clear_in ram Free ram_dump t start n) m i (a_word m i) bits k refl
 
@@ -178,10 +178,10 @@ owner_of (a_signal s) = s
 owner_of (a_word m i) = m
 
 -- what the block knows on entry at 5
-abbrev entry_5 : Known
+abbrev entry_5 : PartialMap
 entry_5 = EntryFrom ram Free ram_dump 5 (clear ram Free ram_dump 4) 0 (cell 0 0)
 
-abbrev clear_4 : Known
+abbrev clear_4 : PartialMap
 clear_4 = clear ram Free ram_dump 4
 
 -- for a thing that is not the trigger the entry has what was clear
@@ -216,8 +216,8 @@ word_3 = record { is_thing = (refl, lit≤ tt, lit≤ tt); is_clocked = tt; targ
 -- the words of m after the block's execution, on all values that agree
 writes_5 : (v : Values Bit) → Agrees ram entry_5 v → all_writes (execution ram (body_at ram 0) v) ≡ record { cell = cell 6 3; value = One } ∷ []
 writes_5 v agrees =
-    let e = told_blocking ram entry_5 (body_at ram 0) (ram_values One One Zero unknown) v (agrees_5 unknown) agrees inside_5 in
-    let f = told_nonblocking ram entry_5 (body_at ram 0) (ram_values One One Zero unknown) v (agrees_5 unknown) agrees inside_5 in
+    let e = within_blocking ram entry_5 (body_at ram 0) (ram_values One One Zero unknown) v (agrees_5 unknown) agrees inside_5 in
+    let f = within_nonblocking ram entry_5 (body_at ram 0) (ram_values One One Zero unknown) v (agrees_5 unknown) agrees inside_5 in
     sym (subst (λ ws. record { cell = cell 6 3; value = One } ∷ [] ≡ ws ++ join (execution ram (body_at ram 0) v).nonblocking) e (subst (λ us. record { cell = cell 6 3; value = One } ∷ [] ≡ [] ++ join us) f refl))
 
 -- word 3 is clear at 5, with the value 1
@@ -229,7 +229,7 @@ clear_5 = (
       (record {
         writer = word_3;
         is_clean = clean_5;
-        told = told_by ram entry_5 (body_at ram 0) (ram_values One One Zero unknown) (agrees_5 unknown) inside_5;
+        within = within_by ram entry_5 (body_at ram 0) (ram_values One One Zero unknown) (agrees_5 unknown) inside_5;
         gives = λ v agrees. subst (λ ws. LeavesValue ram clear_4 v ws (a_word 6 3) (One ∷ [])) (sym (writes_5 v agrees)) (record { decided = inl refl; is = λ old h. refl });
       }),
 )
@@ -276,7 +276,7 @@ word_value (suc n) m i bits h k =
     ⊎_elim (λ old. word_value n m i bits (omega arith) old) (λ new. absurd (asleep_between (suc (suc (suc (suc (suc (suc n)))))) new.0 (omega arith) (omega arith) new.2)) (in_word (suc (suc (suc (suc (suc (suc n)))))) (clear ram Free ram_dump (suc (suc (suc (suc (suc n)))))) k.0 m i bits k.1)
 
 -- what the block knows on entry at 15
-abbrev entry_15 : Known
+abbrev entry_15 : PartialMap
 entry_15 = KnownOnEntry ram Free ram_dump 15 0
 
 old_15 : (x : Thing) (bits : List Bit) → entry_15 x bits → x ≢ a_signal 0 → clear ram Free ram_dump 14 x bits

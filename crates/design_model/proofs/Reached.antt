@@ -9,7 +9,7 @@ use Rattle.design_model.specs.Tree.{Stmt}
 use Rattle.design_model.specs.Design.{Design, In, body_at, owner, process_at}
 use Rattle.design_model.specs.Mentions.{body_assigns, body_mentions}
 use Rattle.design_model.specs.Execution.{Visit, at_line, at_node, execution, execution_start, reads, writes_word}
-use Rattle.design_model.specs.Reads.{Agrees, Known}
+use Rattle.design_model.specs.Reads.{Agrees, PartialMap}
 use Rattle.design_model.specs.Machine.{machine}
 use Rattle.design_model.specs.Run.{IsRun, Run, StepOf, settled}
 use Rattle.design_model.specs.Shows.{BindsSignals, BoundDump, InWindow, IsWindow, ShowsUpTo}
@@ -30,7 +30,7 @@ use Rattle.design_model.proofs.OpenWords.{SeesWord, word_visited}
 use Rattle.design_model.proofs.SettledHits.{settled_acts, settled_hits, settling_level}
 use Rattle.design_model.proofs.Sound.{IsSeen, cells_eq, no_window, window_shown}
 use Rattle.design_model.proofs.StepLaws.{StepLaws}
-use Rattle.design_model.proofs.Told.{execution_same}
+use Rattle.design_model.proofs.WithinMap.{execution_same}
 
 -- some visit of the list is of the point
 abbrev Sees : Point → List Visit → Type 0
@@ -40,7 +40,7 @@ Sees (word_point m k w) vs = SeesWord m k w vs
 Sees _ vs = ⊥
 
 -- a point that is surely open from K is visited on each state that agrees with K
-surely_visited : (d : Design) (K : Known) (b : Stmt) (v : Values Bit) → Agrees d K v → (x : Point) → IsSurelyOpen d K b x → Sees x (execution d b v).visits
+surely_visited : (d : Design) (K : PartialMap) (b : Stmt) (v : Values Bit) → Agrees d K v → (x : Point) → IsSurelyOpen d K b x → Sees x (execution d b v).visits
 surely_visited d K b v av (line_point p n at w) sure = line_visited d K b v av p n at w sure
 surely_visited d K b v av (logic_point p n at op c) sure = logic_visited d K b v av p n at op c sure
 surely_visited d K b v av (word_point m k w) sure = word_visited d K b v av m k w sure

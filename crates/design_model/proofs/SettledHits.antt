@@ -12,7 +12,7 @@ use Rattle.design_model.specs.Tree.{Process, assign, clocked, comb}
 use Rattle.design_model.specs.Design.{Design, IsClocked, Thing, body, body_at, owner, process_at, thing_bits}
 use Rattle.design_model.specs.Mentions.{body_assigns, body_mentions}
 use Rattle.design_model.specs.Execution.{Visit, at_line, at_node, execution, execution_start, reads, writes_word}
-use Rattle.design_model.specs.Reads.{Agrees, HasValue, Known, UpToOutside, VisitsFrom}
+use Rattle.design_model.specs.Reads.{Agrees, HasValue, PartialMap, UpToOutside, VisitsFrom}
 use Rattle.design_model.specs.Machine.{is_level, machine}
 use Rattle.design_model.specs.Run.{IsRun, Run, StepOf, evaluations_of, settled, start_of}
 use Rattle.design_model.specs.Shows.{BindsSignals, BoundDump, InWindow, IsWindow, ShowsUpTo}
@@ -39,11 +39,11 @@ settling_scored (comb i wakes s) d r k p v is a b = (a, b)
 settling_scored (clocked i events s) d r k p v is a b = absurd (is tt)
 
 -- the values of what the body mentions and does not assign
-abbrev Wakes : Design → ℕ → Values Bit → Known
+abbrev Wakes : Design → ℕ → Values Bit → PartialMap
 Wakes d p v x bits = (body_mentions (owner x) (body_at d p) ≡ true) × (body_assigns (owner x) (body_at d p) ≡ false) × (bits ≡ thing_bits d v x)
 
 -- what is inside a map of settled things is inside the map of wake things
-widen : (d : Design) (p : ℕ) (v : Values Bit) (K : Known) (y : Visit) → ((x : Thing) → HasValue K x → body_assigns (owner x) (body_at d p) ≡ false) → (xs : List Visit) → AllReads (λ q. body_mentions q (body_at d p) ≡ true) xs → UpToOutside K y xs → UpToOutside (Wakes d p v) y xs
+widen : (d : Design) (p : ℕ) (v : Values Bit) (K : PartialMap) (y : Visit) → ((x : Thing) → HasValue K x → body_assigns (owner x) (body_at d p) ≡ false) → (xs : List Visit) → AllReads (λ q. body_mentions q (body_at d p) ≡ true) xs → UpToOutside K y xs → UpToOutside (Wakes d p v) y xs
 widen d p v K y not_own [] a h = h
 widen d p v K y not_own (x ∷ xs) a (inl e) = inl e
 widen d p v K y not_own (at_line n ∷ xs) a (inr h) = inr (tt, widen d p v K y not_own xs a.1 h.1)

@@ -19,8 +19,7 @@ use Rattle.design_model.specs.Tree.{Process, assign, clocked, comb}
 use Rattle.design_model.specs.Design.{Design, IsAssign, IsClocked, IsThing, Thing, a_signal, a_word, body, body_at, cell, is_assign, memory_at, no_process, owner, process_at, signal_at, signal_bits, thing_bits}
 use Rattle.design_model.specs.Mentions.{body_assigns, may_write}
 use Rattle.design_model.specs.Execution.{execution}
-use Rattle.design_model.specs.Paths.{step}
-use Rattle.design_model.specs.Reads.{Agrees, Known, nothing_known}
+use Rattle.design_model.specs.Reads.{Agrees, PartialMap, nothing_known}
 use Rattle.design_model.specs.Machine.{is_level, machine}
 use Rattle.design_model.specs.Run.{IsRun, Run, settled}
 use Rattle.design_model.specs.Shows.{BindsSignals, BoundDump, IsShown, IsShownOf, IsWindow, IsWindowOf, ShowsUpTo}
@@ -34,7 +33,7 @@ use Rattle.design_model.proofs.Lawful.{any_gives, assign_or, assigns_any, edge_o
 use Rattle.design_model.proofs.Named.{WritesCell-halves}
 use Rattle.event_machine.proofs.Rounds.{single_told}  -- #keep
 use Rattle.design_model.proofs.Times.{StepTo, next_time}
-use Rattle.design_model.proofs.Told.{put_append, put_same}
+use Rattle.design_model.proofs.WithinMap.{put_append, put_same}
 use Rattle.design_model.proofs.Untouched.{put_other, untouched}
 
 abbrev head_or : Bit → List Bit → Bit
@@ -234,7 +233,7 @@ module _ (d : Design) (lawful : IsLawfulDesign d) (h : Habit) (dump : BoundDump)
       one false e = refl
       one true e = holds 0 (and_parts (is_assign p) _ e).0 c
 
-  pub net_sound : (t s : ℕ) (K : Known) (bits : List Bit) → Agrees d K (values_at t) → IsNetValue d K s bits → signal_bits d (values_at t) s ≡ bits
+  pub net_sound : (t s : ℕ) (K : PartialMap) (bits : List Bit) → Agrees d K (values_at t) → IsNetValue d K s bits → signal_bits d (values_at t) s ≡ bits
   net_sound t s K bits agrees is = cells_eq d (values_at t) (put_all (values_at t) (driven_writes d (values_at t) s d.processes)) (a_signal s) (λ c at. sym (driven_hold t s d.processes (λ j a. assign_holds t j a) c)) ∙ is.gives (values_at t) agrees
 
   -- the window begins after a shown time
@@ -256,15 +255,15 @@ module _ (d : Design) (lawful : IsLawfulDesign d) (h : Habit) (dump : BoundDump)
       go (u ∷ us) w = omega (arith, w.0)
 
   -- what the rule for Combs still owes
-  module _ (comb_sound : (t p s : ℕ) (K : Known) (bits : List Bit) → IsSeen dump end t → Agrees d K (values_at t) → IsCombValue d dump t K p s bits → signal_bits d (values_at t) s ≡ bits) where
-    by_rule : (t : ℕ) (start K : Known) → IsSeen dump end t → Agrees d K (values_at t) → ((p : ℕ) (x : Thing) (bits : List Bit) → IsWindow dump t → IsClockedTarget d p x → (CanWakeSome d dump t p → ⊥) → start x bits → thing_bits d (values_at t) x ≡ bits) → ((p : ℕ) (c : Cell) (x : Thing) (bits : List Bit) → IsWindow dump t → IsWrittenValue d h dump t start p c x bits → thing_bits d (values_at t) x ≡ bits) → (x : Thing) (bits : List Bit) → IsClearBy d h dump t start K x bits → thing_bits d (values_at t) x ≡ bits
+  module _ (comb_sound : (t p s : ℕ) (K : PartialMap) (bits : List Bit) → IsSeen dump end t → Agrees d K (values_at t) → IsCombValue d dump t K p s bits → signal_bits d (values_at t) s ≡ bits) where
+    by_rule : (t : ℕ) (start K : PartialMap) → IsSeen dump end t → Agrees d K (values_at t) → ((p : ℕ) (x : Thing) (bits : List Bit) → IsWindow dump t → IsClockedTarget d p x → (CanWakeSome d dump t p → ⊥) → start x bits → thing_bits d (values_at t) x ≡ bits) → ((p : ℕ) (c : Cell) (x : Thing) (bits : List Bit) → IsWindow dump t → IsWrittenValue d h dump t start p c x bits → thing_bits d (values_at t) x ≡ bits) → (x : Thing) (bits : List Bit) → IsClearBy d h dump t start K x bits → thing_bits d (values_at t) x ≡ bits
     by_rule t start K now agrees k w x bits (of_dump s w0 is_shown bound is_signal is) = shows.shows t is_shown now.1 s bound ∙ sym is
     by_rule t start K now agrees k w x bits (of_assigns s w0 unbound is) = net_sound t s K w0 agrees is
     by_rule t start K now agrees k w x bits (of_comb p s w0 unbound is) = comb_sound t p s K w0 now agrees is
     by_rule t start K now agrees k w x bits (of_unwoken p x0 w0 window unbound target cannot_wake old) = k p x0 w0 window target cannot_wake old
     by_rule t start K now agrees k w x bits (of_clean p c x0 w0 window unbound is) = w p c x0 w0 window is
 
-    rounds_sound : (t : ℕ) (start : Known) → IsSeen dump end t → ((p : ℕ) (x : Thing) (bits : List Bit) → IsWindow dump t → IsClockedTarget d p x → (CanWakeSome d dump t p → ⊥) → start x bits → thing_bits d (values_at t) x ≡ bits) → ((p : ℕ) (c : Cell) (x : Thing) (bits : List Bit) → IsWindow dump t → IsWrittenValue d h dump t start p c x bits → thing_bits d (values_at t) x ≡ bits) → (n : ℕ) → Agrees d (clear_in d h dump t start n) (values_at t)
+    rounds_sound : (t : ℕ) (start : PartialMap) → IsSeen dump end t → ((p : ℕ) (x : Thing) (bits : List Bit) → IsWindow dump t → IsClockedTarget d p x → (CanWakeSome d dump t p → ⊥) → start x bits → thing_bits d (values_at t) x ≡ bits) → ((p : ℕ) (c : Cell) (x : Thing) (bits : List Bit) → IsWindow dump t → IsWrittenValue d h dump t start p c x bits → thing_bits d (values_at t) x ≡ bits) → (n : ℕ) → Agrees d (clear_in d h dump t start n) (values_at t)
     rounds_sound t start now k w zero x bits is = absurd is
     rounds_sound t start now k w (suc n) x bits is = by_rule t start (clear_in d h dump t start n) now (rounds_sound t start now k w n) k w x bits is
 

@@ -7,7 +7,7 @@ use Rattle.event_machine.specs.MayMove.{of_input, of_target}
 use Rattle.four_state.specs.declared.bit.Bit.{Bit}
 use Rattle.design_model.specs.Tree.{Stmt}
 use Rattle.design_model.specs.Design.{Design, Thing, signal_bits}
-use Rattle.design_model.specs.Reads.{Agrees, Known}
+use Rattle.design_model.specs.Reads.{Agrees, PartialMap}
 use Rattle.design_model.specs.Shows.{BoundDump, IsShownOf, IsWindow, IsWindowOf}
 use Rattle.design_model.specs.MayMove.{CanWakeSome, IsCleanAt, MayMoveAt}
 use Rattle.design_model.specs.Clear.{HasChanged, IsClearBy, IsCombValue, clear, clear_from, clear_in, clear_start, of_assigns, of_clean, of_comb, of_dump, of_unwoken}
@@ -59,7 +59,7 @@ module _ (d : Design) (h : Habit) (dump : BoundDump) (inputs : BindsInputs d dum
       earlier : (changed.time ≡ suc t → ⊥) → changed.time ≤ suc t → changed.time ≤ t
       earlier ne le = omega (arith, le, ne)
 
-  comb_at : (u w : ℕ) (K : Known) (p s : ℕ) (bits : List Bit) → ((b : Stmt) → HasChanged dump d b u → HasChanged dump d b w) → IsCombValue d dump u K p s bits → IsCombValue d dump w K p s bits
+  comb_at : (u w : ℕ) (K : PartialMap) (p s : ℕ) (bits : List Bit) → ((b : Stmt) → HasChanged dump d b u → HasChanged dump d b w) → IsCombValue d dump u K p s bits → IsCombValue d dump w K p s bits
   comb_at u w K p s bits moves is =
       record {
         is_signal = is.is_signal;
@@ -68,7 +68,7 @@ module _ (d : Design) (h : Habit) (dump : BoundDump) (inputs : BindsInputs d dum
         written_whole = is.written_whole;
         writes_first = is.writes_first;
         all_clear = is.all_clear;
-        told = is.told;
+        within = is.within;
         has_changed = moves _ is.has_changed;
         gives = is.gives;
       }
@@ -95,7 +95,7 @@ module _ (d : Design) (lawful : IsLawfulDesign d) (h : Habit) (dump : BoundDump)
   agrees_now x bits k = agrees x bits (back x bits k)
 
   -- by a rule, at the moment before
-  on_by : (start : Known) (x : Thing) (bits : List Bit) → clear d h dump t x bits → IsClearBy d h dump t start (clear d h dump (suc t)) x bits → clear d h dump (suc t) x bits
+  on_by : (start : PartialMap) (x : Thing) (bits : List Bit) → clear d h dump t x bits → IsClearBy d h dump t start (clear d h dump (suc t)) x bits → clear d h dump (suc t) x bits
   on_by start x bits old (of_dump s w0 is_shown is_bound is_signal is) =
       closed_law d lawful h dump (suc t) v agrees_now x bits (of_dump s w0 (shown_pair dump.times t window).1 is_bound is_signal (is ∙ ap (λ f. signal_bits d f s) (sym same)))
   on_by start x bits old (of_assigns s w0 unbound is) = closed_law d lawful h dump (suc t) v agrees_now x bits (of_assigns s w0 unbound is)
@@ -106,7 +106,7 @@ module _ (d : Design) (lawful : IsLawfulDesign d) (h : Habit) (dump : BoundDump)
   on_by start x bits old (of_clean p c x0 w0 in_window unbound is) =
       closed_law d lawful h dump (suc t) v agrees_now x bits (of_unwoken p x0 w0 window unbound is.writer (none_wakes d h dump inputs t same p) old)
 
-  on_in : (start : Known) → ((x : Thing) (bits : List Bit) → clear_from d h dump t start x bits → clear d h dump t x bits) → (n : ℕ) (x : Thing) (bits : List Bit) → clear_in d h dump t start n x bits → clear d h dump (suc t) x bits
+  on_in : (start : PartialMap) → ((x : Thing) (bits : List Bit) → clear_from d h dump t start x bits → clear d h dump t x bits) → (n : ℕ) (x : Thing) (bits : List Bit) → clear_in d h dump t start n x bits → clear d h dump (suc t) x bits
   on_in start whole zero x bits k = absurd k
   on_in start whole (suc n) x bits k =
       on_by start x bits (whole x bits (suc n, k)) (rules_more d (clear_in d h dump t start n) (clear d h dump (suc t)) (on_in start whole n) h dump t start x bits k)

@@ -8,7 +8,6 @@ use Rattle.event_machine.specs.Event.{Event, end_state}
 use Rattle.event_machine.specs.Habit.{Habit}
 use Rattle.event_machine.specs.Step.{IsStep}
 use Rattle.event_machine.specs.Run.{AreSteps, Timed, state_at, step_start}
-use Rattle.design_model.specs.Paths.{step}
 
 -- a step that takes the settled values of t to those of the next time
 pub record StepTo {V : Type 0} (m : Machine V) (h : Habit) (before later : Values V) : Type 0 where

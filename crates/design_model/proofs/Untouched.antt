@@ -4,10 +4,9 @@ use Rattle.std.proofs.lemmas.Bool.{and_parts, eqb-true}
 use Rattle.event_machine.specs.Cell.{Cell, Update, UpdatesCell, Values, Write, WritesCell, put, put_all, same_cell}
 use Rattle.event_machine.specs.Machine.{IsLawful, IsTarget, Machine}
 use Rattle.event_machine.specs.State.{State}
-use Rattle.event_machine.specs.Event.{Activate, Apply, CanMove, CanOccur, Evaluate, Event, IsLegal, Move, end_state, first, mark, rest, state_after, writes}
+use Rattle.event_machine.specs.Event.{Activate, Apply, CanMove, CanOccur, Evaluate, Event, IsLegal, Move, end_state, first, mark, rest, state_after, event_writes}
 use Rattle.event_machine.specs.Habit.{Habit}
 use Rattle.event_machine.specs.Step.{IsStep}
-use Rattle.design_model.specs.Paths.{step}
 
 -- what is not written stays
 pub put_other : {V : Type 0} (v : Values V) (ws : List (Write V)) (c : Cell) → (WritesCell ws c → ⊥) → put_all v ws c ≡ v c
@@ -43,7 +42,7 @@ module _ {V : Type 0} (m : Machine V) (lawful : IsLawful m) (c : Cell) (no_input
   rest_away [] h x = x
   rest_away (u ∷ us) h x = h (inr x)
 
-  writes_away : (s : State V) (e : Event V) → CanOccur m s e → IsAway s → WritesCell (writes m s e) c → ⊥
+  writes_away : (s : State V) (e : Event V) → CanOccur m s e → IsAway s → WritesCell (event_writes m s e) c → ⊥
   writes_away s (Move ws) can away h = moves_away s.moved s.values ws can.1 h
   writes_away s (Evaluate p) can away h = no_target p (inl (lawful.blocking_kept p s.values c h))
   writes_away s Activate can away h = h
@@ -61,7 +60,7 @@ module _ {V : Type 0} (m : Machine V) (lawful : IsLawful m) (c : Cell) (no_input
 
   stays_over : (s : State V) (es : List (Event V)) → IsLegal m s es → IsAway s → (end_state m s es).values c ≡ s.values c
   stays_over s [] legal away = refl
-  stays_over s (e ∷ es) legal away = stays_over (state_after m s e) es legal.1 (away_kept s e away) ∙ put_other s.values (writes m s e) c (writes_away s e legal.0 away)
+  stays_over s (e ∷ es) legal away = stays_over (state_after m s e) es legal.1 (away_kept s e away) ∙ put_other s.values (event_writes m s e) c (writes_away s e legal.0 away)
 
   pub untouched : (h : Habit) (s : State V) (es : List (Event V)) → IsStep m h s es → (end_state m s es).values c ≡ s.values c
   untouched h s es step = stays_over s es step.legal (record { active = λ x. subst (λ us. UpdatesCell us c) step.starts.none_active x; queued = λ x. subst (λ us. UpdatesCell us c) step.starts.none_queued x })

@@ -14,8 +14,8 @@ use Rattle.design_model.specs.Design.{Design, In, Thing, a_signal, a_word, memor
 use Rattle.design_model.specs.Value.{head, named_word, value, word_named}
 use Rattle.design_model.specs.Mentions.{all_index_terms, all_subterms, index_terms, subterms}
 use Rattle.design_model.specs.Execution.{Execution, LeftFalse, LeftTrue, NodeCase, RightFalse, RightTrue, ValueFalse, ValueTrue, Visit, all_words_written, and_cases, at_line, at_node, cases, execution, execution_start, four_cases, if_false, if_true, index_visits, indexes_visits, is_inner, node_visits, or_cases, reads, two_cases, visits_of, visits_of_all, word_read, word_written, words_written, writes_word}
-use Rattle.design_model.specs.Paths.{Action, Path, PathStep, assigns, compares, reaches, selects, tests}
-use Rattle.design_model.specs.Reads.{Agrees, Known}
+use Rattle.design_model.specs.Paths.{Action, Path, PlacedAction, assigns, compares, reaches, selects, tests}
+use Rattle.design_model.specs.Reads.{Agrees, PartialMap}
 use Rattle.design_model.specs.Points.{Point, arc_point, line_point, logic_point, state_point, toggle_point, word_point}
 use Rattle.design_model.specs.Open.{ActionWrites, Asked, IsFixed, IsOpen, IsVisitOf, MayBeAsked, NamesWord, SomeTargetWord, TargetWord, action_terms, asks}
 use Rattle.design_model.specs.VisitedOpen.{VisitedOpenLaw}
@@ -313,10 +313,10 @@ module _ (d : Design) (u : Values Bit) where
   case_asked (repeat h n ts) c q = value_asked (repeat h n ts) c _ refl q
   case_asked (sign h s t) c q = value_asked (sign h s t) c _ refl q
 
-module _ (d : Design) (K : Known) (b : Stmt) (v : Values Bit) (av : Agrees d K v) where
+module _ (d : Design) (K : PartialMap) (b : Stmt) (v : Values Bit) (av : Agrees d K v) where
   -- an action of the path makes the visit, on a state in which fixed terms have their values
   record SeenOn (y : Visit) (path : Path) : Type 0 where
-    step : PathStep
+    step : PlacedAction
     is_in : In step path
     then : Execution
     unchanged : IsUnchanged d K b v av then
@@ -363,5 +363,5 @@ module _ (d : Design) (K : Known) (b : Stmt) (v : Values Bit) (av : Agrees d K v
   visited_open (state_point i name s state bits) y is h = absurd is
   visited_open (arc_point i name s from to old new) y is h = absurd is
 
-pub visited_open_law : (d : Design) (K : Known) → VisitedOpenLaw d K
+pub visited_open_law : (d : Design) (K : PartialMap) → VisitedOpenLaw d K
 visited_open_law d K b v av x y is h = visited_open d K b v av x y is h

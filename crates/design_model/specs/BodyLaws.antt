@@ -12,7 +12,7 @@ use Rattle.design_model.specs.Value.{head, value}
 use Rattle.design_model.specs.Mentions.{any_set, blank, body_assigns, body_mentions, body_terms, is_constant, mentions}
 use Rattle.design_model.specs.Execution.{at_line, execution, reads, writes_word}
 use Rattle.design_model.specs.Paths.{ReadsUnwritten}
-use Rattle.design_model.specs.Reads.{Agrees, HasValue, Known}
+use Rattle.design_model.specs.Reads.{Agrees, HasValue, PartialMap}
 use Rattle.design_model.specs.Machine.{is_level, machine}
 use Rattle.design_model.specs.Shows.{BoundDump}
 use Rattle.design_model.specs.Clear.{clear, clear_in, clear_start}
@@ -81,7 +81,7 @@ abbrev pub DrivesAndMentions : Design → ℕ → ℕ → Type 0
 DrivesAndMentions d p y = (is_assign (process_at d p) ≡ true) × (body_mentions y (body_at d p) ≡ true) × (body_assigns y (body_at d p) ≡ true)
 
 -- what is clear at t by so many rounds
-abbrev pub clear_round : Design → Habit → BoundDump → ℕ → ℕ → Known
+abbrev pub clear_round : Design → Habit → BoundDump → ℕ → ℕ → PartialMap
 clear_round d h dump t n = clear_in d h dump t (clear_start d h dump t) n
 
 -- Own signals: where some state agrees with a round, a signal that the dump lacks and an Assign drives and mentions is not clear in the next.

@@ -9,7 +9,7 @@ use Rattle.design_model.specs.Design.{Design, IsClocked, IsComb, IsThing, Thing,
 use Rattle.design_model.specs.Mentions.{any_set, body_assigns, body_mentions, may_write}
 use Rattle.design_model.specs.Execution.{Execution, covers, execution}
 use Rattle.design_model.specs.Paths.{each_writes_whole, reads_signal_before_writing}
-use Rattle.design_model.specs.Reads.{Agrees, HasValue, IsTold, Known, nothing_known}
+use Rattle.design_model.specs.Reads.{Agrees, HasValue, ReadsWithin, PartialMap, nothing_known}
 use Rattle.design_model.specs.Machine.{is_level}
 use Rattle.design_model.specs.Shows.{BoundDump, IsFirst, IsListed, IsShown, IsWindow}
 use Rattle.design_model.specs.MayMove.{CanWakeSome, IsCleanAt, MayMoveAt}
@@ -46,15 +46,15 @@ abbrev pub IsSignal : Design → ℕ → Type 0
 IsSignal d s = s < length d.signals
 
 -- x has these bits after these writes: they write it whole, or it was clear
-pub record LeavesValue (d : Design) (start : Known) (v : Values Bit) (ws : List (Write Bit)) (x : Thing) (bits : List Bit) : Type 0 where
+pub record LeavesValue (d : Design) (start : PartialMap) (v : Values Bit) (ws : List (Write Bit)) (x : Thing) (bits : List Bit) : Type 0 where
   pub decided : (covers ws (cells d x) ≡ true) ⊎ HasValue start x
   pub is : (old : Values Bit) → ((w : List Bit) → start x w → thing_bits d old x ≡ w) → bits_after d old ws x ≡ bits
 
--- a net has the value of its Assigns, where each of its bits is driven and all its Assigns are told
-pub record IsNetValue (d : Design) (K : Known) (s : ℕ) (bits : List Bit) : Type 0 where
+-- a net has the value of its Assigns, where each of its bits is driven and all its Assigns read within the map
+pub record IsNetValue (d : Design) (K : PartialMap) (s : ℕ) (bits : List Bit) : Type 0 where
   pub is_signal : IsSignal d s
   pub driven : is_driven d s ≡ true
-  pub told : (p : ℕ) → drives s (process_at d p) ≡ true → IsTold d K (body_at d p)
+  pub within : (p : ℕ) → drives s (process_at d p) ≡ true → ReadsWithin d K (body_at d p)
   pub gives : (v : Values Bit) → Agrees d K v → bits_after d v (driven_writes d v s d.processes) (a_signal s) ≡ bits
 
 -- a bound signal that the body mentions has changed over a window step at or before t
@@ -68,19 +68,19 @@ pub record HasChanged (dump : BoundDump) (d : Design) (b : Stmt) (t : ℕ) : Typ
   pub changed : signal_bits d (dump.values (time - 1)) by ≢ signal_bits d (dump.values time) by
 
 -- a target of Comb p has the value that its body gives it
-pub record IsCombValue (d : Design) (dump : BoundDump) (t : ℕ) (K : Known) (p : ℕ) (s : ℕ) (bits : List Bit) : Type 0 where
+pub record IsCombValue (d : Design) (dump : BoundDump) (t : ℕ) (K : PartialMap) (p : ℕ) (s : ℕ) (bits : List Bit) : Type 0 where
   pub is_signal : IsSignal d s
   pub is_comb : IsComb (process_at d p)
   pub target : body_assigns s (body_at d p) ≡ true
   pub written_whole : each_writes_whole d (body_at d p) s ≡ true
   pub writes_first : (x : ℕ) → body_assigns x (body_at d p) ≡ true → reads_signal_before_writing d (body_at d p) x ≡ false
   pub all_clear : (x : ℕ) → is_level (process_at d p) x ≡ true → body_assigns x (body_at d p) ≡ false → IsSignal d x → HasValue K (a_signal x)
-  pub told : IsTold d K (body_at d p)
+  pub within : ReadsWithin d K (body_at d p)
   pub has_changed : HasChanged dump d (body_at d p) t
   pub gives : (v : Values Bit) → Agrees d K v → bits_after d v (execution d (body_at d p) v).blocking (a_signal s) ≡ bits
 
 -- what clean block p with trigger c reads: the trigger's new value, and what was clear at the start and is not early
-abbrev pub EntryFrom : Design → Habit → BoundDump → ℕ → Known → ℕ → Cell → Known
+abbrev pub EntryFrom : Design → Habit → BoundDump → ℕ → PartialMap → ℕ → Cell → PartialMap
 EntryFrom d h dump t start p c x bits =
     ((x ≡ a_signal c.thing) × (bits ≡ thing_bits d (dump.values t) x)) ⊎ ((x ≢ a_signal c.thing) × (IsEarlyAt d h dump t p c (owner x) → ⊥) × start x bits)
 
@@ -91,14 +91,14 @@ pub record IsClockedTarget (d : Design) (p : ℕ) (x : Thing) : Type 0 where
   pub target : body_assigns (owner x) (body_at d p) ≡ true
 
 -- a target of a clean Clocked p has the value that the body's writes leave
-pub record IsWrittenValue (d : Design) (h : Habit) (dump : BoundDump) (t : ℕ) (start : Known) (p : ℕ) (c : Cell) (x : Thing) (bits : List Bit) : Type 0 where
+pub record IsWrittenValue (d : Design) (h : Habit) (dump : BoundDump) (t : ℕ) (start : PartialMap) (p : ℕ) (c : Cell) (x : Thing) (bits : List Bit) : Type 0 where
   pub writer : IsClockedTarget d p x
   pub is_clean : IsCleanAt d dump t p c
-  pub told : IsTold d (EntryFrom d h dump t start p c) (body_at d p)
+  pub within : ReadsWithin d (EntryFrom d h dump t start p c) (body_at d p)
   pub gives : (v : Values Bit) → Agrees d (EntryFrom d h dump t start p c) v → LeavesValue d start v (all_writes (execution d (body_at d p) v)) x bits
 
 -- the rules for what is clear at t, from what was clear at the start of t and what is clear already
-pub data IsClearBy (d : Design) (h : Habit) (dump : BoundDump) (t : ℕ) (start K : Known) : Thing → List Bit → Type 0 where
+pub data IsClearBy (d : Design) (h : Habit) (dump : BoundDump) (t : ℕ) (start K : PartialMap) : Thing → List Bit → Type 0 where
   of_dump : (s : ℕ) (bits : List Bit) → IsShown dump t → dump.bound s ≡ true → IsSignal d s → bits ≡ signal_bits d (dump.values t) s → IsClearBy d h dump t start K (a_signal s) bits
   of_assigns : (s : ℕ) (bits : List Bit) → dump.bound s ≡ false → IsNetValue d K s bits → IsClearBy d h dump t start K (a_signal s) bits
   of_comb : (p s : ℕ) (bits : List Bit) → dump.bound s ≡ false → IsCombValue d dump t K p s bits → IsClearBy d h dump t start K (a_signal s) bits
@@ -106,26 +106,26 @@ pub data IsClearBy (d : Design) (h : Habit) (dump : BoundDump) (t : ℕ) (start 
   of_clean : (p : ℕ) (c : Cell) (x : Thing) (bits : List Bit) → IsWindow dump t → IsUnbound dump x → IsWrittenValue d h dump t start p c x bits → IsClearBy d h dump t start K x bits
 
 -- what is clear at t by so many rounds of the rules
-abbrev pub clear_in : Design → Habit → BoundDump → ℕ → Known → ℕ → Known
+abbrev pub clear_in : Design → Habit → BoundDump → ℕ → PartialMap → ℕ → PartialMap
 clear_in d h dump t start zero = nothing_known
 clear_in d h dump t start (suc n) = IsClearBy d h dump t start (clear_in d h dump t start n)
 
 -- what is clear at t, from what was clear at the start of t
-abbrev pub clear_from : Design → Habit → BoundDump → ℕ → Known → Known
+abbrev pub clear_from : Design → Habit → BoundDump → ℕ → PartialMap → PartialMap
 clear_from d h dump t start x bits = (n : ℕ) × clear_in d h dump t start n x bits
 
 -- what is clear at the end of the step at t: in some round
-abbrev pub clear : Design → Habit → BoundDump → ℕ → Known
+abbrev pub clear : Design → Habit → BoundDump → ℕ → PartialMap
 clear d h dump zero = clear_from d h dump 0 nothing_known
 clear d h dump (suc t) = clear_from d h dump (suc t) (clear d h dump t)
 
 -- from what the rules at t begin: nothing at 0, else what is clear the moment before
-abbrev pub clear_start : Design → Habit → BoundDump → ℕ → Known
+abbrev pub clear_start : Design → Habit → BoundDump → ℕ → PartialMap
 clear_start d h dump zero = nothing_known
 clear_start d h dump (suc t) = clear d h dump t
 
 -- what is clear at the start of t
-abbrev pub clear_before : Design → Habit → BoundDump → ℕ → Known
+abbrev pub clear_before : Design → Habit → BoundDump → ℕ → PartialMap
 clear_before d h dump t = clear d h dump (t - 1)
 
 -- at a window time bound signal s may not move, and its value at the start is forced; else a rule would give it this value

@@ -87,7 +87,7 @@ pub record ReadsOwnTarget (d : Design) (dump : BoundDump) (t s p : ℕ) : Type 0
 -- why signal or memory s is in doubt for block p at t
 pub data BlockDoubt (d : Design) (h : Habit) (dump : BoundDump) (t : ℕ) (s p : ℕ) : Type 0 where
   unclear_at_start : UnclearAtStart d h dump t s p → BlockDoubt d h dump t s p
-  early : IsReadEarly d h dump t s p → BlockDoubt d h dump t s p
+  read_early : IsReadEarly d h dump t s p → BlockDoubt d h dump t s p
   not_clean : WakesUnclean d dump t s p → BlockDoubt d h dump t s p
   unclear_signal : IsUnclearSignal d h dump t s p → BlockDoubt d h dump t s p
   unclear_word : IsUnclearWord d h dump t s p → BlockDoubt d h dump t s p

@@ -13,8 +13,8 @@ use Rattle.design_model.specs.Design.{Design, In, IsClocked, Thing, a_word, body
 use Rattle.design_model.specs.Value.{head, value, word_named}
 use Rattle.design_model.specs.Mentions.{body_assigns, body_blocks, index_terms, mentions, subterms}
 use Rattle.design_model.specs.Execution.{BothFalse, BothTrue, FalseTrue, LeftFalse, LeftTrue, NodeCase, RightFalse, RightTrue, TrueFalse, ValueFalse, ValueTrue, Visit, at_line, at_node, node_cases, reads, visits_of, writes_word}
-use Rattle.design_model.specs.Paths.{Action, Path, PathStep, assigns, compares, paths, reaches, selects, tests}
-use Rattle.design_model.specs.Reads.{Agrees, AllInside, Known, VisitsFrom}
+use Rattle.design_model.specs.Paths.{Action, Path, PlacedAction, assigns, compares, paths, reaches, selects, tests}
+use Rattle.design_model.specs.Reads.{Agrees, AllInside, PartialMap, VisitsFrom}
 use Rattle.design_model.specs.Machine.{machine}
 use Rattle.design_model.specs.Shows.{BoundDump, IsWindow}
 use Rattle.design_model.specs.Points.{IsBlock, Point, line_point, logic_point, word_point}
@@ -26,12 +26,12 @@ abbrev pub outer : Thing → Bool
 outer x = false
 
 -- a term is fixed in body b: it reads only what is in the map, and mentions nothing that the body writes by a blocking write
-pub record IsFixed (d : Design) (K : Known) (b : Stmt) (t : Term) : Type 0 where
-  pub told : (v : Values Bit) → Agrees d K v → AllInside K (visits_of d v outer t)
+pub record IsFixed (d : Design) (K : PartialMap) (b : Stmt) (t : Term) : Type 0 where
+  pub within : (v : Values Bit) → Agrees d K v → AllInside K (visits_of d v outer t)
   pub unwritten : (x : ℕ) → mentions x t ≡ true → body_blocks x b ≡ false
 
 -- on every state with the map's values
-abbrev pub OnAll : Design → Known → (Values Bit → Type 0) → Type 0
+abbrev pub OnAll : Design → PartialMap → (Values Bit → Type 0) → Type 0
 OnAll d K P = (v : Values Bit) → Agrees d K v → P v
 
 -- whether a truth is true
@@ -40,7 +40,7 @@ is_true True = true
 is_true _ = false
 
 -- where a test is fixed the path decides it as its value does
-abbrev pub FollowsFixed : Design → Known → Stmt → Action → Type 0
+abbrev pub FollowsFixed : Design → PartialMap → Stmt → Action → Type 0
 FollowsFixed d K b (reaches n) = ⊤
 FollowsFixed d K b (tests t taken) = IsFixed d K b t → OnAll d K (λ v. is_true (truth (value d v t)) ≡ taken)
 FollowsFixed d K b (selects t) = ⊤
@@ -48,12 +48,12 @@ FollowsFixed d K b (compares kind on t taken) = IsFixed d K b on → IsFixed d K
 FollowsFixed d K b (assigns blocking x t) = ⊤
 
 -- so does each of its actions
-abbrev pub FollowsAll : Design → Known → Stmt → Path → Type 0
+abbrev pub FollowsAll : Design → PartialMap → Stmt → Path → Type 0
 FollowsAll d K b [] = ⊤
 FollowsAll d K b (x ∷ xs) = FollowsFixed d K b x.action × FollowsAll d K b xs
 
 -- an open path through the body
-pub record IsOpenPath (d : Design) (K : Known) (b : Stmt) (path : Path) : Type 0 where
+pub record IsOpenPath (d : Design) (K : PartialMap) (b : Stmt) (path : Path) : Type 0 where
   pub is_path : In path (paths [] b)
   pub follows : FollowsAll d K b path
 
@@ -93,14 +93,14 @@ ActionOnWord false m x i = ActionReads m x i
 
 -- the path has at this place an action with P
 abbrev pub HasAction : (Action → Type 0) → List ℕ → Path → Type 0
-HasAction P at path = (x : PathStep) × In x path × (x.at ≡ at) × P x.action
+HasAction P at path = (x : PlacedAction) × In x path × (x.at ≡ at) × P x.action
 
 -- P on some open path
-abbrev pub OnSomePath : Design → Known → Stmt → (Action → Type 0) → Type 0
+abbrev pub OnSomePath : Design → PartialMap → Stmt → (Action → Type 0) → Type 0
 OnSomePath d K b P = (path : Path) × IsOpenPath d K b path × ((at : List ℕ) × HasAction P at path)
 
 -- P at the same place on every open path
-abbrev pub OnEachPath : Design → Known → Stmt → (Action → Type 0) → Type 0
+abbrev pub OnEachPath : Design → PartialMap → Stmt → (Action → Type 0) → Type 0
 OnEachPath d K b P = (at : List ℕ) × ((path : Path) → IsOpenPath d K b path → HasAction P at path)
 
 -- a term of which a case asks a truth
@@ -127,21 +127,21 @@ asks BothTrue (binary h op t u) = asked t True ∷ asked u True ∷ []
 asks _ _ = []
 
 -- the operand has the truth that is asked, on every state with the values of K
-abbrev pub HasTruth : Design → Known → Asked → Type 0
+abbrev pub HasTruth : Design → PartialMap → Asked → Type 0
 HasTruth d K a = OnAll d K (λ v. truth (value d v a.operand) ≡ a.is)
 
 -- each operand that is fixed has the truth that is asked
-abbrev pub MayBeAsked : Design → Known → Stmt → List Asked → Type 0
+abbrev pub MayBeAsked : Design → PartialMap → Stmt → List Asked → Type 0
 MayBeAsked d K b [] = ⊤
 MayBeAsked d K b (a ∷ as') = (IsFixed d K b a.operand → HasTruth d K a) × MayBeAsked d K b as'
 
 -- each operand is fixed and has the truth that is asked
-abbrev pub AreAsked : Design → Known → Stmt → List Asked → Type 0
+abbrev pub AreAsked : Design → PartialMap → Stmt → List Asked → Type 0
 AreAsked d K b [] = ⊤
 AreAsked d K b (a ∷ as') = IsFixed d K b a.operand × HasTruth d K a × AreAsked d K b as'
 
 -- the index names this word
-abbrev pub NamesWord : Design → Known → ℕ → ℕ → Term → Type 0
+abbrev pub NamesWord : Design → PartialMap → ℕ → ℕ → Term → Type 0
 NamesWord d K m k i = OnAll d K (λ v. word_named d v m i ≡ Some k)
 
 -- the action evaluates the term, which is node n
@@ -149,25 +149,25 @@ abbrev pub IsNode : ℕ → Action → Term → Type 0
 IsNode n x t = In t (action_terms x) × ((head t).node ≡ Some n)
 
 -- the point is open: some open path reaches, evaluates, reads or writes it
-abbrev pub IsOpen : Design → Known → Stmt → Point → Type 0
+abbrev pub IsOpen : Design → PartialMap → Stmt → Point → Type 0
 IsOpen d K b (line_point p n at w) = OnSomePath d K b (λ x. x ≡ reaches n)
 IsOpen d K b (logic_point p n at op c) = OnSomePath d K b (λ x. (t : Term) × IsNode n x t × MayBeAsked d K b (asks c t))
 IsOpen d K b (word_point m k w) = OnSomePath d K b (λ x. (i : Term) × ActionOnWord w m x i × (IsFixed d K b i → NamesWord d K m k i))
 IsOpen d K b _ = ⊥
 
 -- the point is surely open: every open path does so, at the same copy
-abbrev pub IsSurelyOpen : Design → Known → Stmt → Point → Type 0
+abbrev pub IsSurelyOpen : Design → PartialMap → Stmt → Point → Type 0
 IsSurelyOpen d K b (line_point p n at w) = OnEachPath d K b (λ x. x ≡ reaches n)
 IsSurelyOpen d K b (logic_point p n at op c) = (t : Term) × In c (node_cases t) × AreAsked d K b (asks c t) × OnEachPath d K b (λ x. IsNode n x t)
 IsSurelyOpen d K b (word_point m k w) = (i : Term) × IsFixed d K b i × NamesWord d K m k i × OnEachPath d K b (λ x. ActionOnWord w m x i)
 IsSurelyOpen d K b _ = ⊥
 
 -- what Clocked p knows on entry at t: nothing where it is not clean
-abbrev pub KnownOnEntry : Design → Habit → BoundDump → ℕ → ℕ → Known
+abbrev pub KnownOnEntry : Design → Habit → BoundDump → ℕ → ℕ → PartialMap
 KnownOnEntry d h dump t p x bits = (c : Cell) × IsCleanAt d dump t p c × EntryFrom d h dump t (clear_before d h dump t) p c x bits
 
 -- what Assign or Comb p knows at t: what is clear, without its own targets
-abbrev pub KnownAtEnd : Design → Habit → BoundDump → ℕ → ℕ → Known
+abbrev pub KnownAtEnd : Design → Habit → BoundDump → ℕ → ℕ → PartialMap
 KnownAtEnd d h dump t p x bits = (body_assigns (owner x) (body_at d p) ≡ false) × clear d h dump t x bits
 
 -- Clocked p is not clean at t
@@ -200,7 +200,7 @@ IsVisitOf (word_point m k false) x = (inner : Bool) × (x ≡ reads (a_word m k)
 IsVisitOf _ x = ⊥
 
 -- from K the body visits the point up to its first read outside, or the point is surely open
-abbrev pub ReachesFrom : Design → Known → Stmt → Point → Type 0
+abbrev pub ReachesFrom : Design → PartialMap → Stmt → Point → Type 0
 ReachesFrom d K b x = ((y : Visit) × IsVisitOf x y × VisitsFrom d K b y) ⊎ IsSurelyOpen d K b x
 
 -- block p reaches the point at window time t

@@ -18,20 +18,20 @@ pub data Action : Type 0 where
   assigns : Bool → Target → Term → Action
 
 -- an action with the place of its copy in the body, whose loops are unrolled
-pub record PathStep : Type 0 where
+pub record PlacedAction : Type 0 where
   pub at : List ℕ
   pub action : Action
 
 -- the actions of a path, in order
 abbrev pub Path : Type 0
-Path = List PathStep
+Path = List PlacedAction
 
 -- an action at a place
-abbrev pub step : List ℕ → Action → PathStep
-step at x = record { at = at; action = x }
+abbrev pub action_at : List ℕ → Action → PlacedAction
+action_at at x = record { at = at; action = x }
 
 -- each of these paths with these steps before it
-abbrev pub preceded_by : List PathStep → List Path → List Path
+abbrev pub preceded_by : List PlacedAction → List Path → List Path
 preceded_by xs ps = map (λ p. xs ++ p) ps
 
 -- each path of the first kind with each of the second after it
@@ -43,23 +43,23 @@ followed_by (p ∷ ps) qs = preceded_by p qs ++ followed_by ps qs
 abbrev pub matching_ways : List ℕ → ℕ → CaseKind → Term → Terms → List Path
 matching_ways at k kind on no_terms = []
 matching_ways at k kind on (a_term t ts) =
-    (step (k ∷ at) (compares kind on t true) ∷ []) ∷ preceded_by (step (k ∷ at) (compares kind on t false) ∷ []) (matching_ways at (suc k) kind on ts)
+    (action_at (k ∷ at) (compares kind on t true) ∷ []) ∷ preceded_by (action_at (k ∷ at) (compares kind on t false) ∷ []) (matching_ways at (suc k) kind on ts)
 
 -- the way in which none matches
-abbrev pub passing_steps : List ℕ → ℕ → CaseKind → Term → Terms → List PathStep
-passing_steps at k kind on no_terms = []
-passing_steps at k kind on (a_term t ts) = step (k ∷ at) (compares kind on t false) ∷ passing_steps at (suc k) kind on ts
+abbrev pub passing_actions : List ℕ → ℕ → CaseKind → Term → Terms → List PlacedAction
+passing_actions at k kind on no_terms = []
+passing_actions at k kind on (a_term t ts) = action_at (k ∷ at) (compares kind on t false) ∷ passing_actions at (suc k) kind on ts
 
 -- the paths through a body: one branch at each if; at a case the labels are met in order up to the first taken as matching
 abbrev mutual
   pub paths : List ℕ → Stmt → List Path
   paths at (block p ss) = paths_all at 0 ss
   paths at (branch p n t s other) =
-      preceded_by (step at (reaches n) ∷ step at (tests t true) ∷ []) (paths (0 ∷ at) s) ++ preceded_by (step at (reaches n) ∷ step at (tests t false) ∷ []) (paths_all at 1 other)
+      preceded_by (action_at at (reaches n) ∷ action_at at (tests t true) ∷ []) (paths (0 ∷ at) s) ++ preceded_by (action_at at (reaches n) ∷ action_at at (tests t false) ∷ []) (paths_all at 1 other)
   paths at (select p n kind t arms) =
-      preceded_by (step at (reaches n) ∷ step at (selects t) ∷ []) (paths_of at 0 kind t arms (paths_default at 0 arms))
-  paths at (turns p n ss) = preceded_by (step at (reaches n) ∷ []) (paths_all at 0 ss)
-  paths at (set p n blocking x t) = (step at (reaches n) ∷ step at (assigns blocking x t) ∷ []) ∷ []
+      preceded_by (action_at at (reaches n) ∷ action_at at (selects t) ∷ []) (paths_of at 0 kind t arms (paths_default at 0 arms))
+  paths at (turns p n ss) = preceded_by (action_at at (reaches n) ∷ []) (paths_all at 0 ss)
+  paths at (set p n blocking x t) = (action_at at (reaches n) ∷ action_at at (assigns blocking x t) ∷ []) ∷ []
   paths at (empty p) = [] ∷ []
 
   pub paths_all : List ℕ → ℕ → Stmts → List Path
@@ -69,7 +69,7 @@ abbrev mutual
   pub paths_of : List ℕ → ℕ → CaseKind → Term → Arms → List Path → List Path
   paths_of at k kind on no_arms otherwise = otherwise
   paths_of at k kind on (arm labels s arms) otherwise =
-      followed_by (matching_ways (k ∷ at) 1 kind on labels) (paths (0 ∷ k ∷ at) s) ++ preceded_by (passing_steps (k ∷ at) 1 kind on labels) (paths_of at (suc k) kind on arms otherwise)
+      followed_by (matching_ways (k ∷ at) 1 kind on labels) (paths (0 ∷ k ∷ at) s) ++ preceded_by (passing_actions (k ∷ at) 1 kind on labels) (paths_of at (suc k) kind on arms otherwise)
 
   pub paths_default : List ℕ → ℕ → Arms → List Path
   paths_default at k no_arms = [] ∷ []
@@ -110,7 +110,7 @@ reads_signal_before_writing d b s = list_any (reads_signal_unwritten d s []) (pa
 
 -- the path reads signal or memory y before it has written it whole by blocking writes; a memory it writes by words, so never surely whole
 abbrev pub PathReadsUnwritten : Design → ℕ → Path → Type 0
-PathReadsUnwritten d y path = (reads_signal_unwritten d y [] path ≡ true) ⊎ ((is_memory d y ≡ true) × ((x : PathStep) × In x path × (action_mentions y x.action ≡ true)))
+PathReadsUnwritten d y path = (reads_signal_unwritten d y [] path ≡ true) ⊎ ((is_memory d y ≡ true) × ((x : PlacedAction) × In x path × (action_mentions y x.action ≡ true)))
 
 -- some path of the body does so
 abbrev pub ReadsUnwritten : Design → Stmt → ℕ → Type 0

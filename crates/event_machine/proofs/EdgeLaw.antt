@@ -4,7 +4,7 @@ use Rattle.std.proofs.lemmas.Bool.{cases_Bool}
 use Rattle.event_machine.specs.Cell.{Cell, Changes, UpdatesCell, Values, Write, put_all}
 use Rattle.event_machine.specs.Machine.{IsLawful, Machine, output, wakes}
 use Rattle.event_machine.specs.State.{IsSettled, State}
-use Rattle.event_machine.specs.Event.{Activate, Apply, CanOccur, Evaluate, Event, IsLegal, Move, end_state, is_evaluation, state_after, writes}
+use Rattle.event_machine.specs.Event.{Activate, Apply, CanOccur, Evaluate, Event, IsLegal, Move, end_state, is_evaluation, state_after, event_writes}
 use Rattle.event_machine.specs.Habit.{Habit, IsNoWakingMove, NoWakingMoves}
 use Rattle.event_machine.specs.Step.{IsStep, evaluations, outputs}
 use Rattle.event_machine.specs.Told.{IsAsTold, IsToldCell, IsToldInput, Told}
@@ -61,12 +61,12 @@ module _ {V : Type 0} (m : Machine V) (lawful : IsLawful m) (t : Told V) (single
           (λ is. is)
           (cases_Bool (is_evaluation b e))
 
-      not_now : wakes m b s.values (writes m s e) ≡ true → ⊥
+      not_now : wakes m b s.values (event_writes m s e) ≡ true → ⊥
       not_now now =
-          let why = wakes_why m lawful t single b s.values (writes m s e) old_new.0 now in
-          let may = event_may m lawful t single told_single s e why.0 from_may legal.0 old_new.0 (Changes-WritesCell s.values (writes m s e) why.0 why.1) in
-          let at_trigger = subst (Changes s.values (writes m s e)) (woken_by_trigger m lawful t single told_single h b c clean why.0 may why.2) why.1 in
-          changes_trigger (sym (single_changes m lawful t single s.values (writes m s e) c clean.is_single changes_trigger old_new.0 at_trigger).0 ∙ moved)
+          let why = wakes_why m lawful t single b s.values (event_writes m s e) old_new.0 now in
+          let may = event_may m lawful t single told_single s e why.0 from_may legal.0 old_new.0 (Changes-WritesCell s.values (event_writes m s e) why.0 why.1) in
+          let at_trigger = subst (Changes s.values (event_writes m s e)) (woken_by_trigger m lawful t single told_single h b c clean why.0 may why.2) why.1 in
+          changes_trigger (sym (single_changes m lawful t single s.values (event_writes m s e) c clean.is_single changes_trigger old_new.0 at_trigger).0 ∙ moved)
 
       still_not_woken : (state_after m s e).woken b ≡ false
       still_not_woken =
@@ -76,7 +76,7 @@ module _ {V : Type 0} (m : Machine V) (lawful : IsLawful m) (t : Told V) (single
           (cases_Bool ((state_after m s e).woken b))
 
   -- without a waking Move an input trigger does not move
-  event_no_move : (s : State V) (e : Event V) → m.is_input c ≡ true → AreWrites m s → IsNoWakingMove m s e → AreOldToNew t single s.values (writes m s e) → Changes s.values (writes m s e) c → ⊥
+  event_no_move : (s : State V) (e : Event V) → m.is_input c ≡ true → AreWrites m s → IsNoWakingMove m s e → AreOldToNew t single s.values (event_writes m s e) → Changes s.values (event_writes m s e) c → ⊥
   unfolding IsMove
   event_no_move s (Move ws) input are none old_new changes =
       let by = trigger_edge m lawful t single told_single h b c clean in
@@ -92,7 +92,7 @@ module _ {V : Type 0} (m : Machine V) (lawful : IsLawful m) (t : Told V) (single
       ∙ ⊎_elim
       (λ changes. absurd (event_no_move s e input are none.0 old_new.0 changes))
       (λ kept. kept)
-      (Changes-cases m lawful s.values (writes m s e) c)
+      (Changes-cases m lawful s.values (event_writes m s e) c)
 
   module _ (start : Values V) where
     -- the block is evaluated once, and what holds on entry

@@ -5,7 +5,7 @@ use Rattle.std.proofs.lemmas.Bool.Decides.{nat_tests}
 use Rattle.event_machine.specs.Cell.{Cell, UpdatesCell, Values, Write, WritesCell, put, same_cell, times}
 use Rattle.event_machine.specs.Machine.{Edge, IsLawful, IsTarget, Negedge, Posedge, is_sensitive, output, wakes}
 use Rattle.event_machine.specs.State.{State}
-use Rattle.event_machine.specs.Event.{Event, Move, end_state, is_evaluation, mark, state_after, writes}
+use Rattle.event_machine.specs.Event.{Event, Move, end_state, is_evaluation, mark, state_after, event_writes}
 use Rattle.event_machine.specs.Habit.{Free, Habit, IsByHabit, Late, is_free_input}
 use Rattle.event_machine.specs.Step.{IsStep}
 use Rattle.event_machine.specs.Told.{IsAsTold}
@@ -186,7 +186,7 @@ insensitive p v (w ∷ ws) = insensitive p (put v w) ws
 not_woken_now : (es : List (Event Bool)) (s : State Bool) (p : ℕ) → s.woken (suc (suc p)) ≡ false → (end_state divider s es).woken (suc (suc p)) ≡ false
 not_woken_now [] s p is = is
 not_woken_now (e ∷ es) s p is =
-    not_woken_now es (state_after divider s e) p (and_right (not (is_evaluation (suc (suc p)) e)) (s.woken (suc (suc p)) || wakes divider (suc (suc p)) s.values (writes divider s e)) (rw is (insensitive p s.values (writes divider s e))))
+    not_woken_now es (state_after divider s e) p (and_right (not (is_evaluation (suc (suc p)) e)) (s.woken (suc (suc p)) || wakes divider (suc (suc p)) s.values (event_writes divider s e)) (rw is (insensitive p s.values (event_writes divider s e))))
 
 none_woken : (es : List (Event Bool)) → (end_state divider start es).woken 0 ≡ false → (end_state divider start es).woken 1 ≡ false → (p : ℕ) → (end_state divider start es).woken p ≡ false
 none_woken es a b zero = a

@@ -5,7 +5,7 @@ use Rattle.std.proofs.lemmas.Bool.{cases_Bool}
 use Rattle.event_machine.specs.Cell.{Cell, Update, UpdatesCell, Values, Write, WritesCell, put, put_all}
 use Rattle.event_machine.specs.Machine.{IsLawful, Machine}
 use Rattle.event_machine.specs.State.{State}
-use Rattle.event_machine.specs.Event.{Activate, Apply, CanMove, CanOccur, Evaluate, Event, IsLegal, Move, end_state, first, mark, mark_all, rest, state_after, writes}
+use Rattle.event_machine.specs.Event.{Activate, Apply, CanMove, CanOccur, Evaluate, Event, IsLegal, Move, end_state, first, mark, mark_all, rest, state_after, event_writes}
 use Rattle.event_machine.specs.Told.{IsToldInput, Told}
 use Rattle.event_machine.proofs.Writes.{AreOldToNew, UpdatesCell-append, cases_cell, put_all_other, put_other, put_same, same_cell_is, same_cell_not}
 
@@ -71,7 +71,7 @@ module _ {V : Type 0} (m : Machine V) (lawful : IsLawful m) where
   IsMove Activate = ⊥
   IsMove Apply = ⊥
 
-  pub input_still : (s : State V) (e : Event V) (c : Cell) → AreWrites m s → m.is_input c ≡ true → WritesCell (writes m s e) c → IsMove e
+  pub input_still : (s : State V) (e : Event V) (c : Cell) → AreWrites m s → m.is_input c ≡ true → WritesCell (event_writes m s e) c → IsMove e
   unfolding IsMove
   input_still s (Move ws) c are input h = tt
   input_still s (Evaluate p) c are input h = lawful.inputs_kept p c input (inl (lawful.blocking_kept p s.values c h))
@@ -104,7 +104,7 @@ module _ {V : Type 0} (m : Machine V) (lawful : IsLawful m) where
 -- along these events each single cell that changes does so from its old to its new value
 abbrev pub AllOldToNew : {V : Type 0} → Told V → (Cell → Type 0) → Machine V → State V → List (Event V) → Type 0
 AllOldToNew t single m s [] = ⊤
-AllOldToNew t single m s (e ∷ es) = AreOldToNew t single s.values (writes m s e) × AllOldToNew t single m (state_after m s e) es
+AllOldToNew t single m s (e ∷ es) = AreOldToNew t single s.values (event_writes m s e) × AllOldToNew t single m (state_after m s e) es
 
 pub untouched_old_new : {V : Type 0} (t : Told V) (single : Cell → Type 0) (v : Values V) (ws : List (Write V)) → ((c : Cell) → WritesCell ws c → single c → ⊥) → AreOldToNew t single v ws
 untouched_old_new t single v [] none = tt
@@ -143,7 +143,7 @@ module _ {V : Type 0} (m : Machine V) (lawful : IsLawful m) (t : Told V) where
   unfolding EndsAsTold Ends
   ends_at es s are legal ends c told is = sym (moved_stays m lawful es s c are legal told.0 is) ∙ ends c told
 
-  event_old_new : (s : State V) (e : Event V) → AreWrites m s → CanOccur m s e → IsToldSoFar s → Ends (state_after m s e) → AreOldToNew t (IsToldInput m t) s.values (writes m s e)
+  event_old_new : (s : State V) (e : Event V) → AreWrites m s → CanOccur m s e → IsToldSoFar s → Ends (state_after m s e) → AreOldToNew t (IsToldInput m t) s.values (event_writes m s e)
   unfolding IsToldSoFar Ends IsMove
   event_old_new s (Move ws) are can so_far ends = move_old_new s.moved s.values ws can.1 so_far ends
   event_old_new s (Evaluate p) are can so_far ends = untouched_old_new t _ _ _ (λ c h told. input_still m lawful s (Evaluate p) c are told.0 h)

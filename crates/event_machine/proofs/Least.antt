@@ -1,6 +1,6 @@
 -- The sets are the least ones: each set that is closed under their rules has each member.
 use Rattle.event_machine.specs.Machine.{Machine}
-use Rattle.event_machine.specs.Event.{writes}
+use Rattle.event_machine.specs.Event.{event_writes}
 use Rattle.event_machine.specs.MayMove.{MayMove}
 use Rattle.event_machine.specs.Early.{IsEarly}
 use Rattle.event_machine.specs.Single.{IsSingle}

@@ -4,7 +4,7 @@ use Rattle.std.proofs.lemmas.Bool.{cases_Bool, cases_eq, eq-eqb}
 use Rattle.event_machine.specs.Cell.{Cell, Changes, UpdatesCell, Values, WritesCell}
 use Rattle.event_machine.specs.Machine.{Edge, IsLawful, IsTarget, Machine, wakes}
 use Rattle.event_machine.specs.State.{State}
-use Rattle.event_machine.specs.Event.{Activate, Apply, CanOccur, Evaluate, Event, Move, is_evaluation, state_after, writes}
+use Rattle.event_machine.specs.Event.{Activate, Apply, CanOccur, Evaluate, Event, Move, is_evaluation, state_after, event_writes}
 use Rattle.event_machine.specs.Habit.{Habit, is_free_input}
 use Rattle.event_machine.specs.Told.{IsMovingInput, IsToldInput, Told}
 use Rattle.event_machine.specs.MayMove.{IsClean, MayMove, MayWake}
@@ -48,12 +48,12 @@ module _ {V : Type 0} (m : Machine V) (lawful : IsLawful m) (t : Told V) (single
       true≢false (sym e.2 ∙ ap (m.is_edge e.0 (t.old c)) (sym same) ∙ lawful.edge_changes e.0 (t.old c))
 
   -- a trigger that has moved keeps its value
-  pub trigger_stays : (s : State V) (e : Event V) → AreOldToNew t single s.values (writes m s e) → s.values c ≡ t.new c → (state_after m s e).values c ≡ t.new c
+  pub trigger_stays : (s : State V) (e : Event V) → AreOldToNew t single s.values (event_writes m s e) → s.values c ≡ t.new c → (state_after m s e).values c ≡ t.new c
   trigger_stays s e old_new is =
       ⊎_elim
-      (λ changes. absurd (trigger_changes (sym (single_changes m lawful t single s.values (writes m s e) c clean.is_single trigger_changes old_new changes).0 ∙ is)))
+      (λ changes. absurd (trigger_changes (sym (single_changes m lawful t single s.values (event_writes m s e) c clean.is_single trigger_changes old_new changes).0 ∙ is)))
       (λ kept. kept ∙ is)
-      (Changes-cases m lawful s.values (writes m s e) c)
+      (Changes-cases m lawful s.values (event_writes m s e) c)
 
   -- what may wake the block at a cell that may move is the trigger
   pub woken_by_trigger : (d : Cell) → MayMove m t single d.thing → CellMayWake m t single d b → d ≡ c
@@ -77,10 +77,10 @@ module _ {V : Type 0} (m : Machine V) (lawful : IsLawful m) (t : Told V) (single
 
   module _ (start : Values V) where
     -- what an event other than the block's evaluation writes is early or the trigger
-    event_writes : (s : State V) (e : Event V) → IsPending m t single h b c start s → CanOccur m s e → AreOldToNew t single s.values (writes m s e) → (m.is_input c ≡ true → MovesFreeInputs m h e) → is_evaluation b e ≡ false → (d : Cell) → WritesCell (writes m s e) d → IsEarly m t single h b c d.thing ⊎ (d ≡ c)
-    event_writes s (Move ws) pending can old_new free other d has =
+    writes_pending : (s : State V) (e : Event V) → IsPending m t single h b c start s → CanOccur m s e → AreOldToNew t single s.values (event_writes m s e) → (m.is_input c ≡ true → MovesFreeInputs m h e) → is_evaluation b e ≡ false → (d : Cell) → WritesCell (event_writes m s e) d → IsEarly m t single h b c d.thing ⊎ (d ≡ c)
+    writes_pending s (Move ws) pending can old_new free other d has =
         input_is d (move_moving m lawful t single told_single s.moved s.values ws d can.1 old_new has) (λ input. free input d has)
-    event_writes s (Evaluate p) pending can old_new free other d has = go (pending.woken p not_b can)
+    writes_pending s (Evaluate p) pending can old_new free other d has = go (pending.woken p not_b can)
       where
         not_b : p ≢ b
         not_b same = true≢false (sym (eq-eqb p b same) ∙ other)
@@ -91,62 +91,62 @@ module _ {V : Type 0} (m : Machine V) (lawful : IsLawful m) (t : Told V) (single
         go : ((x : ℕ) × IsEarly m t single h b c x × MayWake m t single x p) ⊎ ((s.values c ≡ t.new c) × MayWake m t single c.thing p) → IsEarly m t single h b c d.thing ⊎ (d ≡ c)
         go (inl by) = target_is p d (inl blocks) (λ n. IsEarly.of_blocking by.0 p d by.1 by.2 not_b blocks n)
         go (inr by) = target_is p d (inl blocks) (λ n. IsEarly.of_trigger p d by.1 not_b blocks n)
-    event_writes s Activate pending can old_new free other d has = absurd has
-    event_writes s Apply pending can old_new free other d has = pending.active d (WritesCell-first s.active d has)
+    writes_pending s Activate pending can old_new free other d has = absurd has
+    writes_pending s Apply pending can old_new free other d has = pending.active d (WritesCell-first s.active d has)
 
     -- the parts of the invariant, kept by such an event
-    module _ (s : State V) (e : Event V) (pending : IsPending m t single h b c start s) (can : CanOccur m s e) (old_new : AreOldToNew t single s.values (writes m s e)) (free : m.is_input c ≡ true → MovesFreeInputs m h e) (other : is_evaluation b e ≡ false) where
+    module _ (s : State V) (e : Event V) (pending : IsPending m t single h b c start s) (can : CanOccur m s e) (old_new : AreOldToNew t single s.values (event_writes m s e)) (free : m.is_input c ≡ true → MovesFreeInputs m h e) (other : is_evaluation b e ≡ false) where
       others_kept : (d : Cell) → d.thing ≢ c.thing → (IsEarly m t single h b c d.thing → ⊥) → (state_after m s e).values d ≡ start d
-      others_kept d n not_early = put_all_other s.values (writes m s e) d unwritten ∙ pending.others d n not_early
+      others_kept d n not_early = put_all_other s.values (event_writes m s e) d unwritten ∙ pending.others d n not_early
         where
-          unwritten : WritesCell (writes m s e) d → ⊥
-          unwritten has = ⊎_elim not_early (λ is. n (ap (λ (x : Cell). x.thing) is)) (event_writes s e pending can old_new free other d has)
+          unwritten : WritesCell (event_writes m s e) d → ⊥
+          unwritten has = ⊎_elim not_early (λ is. n (ap (λ (x : Cell). x.thing) is)) (writes_pending s e pending can old_new free other d has)
 
       cell_may : (d : Cell) → IsEarly m t single h b c d.thing ⊎ (d ≡ c) → MayMove m t single d.thing
       cell_may d (inl early) = early_may_move m t single h b c clean d.thing early
       cell_may d (inr is) = subst (λ (x : Cell). MayMove m t single x.thing) (sym is) clean.can_wake.1
 
-      new_after : Changes s.values (writes m s e) c → (s.values c ≡ t.old c) × ((state_after m s e).values c ≡ t.new c)
-      new_after changes = single_changes m lawful t single s.values (writes m s e) c clean.is_single trigger_changes old_new changes
+      new_after : Changes s.values (event_writes m s e) c → (s.values c ≡ t.old c) × ((state_after m s e).values c ≡ t.new c)
+      new_after changes = single_changes m lawful t single s.values (event_writes m s e) c clean.is_single trigger_changes old_new changes
 
       woken_kept : (p : ℕ) → p ≢ b → (state_after m s e).woken p ≡ true → ((x : ℕ) × IsEarly m t single h b c x × MayWake m t single x p) ⊎ (((state_after m s e).values c ≡ t.new c) × MayWake m t single c.thing p)
       woken_kept p n is = go (woken_cases m s e p is).1
         where
-          by_cell : (d : Cell) → Changes s.values (writes m s e) d → CellMayWake m t single d p → IsEarly m t single h b c d.thing ⊎ (d ≡ c) → ((x : ℕ) × IsEarly m t single h b c x × MayWake m t single x p) ⊎ (((state_after m s e).values c ≡ t.new c) × MayWake m t single c.thing p)
+          by_cell : (d : Cell) → Changes s.values (event_writes m s e) d → CellMayWake m t single d p → IsEarly m t single h b c d.thing ⊎ (d ≡ c) → ((x : ℕ) × IsEarly m t single h b c x × MayWake m t single x p) ⊎ (((state_after m s e).values c ≡ t.new c) × MayWake m t single c.thing p)
           by_cell d changes may_wake (inl early) = inl (d.thing, early, may_wake_thing m t single d p may_wake)
           by_cell d changes may_wake (inr is) =
               inr (
-                (new_after (subst (Changes s.values (writes m s e)) is changes)).1,
+                (new_after (subst (Changes s.values (event_writes m s e)) is changes)).1,
                 may_wake_thing m t single c p (subst (λ x. CellMayWake m t single x p) is may_wake),
               )
 
-          go : (s.woken p ≡ true) ⊎ (wakes m p s.values (writes m s e) ≡ true) → ((x : ℕ) × IsEarly m t single h b c x × MayWake m t single x p) ⊎ (((state_after m s e).values c ≡ t.new c) × MayWake m t single c.thing p)
+          go : (s.woken p ≡ true) ⊎ (wakes m p s.values (event_writes m s e) ≡ true) → ((x : ℕ) × IsEarly m t single h b c x × MayWake m t single x p) ⊎ (((state_after m s e).values c ≡ t.new c) × MayWake m t single c.thing p)
           go (inl before) = ⊎_elim (λ by. inl by) (λ by. inr (trigger_stays s e old_new by.0, by.1)) (pending.woken p n before)
           go (inr now) =
-              let why = wakes_why m lawful t single p s.values (writes m s e) old_new now in
-              by_cell why.0 why.1 why.2 (event_writes s e pending can old_new free other why.0 (Changes-WritesCell s.values (writes m s e) why.0 why.1))
+              let why = wakes_why m lawful t single p s.values (event_writes m s e) old_new now in
+              by_cell why.0 why.1 why.2 (writes_pending s e pending can old_new free other why.0 (Changes-WritesCell s.values (event_writes m s e) why.0 why.1))
 
       -- where the trigger does not change, the event does not wake the block
-      not_woken : (Changes s.values (writes m s e) c → ⊥) → wakes m b s.values (writes m s e) ≡ true → ⊥
+      not_woken : (Changes s.values (event_writes m s e) c → ⊥) → wakes m b s.values (event_writes m s e) ≡ true → ⊥
       not_woken kept now =
-          let why = wakes_why m lawful t single b s.values (writes m s e) old_new now in
-          let may = cell_may why.0 (event_writes s e pending can old_new free other why.0 (Changes-WritesCell s.values (writes m s e) why.0 why.1)) in
-          kept (subst (Changes s.values (writes m s e)) (woken_by_trigger why.0 may why.2) why.1)
+          let why = wakes_why m lawful t single b s.values (event_writes m s e) old_new now in
+          let may = cell_may why.0 (writes_pending s e pending can old_new free other why.0 (Changes-WritesCell s.values (event_writes m s e) why.0 why.1)) in
+          kept (subst (Changes s.values (event_writes m s e)) (woken_by_trigger why.0 may why.2) why.1)
 
       phase_kept : (((state_after m s e).values c ≡ t.old c) × ((state_after m s e).woken b ≡ false)) ⊎ (((state_after m s e).values c ≡ t.new c) × ((state_after m s e).woken b ≡ true))
-      phase_kept = go pending.phase (Changes-cases m lawful s.values (writes m s e) c)
+      phase_kept = go pending.phase (Changes-cases m lawful s.values (event_writes m s e) c)
         where
-          not_woken_now : s.woken b ≡ false → (Changes s.values (writes m s e) c → ⊥) → (state_after m s e).woken b ≡ false
+          not_woken_now : s.woken b ≡ false → (Changes s.values (event_writes m s e) c → ⊥) → (state_after m s e).woken b ≡ false
           not_woken_now was kept =
               ⊎_elim
               (λ is. absurd (⊎_elim (λ before. true≢false (sym before ∙ was)) (not_woken kept) (woken_cases m s e b is).1))
               (λ is. is)
               (cases_Bool ((state_after m s e).woken b))
 
-          go : ((s.values c ≡ t.old c) × (s.woken b ≡ false)) ⊎ ((s.values c ≡ t.new c) × (s.woken b ≡ true)) → Changes s.values (writes m s e) c ⊎ ((state_after m s e).values c ≡ s.values c) → (((state_after m s e).values c ≡ t.old c) × ((state_after m s e).woken b ≡ false)) ⊎ (((state_after m s e).values c ≡ t.new c) × ((state_after m s e).woken b ≡ true))
+          go : ((s.values c ≡ t.old c) × (s.woken b ≡ false)) ⊎ ((s.values c ≡ t.new c) × (s.woken b ≡ true)) → Changes s.values (event_writes m s e) c ⊎ ((state_after m s e).values c ≡ s.values c) → (((state_after m s e).values c ≡ t.old c) × ((state_after m s e).woken b ≡ false)) ⊎ (((state_after m s e).values c ≡ t.new c) × ((state_after m s e).woken b ≡ true))
           go (inl before) (inl changes) =
               let by = trigger_edge in
-              inr ((new_after changes).1, gets_woken m lawful b s e other (wakes_edge m lawful t single b s.values (writes m s e) c by.0 clean.is_single by.1 by.2 old_new changes))
+              inr ((new_after changes).1, gets_woken m lawful b s e other (wakes_edge m lawful t single b s.values (event_writes m s e) c by.0 clean.is_single by.1 by.2 old_new changes))
           go (inl before) (inr kept) =
               inl (kept ∙ before.0, not_woken_now before.1 (λ changes. trigger_changes (sym before.0 ∙ sym kept ∙ (new_after changes).1)))
           go (inr after) change = inr (trigger_stays s e old_new after.0, stays_woken m lawful b s e other after.1)
@@ -155,7 +155,7 @@ module _ {V : Type 0} (m : Machine V) (lawful : IsLawful m) (t : Told V) (single
       queued_kept d (inl early) = inl early
       queued_kept d (inr moved) = inr (trigger_stays s e old_new moved)
 
-    pub pending_kept : (s : State V) (e : Event V) → IsPending m t single h b c start s → CanOccur m s e → AreOldToNew t single s.values (writes m s e) → (m.is_input c ≡ true → MovesFreeInputs m h e) → is_evaluation b e ≡ false → IsPending m t single h b c start (state_after m s e)
+    pub pending_kept : (s : State V) (e : Event V) → IsPending m t single h b c start s → CanOccur m s e → AreOldToNew t single s.values (event_writes m s e) → (m.is_input c ≡ true → MovesFreeInputs m h e) → is_evaluation b e ≡ false → IsPending m t single h b c start (state_after m s e)
     pending_kept s (Move ws) pending can old_new free other =
         record {
           others = others_kept s (Move ws) pending can old_new free other;

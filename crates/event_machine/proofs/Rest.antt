@@ -4,7 +4,7 @@ use Rattle.std.proofs.lemmas.Bool.{and_parts, or_cases, not-true}
 use Rattle.event_machine.specs.Cell.{Cell, Changes, UpdatesCell, Values, Write, WritesCell, put}
 use Rattle.event_machine.specs.Machine.{IsLawful, Machine, wakes}
 use Rattle.event_machine.specs.State.{IsSettled, State}
-use Rattle.event_machine.specs.Event.{Activate, Apply, CanMove, CanOccur, Evaluate, Event, IsLegal, Move, end_state, is_evaluation, mark, state_after, writes}
+use Rattle.event_machine.specs.Event.{Activate, Apply, CanMove, CanOccur, Evaluate, Event, IsLegal, Move, end_state, is_evaluation, mark, state_after, event_writes}
 use Rattle.event_machine.specs.Habit.{Habit}
 use Rattle.event_machine.specs.Step.{IsStep}
 use Rattle.event_machine.specs.Told.{IsAsTold, IsMovingInput, IsToldInput, Told}
@@ -20,9 +20,9 @@ pub record ComesFromMayMove {V : Type 0} (m : Machine V) (t : Told V) (single : 
   pub queued : (c : Cell) → UpdatesCell s.queued c → MayMove m t single c.thing
 
 -- a process woken after an event was woken before it, or the event's writes wake it
-pub woken_cases : {V : Type 0} (m : Machine V) (s : State V) (e : Event V) (p : ℕ) → (state_after m s e).woken p ≡ true → (is_evaluation p e ≡ false) × ((s.woken p ≡ true) ⊎ (wakes m p s.values (writes m s e) ≡ true))
+pub woken_cases : {V : Type 0} (m : Machine V) (s : State V) (e : Event V) (p : ℕ) → (state_after m s e).woken p ≡ true → (is_evaluation p e ≡ false) × ((s.woken p ≡ true) ⊎ (wakes m p s.values (event_writes m s e) ≡ true))
 woken_cases m s e p is =
-    let both = and_parts (not (is_evaluation p e)) (s.woken p || wakes m p s.values (writes m s e)) is in
+    let both = and_parts (not (is_evaluation p e)) (s.woken p || wakes m p s.values (event_writes m s e)) is in
     (not-true (is_evaluation p e) both.0, or_cases (s.woken p) _ both.1)
 
 module _ {V : Type 0} (m : Machine V) (lawful : IsLawful m) (t : Told V) (single : Cell → Type 0) (told_single : (c : Cell) → IsToldInput m t c → single c) where
@@ -38,7 +38,7 @@ module _ {V : Type 0} (m : Machine V) (lawful : IsLawful m) (t : Told V) (single
   move_moving moved v (w ∷ ws) c can old_new (inr later) = move_moving (mark moved w) (put v w) ws c can.3 old_new.1 later
 
   -- what an event writes may move
-  pub event_may : (s : State V) (e : Event V) (c : Cell) → ComesFromMayMove m t single s → CanOccur m s e → AreOldToNew t single s.values (writes m s e) → WritesCell (writes m s e) c → MayMove m t single c.thing
+  pub event_may : (s : State V) (e : Event V) (c : Cell) → ComesFromMayMove m t single s → CanOccur m s e → AreOldToNew t single s.values (event_writes m s e) → WritesCell (event_writes m s e) c → MayMove m t single c.thing
   event_may s (Move ws) c from_may can old_new h = MayMove.of_input c (move_moving s.moved s.values ws c can.1 old_new h)
   event_may s (Evaluate p) c from_may can old_new h =
       let by = from_may.woken p can in
@@ -46,16 +46,16 @@ module _ {V : Type 0} (m : Machine V) (lawful : IsLawful m) (t : Told V) (single
   event_may s Activate c from_may can old_new h = absurd h
   event_may s Apply c from_may can old_new h = from_may.active c (WritesCell-first s.active c h)
 
-  woken_kept : (s : State V) (e : Event V) → ComesFromMayMove m t single s → CanOccur m s e → AreOldToNew t single s.values (writes m s e) → (p : ℕ) → (state_after m s e).woken p ≡ true → (x : ℕ) × MayMove m t single x × MayWake m t single x p
+  woken_kept : (s : State V) (e : Event V) → ComesFromMayMove m t single s → CanOccur m s e → AreOldToNew t single s.values (event_writes m s e) → (p : ℕ) → (state_after m s e).woken p ≡ true → (x : ℕ) × MayMove m t single x × MayWake m t single x p
   woken_kept s e from_may can old_new p is = go (woken_cases m s e p is).1
     where
-      go : (s.woken p ≡ true) ⊎ (wakes m p s.values (writes m s e) ≡ true) → (x : ℕ) × MayMove m t single x × MayWake m t single x p
+      go : (s.woken p ≡ true) ⊎ (wakes m p s.values (event_writes m s e) ≡ true) → (x : ℕ) × MayMove m t single x × MayWake m t single x p
       go (inl before) = from_may.woken p before
       go (inr now) =
-          let why = wakes_why m lawful t single p s.values (writes m s e) old_new now in
-          (why.0.thing, event_may s e why.0 from_may can old_new (Changes-WritesCell s.values (writes m s e) why.0 why.1), may_wake_thing m t single why.0 p why.2)
+          let why = wakes_why m lawful t single p s.values (event_writes m s e) old_new now in
+          (why.0.thing, event_may s e why.0 from_may can old_new (Changes-WritesCell s.values (event_writes m s e) why.0 why.1), may_wake_thing m t single why.0 p why.2)
 
-  pub ComesFromMayMove-kept : (s : State V) (e : Event V) → ComesFromMayMove m t single s → CanOccur m s e → AreOldToNew t single s.values (writes m s e) → ComesFromMayMove m t single (state_after m s e)
+  pub ComesFromMayMove-kept : (s : State V) (e : Event V) → ComesFromMayMove m t single s → CanOccur m s e → AreOldToNew t single s.values (event_writes m s e) → ComesFromMayMove m t single (state_after m s e)
   ComesFromMayMove-kept s (Move ws) from_may can old_new = record { woken = woken_kept s (Move ws) from_may can old_new; active = from_may.active; queued = from_may.queued }
   ComesFromMayMove-kept s (Evaluate p) from_may can old_new =
       record {
@@ -77,8 +77,8 @@ module _ {V : Type 0} (m : Machine V) (lawful : IsLawful m) (t : Told V) (single
       }
 
   -- the same at any event of a run
-  pub rest_at : (before : List (Event V)) (s : State V) (e : Event V) (after : List (Event V)) (c : Cell) → ComesFromMayMove m t single s → IsLegal m s (before ++ e ∷ after) → AllOldToNew t single m s (before ++ e ∷ after) → Changes (end_state m s before).values (writes m (end_state m s before) e) c → MayMove m t single c.thing
-  rest_at [] s e after c from_may legal old_new changes = event_may s e c from_may legal.0 old_new.0 (Changes-WritesCell s.values (writes m s e) c changes)
+  pub rest_at : (before : List (Event V)) (s : State V) (e : Event V) (after : List (Event V)) (c : Cell) → ComesFromMayMove m t single s → IsLegal m s (before ++ e ∷ after) → AllOldToNew t single m s (before ++ e ∷ after) → Changes (end_state m s before).values (event_writes m (end_state m s before) e) c → MayMove m t single c.thing
+  rest_at [] s e after c from_may legal old_new changes = event_may s e c from_may legal.0 old_new.0 (Changes-WritesCell s.values (event_writes m s e) c changes)
   rest_at (b ∷ before) s e after c from_may legal old_new changes =
       rest_at before (state_after m s b) e after c (ComesFromMayMove-kept s b from_may legal.0 old_new.0) legal.1 old_new.1 changes
 
@@ -87,7 +87,7 @@ module _ {V : Type 0} (m : Machine V) (lawful : IsLawful m) (t : Told V) (single
   unchanged_at [] s after c from_may legal old_new never = refl
   unchanged_at (e ∷ before) s after c from_may legal old_new never =
       unchanged_at before (state_after m s e) after c (ComesFromMayMove-kept s e from_may legal.0 old_new.0) legal.1 old_new.1 never
-      ∙ put_all_other s.values (writes m s e) c (λ h. never (event_may s e c from_may legal.0 old_new.0 h))
+      ∙ put_all_other s.values (event_writes m s e) c (λ h. never (event_may s e c from_may legal.0 old_new.0 h))
 
 -- a settled state has nothing woken and nothing to update
 pub settled_from_may : {V : Type 0} (m : Machine V) (t : Told V) (single : Cell → Type 0) (s : State V) → IsSettled s → ComesFromMayMove m t single s

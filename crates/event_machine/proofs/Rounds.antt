@@ -4,7 +4,7 @@ use Rattle.std.proofs.lemmas.Bool.{cases_Bool, eq-eqb}
 use Rattle.event_machine.specs.Cell.{Cell, Update, Values, Write, join, put, times}
 use Rattle.event_machine.specs.Machine.{IsLawful, IsTarget, Machine, output}
 use Rattle.event_machine.specs.State.{State}
-use Rattle.event_machine.specs.Event.{Activate, Apply, CanOccur, Evaluate, Event, IsLegal, Move, first, is_evaluation, state_after, writes}
+use Rattle.event_machine.specs.Event.{Activate, Apply, CanOccur, Evaluate, Event, IsLegal, Move, first, is_evaluation, state_after, event_writes}
 use Rattle.event_machine.specs.Habit.{Habit}
 use Rattle.event_machine.specs.Step.{IsStep}
 use Rattle.event_machine.specs.Told.{IsAsTold, IsToldCell, IsToldInput, Told}
@@ -29,7 +29,7 @@ join_old_new t A B v (w ∷ ws) a b = (
 join_all_old_new : {V : Type 0} (m : Machine V) (t : Told V) (A B : Cell → Type 0) (es : List (Event V)) (s : State V) → AllOldToNew t A m s es → ((c : Cell) → B c → AllOldToNew t (λ d. d ≡ c) m s es) → AllOldToNew t (λ c. A c ⊎ B c) m s es
 join_all_old_new m t A B [] s a b = tt
 join_all_old_new m t A B (e ∷ es) s a b = (
-  join_old_new t A B s.values (writes m s e) a.0 (λ c is. (b c is).0),
+  join_old_new t A B s.values (event_writes m s e) a.0 (λ c is. (b c is).0),
   join_all_old_new m t A B es (state_after m s e) a.1 (λ c is. (b c is).1),
 )
 

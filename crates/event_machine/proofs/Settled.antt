@@ -4,7 +4,7 @@ use Rattle.std.proofs.lemmas.Bool.{cases_Bool, eq-eqb}
 use Rattle.event_machine.specs.Cell.{Cell, Values, Write, join, put_all}
 use Rattle.event_machine.specs.Machine.{IsCombinational, IsLawful, IsWakeCell, Machine, Outcome, output, wakes}
 use Rattle.event_machine.specs.State.{IsSettled, State}
-use Rattle.event_machine.specs.Event.{Evaluate, Event, IsLegal, end_state, is_evaluation, state_after, writes}
+use Rattle.event_machine.specs.Event.{Evaluate, Event, IsLegal, end_state, is_evaluation, state_after, event_writes}
 use Rattle.event_machine.specs.Habit.{Habit}
 use Rattle.event_machine.specs.Step.{IsStep, evaluations, outputs}
 use Rattle.event_machine.specs.Laws.{OwnWriteLaw, WakingLaw, ComputedLaw, EvaluatesSettled, IdleLaw, IsIdle, SettledLaw}
@@ -19,7 +19,7 @@ module _ {V : Type 0} (m : Machine V) (lawful : IsLawful m) (p : ℕ) where
   pub stays_woken : (s : State V) (e : Event V) → is_evaluation p e ≡ false → s.woken p ≡ true → (state_after m s e).woken p ≡ true
   stays_woken s e other is = rw (other, is) refl
 
-  pub gets_woken : (s : State V) (e : Event V) → is_evaluation p e ≡ false → wakes m p s.values (writes m s e) ≡ true → (state_after m s e).woken p ≡ true
+  pub gets_woken : (s : State V) (e : Event V) → is_evaluation p e ≡ false → wakes m p s.values (event_writes m s e) ≡ true → (state_after m s e).woken p ≡ true
   gets_woken s e other is = rw (other, is) (or_right (s.woken p) true refl)
 
   stays_woken_all : (es : List (Event V)) (s : State V) → NoEvaluations p es → s.woken p ≡ true → (end_state m s es).woken p ≡ true
@@ -32,9 +32,9 @@ module _ {V : Type 0} (m : Machine V) (lawful : IsLawful m) (p : ℕ) where
   unwoken_keeps (e ∷ es) s none quiet c level =
       unwoken_keeps es (state_after m s e) none.1 quiet c level
       ∙ ⊎_elim
-      (λ changes. absurd (true≢false (sym (stays_woken_all es (state_after m s e) none.1 (gets_woken s e none.0 (wakes_level m lawful p s.values (writes m s e) c level changes))) ∙ quiet)))
+      (λ changes. absurd (true≢false (sym (stays_woken_all es (state_after m s e) none.1 (gets_woken s e none.0 (wakes_level m lawful p s.values (event_writes m s e) c level changes))) ∙ quiet)))
       (λ kept. kept)
-      (Changes-cases m lawful s.values (writes m s e) c)
+      (Changes-cases m lawful s.values (event_writes m s e) c)
 
   -- p's own evaluation changes none of its wake cells
   evaluation_keeps : (s : State V) (c : Cell) → m.blocking p c ≡ false → (state_after m s (Evaluate p)).values c ≡ s.values c
@@ -87,7 +87,7 @@ module _ {V : Type 0} (m : Machine V) (lawful : IsLawful m) (p : ℕ) where
 
 pub waking_law : {V : Type 0} (m : Machine V) → IsLawful m → WakingLaw m
 waking_law m lawful s e c p changes level other =
-    gets_woken m lawful p s e other (wakes_level m lawful p s.values (writes m s e) c level changes)
+    gets_woken m lawful p s e other (wakes_level m lawful p s.values (event_writes m s e) c level changes)
 
 pub own_write_law : {V : Type 0} (m : Machine V) → OwnWriteLaw m
 own_write_law m s p = rw (eq-eqb p p refl) refl

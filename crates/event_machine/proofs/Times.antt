@@ -4,7 +4,7 @@ use Rattle.std.proofs.lemmas.Bool.{cases_eq}
 use Rattle.event_machine.specs.Cell.{Cell, Update, Values, Write, WritesCell, join, put, put_all, times}
 use Rattle.event_machine.specs.Machine.{Machine, output}
 use Rattle.event_machine.specs.State.{State}
-use Rattle.event_machine.specs.Event.{Activate, Apply, CanOccur, Evaluate, Event, IsLegal, Move, end_state, first, rest, state_after, writes}
+use Rattle.event_machine.specs.Event.{Activate, Apply, CanOccur, Evaluate, Event, IsLegal, Move, end_state, first, rest, state_after, event_writes}
 use Rattle.event_machine.specs.Told.{Told}
 use Rattle.event_machine.proofs.Writes.{AreOldToNew, cases_cell, join-append, join_first, put_all_other, put_other, put_same, same_cell_is, same_cell_not}
 use Rattle.event_machine.proofs.Inputs.{AllOldToNew, untouched_old_new}
@@ -57,10 +57,10 @@ module _ {V : Type 0} (c : Cell) where
 
   abbrev pub times_all : Machine V → State V → List (Event V) → ℕ
   times_all m s [] = 0
-  times_all m s (e ∷ es) = times c (writes m s e) + times_all m (state_after m s e) es
+  times_all m s (e ∷ es) = times c (event_writes m s e) + times_all m (state_after m s e) es
 
   -- what is scheduled is written or waits
-  event_keeps_count : (m : Machine V) (s : State V) (e : Event V) → CanOccur m s e → times c (writes m s e) + waiting (state_after m s e) ≡ waiting s + scheduled m s e
+  event_keeps_count : (m : Machine V) (s : State V) (e : Event V) → CanOccur m s e → times c (event_writes m s e) + waiting (state_after m s e) ≡ waiting s + scheduled m s e
   unfolding waiting
   event_keeps_count m s (Move ws) can = omega arith
   event_keeps_count m s (Evaluate p) can =
@@ -98,10 +98,10 @@ module _ {V : Type 0} (c : Cell) where
   never_all : (t : Told V) (m : Machine V) (es : List (Event V)) (s : State V) → times_all m s es ≡ 0 → AllOldToNew t (λ d. d ≡ c) m s es × ((end_state m s es).values c ≡ s.values c)
   never_all t m [] s never = (tt, refl)
   never_all t m (e ∷ es) s never =
-      let gone : WritesCell (writes m s e) c → ⊥ = never_unwritten (writes m s e) (omega arith) in
+      let gone : WritesCell (event_writes m s e) c → ⊥ = never_unwritten (event_writes m s e) (omega arith) in
       let later = never_all t m es (state_after m s e) (omega arith) in (
-        (untouched_old_new t (λ d. d ≡ c) s.values (writes m s e) (λ d has one. gone (subst (WritesCell (writes m s e)) one has)), later.0),
-        later.1 ∙ put_all_other s.values (writes m s e) c gone,
+        (untouched_old_new t (λ d. d ≡ c) s.values (event_writes m s e) (λ d has one. gone (subst (WritesCell (event_writes m s e)) one has)), later.0),
+        later.1 ∙ put_all_other s.values (event_writes m s e) c gone,
       )
 
   -- events that write the cell at most once take it from the value before to the value after
@@ -112,9 +112,9 @@ module _ {V : Type 0} (c : Cell) where
       go : (times_all m (state_after m s e) es ≡ 0) ⊎ (times_all m (state_after m s e) es ≡ 0 → ⊥) → (times_all m (state_after m s e) es ≤ 1 → (state_after m s e).values c ≡ t.old c → (end_state m (state_after m s e) es).values c ≡ t.new c → AllOldToNew t (λ d. d ≡ c) m (state_after m s e) es) → AllOldToNew t (λ d. d ≡ c) m s (e ∷ es)
       go (inl never) in_rest =
           let later = never_all t m es (state_after m s e) never in
-          (once_old_new t s.values (writes m s e) (omega arith) old (sym later.1 ∙ new), later.0)
+          (once_old_new t s.values (event_writes m s e) (omega arith) old (sym later.1 ∙ new), later.0)
       go (inr some) in_rest =
-          let gone : WritesCell (writes m s e) c → ⊥ = never_unwritten (writes m s e) (omega arith) in (
-            untouched_old_new t (λ d. d ≡ c) s.values (writes m s e) (λ d has one. gone (subst (WritesCell (writes m s e)) one has)),
-            in_rest (omega arith) (put_all_other s.values (writes m s e) c gone ∙ old) new,
+          let gone : WritesCell (event_writes m s e) c → ⊥ = never_unwritten (event_writes m s e) (omega arith) in (
+            untouched_old_new t (λ d. d ≡ c) s.values (event_writes m s e) (λ d has one. gone (subst (WritesCell (event_writes m s e)) one has)),
+            in_rest (omega arith) (put_all_other s.values (event_writes m s e) c gone ∙ old) new,
           )

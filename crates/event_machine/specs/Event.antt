@@ -22,11 +22,11 @@ rest [] = []
 rest (x ∷ xs) = xs
 
 -- what an event writes
-abbrev pub writes : {V : Type 0} → Machine V → State V → Event V → List (Write V)
-writes m s (Move ws) = ws
-writes m s (Evaluate p) = (m.evaluate p s.values).blocking
-writes m s Activate = []
-writes m s Apply = first s.active
+abbrev pub event_writes : {V : Type 0} → Machine V → State V → Event V → List (Write V)
+event_writes m s (Move ws) = ws
+event_writes m s (Evaluate p) = (m.evaluate p s.values).blocking
+event_writes m s Activate = []
+event_writes m s Apply = first s.active
 
 -- whether the event is an evaluation of p
 abbrev pub is_evaluation : {V : Type 0} → ℕ → Event V → Bool
@@ -69,8 +69,8 @@ moved_after s Apply = s.moved
 abbrev pub state_after : {V : Type 0} → Machine V → State V → Event V → State V
 state_after m s e =
     record {
-      values = put_all s.values (writes m s e);
-      woken = λ p. not (is_evaluation p e) && (s.woken p || wakes m p s.values (writes m s e));
+      values = put_all s.values (event_writes m s e);
+      woken = λ p. not (is_evaluation p e) && (s.woken p || wakes m p s.values (event_writes m s e));
       active = active_after s e;
       queued = queued_after m s e;
       moved = moved_after s e;

@@ -3,7 +3,7 @@ use Rattle.std.specs.Prelude.{◌≡◌, ◌≢◌, ◌⊎◌, ℕ, suc, Bool, t
 use Rattle.event_machine.specs.Cell.{Cell, Values, Write, put_all, WritesCell, Changes}
 use Rattle.event_machine.specs.Machine.{Machine, output, IsTarget, IsWakeCell, IsCombinational}
 use Rattle.event_machine.specs.State.{State, IsQuiet}
-use Rattle.event_machine.specs.Event.{Event, Move, Evaluate, writes, is_evaluation, state_after, end_state}
+use Rattle.event_machine.specs.Event.{Event, Move, Evaluate, event_writes, is_evaluation, state_after, end_state}
 use Rattle.event_machine.specs.Habit.{Habit, Free, Late, is_free_input, NoWakingMoves, IsByHabit}
 use Rattle.event_machine.specs.Step.{IsStep, evaluations, outputs}
 use Rattle.event_machine.specs.Told.{Told, IsToldInput, IsMovingInput}
@@ -17,7 +17,7 @@ use Rattle.event_machine.specs.Run.{Timed, HasComputed, IsRun, state_at}
 abbrev pub WakingLaw : {V : Type 0} → Machine V → Type 0
 WakingLaw {V} m =
     (s : State V) (e : Event V) (c : Cell) (p : ℕ)
-    → Changes s.values (writes m s e) c → m.level p c.thing ≡ true → is_evaluation p e ≡ false → (state_after m s e).woken p ≡ true
+    → Changes s.values (event_writes m s e) c → m.level p c.thing ≡ true → is_evaluation p e ≡ false → (state_after m s e).woken p ≡ true
 
 -- Own-write law: what a process writes when it is evaluated does not wake it.
 abbrev pub OwnWriteLaw : {V : Type 0} → Machine V → Type 0
@@ -27,7 +27,7 @@ OwnWriteLaw {V} m = (s : State V) (p : ℕ) → (state_after m s (Evaluate p)).w
 abbrev pub RestLaw : {V : Type 0} → Machine V → Type 0
 RestLaw {V} m =
     (n : ℕ) (h : Habit) (t : Told V) (k : ToldStep m h t) (before after : List (Event V)) (e : Event V) → k.events ≡ before ++ e ∷ after
-    → (c : Cell) → Changes (end_state m k.start before).values (writes m (end_state m k.start before) e) c → MayMove m t (IsSingle m t n) c.thing
+    → (c : Cell) → Changes (end_state m k.start before).values (event_writes m (end_state m k.start before) e) c → MayMove m t (IsSingle m t n) c.thing
 
 -- Unchanged law: what may not move has its value of the step's start before each of its events, and so at its end.
 abbrev pub UnchangedLaw : {V : Type 0} → Machine V → Type 0

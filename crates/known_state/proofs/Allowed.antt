@@ -7,9 +7,9 @@ use Rattle.std.specs.Prelude.{IsTrue}
 use Rattle.four_state.specs.declared.bit.Bit.{Bit}
 use Rattle.four_state.specs.declared.bit.Bit.TheVariants.{Zero, X}
 use Rattle.four_state.specs.Vector.{Vector, same_bit}
-use Rattle.known_state.specs.Partly.{with_blame, Partly, allows, told_of, allows_bit, allows_bits, same_sign, are_sure, filled, filled_from}
+use Rattle.known_state.specs.Partly.{with_blame, Partly, allows, whole_of, allows_bit, allows_bits, same_sign, are_sure, filled, filled_from}
 use Rattle.known_state.specs.Join.{join_bit, joined}
-use Rattle.known_state.specs.Agreed.{told}
+use Rattle.known_state.specs.Agreed.{sure}
 use Rattle.known_state.proofs.Bits.{length-joined, get_or-joined}
 use Rattle.known_state.proofs.Cases.{both_true, same_bit_refl, same_bit_eq}
 
@@ -73,23 +73,23 @@ sure_allowed b (Some a ∷ ps) (c ∷ bs) s h =
     let here = and_parts (same_bit a c) (allows_bits ps bs) h in
     ap (λ x. x ∷ bs) (sym (same_bit_eq a c here.0)) ∙ ap (λ cs. a ∷ cs) (sure_allowed b ps bs s here.1)
 
-pub told_filled : (b : Bit) (bs : List Bit) → filled b (told bs) ≡ bs
-told_filled b [] = refl
-told_filled b (c ∷ bs) = ap (λ ds. c ∷ ds) (told_filled b bs)
+pub whole_filled : (b : Bit) (bs : List Bit) → filled b (sure bs) ≡ bs
+whole_filled b [] = refl
+whole_filled b (c ∷ bs) = ap (λ ds. c ∷ ds) (whole_filled b bs)
 
-pub are_sure_told : (bs : List Bit) → are_sure (told bs) ≡ true
-are_sure_told [] = refl
-are_sure_told (b ∷ bs) = are_sure_told bs
+pub are_sure_whole : (bs : List Bit) → are_sure (sure bs) ≡ true
+are_sure_whole [] = refl
+are_sure_whole (b ∷ bs) = are_sure_whole bs
 
-pub sure_told : (b : Bit) (ps : List (Option Bit)) → are_sure ps ≡ true → ps ≡ told (filled b ps)
-sure_told b [] h = refl
-sure_told b (None ∷ ps) h = cc
-sure_told b (Some a ∷ ps) h = ap (λ qs. Some a ∷ qs) (sure_told b ps h)
+pub sure_whole : (b : Bit) (ps : List (Option Bit)) → are_sure ps ≡ true → ps ≡ sure (filled b ps)
+sure_whole b [] h = refl
+sure_whole b (None ∷ ps) h = cc
+sure_whole b (Some a ∷ ps) h = ap (λ qs. Some a ∷ qs) (sure_whole b ps h)
 
--- a vector of which all bits are sure and nothing is to blame is told whole
-pub told_whole : (ps : List (Option Bit)) (v : Vector) (thing : ℕ) → filled Zero ps ≡ v.bits → are_sure ps ≡ true → thing ≡ 0 → record { bits = ps; signed = v.signed; blame = thing } ≡ told_of v
-told_whole ps v thing bits sure spared =
-    ap (λ qs. record { bits = qs; signed = v.signed; blame = thing }) (sure_told Zero ps sure ∙ ap told bits) ∙ ap (λ n. record { bits = told v.bits; signed = v.signed; blame = n }) spared
+-- a vector of which all bits are sure and nothing is to blame is whole
+pub whole_is : (ps : List (Option Bit)) (v : Vector) (thing : ℕ) → filled Zero ps ≡ v.bits → are_sure ps ≡ true → thing ≡ 0 → record { bits = ps; signed = v.signed; blame = thing } ≡ whole_of v
+whole_is ps v thing bits all_sure spared =
+    ap (λ qs. record { bits = qs; signed = v.signed; blame = thing }) (sure_whole Zero ps all_sure ∙ ap sure bits) ∙ ap (λ n. record { bits = sure v.bits; signed = v.signed; blame = n }) spared
 
 -- ---- what a join allows
 
@@ -105,9 +105,9 @@ join_some (Some a) (Some c) b h = go (same_bit a c) refl h
 pub join_same : (b : Bit) → join_bit (Some b) (Some b) ≡ Some b
 join_same b = ap (λ t. if t then Some b else None) (same_bit_refl b)
 
-pub joined_same : (bs : List Bit) → joined (told bs) (told bs) ≡ told bs
+pub joined_same : (bs : List Bit) → joined (sure bs) (sure bs) ≡ sure bs
 joined_same [] = refl
-joined_same (b ∷ bs) = ap (λ p. p ∷ joined (told bs) (told bs)) (join_same b) ∙ ap (λ ps. Some b ∷ ps) (joined_same bs)
+joined_same (b ∷ bs) = ap (λ p. p ∷ joined (sure bs) (sure bs)) (join_same b) ∙ ap (λ ps. Some b ∷ ps) (joined_same bs)
 
 -- bits allow a vector where each sure one is the vector's
 pub allowed_by_places : (ps : List (Option Bit)) (bs : List Bit) → length ps ≡ length bs → ((i : ℕ) (b : Bit) → i < length ps → get_or ps i None ≡ Some b → get_or bs i X ≡ b) → allows_bits ps bs ≡ true

@@ -1,4 +1,4 @@
--- Bits that are sure or not, place by place: how they are told, filled and joined.
+-- Bits that are sure or not, place by place: how they are whole, filled and joined.
 use Rattle.std.proofs.Common.{◌≡◌, ℕ, zero, suc, ◌+◌, ◌-◌, ◌*◌, ◌/◌, ◌%◌, ◌^◌, ◌<◌, ◌≤◌, ◌==◌, Bool, true, false, not, ◌&&◌, ◌||◌, if◌then◌else◌, List, [], ◌∷◌, map, length, replicate, get_or, Option, Some, None, is_some, bit_and, bit_or, bit_xor, refl, ap, arith, sym, ◌∙◌, ⊎_elim, lt_of_le_of_lt, lt_of_lt_of_le, subst}
 use Rattle.std.proofs.lemmas.Bool.Decides.{nat_tests}
 use Rattle.std.proofs.lemmas.Bool.{cases_lt}
@@ -13,20 +13,20 @@ use Rattle.four_state.specs.Masks.{bits_of_masks, bit_in_masks, mask_of, is_set,
 use Rattle.four_state.proofs.Places.{differ, is_set-lowest, is_set-suc, is_set-and, is_set-or, is_set-xor, is_set-not, is_set-ones, is_set-zero, is_set-above}
 use Rattle.four_state.proofs.Lifted.{is_set-mask_of, mask_below, bits_are}
 use Rattle.four_state.proofs.PartLaws.{masks_at}
-use Rattle.known_state.specs.Partly.{filled, filled_from, are_sure, with_blame, told_of}
+use Rattle.known_state.specs.Partly.{filled, filled_from, are_sure, with_blame, whole_of}
 use Rattle.known_state.specs.Stored.{sure_bits, mask_of_sure}
 use Rattle.known_state.specs.Join.{join_bit, joined}
 use Rattle.known_state.proofs.Masked.{length-sure_bits, get_or-sure_bits, sure_bits_are}
 
--- ---- told and unknown
+-- ---- whole and unknown
 
 pub sure_bits-all : (bs : List Bit) → sure_bits bs (2 ^ length bs - 1) ≡ map Some bs
 sure_bits-all bs =
     sure_bits_are bs (2 ^ length bs - 1) (map Some bs) (sym (length-map bs Some)) (λ i l. rw (is_set-ones (length bs) i l) (sym (get_or-map Some bs i X None l)))
 
-pub are_sure-told : (bs : List Bit) → are_sure (map Some bs) ≡ true
-are_sure-told [] = refl
-are_sure-told (b ∷ bs) = are_sure-told bs
+pub are_sure-whole : (bs : List Bit) → are_sure (map Some bs) ≡ true
+are_sure-whole [] = refl
+are_sure-whole (b ∷ bs) = are_sure-whole bs
 
 pub sure_bits-none : (w : ℕ) (b : Bit) → sure_bits (replicate w b) 0 ≡ replicate w None
 sure_bits-none w b =
@@ -190,8 +190,8 @@ module _ (ps qs : List (Option Bit)) (same : length ps ≡ length qs) (small : l
 
 -- ---- what the calls give
 
-pub told_value : (v : Vector) → with_blame (sure_bits v.bits (2 ^ length v.bits - 1)) v.signed 0 ≡ told_of v
-told_value v = ap (λ ps. with_blame ps v.signed 0) (sure_bits-all v.bits) ∙ rw (are_sure-told v.bits)
+pub whole_value : (v : Vector) → with_blame (sure_bits v.bits (2 ^ length v.bits - 1)) v.signed 0 ≡ whole_of v
+whole_value v = ap (λ ps. with_blame ps v.signed 0) (sure_bits-all v.bits) ∙ rw (are_sure-whole v.bits)
 
 pub unknown_value : (w : ℕ) (signed : Bool) (thing : ℕ) → 1 ≤ w → with_blame (sure_bits (replicate w Zero) 0) signed thing ≡ record { bits = replicate w None; signed = signed; blame = thing }
 unknown_value w signed thing h = ap (λ ps. with_blame ps signed thing) (sure_bits-none w Zero) ∙ rw (are_sure-unknown w h)

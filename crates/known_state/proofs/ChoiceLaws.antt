@@ -11,21 +11,21 @@ use Rattle.four_state.specs.Vector.{Vector, same_bit}
 use Rattle.four_state.specs.Operators.{merge_bit, zip_bits, choice_value, choice_vector}
 use Rattle.known_state.specs.declared.maybe.KnownTruth.{KnownTruth}
 use Rattle.known_state.specs.declared.maybe.KnownTruth.TheVariants as known
-use Rattle.known_state.specs.Partly.{Partly, allows, allows_bits, allows_bit, same_sign, filled, is_told, told_of, with_blame}
+use Rattle.known_state.specs.Partly.{Partly, allows, allows_bits, allows_bit, same_sign, filled, is_whole, whole_of, with_blame}
 use Rattle.known_state.specs.Join.{join_bit, joined, first_blame}
-use Rattle.known_state.specs.Agreed.{told, both_moved}
+use Rattle.known_state.specs.Agreed.{sure, both_moved}
 use Rattle.known_state.specs.Answers.{IsTight, HaveSameShape}
 use Rattle.known_state.specs.Maybe.{same_truth, allows_truth, allow_choice, choice_blame}
 use Rattle.known_state.specs.Choice.{chosen_of}
 use Rattle.known_state.proofs.Bits.{length-joined, get_or-filled}
 use Rattle.known_state.proofs.Allowed.{length-filled, filled_allowed, joined_left, joined_right, same_sign_refl, same_sign_eq}
 use Rattle.known_state.proofs.Cases.{both_true}
-use Rattle.known_state.proofs.Tight.{IsReached, reached-told, reached-joined}
+use Rattle.known_state.proofs.Tight.{IsReached, reached-whole, reached-joined}
 use Rattle.known_state.proofs.Matched.{on_pair}
 use Rattle.known_state.proofs.Moved.{both_moved_exact}
-use Rattle.known_state.proofs.UnarySound.{length-told, length-two}
+use Rattle.known_state.proofs.UnarySound.{length-whole, length-two}
 use Rattle.known_state.proofs.Widths.{length-zip_bits}
-use Rattle.known_state.proofs.BinaryLaws.{vector_allowed, told_parts}
+use Rattle.known_state.proofs.BinaryLaws.{vector_allowed, whole_parts}
 
 -- ---- the merge of both sides
 
@@ -67,8 +67,8 @@ module _ (a b : Partly) (shape : HaveSameShape a b) where
   filled_width : (c d : Bit) → length (zip_bits merge_bit (filled c a.bits) (filled d b.bits)) ≡ length a.bits
   filled_width c d = length-zip_bits merge_bit (filled c a.bits) (filled d b.bits) (length-filled c a.bits ∙ shape.0 ∙ sym (length-filled d b.bits)) ∙ length-filled c a.bits
 
-  pub merge_widths : length (told (zip_bits merge_bit (filled Zero a.bits) (filled Zero b.bits))) ≡ length (zip_bits merge_bit (filled One a.bits) (filled One b.bits))
-  merge_widths = length-told _ ∙ filled_width Zero Zero ∙ sym (filled_width One One)
+  pub merge_widths : length (sure (zip_bits merge_bit (filled Zero a.bits) (filled Zero b.bits))) ≡ length (zip_bits merge_bit (filled One a.bits) (filled One b.bits))
+  merge_widths = length-whole _ ∙ filled_width Zero Zero ∙ sym (filled_width One One)
 
   length-merged : length (both_moved (zip_bits merge_bit) a.bits b.bits) ≡ length a.bits
   length-merged = length-two _ _ (filled_width Zero Zero ∙ sym (filled_width One One)) ∙ filled_width Zero Zero
@@ -76,41 +76,41 @@ module _ (a b : Partly) (shape : HaveSameShape a b) where
   pub join_widths : length (joined a.bits b.bits) ≡ length (both_moved (zip_bits merge_bit) a.bits b.bits)
   join_widths = length-joined a.bits b.bits shape.0 ∙ sym length-merged
 
-  -- ---- a condition that is told
+  -- ---- a condition that is sure
 
-  told_allows : (u : Truth) (v w : Vector) → IsTrue (allows a v) → IsTrue (allows b w) → IsTrue (allows (chosen_of u a b) (choice_vector u v w))
-  told_allows True v w h k = h
-  told_allows False v w h k =
+  whole_allows : (u : Truth) (v w : Vector) → IsTrue (allows a v) → IsTrue (allows b w) → IsTrue (allows (chosen_of u a b) (choice_vector u v w))
+  whole_allows True v w h k = h
+  whole_allows False v w h k =
       let left = and_parts (same_sign a.signed v.signed) (allows_bits a.bits v.bits) h in
       let right = and_parts (same_sign b.signed w.signed) (allows_bits b.bits w.bits) k in
       both_true _ _ (subst (λ s. same_sign b.signed s ≡ true) (sym shape.1 ∙ same_sign_eq a.signed v.signed left.0) (same_sign_refl b.signed)) right.1
-  told_allows Strange v w h k =
+  whole_allows Strange v w h k =
       let left = and_parts (same_sign a.signed v.signed) (allows_bits a.bits v.bits) h in
       let right = and_parts (same_sign b.signed w.signed) (allows_bits b.bits w.bits) k in
       both_true _ _ left.0 (merge_sound a.bits b.bits v.bits w.bits shape.0 left.1 right.1)
 
   pub chosen_allows : (c : KnownTruth) (u : Truth) → c ≡ known.Sure u → (t : Truth) (v w : Vector) → IsTrue (allows_truth c t) → IsTrue (allows a v) → IsTrue (allows b w) → IsTrue (allows (chosen_of u a b) (choice_vector t v w))
   chosen_allows c u e t v w truth h k =
-      subst (λ x. IsTrue (allows (chosen_of u a b) (choice_vector x v w))) (sure_allows c u t e truth) (told_allows u v w h k)
+      subst (λ x. IsTrue (allows (chosen_of u a b) (choice_vector x v w))) (sure_allows c u t e truth) (whole_allows u v w h k)
 
-  told_exact : (u : Truth) (v w : Vector) → a ≡ told_of v → b ≡ told_of w → chosen_of u a b ≡ told_of (choice_vector u v w)
-  told_exact True v w h k = h
-  told_exact False v w h k =
-      k ∙ ap (λ s. record { bits = told w.bits; signed = s; blame = 0 }) (sym (ap (λ (x : Partly). x.signed) k) ∙ sym shape.1 ∙ ap (λ (x : Partly). x.signed) h)
-  told_exact Strange v w h k = both_moved_exact (zip_bits merge_bit) a b v w a.signed (first_blame a b) h k ∙ rw (told_parts a v h).2
+  whole_exact : (u : Truth) (v w : Vector) → a ≡ whole_of v → b ≡ whole_of w → chosen_of u a b ≡ whole_of (choice_vector u v w)
+  whole_exact True v w h k = h
+  whole_exact False v w h k =
+      k ∙ ap (λ s. record { bits = sure w.bits; signed = s; blame = 0 }) (sym (ap (λ (x : Partly). x.signed) k) ∙ sym shape.1 ∙ ap (λ (x : Partly). x.signed) h)
+  whole_exact Strange v w h k = both_moved_exact (zip_bits merge_bit) a b v w a.signed (first_blame a b) h k ∙ rw (whole_parts a v h).2
 
-  pub chosen_exact : (c : KnownTruth) (u : Truth) → c ≡ known.Sure u → (t : Truth) (v w : Vector) → c ≡ known.Sure t → a ≡ told_of v → b ≡ told_of w → chosen_of u a b ≡ told_of (choice_vector t v w)
+  pub chosen_exact : (c : KnownTruth) (u : Truth) → c ≡ known.Sure u → (t : Truth) (v w : Vector) → c ≡ known.Sure t → a ≡ whole_of v → b ≡ whole_of w → chosen_of u a b ≡ whole_of (choice_vector t v w)
   chosen_exact c u e t v w d h k =
       let same : u ≡ t = let both : known.Sure u ≡ known.Sure t = sym e ∙ d in cc in
-      subst (λ x. chosen_of u a b ≡ told_of (choice_vector x v w)) same (told_exact u v w h k)
+      subst (λ x. chosen_of u a b ≡ whole_of (choice_vector x v w)) same (whole_exact u v w h k)
 
-  told_blame : (u : Truth) → is_told (chosen_of u a b) ≡ false → (chosen_of u a b).blame ≡ choice_blame (known.Sure u) a b
-  told_blame True h = refl
-  told_blame False h = refl
-  told_blame Strange h = ap (λ t. if t then 0 else first_blame a b) h
+  whole_blame : (u : Truth) → is_whole (chosen_of u a b) ≡ false → (chosen_of u a b).blame ≡ choice_blame (known.Sure u) a b
+  whole_blame True h = refl
+  whole_blame False h = refl
+  whole_blame Strange h = ap (λ t. if t then 0 else first_blame a b) h
 
-  pub chosen_blame : (c : KnownTruth) (u : Truth) → c ≡ known.Sure u → is_told (chosen_of u a b) ≡ false → (chosen_of u a b).blame ≡ choice_blame c a b
-  chosen_blame c u e h = told_blame u h ∙ ap (λ d. choice_blame d a b) (sym e)
+  pub chosen_blame : (c : KnownTruth) (u : Truth) → c ≡ known.Sure u → is_whole (chosen_of u a b) ≡ false → (chosen_of u a b).blame ≡ choice_blame c a b
+  chosen_blame c u e h = whole_blame u h ∙ ap (λ d. choice_blame d a b) (sym e)
 
   -- ---- a condition that is not sure
 
@@ -159,18 +159,18 @@ module _ (c : KnownTruth) (a b : Partly) (shape : HaveSameShape a b) where
   merged_reached : IsTrue (allows_truth c Strange) → IsReached (allow_choice c a b) (λ p. choice_value p.0 p.1.bits p.2.bits) (both_moved (zip_bits merge_bit) a.bits b.bits)
   unfolding value_of
   merged_reached h =
-      reached-joined (allow_choice c a b) (λ p. choice_value p.0 p.1.bits p.2.bits) _ _ (merge_widths a b shape ∙ sym (length-told _)) (reached-told (allow_choice c a b) (λ p. choice_value p.0 p.1.bits p.2.bits) (Strange, value_of Zero a, value_of Zero b) (value_allowed Strange Zero h)) (reached-told (allow_choice c a b) (λ p. choice_value p.0 p.1.bits p.2.bits) (Strange, value_of One a, value_of One b) (value_allowed Strange One h))
+      reached-joined (allow_choice c a b) (λ p. choice_value p.0 p.1.bits p.2.bits) _ _ (merge_widths a b shape ∙ sym (length-whole _)) (reached-whole (allow_choice c a b) (λ p. choice_value p.0 p.1.bits p.2.bits) (Strange, value_of Zero a, value_of Zero b) (value_allowed Strange Zero h)) (reached-whole (allow_choice c a b) (λ p. choice_value p.0 p.1.bits p.2.bits) (Strange, value_of One a, value_of One b) (value_allowed Strange One h))
 
   allowed_when : (t : Truth) → c ≡ known.Sure t → IsTrue (allows_truth c t)
   allowed_when t e = subst (λ d. allows_truth d t ≡ true) (sym e) (same_truth_refl t)
 
-  told_tight : (u : Truth) → IsTrue (allows_truth c u) → IsTight (allow_choice c a b) (λ p. choice_value p.0 p.1.bits p.2.bits) (chosen_of u a b).bits
-  told_tight True h = (side_reached True a.bits h (λ d. refl)).tight
-  told_tight False h = (side_reached False b.bits h (λ d. refl)).tight
-  told_tight Strange h = (merged_reached h).tight
+  whole_tight : (u : Truth) → IsTrue (allows_truth c u) → IsTight (allow_choice c a b) (λ p. choice_value p.0 p.1.bits p.2.bits) (chosen_of u a b).bits
+  whole_tight True h = (side_reached True a.bits h (λ d. refl)).tight
+  whole_tight False h = (side_reached False b.bits h (λ d. refl)).tight
+  whole_tight Strange h = (merged_reached h).tight
 
   pub chosen_tight : (u : Truth) → c ≡ known.Sure u → IsTight (allow_choice c a b) (λ p. choice_value p.0 p.1.bits p.2.bits) (chosen_of u a b).bits
-  chosen_tight u e = told_tight u (allowed_when u e)
+  chosen_tight u e = whole_tight u (allowed_when u e)
 
   pub unsure_tight : (thing : ℕ) → c ≡ known.Unsure thing → IsTight (allow_choice c a b) (λ p. choice_value p.0 p.1.bits p.2.bits) (joined (joined a.bits b.bits) (both_moved (zip_bits merge_bit) a.bits b.bits))
   unsure_tight thing e =

@@ -94,8 +94,8 @@ kept_bits bs sure =
     rw (blank_at (length bs) (mask_of is_one_or_z bs) (mask_of is_strange bs) (bit_and sure (2 ^ length bs - 1)) i k, get_or-sure_bits bs sure i k, cut_at (length bs) sure i k) (kept_if (is_set sure i) (is_set (mask_of is_one_or_z bs) i) (is_set (mask_of is_strange bs) i) ∙ ap (λ b. if is_set sure i then Some b else None) (masks_at bs i X k)))
 
 -- all bits are sure where the mask has all places of the width
-pub told_if : (bs : List Bit) (sure : ℕ) → are_sure (sure_bits bs sure) ≡ (bit_and sure (2 ^ length bs - 1) == 2 ^ length bs - 1)
-told_if bs sure =
+pub whole_if : (bs : List Bit) (sure : ℕ) → are_sure (sure_bits bs sure) ≡ (bit_and sure (2 ^ length bs - 1) == 2 ^ length bs - 1)
+whole_if bs sure =
     ap are_sure (sure_bits_are bs sure (sure_bits bs (bit_and sure (2 ^ length bs - 1))) (sym (length-sure_bits bs _)) (λ i l. rw (get_or-sure_bits bs (bit_and sure (2 ^ length bs - 1)) i l, cut_at (length bs) sure i l))) ∙ are_sure-sure_bits bs (bit_and sure (2 ^ length bs - 1)) (cut_inside (length bs) sure)
 
 spared_if : (p : Bool) (thing : ℕ) → p ≡ true → (if p then 0 else thing) ≡ 0
@@ -107,9 +107,9 @@ kept_law bs signed sure thing =
     record {
       inside = rw width_of_bits (cut_inside (length bs) sure);
       blank = kept_blank (length bs) (mask_of is_one_or_z bs) (mask_of is_strange bs) (bit_and sure (2 ^ length bs - 1));
-      spared = λ h. spared_if (bit_and sure (2 ^ length bs - 1) == 2 ^ length bs - 1) thing (sym (told_if bs sure) ∙ ap are_sure (sym (kept_bits bs sure)) ∙ h);
+      spared = λ h. spared_if (bit_and sure (2 ^ length bs - 1) == 2 ^ length bs - 1) thing (sym (whole_if bs sure) ∙ ap are_sure (sym (kept_bits bs sure)) ∙ h);
     }
 
 pub kept_value : (bs : List Bit) (signed : Bool) (sure thing : ℕ) → record { bits = sure_bits (bits_of_masks (length bs) (bit_and (mask_of is_one_or_z bs) (bit_and sure (2 ^ length bs - 1))) (bit_and (mask_of is_strange bs) (bit_and sure (2 ^ length bs - 1)))) (bit_and sure (2 ^ length bs - 1)); signed = signed; blame = if (bit_and sure (2 ^ length bs - 1) == 2 ^ length bs - 1) then 0 else thing } ≡ with_blame (sure_bits bs sure) signed thing
 kept_value bs signed sure thing =
-    ap (λ ps. record { bits = ps; signed = signed; blame = if (bit_and sure (2 ^ length bs - 1) == 2 ^ length bs - 1) then 0 else thing }) (kept_bits bs sure) ∙ ap (λ t. record { bits = sure_bits bs sure; signed = signed; blame = if t then 0 else thing }) (sym (told_if bs sure))
+    ap (λ ps. record { bits = ps; signed = signed; blame = if (bit_and sure (2 ^ length bs - 1) == 2 ^ length bs - 1) then 0 else thing }) (kept_bits bs sure) ∙ ap (λ t. record { bits = sure_bits bs sure; signed = signed; blame = if t then 0 else thing }) (sym (whole_if bs sure))

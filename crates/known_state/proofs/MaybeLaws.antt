@@ -10,7 +10,7 @@ use Rattle.four_state.specs.declared.operator.CaseKind.{CaseKind}
 use Rattle.four_state.specs.declared.operator.CaseKind.TheVariants.{Exact}
 use Rattle.four_state.specs.Vector.{Vector, truth, same_bit}
 use Rattle.four_state.specs.Operators.{matches}
-use Rattle.known_state.specs.Partly.{Partly, allows, allows_bits, allows_bit, same_sign, filled, filled_from, is_told}
+use Rattle.known_state.specs.Partly.{Partly, allows, allows_bits, allows_bit, same_sign, filled, filled_from, is_whole}
 use Rattle.known_state.specs.Join.{first_blame}
 use Rattle.known_state.specs.Maybe.{IsUndecided, IsUndecidedMatch}
 use Rattle.known_state.proofs.Allowed.{filled_allowed, filled_from_allowed, sure_allowed}
@@ -22,12 +22,12 @@ use Rattle.known_state.proofs.BinaryLaws.{vector_allowed}
 -- ---- truths
 
 -- all bits are sure, or some 1 is
-pub truth_sure : (k : Partly) → (is_told k ≡ true) ⊎ (truth (filled Zero k.bits) ≡ True) → (v : Vector) → IsTrue (allows k v) → truth v.bits ≡ truth (filled Zero k.bits)
+pub truth_sure : (k : Partly) → (is_whole k ≡ true) ⊎ (truth (filled Zero k.bits) ≡ True) → (v : Vector) → IsTrue (allows k v) → truth v.bits ≡ truth (filled Zero k.bits)
 truth_sure k sure v h =
     let bits = (and_parts (same_sign k.signed v.signed) (allows_bits k.bits v.bits) h).1 in
     ⊎_elim (λ e. ap truth (sure_allowed Zero k.bits v.bits e bits)) (λ e. true_for_all k.bits v.bits bits e ∙ sym e) sure
 
-pub truth_undecided : (k : Partly) → is_told k ≡ false → truth (filled Zero k.bits) ≢ True → (thing : ℕ) → thing ≡ k.blame → IsUndecided k thing
+pub truth_undecided : (k : Partly) → is_whole k ≡ false → truth (filled Zero k.bits) ≢ True → (thing : ℕ) → thing ≡ k.blame → IsUndecided k thing
 truth_undecided k unsure other thing blamed =
     record {
       one = record { bits = filled One k.bits; signed = k.signed };

@@ -8,16 +8,16 @@ use Rattle.four_state.specs.declared.bit.Bit.{Bit}
 use Rattle.four_state.specs.declared.bit.Bit.TheVariants.{Zero, One, X}
 use Rattle.four_state.specs.Vector.{Vector, top, fit, extend}
 use Rattle.four_state.specs.Parts.{within, option_bit, bits_from, bit_or_part, bits_with, extended_vector, selected_vector, appended_vector}
-use Rattle.known_state.specs.Partly.{Partly, allows, allows_bits, allows_bit, same_sign, filled, told_of, with_blame}
+use Rattle.known_state.specs.Partly.{Partly, allows, allows_bits, allows_bit, same_sign, filled, whole_of, with_blame}
 use Rattle.known_state.specs.Join.{join_bit, joined}
-use Rattle.known_state.specs.Agreed.{told, moved, both_moved}
+use Rattle.known_state.specs.Agreed.{sure, moved, both_moved}
 use Rattle.known_state.specs.Answers.{IsTight, allow_both}
-use Rattle.known_state.proofs.Allowed.{length-allowed, length-filled, join_some, joined_same, told_filled, filled_allowed, same_sign_refl, same_sign_eq}
+use Rattle.known_state.proofs.Allowed.{length-allowed, length-filled, join_some, joined_same, whole_filled, filled_allowed, same_sign_refl, same_sign_eq}
 use Rattle.known_state.proofs.Cases.{both_true, same_bit_refl}
-use Rattle.known_state.proofs.Tight.{IsReached, reached-told, reached-joined}
+use Rattle.known_state.proofs.Tight.{IsReached, reached-whole, reached-joined}
 use Rattle.known_state.proofs.Shifted.{moved_bit, moved_at, moved_filler}
-use Rattle.known_state.proofs.UnarySound.{length-told}
-use Rattle.known_state.proofs.BinaryLaws.{vector_allowed, told_parts, told_with_blame, moved_reached}
+use Rattle.known_state.proofs.UnarySound.{length-whole}
+use Rattle.known_state.proofs.BinaryLaws.{vector_allowed, whole_parts, whole_with_blame, moved_reached}
 
 -- two bits joined allow what is the same as both, where these are the same
 pub joined_two : (x y z : Bit) → ((b : Bit) → x ≡ b → y ≡ b → z ≡ b) → allows_bit (join_bit (Some x) (Some y)) z ≡ true
@@ -70,7 +70,7 @@ pub length-bits_with : (bs part : List Bit) (from : ℤ) → length (bits_with b
 length-bits_with [] part from = refl
 length-bits_with (b ∷ bs) part from = ap suc (length-bits_with bs part (from +ℤ pos 1))
 
-moved_self : (ps : List (Option Bit)) (bs : List Bit) → allows_bits ps bs ≡ true → allows_bits (joined (told (filled Zero ps)) (told (filled One ps))) bs ≡ true
+moved_self : (ps : List (Option Bit)) (bs : List Bit) → allows_bits ps bs ≡ true → allows_bits (joined (sure (filled Zero ps)) (sure (filled One ps))) bs ≡ true
 moved_self [] [] h = refl
 moved_self [] (b ∷ bs) h = cc
 moved_self (p ∷ ps) [] h = cc
@@ -86,7 +86,7 @@ append_sound ps (q ∷ qs) bs (c ∷ cs) h k =
     let here = and_parts (allows_bit q c) (allows_bits qs cs) k in
     both_true _ _ (joined_two _ _ _ (λ b e f. moved_bit q c b here.0 e f)) (append_sound ps qs bs cs h here.1)
 
-fit_sound : (w : ℕ) (d0 d1 d : Bit) (ps : List (Option Bit)) (bs : List Bit) → ((b : Bit) → d0 ≡ b → d1 ≡ b → d ≡ b) → allows_bits ps bs ≡ true → allows_bits (joined (told (fit w d0 (filled Zero ps))) (told (fit w d1 (filled One ps)))) (fit w d bs) ≡ true
+fit_sound : (w : ℕ) (d0 d1 d : Bit) (ps : List (Option Bit)) (bs : List Bit) → ((b : Bit) → d0 ≡ b → d1 ≡ b → d ≡ b) → allows_bits ps bs ≡ true → allows_bits (joined (sure (fit w d0 (filled Zero ps))) (sure (fit w d1 (filled One ps)))) (fit w d bs) ≡ true
 fit_sound zero d0 d1 d ps bs m h = refl
 fit_sound (suc w) d0 d1 d [] [] m h = both_true _ _ (joined_two d0 d1 d m) (fit_sound w d0 d1 d [] [] m h)
 fit_sound (suc w) d0 d1 d [] (c ∷ bs) m h = cc
@@ -106,32 +106,32 @@ extend_sound w s ps bs h =
 
 -- ---- of one operand
 
-pub moved_told : (f : List Bit → List Bit) (bs : List Bit) → moved f (told bs) ≡ told (f bs)
-moved_told f bs = rw (told_filled Zero bs, told_filled One bs) (joined_same (f bs))
+pub moved_whole : (f : List Bit → List Bit) (bs : List Bit) → moved f (sure bs) ≡ sure (f bs)
+moved_whole f bs = rw (whole_filled Zero bs, whole_filled One bs) (joined_same (f bs))
 
 module _ (f : List Bit → List Bit) (k : Partly) (answer : Vector → List Bit) (is : (v : Vector) → IsTrue (allows k v) → answer v ≡ f v.bits) (w : ℕ) (width : (bs : List Bit) → length bs ≡ length k.bits → length (f bs) ≡ w) where
-  at : (b : Bit) → IsReached (allows k) answer (told (f (filled b k.bits)))
+  at : (b : Bit) → IsReached (allows k) answer (sure (f (filled b k.bits)))
   at b =
       let allowed = vector_allowed k (filled b k.bits) (filled_allowed b k.bits) in
-      subst (λ xs. IsReached (allows k) answer (told xs)) (is _ allowed) (reached-told (allows k) answer (record { bits = filled b k.bits; signed = k.signed }) allowed)
+      subst (λ xs. IsReached (allows k) answer (sure xs)) (is _ allowed) (reached-whole (allows k) answer (record { bits = filled b k.bits; signed = k.signed }) allowed)
 
-  here : (b : Bit) → length (told (f (filled b k.bits))) ≡ w
-  here b = length-told _ ∙ width (filled b k.bits) (length-filled b k.bits)
+  here : (b : Bit) → length (sure (f (filled b k.bits))) ≡ w
+  here b = length-whole _ ∙ width (filled b k.bits) (length-filled b k.bits)
 
   pub one_moved_tight : IsTight (allows k) answer (moved f k.bits)
   one_moved_tight = (reached-joined (allows k) answer _ _ (here Zero ∙ sym (here One)) (at Zero) (at One)).tight
 
-  pub one_moved_width : length (told (f (filled Zero k.bits))) ≡ length (f (filled One k.bits))
+  pub one_moved_width : length (sure (f (filled Zero k.bits))) ≡ length (f (filled One k.bits))
   one_moved_width = here Zero ∙ sym (width (filled One k.bits) (length-filled One k.bits))
 
--- the bits of a vector that is told whole
-pub moved_exact : (f : List Bit → List Bit) (k : Partly) (v : Vector) (s : Bool) (thing : ℕ) → k ≡ told_of v → with_blame (moved f k.bits) s thing ≡ record { bits = told (f v.bits); signed = s; blame = 0 }
+-- the bits of a vector that is sure whole
+pub moved_exact : (f : List Bit → List Bit) (k : Partly) (v : Vector) (s : Bool) (thing : ℕ) → k ≡ whole_of v → with_blame (moved f k.bits) s thing ≡ record { bits = sure (f v.bits); signed = s; blame = 0 }
 moved_exact f k v s thing e =
-    ap (λ (x : Partly). with_blame (moved f x.bits) s thing) e ∙ ap (λ ps. with_blame ps s thing) (moved_told f v.bits) ∙ told_with_blame (f v.bits) s thing
+    ap (λ (x : Partly). with_blame (moved f x.bits) s thing) e ∙ ap (λ ps. with_blame ps s thing) (moved_whole f v.bits) ∙ whole_with_blame (f v.bits) s thing
 
-pub both_moved_exact : (f : List Bit → List Bit → List Bit) (a b : Partly) (v w : Vector) (s : Bool) (thing : ℕ) → a ≡ told_of v → b ≡ told_of w → with_blame (both_moved f a.bits b.bits) s thing ≡ record { bits = told (f v.bits w.bits); signed = s; blame = 0 }
+pub both_moved_exact : (f : List Bit → List Bit → List Bit) (a b : Partly) (v w : Vector) (s : Bool) (thing : ℕ) → a ≡ whole_of v → b ≡ whole_of w → with_blame (both_moved f a.bits b.bits) s thing ≡ record { bits = sure (f v.bits w.bits); signed = s; blame = 0 }
 both_moved_exact f a b v w s thing e d =
-    ap₂ (λ (x : Partly) (y : Partly). with_blame (both_moved f x.bits y.bits) s thing) e d ∙ ap (λ ps. with_blame ps s thing) (rw (told_filled Zero v.bits, told_filled One v.bits, told_filled Zero w.bits, told_filled One w.bits) (joined_same (f v.bits w.bits))) ∙ told_with_blame (f v.bits w.bits) s thing
+    ap₂ (λ (x : Partly) (y : Partly). with_blame (both_moved f x.bits y.bits) s thing) e d ∙ ap (λ ps. with_blame ps s thing) (rw (whole_filled Zero v.bits, whole_filled One v.bits, whole_filled Zero w.bits, whole_filled One w.bits) (joined_same (f v.bits w.bits))) ∙ whole_with_blame (f v.bits w.bits) s thing
 
 -- ---- on partly known vectors
 
@@ -145,8 +145,8 @@ module _ (k : Partly) (w : ℕ) where
   extend_tight =
       one_moved_tight (extend w k.signed) k (λ v. extend w v.signed v.bits) (λ v h. ap (λ s. extend w s v.bits) (sym (same_sign_eq k.signed v.signed (and_parts _ _ h).0))) w (λ bs e. length-fit w _ bs)
 
-  pub extend_exact : (signed : Bool) (thing : ℕ) (v : Vector) → k ≡ told_of v → with_blame (moved (extend w k.signed) k.bits) signed thing ≡ told_of (extended_vector w signed v)
-  extend_exact signed thing v e = moved_exact (extend w k.signed) k v signed thing e ∙ rw (told_parts k v e).2
+  pub extend_exact : (signed : Bool) (thing : ℕ) (v : Vector) → k ≡ whole_of v → with_blame (moved (extend w k.signed) k.bits) signed thing ≡ whole_of (extended_vector w signed v)
+  extend_exact signed thing v e = moved_exact (extend w k.signed) k v signed thing e ∙ rw (whole_parts k v e).2
 
   pub select_allows : (low : ℤ) (thing : ℕ) (v : Vector) → IsTrue (allows k v) → IsTrue (allows (with_blame (moved (λ xs. bits_from xs low w) k.bits) false thing) (selected_vector low w v))
   select_allows low thing v h =
@@ -155,14 +155,14 @@ module _ (k : Partly) (w : ℕ) where
   pub select_tight : (low : ℤ) → IsTight (allows k) (λ v. bits_from v.bits low w) (moved (λ xs. bits_from xs low w) k.bits)
   select_tight low = one_moved_tight (λ xs. bits_from xs low w) k (λ v. bits_from v.bits low w) (λ v h. refl) w (λ bs e. length-bits_from bs w low)
 
-  pub select_exact : (low : ℤ) (thing : ℕ) (v : Vector) → k ≡ told_of v → with_blame (moved (λ xs. bits_from xs low w) k.bits) false thing ≡ told_of (selected_vector low w v)
+  pub select_exact : (low : ℤ) (thing : ℕ) (v : Vector) → k ≡ whole_of v → with_blame (moved (λ xs. bits_from xs low w) k.bits) false thing ≡ whole_of (selected_vector low w v)
   select_exact low thing v e = moved_exact (λ xs. bits_from xs low w) k v false thing e
 
-  pub extend_widths : length (told (extend w k.signed (filled Zero k.bits))) ≡ length (extend w k.signed (filled One k.bits))
-  extend_widths = length-told _ ∙ length-fit w _ _ ∙ sym (length-fit w _ _)
+  pub extend_widths : length (sure (extend w k.signed (filled Zero k.bits))) ≡ length (extend w k.signed (filled One k.bits))
+  extend_widths = length-whole _ ∙ length-fit w _ _ ∙ sym (length-fit w _ _)
 
-  pub select_widths : (low : ℤ) → length (told (bits_from (filled Zero k.bits) low w)) ≡ length (bits_from (filled One k.bits) low w)
-  select_widths low = length-told _ ∙ length-bits_from (filled Zero k.bits) w low ∙ sym (length-bits_from (filled One k.bits) w low)
+  pub select_widths : (low : ℤ) → length (sure (bits_from (filled Zero k.bits) low w)) ≡ length (bits_from (filled One k.bits) low w)
+  select_widths low = length-whole _ ∙ length-bits_from (filled Zero k.bits) w low ∙ sym (length-bits_from (filled One k.bits) w low)
 
 module _ (a b : Partly) where
   pub place_allows : (from : ℤ) (thing : ℕ) (v w : Vector) → IsTrue (allows a v) → IsTrue (allows b w) → IsTrue (allows (with_blame (both_moved (λ xs ys. bits_with xs ys from) a.bits b.bits) a.signed thing) (record { bits = bits_with v.bits w.bits from; signed = v.signed }))
@@ -185,12 +185,12 @@ module _ (a b : Partly) where
   append_tight =
       (moved_reached (λ xs ys. ys ++ xs) a b (λ p. p.1.bits ++ p.0.bits) (λ p h. refl) (length (b.bits ++ a.bits)) (λ bs cs e d. length-append cs bs ∙ omega (arith, e, d, length-append b.bits a.bits))).tight
 
-  pub place_exact : (from : ℤ) (thing : ℕ) (v w : Vector) → a ≡ told_of v → b ≡ told_of w → with_blame (both_moved (λ xs ys. bits_with xs ys from) a.bits b.bits) a.signed thing ≡ told_of (record { bits = bits_with v.bits w.bits from; signed = v.signed })
-  place_exact from thing v w e d = both_moved_exact (λ xs ys. bits_with xs ys from) a b v w a.signed thing e d ∙ rw (told_parts a v e).2
+  pub place_exact : (from : ℤ) (thing : ℕ) (v w : Vector) → a ≡ whole_of v → b ≡ whole_of w → with_blame (both_moved (λ xs ys. bits_with xs ys from) a.bits b.bits) a.signed thing ≡ whole_of (record { bits = bits_with v.bits w.bits from; signed = v.signed })
+  place_exact from thing v w e d = both_moved_exact (λ xs ys. bits_with xs ys from) a b v w a.signed thing e d ∙ rw (whole_parts a v e).2
 
-  pub append_exact : (thing : ℕ) (v w : Vector) → a ≡ told_of v → b ≡ told_of w → with_blame (both_moved (λ xs ys. ys ++ xs) a.bits b.bits) false thing ≡ told_of (appended_vector v w)
+  pub append_exact : (thing : ℕ) (v w : Vector) → a ≡ whole_of v → b ≡ whole_of w → with_blame (both_moved (λ xs ys. ys ++ xs) a.bits b.bits) false thing ≡ whole_of (appended_vector v w)
   append_exact thing v w e d = both_moved_exact (λ xs ys. ys ++ xs) a b v w false thing e d
 
-  pub place_widths : (from : ℤ) → length (told (bits_with (filled Zero a.bits) (filled Zero b.bits) from)) ≡ length (bits_with (filled One a.bits) (filled One b.bits) from)
+  pub place_widths : (from : ℤ) → length (sure (bits_with (filled Zero a.bits) (filled Zero b.bits) from)) ≡ length (bits_with (filled One a.bits) (filled One b.bits) from)
   place_widths from =
-      length-told _ ∙ length-bits_with (filled Zero a.bits) (filled Zero b.bits) from ∙ length-filled Zero a.bits ∙ sym (length-filled One a.bits) ∙ sym (length-bits_with (filled One a.bits) (filled One b.bits) from)
+      length-whole _ ∙ length-bits_with (filled Zero a.bits) (filled Zero b.bits) from ∙ length-filled Zero a.bits ∙ sym (length-filled One a.bits) ∙ sym (length-bits_with (filled One a.bits) (filled One b.bits) from)

@@ -8,7 +8,7 @@ use Rattle.four_state.specs.Vector.{same_bit}
 use Rattle.four_state.specs.Operators.{not_bit, zip_bits}
 use Rattle.known_state.specs.Partly.{allows_bits, allows_bit, filled, filled_from}
 use Rattle.known_state.specs.Join.{joined}
-use Rattle.known_state.specs.Agreed.{told, both_moved, both_agreed}
+use Rattle.known_state.specs.Agreed.{sure, both_moved, both_agreed}
 use Rattle.known_state.proofs.Bits.{get_or-filled, length-filled_from}
 use Rattle.known_state.proofs.Allowed.{allowed_by_places, allows_at, length-allowed, length-filled}
 use Rattle.known_state.proofs.Cases.{every, every_option, option_holds, every_holds, implies, implied, same_bit_eq, same_bit_of}
@@ -34,10 +34,10 @@ module _ (f : List Bit → List Bit → List Bit) (ps qs : List (Option Bit)) (w
   pub length-both_moved : length (both_moved f ps qs) ≡ w
   length-both_moved = length-two (f (filled Zero ps) (filled Zero qs)) (f (filled One ps) (filled One qs)) (here Zero Zero ∙ sym (here One One)) ∙ here Zero Zero
 
-  pub length-mixed : length (joined (both_moved f ps qs) (told (f (filled Zero ps) (filled One qs)))) ≡ w
+  pub length-mixed : length (joined (both_moved f ps qs) (sure (f (filled Zero ps) (filled One qs)))) ≡ w
   length-mixed = length-more (both_moved f ps qs) (f (filled Zero ps) (filled One qs)) (length-both_moved ∙ sym (here Zero One)) ∙ length-both_moved
 
-  pub length-strange : length (joined (joined (both_moved f ps qs) (told (f (filled Zero ps) (filled One qs)))) (told (f (filled X ps) (filled X qs)))) ≡ w
+  pub length-strange : length (joined (joined (both_moved f ps qs) (sure (f (filled Zero ps) (filled One qs)))) (sure (f (filled X ps) (filled X qs)))) ≡ w
   length-strange = length-more _ (f (filled X ps) (filled X qs)) (length-mixed ∙ sym (here X X)) ∙ length-mixed
 
   pub length-both_agreed : length (both_agreed f ps qs) ≡ w

@@ -65,8 +65,8 @@ module _ (f : List Bit → ℕ → ℕ → Bit) (ps qs : List (Option Bit)) (bs 
       let unknown : all_known cs ≡ false = ⊎_elim (λ t. not_both _ (known_for Zero refl qs cs k t) n) (λ t. t) (cases_Bool (all_known cs)) in
       shift_strange (f bs) bs cs i unknown (rw (← length-allowed ps bs h) l) ∙ sym (shift_strange (f (filled Zero ps)) (filled Zero ps) (filled Zero qs) i n (rw length-filled l)) ∙ e
 
-  told : (i : ℕ) (b : Bit) → i < length ps → all_known (filled Zero qs) ≡ true → get_or (shift (f (filled Zero ps)) (filled Zero ps) (filled Zero qs)) i X ≡ b → get_or (shift (f (filled One ps)) (filled One ps) (filled One qs)) i X ≡ b → get_or (shift (f bs) bs cs) i X ≡ b
-  told i b l n e d =
+  whole : (i : ℕ) (b : Bit) → i < length ps → all_known (filled Zero qs) ≡ true → get_or (shift (f (filled Zero ps)) (filled Zero ps) (filled Zero qs)) i X ≡ b → get_or (shift (f (filled One ps)) (filled One ps) (filled One qs)) i X ≡ b → get_or (shift (f bs) bs cs) i X ≡ b
+  whole i b l n e d =
       let only : cs ≡ filled Zero qs = sure_allowed Zero qs cs (can n) k in
       let one : filled One qs ≡ filled Zero qs = sure_filled One Zero qs (can n) in
       shift_known (f bs) bs cs i (ap all_known only ∙ n) (rw (← length-allowed ps bs h) l) ∙ moves (natural cs) i b
@@ -74,7 +74,7 @@ module _ (f : List Bit → ℕ → ℕ → Bit) (ps qs : List (Option Bit)) (bs 
       (ap (λ xs. f (filled One ps) (natural xs) i) (only ∙ sym one) ∙ sym (shift_known (f (filled One ps)) (filled One ps) (filled One qs) i (ap all_known one ∙ n) (rw length-filled l)) ∙ d)
 
   pub shift_agrees : (i : ℕ) (b : Bit) → i < length ps → get_or (shift (f (filled Zero ps)) (filled Zero ps) (filled Zero qs)) i X ≡ b → get_or (shift (f (filled One ps)) (filled One ps) (filled One qs)) i X ≡ b → get_or (shift (f bs) bs cs) i X ≡ b
-  shift_agrees i b l e d = ⊎_elim (λ n. told i b l n e d) (λ n. strange i b l n e) (cases_Bool (all_known (filled Zero qs)))
+  shift_agrees i b l e d = ⊎_elim (λ n. whole i b l n e d) (λ n. strange i b l n e) (cases_Bool (all_known (filled Zero qs)))
 
 module _ (ps qs : List (Option Bit)) (bs cs : List Bit) (h : allows_bits ps bs ≡ true) (k : allows_bits qs cs ≡ true) (can : all_known (filled Zero qs) ≡ true → are_sure qs ≡ true) where
   left_moves : (n i : ℕ) (b : Bit) (t : Bool) → (if t then Zero else get_or (filled Zero ps) (i - n) Zero) ≡ b → (if t then Zero else get_or (filled One ps) (i - n) Zero) ≡ b → (if t then Zero else get_or bs (i - n) Zero) ≡ b

@@ -6,7 +6,7 @@ use Rattle.four_state.specs.declared.bit.Bit.{Bit}
 use Rattle.four_state.specs.declared.bit.Bit.TheVariants.{X}
 use Rattle.four_state.specs.Vector.{same_bit}
 use Rattle.known_state.specs.Join.{join_bit, joined}
-use Rattle.known_state.specs.Agreed.{told}
+use Rattle.known_state.specs.Agreed.{sure}
 use Rattle.known_state.specs.Answers.{Differ, IsTight}
 use Rattle.known_state.proofs.Bits.{length-joined, get_or-joined}
 use Rattle.known_state.proofs.Allowed.{join_some}
@@ -24,11 +24,11 @@ pub record IsReached {A : Type 0} (allowed : A → Bool) (answer : A → List Bi
   pub given : (i : ℕ) (b : Bit) → i < length ps → get_or ps i None ≡ Some b → Gives allowed answer i b
 
 module _ {A : Type 0} (allowed : A → Bool) (answer : A → List Bit) where
-  some_at : (x : A) (i : ℕ) → i < length (told (answer x)) → get_or (told (answer x)) i None ≡ Some (get_or (answer x) i X)
+  some_at : (x : A) (i : ℕ) → i < length (sure (answer x)) → get_or (sure (answer x)) i None ≡ Some (get_or (answer x) i X)
   some_at x i l = get_or-map Some (answer x) i X None (rw length-map at l)
 
-  pub reached-told : (x : A) → IsTrue (allowed x) → IsReached allowed answer (told (answer x))
-  reached-told x h =
+  pub reached-whole : (x : A) → IsTrue (allowed x) → IsReached allowed answer (sure (answer x))
+  reached-whole x h =
       record {
         tight = λ i l e. absurd (let k = some_at x i l in let bad : None ≡ Some (get_or (answer x) i X) = sym e ∙ k in cc);
         given = λ i b l e. record { value = x; is_allowed = h; gives = (let k : Some (get_or (answer x) i X) ≡ Some b = sym (some_at x i l) ∙ e in cc) };

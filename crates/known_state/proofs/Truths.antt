@@ -67,7 +67,7 @@ all_zero (p ∷ ps) (b ∷ bs) h k =
 -- the truths for 0, for 1 and for x at the bits that are not sure, and that of a vector: all are the same, or there is
 -- no 1 that is sure
 pub data HasTruths : Truth → Truth → Truth → Truth → Type 0 where
-  told : (t : Truth) → HasTruths t t t t
+  whole : (t : Truth) → HasTruths t t t t
   free : (t : Truth) → HasTruths False True Strange t
   bound_true : HasTruths Strange True Strange True
   bound_strange : HasTruths Strange True Strange Strange
@@ -97,18 +97,18 @@ module _ (ps : List (Option Bit)) (bs : List Bit) (h : allows_bits ps bs ≡ tru
 
   of_one : list_any is_one (filled Zero ps) ≡ true → HasTruths (truth (filled Zero ps)) (truth (filled One ps)) (truth (filled X ps)) (truth bs)
   of_one one =
-      rw (is_true one (filled Zero ps) (filled_allowed Zero ps), is_true one (filled One ps) (filled_allowed One ps), is_true one (filled X ps) (filled_allowed X ps), is_true one bs h) (told True)
+      rw (is_true one (filled Zero ps) (filled_allowed Zero ps), is_true one (filled One ps) (filled_allowed One ps), is_true one (filled X ps) (filled_allowed X ps), is_true one bs h) (whole True)
 
-  of_told : are_sure ps ≡ true → HasTruths (truth (filled Zero ps)) (truth (filled One ps)) (truth (filled X ps)) (truth bs)
-  of_told sure =
-      rw (sure_filled One Zero ps sure, sure_filled X Zero ps sure, sure_allowed Zero ps bs sure h) (told (truth (filled Zero ps)))
+  of_whole : are_sure ps ≡ true → HasTruths (truth (filled Zero ps)) (truth (filled One ps)) (truth (filled X ps)) (truth bs)
+  of_whole sure =
+      rw (sure_filled One Zero ps sure, sure_filled X Zero ps sure, sure_allowed Zero ps bs sure h) (whole (truth (filled Zero ps)))
 
   of_unsure : list_any is_one (filled Zero ps) ≡ false → are_sure ps ≡ false → HasTruths (truth (filled Zero ps)) (truth (filled One ps)) (truth (filled X ps)) (truth bs)
   of_unsure none unsure =
       rw (one_true (list_any is_one (filled One ps)) (list_all is_zero (filled One ps)) (some_one ps unsure), none_strange (list_any is_one (filled X ps)) (list_all is_zero (filled X ps)) (no_one ps ∙ none) (not_all_zero ps unsure)) (unsure_truths (list_any is_one (filled Zero ps)) (list_all is_zero (filled Zero ps)) (list_any is_one bs) (list_all is_zero bs) none (all_zero ps bs h))
 
   pub truths : HasTruths (truth (filled Zero ps)) (truth (filled One ps)) (truth (filled X ps)) (truth bs)
-  truths = ⊎_elim of_one (λ none. ⊎_elim of_told (of_unsure none) (cases_Bool (are_sure ps))) (cases_Bool (list_any is_one (filled Zero ps)))
+  truths = ⊎_elim of_one (λ none. ⊎_elim of_whole (of_unsure none) (cases_Bool (are_sure ps))) (cases_Bool (list_any is_one (filled Zero ps)))
 
 -- ---- decided by trying all
 
@@ -124,7 +124,7 @@ abbrev pub each_truths : (Truth → Truth → Truth → Truth → Bool) → Bool
 each_truths p = (every_truth (λ t. p t t t t) && every_truth (λ t. p False True Strange t)) && (p Strange True Strange True && p Strange True Strange Strange)
 
 pub truths_hold : (p : Truth → Truth → Truth → Truth → Bool) → each_truths p ≡ true → {t0 t1 tx t : Truth} → HasTruths t0 t1 tx t → p t0 t1 tx t ≡ true
-truths_hold p h (told t) = every_truth_holds (λ u. p u u u u) (and_parts _ _ (and_parts _ _ h).0).0 t
+truths_hold p h (whole t) = every_truth_holds (λ u. p u u u u) (and_parts _ _ (and_parts _ _ h).0).0 t
 truths_hold p h (free t) = every_truth_holds (λ u. p False True Strange u) (and_parts _ _ (and_parts _ _ h).0).1 t
 truths_hold p h bound_true = (and_parts _ _ (and_parts _ _ h).1).0
 truths_hold p h bound_strange = (and_parts _ _ (and_parts _ _ h).1).1

@@ -11,42 +11,42 @@ use Rattle.four_state.specs.declared.operator.Unary.TheVariants.{Positive, Negat
 use Rattle.four_state.specs.Vector.{Vector, all_known, fill, truth, truth_bit, same_bit}
 use Rattle.four_state.specs.Arithmetic.{cut, whole}
 use Rattle.four_state.specs.Operators.{not_bit, and_bit, or_bit, xor_bit, reduce, unary_value, unary_vector, unary_keeps_sign}
-use Rattle.known_state.specs.Partly.{Partly, allows, allows_bits, allows_bit, same_sign, filled, are_sure, is_told, told_of, blame_of, with_blame}
+use Rattle.known_state.specs.Partly.{Partly, allows, allows_bits, allows_bit, same_sign, filled, are_sure, is_whole, whole_of, blame_of, with_blame}
 use Rattle.known_state.specs.Join.{join_bit, joined}
-use Rattle.known_state.specs.Agreed.{told, moved, agreed}
+use Rattle.known_state.specs.Agreed.{sure, moved, agreed}
 use Rattle.known_state.specs.Answers.{IsTight}
 use Rattle.known_state.proofs.Bits.{length-joined, get_or-joined}
-use Rattle.known_state.proofs.Allowed.{allowed_by_places, length-allowed, length-filled, join_some, joined_same, told_filled, sure_filled, are_sure_told, filled_allowed, same_sign_refl, same_sign_eq}
-use Rattle.known_state.proofs.Tight.{IsReached, reached-told, reached-joined}
+use Rattle.known_state.proofs.Allowed.{allowed_by_places, length-allowed, length-filled, join_some, joined_same, whole_filled, sure_filled, are_sure_whole, filled_allowed, same_sign_refl, same_sign_eq}
+use Rattle.known_state.proofs.Tight.{IsReached, reached-whole, reached-joined}
 use Rattle.known_state.proofs.Cases.{every, option_holds, every_holds, implies, implied, both_true, same_bit_refl, same_bit_eq}
 use Rattle.known_state.proofs.Strict.{IsStrict, strict_if, strict_place, known_for_one, known_for_x, known-cut}
 use Rattle.known_state.proofs.Reduced.{and_agrees, or_agrees, xor_agrees}
 use Rattle.known_state.proofs.Truths.{truths, truths_hold}
 use Rattle.known_state.proofs.Widths.{width_after, length-cut, length-unary_value}
 
-pub told_place : (bs : List Bit) (i : ℕ) (b : Bit) → i < length bs → get_or (told bs) i None ≡ Some b → get_or bs i X ≡ b
-told_place bs i b l e = let k : Some (get_or bs i X) ≡ Some b = sym (get_or-map Some bs i X None l) ∙ e in cc
+pub whole_place : (bs : List Bit) (i : ℕ) (b : Bit) → i < length bs → get_or (sure bs) i None ≡ Some b → get_or bs i X ≡ b
+whole_place bs i b l e = let k : Some (get_or bs i X) ≡ Some b = sym (get_or-map Some bs i X None l) ∙ e in cc
 
-pub length-told : (bs : List Bit) → length (told bs) ≡ length bs
-length-told bs = length-map bs Some
+pub length-whole : (bs : List Bit) → length (sure bs) ≡ length bs
+length-whole bs = length-map bs Some
 
 -- two answers joined
-pub two_places : (xs ys : List Bit) (i : ℕ) (b : Bit) → length xs ≡ length ys → i < length xs → get_or (joined (told xs) (told ys)) i None ≡ Some b → (get_or xs i X ≡ b) × (get_or ys i X ≡ b)
+pub two_places : (xs ys : List Bit) (i : ℕ) (b : Bit) → length xs ≡ length ys → i < length xs → get_or (joined (sure xs) (sure ys)) i None ≡ Some b → (get_or xs i X ≡ b) × (get_or ys i X ≡ b)
 two_places xs ys i b e l h =
-    let k = join_some _ _ b (sym (get_or-joined (told xs) (told ys) i (length-told xs ∙ e ∙ sym (length-told ys)) (rw length-told l)) ∙ h) in
-    (told_place xs i b l k.0, told_place ys i b (rw (← e) l) k.1)
+    let k = join_some _ _ b (sym (get_or-joined (sure xs) (sure ys) i (length-whole xs ∙ e ∙ sym (length-whole ys)) (rw length-whole l)) ∙ h) in
+    (whole_place xs i b l k.0, whole_place ys i b (rw (← e) l) k.1)
 
 -- one more
-pub more_places : (ps : List (Option Bit)) (ys : List Bit) (i : ℕ) (b : Bit) → length ps ≡ length ys → i < length ps → get_or (joined ps (told ys)) i None ≡ Some b → (get_or ps i None ≡ Some b) × (get_or ys i X ≡ b)
+pub more_places : (ps : List (Option Bit)) (ys : List Bit) (i : ℕ) (b : Bit) → length ps ≡ length ys → i < length ps → get_or (joined ps (sure ys)) i None ≡ Some b → (get_or ps i None ≡ Some b) × (get_or ys i X ≡ b)
 more_places ps ys i b e l h =
-    let k = join_some _ _ b (sym (get_or-joined ps (told ys) i (e ∙ sym (length-told ys)) l) ∙ h) in
-    (k.0, told_place ys i b (rw (← e) l) k.1)
+    let k = join_some _ _ b (sym (get_or-joined ps (sure ys) i (e ∙ sym (length-whole ys)) l) ∙ h) in
+    (k.0, whole_place ys i b (rw (← e) l) k.1)
 
-pub length-two : (xs ys : List Bit) → length xs ≡ length ys → length (joined (told xs) (told ys)) ≡ length xs
-length-two xs ys e = length-joined (told xs) (told ys) (length-told xs ∙ e ∙ sym (length-told ys)) ∙ length-told xs
+pub length-two : (xs ys : List Bit) → length xs ≡ length ys → length (joined (sure xs) (sure ys)) ≡ length xs
+length-two xs ys e = length-joined (sure xs) (sure ys) (length-whole xs ∙ e ∙ sym (length-whole ys)) ∙ length-whole xs
 
-pub length-more : (ps : List (Option Bit)) (ys : List Bit) → length ps ≡ length ys → length (joined ps (told ys)) ≡ length ps
-length-more ps ys e = length-joined ps (told ys) (e ∙ sym (length-told ys))
+pub length-more : (ps : List (Option Bit)) (ys : List Bit) → length ps ≡ length ys → length (joined ps (sure ys)) ≡ length ps
+length-more ps ys e = length-joined ps (sure ys) (e ∙ sym (length-whole ys))
 
 -- answers of one width
 module _ (f : List Bit → List Bit) (ps : List (Option Bit)) (w : ℕ) (width : (cs : List Bit) → length cs ≡ length ps → length (f cs) ≡ w) where
@@ -117,16 +117,16 @@ module _ (ps : List (Option Bit)) (bs : List Bit) (h : allows_bits ps bs ≡ tru
 
 -- ---- of partly known vectors
 
-pub agreed_told : (f : List Bit → List Bit) (bs : List Bit) → agreed f (told bs) ≡ told (f bs)
-agreed_told f bs =
-    rw (told_filled Zero bs, told_filled One bs, told_filled X bs, joined_same (f bs)) (joined_same (f bs))
+pub agreed_whole : (f : List Bit → List Bit) (bs : List Bit) → agreed f (sure bs) ≡ sure (f bs)
+agreed_whole f bs =
+    rw (whole_filled Zero bs, whole_filled One bs, whole_filled X bs, joined_same (f bs)) (joined_same (f bs))
 
-pub agreed_sure : (f : List Bit → List Bit) (ps : List (Option Bit)) → are_sure ps ≡ true → agreed f ps ≡ told (f (filled Zero ps))
+pub agreed_sure : (f : List Bit → List Bit) (ps : List (Option Bit)) → are_sure ps ≡ true → agreed f ps ≡ sure (f (filled Zero ps))
 agreed_sure f ps h =
     rw (sure_filled One Zero ps h, sure_filled X Zero ps h, joined_same (f (filled Zero ps))) (joined_same (f (filled Zero ps)))
 
-pub blame_of-told : (bs : List Bit) (thing : ℕ) → blame_of (told bs) thing ≡ 0
-blame_of-told bs thing = ap (λ t. if t then 0 else thing) (are_sure_told bs)
+pub blame_of-whole : (bs : List Bit) (thing : ℕ) → blame_of (sure bs) thing ≡ 0
+blame_of-whole bs thing = ap (λ t. if t then 0 else thing) (are_sure_whole bs)
 
 module _ (op : Unary) (k : Partly) where
   pub unary_allows : (v : Vector) → IsTrue (allows k v) → IsTrue (allows (with_blame (agreed (unary_value op) k.bits) (unary_keeps_sign op && k.signed) k.blame) (unary_vector op v))
@@ -148,17 +148,17 @@ module _ (op : Unary) (k : Partly) where
   unfolding filled_vector
   unary_tight =
       let answer : Vector → List Bit = λ v. unary_value op v.bits in
-      let at : (b : Bit) → IsReached (allows k) answer (told (unary_value op (filled b k.bits))) = λ b. reached-told (allows k) answer (filled_vector b) (is_allowed b) in
+      let at : (b : Bit) → IsReached (allows k) answer (sure (unary_value op (filled b k.bits))) = λ b. reached-whole (allows k) answer (filled_vector b) (is_allowed b) in
       let same : (b c : Bit) → length (unary_value op (filled b k.bits)) ≡ length (unary_value op (filled c k.bits)) = λ b c. width (filled b k.bits) (length-filled b k.bits) ∙ sym (width (filled c k.bits) (length-filled c k.bits)) in
-      (reached-joined (allows k) answer (moved (unary_value op) k.bits) (told (unary_value op (filled X k.bits))) (length-moved (unary_value op) k.bits (width_after (unary_keeps_sign op) (length k.bits)) width ∙ sym (width (filled X k.bits) (length-filled X k.bits)) ∙ sym (length-told (unary_value op (filled X k.bits)))) (reached-joined (allows k) answer (told (unary_value op (filled Zero k.bits))) (told (unary_value op (filled One k.bits))) (length-told _ ∙ same Zero One ∙ sym (length-told _)) (at Zero) (at One)) (at X)).tight
+      (reached-joined (allows k) answer (moved (unary_value op) k.bits) (sure (unary_value op (filled X k.bits))) (length-moved (unary_value op) k.bits (width_after (unary_keeps_sign op) (length k.bits)) width ∙ sym (width (filled X k.bits) (length-filled X k.bits)) ∙ sym (length-whole (unary_value op (filled X k.bits)))) (reached-joined (allows k) answer (sure (unary_value op (filled Zero k.bits))) (sure (unary_value op (filled One k.bits))) (length-whole _ ∙ same Zero One ∙ sym (length-whole _)) (at Zero) (at One)) (at X)).tight
 
-  pub unary_exact : (v : Vector) → k ≡ told_of v → with_blame (agreed (unary_value op) k.bits) (unary_keeps_sign op && k.signed) k.blame ≡ told_of (unary_vector op v)
+  pub unary_exact : (v : Vector) → k ≡ whole_of v → with_blame (agreed (unary_value op) k.bits) (unary_keeps_sign op && k.signed) k.blame ≡ whole_of (unary_vector op v)
   unary_exact v e =
-      ap (λ (x : Partly). with_blame (agreed (unary_value op) x.bits) (unary_keeps_sign op && x.signed) x.blame) e ∙ ap (λ ps. with_blame ps (unary_keeps_sign op && v.signed) 0) (agreed_told (unary_value op) v.bits) ∙ ap (λ n. record { bits = told (unary_value op v.bits); signed = unary_keeps_sign op && v.signed; blame = n }) (blame_of-told (unary_value op v.bits) 0)
+      ap (λ (x : Partly). with_blame (agreed (unary_value op) x.bits) (unary_keeps_sign op && x.signed) x.blame) e ∙ ap (λ ps. with_blame ps (unary_keeps_sign op && v.signed) 0) (agreed_whole (unary_value op) v.bits) ∙ ap (λ n. record { bits = sure (unary_value op v.bits); signed = unary_keeps_sign op && v.signed; blame = n }) (blame_of-whole (unary_value op v.bits) 0)
 
-  pub unary_told : is_told k ≡ true → told_of (unary_vector op (record { bits = filled Zero k.bits; signed = k.signed })) ≡ with_blame (agreed (unary_value op) k.bits) (unary_keeps_sign op && k.signed) k.blame
-  unary_told h =
-      sym (ap (λ ps. with_blame ps (unary_keeps_sign op && k.signed) k.blame) (agreed_sure (unary_value op) k.bits h) ∙ ap (λ n. record { bits = told (unary_value op (filled Zero k.bits)); signed = unary_keeps_sign op && k.signed; blame = n }) (blame_of-told (unary_value op (filled Zero k.bits)) k.blame))
+  pub unary_whole : is_whole k ≡ true → whole_of (unary_vector op (record { bits = filled Zero k.bits; signed = k.signed })) ≡ with_blame (agreed (unary_value op) k.bits) (unary_keeps_sign op && k.signed) k.blame
+  unary_whole h =
+      sym (ap (λ ps. with_blame ps (unary_keeps_sign op && k.signed) k.blame) (agreed_sure (unary_value op) k.bits h) ∙ ap (λ n. record { bits = sure (unary_value op (filled Zero k.bits)); signed = unary_keeps_sign op && k.signed; blame = n }) (blame_of-whole (unary_value op (filled Zero k.bits)) k.blame))
 
   pub unary_widths : (b c : Bit) → length (unary_value op (filled b k.bits)) ≡ length (unary_value op (filled c k.bits))
   unary_widths b c = width (filled b k.bits) (length-filled b k.bits) ∙ sym (width (filled c k.bits) (length-filled c k.bits))

@@ -1,4 +1,4 @@
--- `c ? a : b` on partly known vectors, where the condition is told.
+-- `c ? a : b` on partly known vectors, where the condition is whole.
 use Rattle.four_state.specs.declared.truth.Truth.{Truth}
 use Rattle.four_state.specs.declared.truth.Truth.TheVariants.{True, False, Strange}
 use Rattle.four_state.specs.Operators.{merge_bit, zip_bits}

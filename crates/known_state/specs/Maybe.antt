@@ -33,7 +33,7 @@ Holds k maybe.Yes = (v : Vector) → IsTrue (allows k v) → truth v.bits ≡ Tr
 Holds k maybe.No = (v : Vector) → IsTrue (allows k v) → truth v.bits ≢ True
 Holds k (maybe.Unsure thing) = IsUndecided k thing
 
--- one allowed pair matches and another one does not, and the first operand that is not told whole is to blame
+-- one allowed pair matches and another one does not, and the first operand that is not whole is to blame
 pub record IsUndecidedMatch (kind : CaseKind) (a b : Partly) (thing : ℕ) : Type 0 where
   pub left : Vector
   pub right : Vector
@@ -68,7 +68,7 @@ allows_truth (known.Unsure thing) u = true
 abbrev pub allow_choice : KnownTruth → Partly → Partly → Truth × Vector × Vector → Bool
 allow_choice c a b p = allows_truth c p.0 && (allows a p.1 && allows b p.2)
 
--- the blame of a choice that is not told whole: of the condition, of the side that is chosen, or of the first side
+-- the blame of a choice that is not whole: of the condition, of the side that is chosen, or of the first side
 abbrev pub choice_blame : KnownTruth → Partly → Partly → ℕ
 choice_blame (known.Unsure thing) a b = thing
 choice_blame (known.Sure True) a b = a.blame

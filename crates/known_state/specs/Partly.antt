@@ -34,12 +34,12 @@ allows k v = same_sign k.signed v.signed && allows_bits k.bits v.bits
 abbrev pub are_sure : List (Option Bit) → Bool
 are_sure ps = list_all is_some ps
 
-abbrev pub is_told : Partly → Bool
-is_told k = are_sure k.bits
+abbrev pub is_whole : Partly → Bool
+is_whole k = are_sure k.bits
 
--- the vector, told whole; nothing is to blame
-abbrev pub told_of : Vector → Partly
-told_of v = record { bits = map Some v.bits; signed = v.signed; blame = 0 }
+-- the vector, whole; nothing is to blame
+abbrev pub whole_of : Vector → Partly
+whole_of v = record { bits = map Some v.bits; signed = v.signed; blame = 0 }
 
 -- nothing is to blame where all bits are sure
 abbrev pub blame_of : List (Option Bit) → ℕ → ℕ

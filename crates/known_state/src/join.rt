@@ -1,7 +1,7 @@
 ghost use Rattle.std.specs.Prelude.{◌≡◌, length, IsTrue};
 ghost use Rattle.four_state.specs.Vector.{Vector};
 ghost use Rattle.known_state.specs.Partly.{allows, with_blame};
-ghost use Rattle.known_state.specs.Agreed.{told as told_bits};
+ghost use Rattle.known_state.specs.Agreed.{sure as sure_list};
 ghost use Rattle.known_state.specs.Join.{joined, first_blame as first_to_blame};
 
 use crate::Known;
@@ -21,18 +21,18 @@ impl Known {
         Known::kept(&a, self.sure() & other.sure() & !different, blame)
     }
 
-    /// What a vector has in common with one that is told whole.
+    /// What a vector has in common with one that is whole.
     pub(crate) fn narrowed(&self, other: Four, blame: u32) -> Known
         requires { length self.now.bits ≡ length other.bits }
-        ensures { result ≡ with_blame (joined self.now.bits (told_bits other.bits)) self.now.signed blame }
+        ensures { result ≡ with_blame (joined self.now.bits (sure_list other.bits)) self.now.signed blame }
     {
-        self.join(&Known::told(other), blame)
+        self.join(&Known::whole(other), blame)
     }
 
-    /// The blame of the first of two vectors that is not told whole.
+    /// The blame of the first of two vectors that is not whole.
     pub(crate) fn first_blame(a: &Known, b: &Known) -> u32
         ensures { result ≡ first_to_blame a.now b.now }
     {
-        if a.is_told() { b.blame() } else { a.blame() }
+        if a.is_whole() { b.blame() } else { a.blame() }
     }
 }

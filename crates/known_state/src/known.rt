@@ -1,6 +1,6 @@
 ghost use Rattle.std.specs.Prelude.{◌≡◌, ◌^◌, ◌<◌, ◌≤◌, length, map, replicate, if◌then◌else◌, false, true, Some, None};
 ghost use Rattle.four_state.specs.Vector.{HasWidth};
-ghost use Rattle.known_state.specs.Partly.{is_told as is_told_whole, filled as filled_bits, filled_from as bits_filled_from, told_of, with_blame};
+ghost use Rattle.known_state.specs.Partly.{is_whole as is_whole_value, filled as filled_bits, filled_from as bits_filled_from, whole_of, with_blame};
 ghost use Rattle.known_state.specs.Stored.{sure_bits, mask_of_sure};
 
 use crate::mask::low_mask;
@@ -42,16 +42,16 @@ impl Model for Known {
 }
 
 /// Nothing is to blame where all bits are sure.
-fn spared(told: bool, blame: u32) -> u32
-    ensures { result ≡ (if told then 0 else blame) }
+fn spared(whole: bool, blame: u32) -> u32
+    ensures { result ≡ (if whole then 0 else blame) }
 {
-    if told { 0 } else { blame }
+    if whole { 0 } else { blame }
 }
 
 impl Known {
     /// A vector of which every bit is sure.
-    pub fn told(value: Four) -> Known
-        ensures { result ≡ told_of value }
+    pub fn whole(value: Four) -> Known
+        ensures { result ≡ whole_of value }
     {
         Known::kept(&value, low_mask(value.width()), 0)
     }
@@ -102,7 +102,7 @@ impl Known {
     /// The vector with 0 where it is not sure.
     pub fn value(&self) -> Four
         ensures value { result ≡ record { bits = filled_bits Bit.Zero self.now.bits; signed = self.now.signed } }
-        ensures told { is_told_whole self.now ≡ true → self.now ≡ told_of result }
+        ensures whole { is_whole_value self.now ≡ true → self.now ≡ whole_of result }
     {
         self.value
     }
@@ -117,14 +117,14 @@ impl Known {
     /// The thing to blame for the bits that are not sure; 0 where all are sure.
     pub fn blame(&self) -> u32
         ensures value { result ≡ self.now.blame }
-        ensures told { is_told_whole self.now ≡ true → result ≡ 0 }
+        ensures whole { is_whole_value self.now ≡ true → result ≡ 0 }
     {
         self.blame
     }
 
     /// Whether all bits are sure.
-    pub fn is_told(&self) -> bool
-        ensures { result ≡ is_told_whole self.now }
+    pub fn is_whole(&self) -> bool
+        ensures { result ≡ is_whole_value self.now }
     {
         self.sure == low_mask(self.value.width())
     }

@@ -4,7 +4,7 @@ ghost use Rattle.std.specs.Prelude.{◌≡◌, ◌↔◌, ◌&&◌, not, true, f
 ghost use Rattle.std.specs.Bool.{OnTrue};
 ghost use Rattle.four_state.specs.Vector.{Vector, all_known};
 ghost use Rattle.four_state.specs.Operators.{unary_value, unary_vector, unary_keeps_sign, binary_value, binary_vector, binary_keeps_sign, takes_same_shape, choice_value, choice_vector};
-ghost use Rattle.known_state.specs.Partly.{allows, filled, told_of, is_told, blame_of, with_blame};
+ghost use Rattle.known_state.specs.Partly.{allows, filled, whole_of, is_whole, blame_of, with_blame};
 ghost use Rattle.known_state.specs.Agreed.{agreed as agreed_bits, both_agreed as both_agreed_bits};
 ghost use Rattle.known_state.specs.Answers.{IsTight, HaveSameShape, allow_both, is_shift as is_shift_operator};
 ghost use Rattle.known_state.specs.Join.{first_blame};
@@ -16,10 +16,10 @@ use four_state::{Binary, Bit, Four, Unary};
 fn agreed(op: Unary, a: &Known) -> Known
     ensures { result ≡ with_blame (agreed_bits (unary_value op) a.now.bits) (unary_keeps_sign op && a.now.signed) a.now.blame }
 {
-    if a.is_told() {
-        return Known::told(Four::unary(op, &a.value()));
+    if a.is_whole() {
+        return Known::whole(Four::unary(op, &a.value()));
     }
-    Known::told(Four::unary(op, &a.filled(Bit::Zero)))
+    Known::whole(Four::unary(op, &a.filled(Bit::Zero)))
         .narrowed(Four::unary(op, &a.filled(Bit::One)), a.blame())
         .narrowed(Four::unary(op, &a.filled(Bit::X)), a.blame())
 }
@@ -30,13 +30,13 @@ fn both_agreed(op: Binary, a: &Known, b: &Known) -> Known
     requires { OnTrue (takes_same_shape op) (HaveSameShape a.now b.now) }
     ensures { result ≡ with_blame (both_agreed_bits (binary_value op a.now.signed) a.now.bits b.now.bits) (binary_keeps_sign op && a.now.signed) (first_blame a.now b.now) }
 {
-    if a.is_told() && b.is_told() {
-        return Known::told(Four::binary(op, &a.value(), &b.value()));
+    if a.is_whole() && b.is_whole() {
+        return Known::whole(Four::binary(op, &a.value(), &b.value()));
     }
     let blame = Known::first_blame(a, b);
     let low = a.filled(Bit::Zero);
     let (zeros, ones) = (b.filled(Bit::Zero), b.filled(Bit::One));
-    Known::told(Four::binary(op, &low, &zeros))
+    Known::whole(Four::binary(op, &low, &zeros))
         .narrowed(Four::binary(op, &a.filled(Bit::One), &ones), blame)
         .narrowed(Four::binary(op, &low, &ones), blame)
         .narrowed(
@@ -51,7 +51,7 @@ fn both_agreed(op: Binary, a: &Known, b: &Known) -> Known
 
 /// Whether an operator is a shift by an amount of which some bit is not sure, and none is sure to be x or z.
 fn has_unsure_amount(op: Binary, amount: &Known) -> bool
-    ensures { result ≡ (is_shift_operator op && (not (is_told amount.now) && all_known (filled Bit.Zero amount.now.bits))) }
+    ensures { result ≡ (is_shift_operator op && (not (is_whole amount.now) && all_known (filled Bit.Zero amount.now.bits))) }
 {
     let is_shift = matches!(
         op,
@@ -60,7 +60,7 @@ fn has_unsure_amount(op: Binary, amount: &Known) -> bool
             | Binary::ArithmeticShiftLeft
             | Binary::ArithmeticShiftRight
     );
-    is_shift && !amount.is_told() && amount.value().is_known()
+    is_shift && !amount.is_whole() && amount.value().is_known()
 }
 
 impl Known {
@@ -75,8 +75,8 @@ impl Known {
     pub fn unary(op: Unary, a: &Known) -> Known
         ensures sound { (v : Vector) → IsTrue (allows a.now v) → IsTrue (allows result (unary_vector op v)) }
         ensures tight { IsTight (allows a.now) (λ v. unary_value op v.bits) result.bits }
-        ensures exact { (v : Vector) → a.now ≡ told_of v → result ≡ told_of (unary_vector op v) }
-        ensures blame { is_told result ≡ false → result.blame ≡ a.now.blame }
+        ensures exact { (v : Vector) → a.now ≡ whole_of v → result ≡ whole_of (unary_vector op v) }
+        ensures blame { is_whole result ≡ false → result.blame ≡ a.now.blame }
     {
         agreed(op, a)
     }
@@ -87,10 +87,10 @@ impl Known {
     pub fn binary(op: Binary, a: &Known, b: &Known) -> Known
         requires { OnTrue (takes_same_shape op) (HaveSameShape a.now b.now) }
         ensures sound { (v w : Vector) → IsTrue (allows a.now v) → IsTrue (allows b.now w) → IsTrue (allows result (binary_vector op v w)) }
-        ensures unsure_shift { (is_shift_operator op && (not (is_told b.now) && all_known (filled Bit.Zero b.now.bits))) ≡ true → result.bits ≡ replicate (length a.now.bits) None }
-        ensures tight { (is_shift_operator op && (not (is_told b.now) && all_known (filled Bit.Zero b.now.bits))) ≡ false → IsTight (allow_both a.now b.now) (λ p. binary_value op p.0.signed p.0.bits p.1.bits) result.bits }
-        ensures exact { (v w : Vector) → a.now ≡ told_of v → b.now ≡ told_of w → result ≡ told_of (binary_vector op v w) }
-        ensures blame { is_told result ≡ false → result.blame ≡ first_blame a.now b.now }
+        ensures unsure_shift { (is_shift_operator op && (not (is_whole b.now) && all_known (filled Bit.Zero b.now.bits))) ≡ true → result.bits ≡ replicate (length a.now.bits) None }
+        ensures tight { (is_shift_operator op && (not (is_whole b.now) && all_known (filled Bit.Zero b.now.bits))) ≡ false → IsTight (allow_both a.now b.now) (λ p. binary_value op p.0.signed p.0.bits p.1.bits) result.bits }
+        ensures exact { (v w : Vector) → a.now ≡ whole_of v → b.now ≡ whole_of w → result ≡ whole_of (binary_vector op v w) }
+        ensures blame { is_whole result ≡ false → result.blame ≡ first_blame a.now b.now }
     {
         if has_unsure_amount(op, b) {
             Known::unknown(a.width(), a.is_signed(), Known::first_blame(a, b))

@@ -15,7 +15,7 @@ impl Known {
     {
         match self.value().truth() {
             Truth::True => KnownTruth::Sure(Truth::True),
-            truth if self.is_told() => KnownTruth::Sure(truth),
+            truth if self.is_whole() => KnownTruth::Sure(truth),
             _ => KnownTruth::Unsure(self.blame()),
         }
     }

@@ -1,4 +1,4 @@
--- What a replay reports, told of the numbers of points.
+-- What a replay reports, as markings of the numbers of points.
 use Rattle.std.specs.Prelude.{◌≡◌, ◌<◌, ℕ, List, [], ◌∷◌, length, Option, Some, None, ⊤}
 use Rattle.body_replay.specs.Contract.{Doubted}
 use Rattle.body_replay.specs.Replay.{Spot, line, node, word_read, word_write}
@@ -8,10 +8,10 @@ use Rattle.cover_points.specs.declared.listing.Points.{Points}
 use Rattle.cover_points.specs.declared.visit.Visit.{Visit}
 use Rattle.cover_points.specs.declared.visit.Visit.TheVariants.{Line, Node, Read, Write}
 use Rattle.design_model.specs.Design.{Design}
-use Rattle.point_marks.specs.Told.{Told}
+use Rattle.point_marks.specs.Marking.{Marking}
 use Rattle.point_marks.specs.declared.verdict.Doubt.{Doubt}
 use Rattle.point_marks.specs.declared.verdict.Verdict.{Verdict}
-use Rattle.point_marks.specs.declared.verdict.Verdict.TheVariants as told
+use Rattle.point_marks.specs.declared.verdict.Verdict.TheVariants as marks
 use Rattle.replay_model.specs.Marks as replay
 
 -- the visit of a spot of process p
@@ -21,19 +21,19 @@ visit_at p (node n c) = Node p n c
 visit_at p (word_read m i) = Read m i
 visit_at p (word_write m i) = Write m i
 
--- a doubt of a replay, as it is told
+-- a doubt of a replay, as it is marked
 abbrev pub doubt_of : Option Doubted → Option Doubt
 doubt_of None = None
 doubt_of (Some y) = Some (record { thing = y.thing; time = y.time })
 
--- what is reported is told of the number of a point of which it is a key
-pub record IsNumbered (d : Design) (ps : Points) (n : replay.Told) (m : Told) : Type 0 where
+-- what is reported is a marking of the number of a point of which it is a key
+pub record IsNumbered (d : Design) (ps : Points) (n : replay.Marking) (m : Marking) : Type 0 where
   pub listed : m.point < length (points_of ps)
   pub key : replay.IsKeyOf d (point_at ps m.point) n.key
   pub doubt : m.doubt ≡ doubt_of n.doubt
 
--- all that is reported is told so, in order
-abbrev pub AreNumbered : Design → Points → List replay.Told → List Told → Type 0
+-- all that is reported is marked so, in order
+abbrev pub AreNumbered : Design → Points → List replay.Marking → List Marking → Type 0
 AreNumbered d ps [] [] = ⊤
 AreNumbered d ps [] (m ∷ ms) = ⊥
 AreNumbered d ps (n ∷ ns) [] = ⊥
@@ -41,6 +41,6 @@ AreNumbered d ps (n ∷ ns) (m ∷ ms) = IsNumbered d ps n m × AreNumbered d ps
 
 -- a verdict by number as the verdict of the point
 abbrev pub verdict_view : Verdict → replay.Verdict
-verdict_view told.Hit = replay.Hit
-verdict_view told.Missed = replay.Missed
-verdict_view (told.Undetermined y) = replay.Undetermined (record { time = y.time; thing = y.thing })
+verdict_view marks.Hit = replay.Hit
+verdict_view marks.Missed = replay.Missed
+verdict_view (marks.Undetermined y) = replay.Undetermined (record { time = y.time; thing = y.thing })

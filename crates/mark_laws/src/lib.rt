@@ -9,14 +9,14 @@ ghost use Rattle.cover_points.specs.declared.listing.Points.{Points};
 ghost use Rattle.design_model.specs.Design.{Design};
 ghost use Rattle.design_model.specs.declared.point.Point.{Point};
 ghost use Rattle.mark_laws.specs.Numbered.{AreNumbered, verdict_view, visit_at};
-ghost use Rattle.point_marks.specs.Told.{IsVerdict, Told};
+ghost use Rattle.point_marks.specs.Marking.{IsVerdict, Marking};
 ghost use Rattle.point_marks.specs.declared.verdict.Verdict.{Verdict};
-ghost use Rattle.replay_model.specs.Marks.{IsKeyOf, IsVerdict as IsReplayVerdict, Told as Reported, of_process};
+ghost use Rattle.replay_model.specs.Marks.{IsKeyOf, IsVerdict as IsReplayVerdict, Marking as Reported, of_process};
 
-/// Where each thing that a replay reports is told of the number of a point of which it is a key, the verdict by number is
+/// Where each thing that a replay reports is a marking of the number of a point of which it is a key, the verdict by number is
 /// the verdict of the point.
 pub fn verdict_law()
-    ensures { (d : Design) (ps : Points) (ns : List Reported) (ms : List Told) (k : ℕ) (v : Verdict) → AreApart ps → AreNumbered d ps ns ms
+    ensures { (d : Design) (ps : Points) (ns : List Reported) (ms : List Marking) (k : ℕ) (v : Verdict) → AreApart ps → AreNumbered d ps ns ms
         → k < length (points_of ps) → IsVerdict ms k v → IsReplayVerdict d (point_at ps k) ns (verdict_view v) }
 {}
 

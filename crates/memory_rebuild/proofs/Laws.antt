@@ -10,18 +10,18 @@ use Rattle.four_state.specs.declared.bit.Bit.TheVariants.{X}
 use Rattle.four_state.specs.Vector.{Vector, fill}
 use Rattle.four_state.specs.Arithmetic.{low_bits}
 use Rattle.four_state.specs.Parts.{index}
-use Rattle.known_state.specs.Partly.{Partly, allows_bits, is_told, told_of}
+use Rattle.known_state.specs.Partly.{Partly, allows_bits, is_whole, whole_of}
 use Rattle.known_state.specs.Join.{joined}
 use Rattle.design_model.specs.Design.{Design, In, memory_at, word_cells, cell}
 use Rattle.design_model.specs.declared.design.Memory.{Memory}
 use Rattle.design_model.specs.Value.{named_word}
-use Rattle.body_replay.specs.KnownBits.{AllAllow, KnownBits, on_told, sure, told, unknown}
+use Rattle.body_replay.specs.KnownBits.{AllAllow, KnownBits, on_whole, sure, whole_bits, unknown}
 use Rattle.body_replay.specs.Store.{Kept, KnownWrite, is_word, join_words, keep_all, known_word_writes, may_name, option_kept, perhaps_words, read_word, weaken, words, writes_of}
 use Rattle.body_replay.proofs.Answered.{same_sure}
 use Rattle.body_replay.proofs.Frames.{Misses, miss_weaken, missed}
-use Rattle.body_replay.proofs.Operators.{on_told_sound, sure_allows, told_sure, zip_left, zip_right}
+use Rattle.body_replay.proofs.Operators.{on_whole_sound, sure_allows, whole_sure, zip_left, zip_right}
 use Rattle.body_replay.proofs.Stored.{unsure_word_stored, weak_word_stored, word_stored}
-use Rattle.body_replay.proofs.Unsure.{not_told, told_is}
+use Rattle.body_replay.proofs.Unsure.{not_whole, whole_is}
 use Rattle.body_replay.proofs.Values.{named_bounds, named_may}
 use Rattle.body_replay.proofs.Words.{other_word}
 use Rattle.memory_rebuild.specs.Words.{AllowsWords, HaveWidth, IsForgotten, IsIndex, KnownWords, StandsFor, bits_left, bits_read, cell_writes, count, least, may_be, memory_of, named_by, option_word, true_word, true_words, word_after, word_at, unwritten}
@@ -79,7 +79,7 @@ module _ (r : KnownWords) (k : Partly) (sizes : HaveWidth r) (v : ℕ → List B
 
   pub read_sound : (is : List Bit) → AllAllow k.bits is → AllAllow (bits_read r k) (true_word r.shape v (named_by r.shape k.signed is))
   read_sound is h =
-      on_told_sound (λ ps. AllAllow ps (true_word r.shape v (named_by r.shape k.signed is))) k.bits is (λ bs. option_word r (named_by r.shape k.signed bs)) (joined_from r k (least r.shape) (count r.shape)) h
+      on_whole_sound (λ ps. AllAllow ps (true_word r.shape v (named_by r.shape k.signed is))) k.bits is (λ bs. option_word r (named_by r.shape k.signed bs)) (joined_from r k (least r.shape) (count r.shape)) h
       (sure_one (named_by r.shape k.signed is) refl) (unsure_one (named_by r.shape k.signed is) refl)
     where
       sure_one : (o : Option ℕ) → named_by r.shape k.signed is ≡ o → AllAllow (option_word r o) (true_word r.shape v o)
@@ -94,35 +94,35 @@ module _ (r : KnownWords) (k : Partly) (sizes : HaveWidth r) (v : ℕ → List B
           let high : i ≤ max r.shape.first r.shape.last = at.1 in
           word_allowed i (least r.shape) (count r.shape) at (named_is_may r.shape k is i h (some_is_word (named_by r.shape k.signed is) i e)) low (omega (arith, low, high))
 
-pub read_by_sure : (r : KnownWords) (k : Partly) (is : List Bit) → told k.bits ≡ Some is → bits_read r k ≡ option_word r (named_by r.shape k.signed is)
-read_by_sure r k is e = ap (λ o. on_told o (λ bs. option_word r (named_by r.shape k.signed bs)) (joined_from r k (least r.shape) (count r.shape))) e
+pub read_by_sure : (r : KnownWords) (k : Partly) (is : List Bit) → whole_bits k.bits ≡ Some is → bits_read r k ≡ option_word r (named_by r.shape k.signed is)
+read_by_sure r k is e = ap (λ o. on_whole o (λ bs. option_word r (named_by r.shape k.signed bs)) (joined_from r k (least r.shape) (count r.shape))) e
 
 -- ---- what a write leaves of a word
 
 module _ (r : KnownWords) (k : Partly) (value : KnownBits) (certain : Bool) (i : ℕ) where
   abbrev left_by : Option (List Bit) → KnownBits
-  left_by o = on_told o (λ bs. if is_word (named_by r.shape k.signed bs) i then bits_left certain value (word_at r i) else word_at r i) (if may_be r.shape k i then joined (word_at r i) value else word_at r i)
+  left_by o = on_whole o (λ bs. if is_word (named_by r.shape k.signed bs) i then bits_left certain value (word_at r i) else word_at r i) (if may_be r.shape k i then joined (word_at r i) value else word_at r i)
 
   -- one that the index cannot name
   pub other_left : may_be r.shape k i ≡ false → word_after r k value certain i ≡ word_at r i
-  other_left free = go (told k.bits) refl
+  other_left free = go (whole_bits k.bits) refl
     where
-      unnamed : (bs : List Bit) → told k.bits ≡ Some bs → (t : Bool) → is_word (named_by r.shape k.signed bs) i ≡ t → (if t then bits_left certain value (word_at r i) else word_at r i) ≡ word_at r i
+      unnamed : (bs : List Bit) → whole_bits k.bits ≡ Some bs → (t : Bool) → is_word (named_by r.shape k.signed bs) i ≡ t → (if t then bits_left certain value (word_at r i) else word_at r i) ≡ word_at r i
       unnamed bs e false f = refl
-      unnamed bs e true f = absurd (false≢true (sym free ∙ named_is_may r.shape k bs i (subst (λ z. AllAllow z bs) (sym (told_is k.bits bs e)) (sure_allows bs)) f))
+      unnamed bs e true f = absurd (false≢true (sym free ∙ named_is_may r.shape k bs i (subst (λ z. AllAllow z bs) (sym (whole_is k.bits bs e)) (sure_allows bs)) f))
 
-      go : (o : Option (List Bit)) → told k.bits ≡ o → left_by o ≡ word_at r i
+      go : (o : Option (List Bit)) → whole_bits k.bits ≡ o → left_by o ≡ word_at r i
       go None e = ap (λ t. if t then joined (word_at r i) value else word_at r i) free
       go (Some bs) e = unnamed bs e (is_word (named_by r.shape k.signed bs) i) refl
 
   -- the one that a sure index names
-  pub named_left : (is : List Bit) → told k.bits ≡ Some is → named_by r.shape k.signed is ≡ Some i → word_after r k value certain i ≡ bits_left certain value (word_at r i)
+  pub named_left : (is : List Bit) → whole_bits k.bits ≡ Some is → named_by r.shape k.signed is ≡ Some i → word_after r k value certain i ≡ bits_left certain value (word_at r i)
   named_left is e f = ap left_by e ∙ ap (λ t. if t then bits_left certain value (word_at r i) else word_at r i) (some_is_word (named_by r.shape k.signed is) i f)
 
   -- the true word after the write is allowed
   pub write_sound : (v : ℕ → List Bit) (is bs : List Bit) → length (word_at r i) ≡ length value → AllAllow (word_at r i) (v i) → AllAllow k.bits is → AllAllow value bs → AllAllow (word_after r k value certain i) (true_words v (named_by r.shape k.signed is) bs i)
   write_sound v is bs size h of_index of_value =
-      on_told_sound (λ ps. AllAllow ps (true_words v (named_by r.shape k.signed is) bs i)) k.bits is (λ cs. if is_word (named_by r.shape k.signed cs) i then bits_left certain value (word_at r i) else word_at r i) (if may_be r.shape k i then joined (word_at r i) value else word_at r i) of_index
+      on_whole_sound (λ ps. AllAllow ps (true_words v (named_by r.shape k.signed is) bs i)) k.bits is (λ cs. if is_word (named_by r.shape k.signed cs) i then bits_left certain value (word_at r i) else word_at r i) (if may_be r.shape k i then joined (word_at r i) value else word_at r i) of_index
       (surely (is_word (named_by r.shape k.signed is) i)) (perhaps (is_word (named_by r.shape k.signed is) i) refl (may_be r.shape k i) refl)
     where
       left : (t : Bool) → AllAllow (bits_left t value (word_at r i)) bs
@@ -141,7 +141,7 @@ module _ (r : KnownWords) (k : Partly) (value : KnownBits) (certain : Bool) (i :
 
 -- a write that is not certain keeps the word allowed
 pub weak_sound : (r : KnownWords) (k : Partly) (value : KnownBits) (i : ℕ) (bs : List Bit) → length (word_at r i) ≡ length value → AllAllow (word_at r i) bs → AllAllow (word_after r k value false i) bs
-weak_sound r k value i bs size h = go (told k.bits)
+weak_sound r k value i bs size h = go (whole_bits k.bits)
   where
     one : (t : Bool) → AllAllow (if t then joined (word_at r i) value else word_at r i) bs
     one true = zip_left (word_at r i) value bs size h
@@ -179,12 +179,12 @@ module _ (d : Design) (b : Kept) (m : ℕ) (r : KnownWords) (is : StandsFor d b 
   same_words = ap₂ (λ x y. range_with_len (min x y) (max x y - min x y + 1)) is.first is.last
 
   pub read_stands : bits_read r k ≡ read_word d b m k.signed k.bits
-  read_stands = go (told k.bits)
+  read_stands = go (whole_bits k.bits)
     where
       all : joined_from r k (least r.shape) (count r.shape) ≡ join_words d b m (may_name (memory_at d m) k.signed k.bits) (words (memory_at d m))
       all = join_stands (least r.shape) (count r.shape) (omega arith) (omega arith) ∙ ap (join_words d b m (may_name (memory_at d m) k.signed k.bits)) same_words
 
-      go : (o : Option (List Bit)) → on_told o (λ bs. option_word r (named_by r.shape k.signed bs)) (joined_from r k (least r.shape) (count r.shape)) ≡ on_told o (λ bs. option_kept d b m (named_word (memory_at d m) (index k.signed bs))) (join_words d b m (may_name (memory_at d m) k.signed k.bits) (words (memory_at d m)))
+      go : (o : Option (List Bit)) → on_whole o (λ bs. option_word r (named_by r.shape k.signed bs)) (joined_from r k (least r.shape) (count r.shape)) ≡ on_whole o (λ bs. option_kept d b m (named_word (memory_at d m) (index k.signed bs))) (join_words d b m (may_name (memory_at d m) k.signed k.bits) (words (memory_at d m)))
       go None = all
       go (Some bs) = option_stands (named_by r.shape k.signed bs) (λ i e. named_index r.shape k.signed bs i e) ∙ ap (option_kept d b m) (named_same (memory_of r.shape) (memory_at d m) is.first is.last (index k.signed bs))
 
@@ -238,9 +238,9 @@ module _ (d : Design) (b : Kept) (m : ℕ) (r : KnownWords) (is : StandsFor d b 
       ∙ sym (ap (λ js. after (perhaps_words d m (may_name (memory_at d m) k.signed k.bits) js value)) (sym (same_words d b m r is k)) ∙ unsure_word_stored d m i (may_name (memory_at d m) k.signed k.bits) value fits (least r.shape) (count r.shape) inside.0 (let low : min r.shape.first r.shape.last ≤ i = inside.0 in let high : i ≤ max r.shape.first r.shape.last = inside.1 in omega (arith, low, high)) b)
 
   write_stands : (certain : Bool) → word_after r k value certain i ≡ after (cell_writes d m k value certain)
-  write_stands certain = go (told k.bits) certain
+  write_stands certain = go (whole_bits k.bits) certain
     where
-      go : (o : Option (List Bit)) (certain : Bool) → left_by r k value certain i o ≡ after (if certain then on_told o (λ bs. known_word_writes d m (named_word (memory_at d m) (index k.signed bs)) value) (perhaps_words d m (may_name (memory_at d m) k.signed k.bits) (words (memory_at d m)) value) else weaken (on_told o (λ bs. known_word_writes d m (named_word (memory_at d m) (index k.signed bs)) value) (perhaps_words d m (may_name (memory_at d m) k.signed k.bits) (words (memory_at d m)) value)))
+      go : (o : Option (List Bit)) (certain : Bool) → left_by r k value certain i o ≡ after (if certain then on_whole o (λ bs. known_word_writes d m (named_word (memory_at d m) (index k.signed bs)) value) (perhaps_words d m (may_name (memory_at d m) k.signed k.bits) (words (memory_at d m)) value) else weaken (on_whole o (λ bs. known_word_writes d m (named_word (memory_at d m) (index k.signed bs)) value) (perhaps_words d m (may_name (memory_at d m) k.signed k.bits) (words (memory_at d m)) value)))
       go None true = perhaps_stands
       go None false = perhaps_stands ∙ ap after (sym (weak_words d m (may_name (memory_at d m) k.signed k.bits) (words (memory_at d m)) value))
       go (Some bs) certain =
@@ -292,7 +292,7 @@ module _ (r s : KnownWords) (k : Partly) (value : KnownBits) (certain : Bool) (l
   left_weak e v h i at =
       subst (λ ps. AllAllow ps (v i)) (sym (l.words i (at_same i at) ∙ ap (λ t. word_after r k value t i) e)) (weak_sound r k value i (v i) (l.widths i ∙ sym l.size) (h i (at_same i at)))
 
-  pub left_sure : (is : List Bit) (i : ℕ) → told k.bits ≡ Some is → named_by r.shape k.signed is ≡ Some i → word_at s i ≡ bits_left certain value (word_at r i)
+  pub left_sure : (is : List Bit) (i : ℕ) → whole_bits k.bits ≡ Some is → named_by r.shape k.signed is ≡ Some i → word_at s i ≡ bits_left certain value (word_at r i)
   left_sure is i e f = l.words i (named_index r.shape k.signed is i f) ∙ named_left r k value certain i is e f
 
   pub left_others : (i : ℕ) → IsIndex r.shape i → may_be r.shape k i ≡ false → word_at s i ≡ word_at r i
@@ -304,24 +304,24 @@ module _ (r s : KnownWords) (k : Partly) (value : KnownBits) (certain : Bool) (l
 -- ---- the same of what the code does
 
 -- by an index that is not sure no word is surely written
-pub put_anywhere_left : (r s : KnownWords) (k : Partly) (value : KnownBits) (certain : Bool) → is_told k ≡ false → ((q : ℕ) → q < count r.shape → word_at s (least r.shape + q) ≡ word_after r k value false (least r.shape + q)) → (q : ℕ) → q < count r.shape → word_at s (least r.shape + q) ≡ word_after r k value certain (least r.shape + q)
+pub put_anywhere_left : (r s : KnownWords) (k : Partly) (value : KnownBits) (certain : Bool) → is_whole k ≡ false → ((q : ℕ) → q < count r.shape → word_at s (least r.shape + q) ≡ word_after r k value false (least r.shape + q)) → (q : ℕ) → q < count r.shape → word_at s (least r.shape + q) ≡ word_after r k value certain (least r.shape + q)
 put_anywhere_left r s k value certain unsure f q l =
     f q l ∙ unsure_is false ∙ sym (unsure_is certain)
   where
     unsure_is : (t : Bool) → word_after r k value t (least r.shape + q) ≡ (if may_be r.shape k (least r.shape + q) then joined (word_at r (least r.shape + q)) value else word_at r (least r.shape + q))
-    unsure_is t = not_told k.bits (same_sure k.bits ∙ unsure) (λ bs. if is_word (named_by r.shape k.signed bs) (least r.shape + q) then bits_left t value (word_at r (least r.shape + q)) else word_at r (least r.shape + q)) (if may_be r.shape k (least r.shape + q) then joined (word_at r (least r.shape + q)) value else word_at r (least r.shape + q))
+    unsure_is t = not_whole k.bits (same_sure k.bits ∙ unsure) (λ bs. if is_word (named_by r.shape k.signed bs) (least r.shape + q) then bits_left t value (word_at r (least r.shape + q)) else word_at r (least r.shape + q)) (if may_be r.shape k (least r.shape + q) then joined (word_at r (least r.shape + q)) value else word_at r (least r.shape + q))
 
-pub anywhere_left : (r s : KnownWords) (k : Partly) (value : KnownBits) → is_told k ≡ false → ((q : ℕ) → q < count r.shape → word_at s (least r.shape + q) ≡ (if may_be r.shape k (least r.shape + q) then joined (word_at r (least r.shape + q)) value else word_at r (least r.shape + q))) → (q : ℕ) → q < count r.shape → word_at s (least r.shape + q) ≡ word_after r k value false (least r.shape + q)
+pub anywhere_left : (r s : KnownWords) (k : Partly) (value : KnownBits) → is_whole k ≡ false → ((q : ℕ) → q < count r.shape → word_at s (least r.shape + q) ≡ (if may_be r.shape k (least r.shape + q) then joined (word_at r (least r.shape + q)) value else word_at r (least r.shape + q))) → (q : ℕ) → q < count r.shape → word_at s (least r.shape + q) ≡ word_after r k value false (least r.shape + q)
 anywhere_left r s k value unsure f q l =
-    f q l ∙ sym (not_told k.bits (same_sure k.bits ∙ unsure) (λ bs. if is_word (named_by r.shape k.signed bs) (least r.shape + q) then joined (word_at r (least r.shape + q)) value else word_at r (least r.shape + q)) (if may_be r.shape k (least r.shape + q) then joined (word_at r (least r.shape + q)) value else word_at r (least r.shape + q)))
+    f q l ∙ sym (not_whole k.bits (same_sure k.bits ∙ unsure) (λ bs. if is_word (named_by r.shape k.signed bs) (least r.shape + q) then joined (word_at r (least r.shape + q)) value else word_at r (least r.shape + q)) (if may_be r.shape k (least r.shape + q) then joined (word_at r (least r.shape + q)) value else word_at r (least r.shape + q)))
 
 -- what a sure index leaves
-sure_after : (r : KnownWords) (k : Partly) (value : KnownBits) (certain : Bool) (v : Vector) (o : Option ℕ) (i : ℕ) → k ≡ told_of v → named_by r.shape v.signed v.bits ≡ o → word_after r k value certain i ≡ (if is_word o i then bits_left certain value (word_at r i) else word_at r i)
+sure_after : (r : KnownWords) (k : Partly) (value : KnownBits) (certain : Bool) (v : Vector) (o : Option ℕ) (i : ℕ) → k ≡ whole_of v → named_by r.shape v.signed v.bits ≡ o → word_after r k value certain i ≡ (if is_word o i then bits_left certain value (word_at r i) else word_at r i)
 sure_after r k value certain v o i is names =
     ap (λ x. word_after r x value certain i) is
-    ∙ ap (λ t. on_told t (λ bs. if is_word (named_by r.shape v.signed bs) i then bits_left certain value (word_at r i) else word_at r i) (if may_be r.shape (told_of v) i then joined (word_at r i) value else word_at r i)) (told_sure v.bits) ∙ ap (λ p. if is_word p i then bits_left certain value (word_at r i) else word_at r i) names
+    ∙ ap (λ t. on_whole t (λ bs. if is_word (named_by r.shape v.signed bs) i then bits_left certain value (word_at r i) else word_at r i) (if may_be r.shape (whole_of v) i then joined (word_at r i) value else word_at r i)) (whole_sure v.bits) ∙ ap (λ p. if is_word p i then bits_left certain value (word_at r i) else word_at r i) names
 
-pub put_named : (r s : KnownWords) (k : Partly) (value : KnownBits) (certain : Bool) (v : Vector) (place : ℕ) (x : Shape) → x ≡ r.shape → k ≡ told_of v → named_by x v.signed v.bits ≡ Some (least x + place) → word_at s (least r.shape + place) ≡ bits_left certain value (word_at r (least r.shape + place)) → ((q : ℕ) → q < count r.shape → (q ≡ place → ⊥) → word_at s (least r.shape + q) ≡ word_at r (least r.shape + q)) → (q : ℕ) → q < count r.shape → word_at s (least r.shape + q) ≡ word_after r k value certain (least r.shape + q)
+pub put_named : (r s : KnownWords) (k : Partly) (value : KnownBits) (certain : Bool) (v : Vector) (place : ℕ) (x : Shape) → x ≡ r.shape → k ≡ whole_of v → named_by x v.signed v.bits ≡ Some (least x + place) → word_at s (least r.shape + place) ≡ bits_left certain value (word_at r (least r.shape + place)) → ((q : ℕ) → q < count r.shape → (q ≡ place → ⊥) → word_at s (least r.shape + q) ≡ word_at r (least r.shape + q)) → (q : ℕ) → q < count r.shape → word_at s (least r.shape + q) ≡ word_after r k value certain (least r.shape + q)
 put_named r s k value certain v place x same is names word others q l = ⊎_elim here there (cases_eq q place)
   where
     after : word_after r k value certain (least r.shape + q) ≡ (if is_word (Some (least r.shape + place)) (least r.shape + q) then bits_left certain value (word_at r (least r.shape + q)) else word_at r (least r.shape + q))
@@ -338,7 +338,7 @@ put_named r s k value certain v place x same is names word others q l = ⊎_elim
         apart : (least r.shape + place == least r.shape + q) ≡ false
         apart = ⊎_elim (λ h. absurd (let sums : least r.shape + place ≡ least r.shape + q = eqb-true (least r.shape + place) (least r.shape + q) h in ne (omega (arith, sums)))) (λ h. h) (cases_Bool (least r.shape + place == least r.shape + q))
 
-pub put_nothing : (r : KnownWords) (k : Partly) (value : KnownBits) (certain : Bool) (v : Vector) (x : Shape) → x ≡ r.shape → k ≡ told_of v → named_by x v.signed v.bits ≡ None → (q : ℕ) → q < count r.shape → word_at r (least r.shape + q) ≡ word_after r k value certain (least r.shape + q)
+pub put_nothing : (r : KnownWords) (k : Partly) (value : KnownBits) (certain : Bool) (v : Vector) (x : Shape) → x ≡ r.shape → k ≡ whole_of v → named_by x v.signed v.bits ≡ None → (q : ℕ) → q < count r.shape → word_at r (least r.shape + q) ≡ word_after r k value certain (least r.shape + q)
 put_nothing r k value certain v x same is names q l = sym (sure_after r k value certain v None (least r.shape + q) is (subst (λ y. named_by y v.signed v.bits ≡ None) same names))
 
 -- ---- a memory that is forgotten

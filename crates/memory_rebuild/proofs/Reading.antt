@@ -4,15 +4,15 @@ use Rattle.std.specs.List.{range_with_len}
 use Rattle.four_state.specs.declared.bit.Bit.{Bit}
 use Rattle.four_state.specs.declared.bit.Bit.TheVariants.{X}
 use Rattle.four_state.specs.Vector.{Vector, fill}
-use Rattle.known_state.specs.Partly.{Partly, are_sure, is_told, told_of, with_blame}
+use Rattle.known_state.specs.Partly.{Partly, are_sure, is_whole, whole_of, with_blame}
 use Rattle.known_state.specs.Join.{joined}
 use Rattle.known_state.specs.Stored.{mask_of_sure}
-use Rattle.known_state.proofs.Allowed.{are_sure_told}
-use Rattle.body_replay.specs.KnownBits.{KnownBits, on_told, sure, told, unknown}
+use Rattle.known_state.proofs.Allowed.{are_sure_whole}
+use Rattle.body_replay.specs.KnownBits.{KnownBits, on_whole, sure, whole_bits, unknown}
 use Rattle.body_replay.proofs.Answered.{same_sure}
 use Rattle.body_replay.proofs.Exact.{sure_length}
-use Rattle.body_replay.proofs.Operators.{fill_length, told_sure}
-use Rattle.body_replay.proofs.Unsure.{not_told}
+use Rattle.body_replay.proofs.Operators.{fill_length, whole_sure}
+use Rattle.body_replay.proofs.Unsure.{not_whole}
 use Rattle.memory_rebuild.specs.Words.{HaveWidth, KnownWords, blame_read, bits_read, count, join_of, least, may_be, named_by, option_word, read_of, word_at}
 use Rattle.memory_rebuild.specs.declared.shape.Shape.{Shape}
 use Rattle.memory_rebuild.proofs.Joins.{joined_assoc, joined_comm, joined_self, length-joined, nothing_sure, unknown_joined}
@@ -68,16 +68,16 @@ pub record SoFar (r : KnownWords) (k acc : Partly) (place : ℕ) : Type 0 where
   pub strange : joined acc.bits (strange_bits r) ≡ acc.bits
   pub rest : joined acc.bits (joined_from r k (least r.shape + place) (count r.shape - place)) ≡ joined_from r k (least r.shape) (count r.shape)
 
--- a vector that is told whole blames nothing
-pub told_blames : (bs : List Bit) (signed : Bool) (thing : ℕ) → told_of (record { bits = bs; signed = signed }) ≡ with_blame (sure bs) signed thing
-told_blames bs signed thing = ap (λ t. record { bits = sure bs; signed = signed; blame = if t then 0 else thing }) (sym (are_sure_told bs))
+-- a vector that is whole blames nothing
+pub whole_blames : (bs : List Bit) (signed : Bool) (thing : ℕ) → whole_of (record { bits = bs; signed = signed }) ≡ with_blame (sure bs) signed thing
+whole_blames bs signed thing = ap (λ t. record { bits = sure bs; signed = signed; blame = if t then 0 else thing }) (sym (are_sure_whole bs))
 
-pub so_far_none : (r : KnownWords) (k : Partly) → SoFar r k (told_of (record { bits = fill r.shape.width X; signed = r.shape.signed })) 0
+pub so_far_none : (r : KnownWords) (k : Partly) → SoFar r k (whole_of (record { bits = fill r.shape.width X; signed = r.shape.signed })) 0
 so_far_none r k =
     record {
       within = omega arith;
       size = strange_length r.shape.width;
-      whole = told_blames (fill r.shape.width X) r.shape.signed k.blame;
+      whole = whole_blames (fill r.shape.width X) r.shape.signed k.blame;
       strange = joined_self (strange_bits r);
       rest = ap (joined (strange_bits r)) (let b : least r.shape + 0 ≡ least r.shape = omega arith in let n : count r.shape - 0 ≡ count r.shape = omega arith in ap₂ (joined_from r k) b n) ∙ strange_in r k (least r.shape) (count r.shape);
     }
@@ -118,52 +118,52 @@ so_far_passed r k acc place next s low high none =
     }
 
 -- what is read by an index that is not sure is the join of all
-unsure_read : (r : KnownWords) (k acc : Partly) → is_told k ≡ false → acc ≡ with_blame acc.bits r.shape.signed k.blame → acc.bits ≡ joined_from r k (least r.shape) (count r.shape) → acc ≡ read_of r k
+unsure_read : (r : KnownWords) (k acc : Partly) → is_whole k ≡ false → acc ≡ with_blame acc.bits r.shape.signed k.blame → acc.bits ≡ joined_from r k (least r.shape) (count r.shape) → acc ≡ read_of r k
 unsure_read r k acc unsure whole e =
-    whole ∙ ap (λ ps. with_blame ps r.shape.signed k.blame) (e ∙ sym (not_told k.bits (same_sure k.bits ∙ unsure) (λ bs. option_word r (named_by r.shape k.signed bs)) (joined_from r k (least r.shape) (count r.shape))))
+    whole ∙ ap (λ ps. with_blame ps r.shape.signed k.blame) (e ∙ sym (not_whole k.bits (same_sure k.bits ∙ unsure) (λ bs. option_word r (named_by r.shape k.signed bs)) (joined_from r k (least r.shape) (count r.shape))))
     ∙ ap (with_blame (bits_read r k) r.shape.signed) (sym (ap (λ t. if t then r.shape.blame else k.blame) unsure))
 
-pub so_far_all : (r : KnownWords) (k acc : Partly) (place : ℕ) → is_told k ≡ false → SoFar r k acc place → count r.shape ≤ place → acc ≡ read_of r k
+pub so_far_all : (r : KnownWords) (k acc : Partly) (place : ℕ) → is_whole k ≡ false → SoFar r k acc place → count r.shape ≤ place → acc ≡ read_of r k
 so_far_all r k acc place unsure s l =
     let none : count r.shape - place ≡ 0 = omega (arith, l) in
     unsure_read r k acc unsure s.whole (sym s.strange ∙ sym (ap (λ n. joined acc.bits (joined_from r k (least r.shape + place) n)) none) ∙ s.rest)
 
 -- where nothing is sure any more, the rest is of no use
-pub so_far_unknown : (r : KnownWords) (k acc : Partly) (place : ℕ) → HaveWidth r → is_told k ≡ false → SoFar r k acc place → mask_of_sure acc.bits ≡ 0 → acc ≡ read_of r k
+pub so_far_unknown : (r : KnownWords) (k acc : Partly) (place : ℕ) → HaveWidth r → is_whole k ≡ false → SoFar r k acc place → mask_of_sure acc.bits ≡ 0 → acc ≡ read_of r k
 so_far_unknown r k acc place sizes unsure s e =
     let none : acc.bits ≡ unknown r.shape.width = nothing_sure acc.bits e ∙ ap unknown s.size in
     unsure_read r k acc unsure s.whole
     (none ∙ sym (unknown_joined r.shape.width (joined_from r k (least r.shape + place) (count r.shape - place)) (join_length r k sizes (least r.shape + place) (count r.shape - place))) ∙ ap (λ ps. joined ps (joined_from r k (least r.shape + place) (count r.shape - place))) (sym none) ∙ s.rest)
 
 -- what is read by a sure index
-pub sure_read : (r : KnownWords) (k : Partly) (v : Vector) (o : Option ℕ) → k ≡ told_of v → named_by r.shape v.signed v.bits ≡ o → read_of r k ≡ with_blame (option_word r o) r.shape.signed r.shape.blame
+pub sure_read : (r : KnownWords) (k : Partly) (v : Vector) (o : Option ℕ) → k ≡ whole_of v → named_by r.shape v.signed v.bits ≡ o → read_of r k ≡ with_blame (option_word r o) r.shape.signed r.shape.blame
 sure_read r k v o is names =
-    ap (read_of r) is ∙ ap (λ t. with_blame (on_told t (λ bs. option_word r (named_by r.shape v.signed bs)) (join_of r (may_be r.shape (told_of v)) (range_with_len (least r.shape) (count r.shape)))) r.shape.signed (blame_read r (told_of v))) (told_sure v.bits)
-    ∙ ap (λ t. with_blame (option_word r (named_by r.shape v.signed v.bits)) r.shape.signed (if t then r.shape.blame else 0)) (are_sure_told v.bits) ∙ ap (λ p. with_blame (option_word r p) r.shape.signed r.shape.blame) names
+    ap (read_of r) is ∙ ap (λ t. with_blame (on_whole t (λ bs. option_word r (named_by r.shape v.signed bs)) (join_of r (may_be r.shape (whole_of v)) (range_with_len (least r.shape) (count r.shape)))) r.shape.signed (blame_read r (whole_of v))) (whole_sure v.bits)
+    ∙ ap (λ t. with_blame (option_word r (named_by r.shape v.signed v.bits)) r.shape.signed (if t then r.shape.blame else 0)) (are_sure_whole v.bits) ∙ ap (λ p. with_blame (option_word r p) r.shape.signed r.shape.blame) names
 
 -- a read has the width of the words
 pub read_length : (r : KnownWords) (k : Partly) → HaveWidth r → length (bits_read r k) ≡ r.shape.width
-read_length r k sizes = go (told k.bits)
+read_length r k sizes = go (whole_bits k.bits)
   where
     option_length : (o : Option ℕ) → length (option_word r o) ≡ r.shape.width
     option_length None = strange_length r.shape.width
     option_length (Some i) = sizes i
 
-    go : (o : Option (List Bit)) → length (on_told o (λ bs. option_word r (named_by r.shape k.signed bs)) (joined_from r k (least r.shape) (count r.shape))) ≡ r.shape.width
+    go : (o : Option (List Bit)) → length (on_whole o (λ bs. option_word r (named_by r.shape k.signed bs)) (joined_from r k (least r.shape) (count r.shape))) ≡ r.shape.width
     go None = join_length r k sizes (least r.shape) (count r.shape)
     go (Some bs) = option_length (named_by r.shape k.signed bs)
 
 -- the blame of a read that is not wholly sure
-pub read_blamed : (r : KnownWords) (k q : Partly) → q ≡ read_of r k → is_told q ≡ false → q.blame ≡ blame_read r k
+pub read_blamed : (r : KnownWords) (k q : Partly) → q ≡ read_of r k → is_whole q ≡ false → q.blame ≡ blame_read r k
 read_blamed r k q e unsure =
-    let bits : are_sure (bits_read r k) ≡ false = ap is_told (sym e) ∙ unsure in
+    let bits : are_sure (bits_read r k) ≡ false = ap is_whole (sym e) ∙ unsure in
     ap (λ x. x.blame) e ∙ ap (λ t. if t then 0 else blame_read r k) bits
 
 -- ---- the same of what the code computes
 
--- x, told whole
-pub so_far_first : (r : KnownWords) (k acc : Partly) (s : Shape) → s ≡ r.shape → acc ≡ told_of (record { bits = fill s.width X; signed = s.signed }) → SoFar r k acc 0
-so_far_first r k acc s same e = subst (λ a. SoFar r k a 0) (sym (e ∙ ap (λ x. told_of (record { bits = fill x.width X; signed = x.signed })) same)) (so_far_none r k)
+-- x, of which all bits are sure
+pub so_far_first : (r : KnownWords) (k acc : Partly) (s : Shape) → s ≡ r.shape → acc ≡ whole_of (record { bits = fill s.width X; signed = s.signed }) → SoFar r k acc 0
+so_far_first r k acc s same e = subst (λ a. SoFar r k a 0) (sym (e ∙ ap (λ x. whole_of (record { bits = fill x.width X; signed = x.signed })) same)) (so_far_none r k)
 
 pub so_far_joined : (r : KnownWords) (k acc word next : Partly) (place thing : ℕ) (s : Shape) → s ≡ r.shape → SoFar r k acc place → place < count s → may_be s k (least s + place) ≡ true → word ≡ with_blame (word_at r (least r.shape + place)) r.shape.signed r.shape.blame → length word.bits ≡ r.shape.width → thing ≡ k.blame → next ≡ with_blame (joined acc.bits word.bits) acc.signed thing → SoFar r k next (place + 1)
 so_far_joined r k acc word next place thing s same so l may is size blames e =
@@ -175,12 +175,12 @@ pub so_far_after : (r : KnownWords) (k acc : Partly) (place next : ℕ) (s : Sha
 so_far_after r k acc place next s same so low high none =
     so_far_passed r k acc place next so (omega (arith, low)) (subst (λ x. next ≤ count x) same high) (subst (λ x. (q : ℕ) → place ≤ q → q < next → may_be x k (least x + q) ≡ false) same none)
 
-pub so_far_ended : (r : KnownWords) (k acc : Partly) (place : ℕ) (s : Shape) → s ≡ r.shape → is_told k ≡ false → SoFar r k acc place → count s ≤ place → acc ≡ read_of r k
+pub so_far_ended : (r : KnownWords) (k acc : Partly) (place : ℕ) (s : Shape) → s ≡ r.shape → is_whole k ≡ false → SoFar r k acc place → count s ≤ place → acc ≡ read_of r k
 so_far_ended r k acc place s same unsure so l = so_far_all r k acc place unsure so (subst (λ x. count x ≤ place) same l)
 
-pub read_named : (r : KnownWords) (k word : Partly) (v : Vector) (place : ℕ) (s : Shape) → s ≡ r.shape → k ≡ told_of v → named_by s v.signed v.bits ≡ Some (least s + place) → word ≡ with_blame (word_at r (least r.shape + place)) r.shape.signed r.shape.blame → word ≡ read_of r k
+pub read_named : (r : KnownWords) (k word : Partly) (v : Vector) (place : ℕ) (s : Shape) → s ≡ r.shape → k ≡ whole_of v → named_by s v.signed v.bits ≡ Some (least s + place) → word ≡ with_blame (word_at r (least r.shape + place)) r.shape.signed r.shape.blame → word ≡ read_of r k
 read_named r k word v place s same is names e = e ∙ sym (sure_read r k v (Some (least r.shape + place)) is (subst (λ x. named_by x v.signed v.bits ≡ Some (least x + place)) same names))
 
-pub read_unnamed : (r : KnownWords) (k q : Partly) (v : Vector) (s : Shape) → s ≡ r.shape → k ≡ told_of v → named_by s v.signed v.bits ≡ None → q ≡ told_of (record { bits = fill s.width X; signed = s.signed }) → q ≡ read_of r k
+pub read_unnamed : (r : KnownWords) (k q : Partly) (v : Vector) (s : Shape) → s ≡ r.shape → k ≡ whole_of v → named_by s v.signed v.bits ≡ None → q ≡ whole_of (record { bits = fill s.width X; signed = s.signed }) → q ≡ read_of r k
 read_unnamed r k q v s same is names e =
-    e ∙ ap (λ x. told_of (record { bits = fill x.width X; signed = x.signed })) same ∙ told_blames (fill r.shape.width X) r.shape.signed r.shape.blame ∙ sym (sure_read r k v None is (subst (λ x. named_by x v.signed v.bits ≡ None) same names))
+    e ∙ ap (λ x. whole_of (record { bits = fill x.width X; signed = x.signed })) same ∙ whole_blames (fill r.shape.width X) r.shape.signed r.shape.blame ∙ sym (sure_read r k v None is (subst (λ x. named_by x v.signed v.bits ≡ None) same names))

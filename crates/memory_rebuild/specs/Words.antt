@@ -5,12 +5,12 @@ use Rattle.four_state.specs.declared.bit.Bit.{Bit}
 use Rattle.four_state.specs.declared.bit.Bit.TheVariants.{X}
 use Rattle.four_state.specs.Vector.{fill}
 use Rattle.four_state.specs.Parts.{index}
-use Rattle.known_state.specs.Partly.{Partly, is_told, with_blame}
+use Rattle.known_state.specs.Partly.{Partly, is_whole, with_blame}
 use Rattle.known_state.specs.Join.{joined}
 use Rattle.design_model.specs.Design.{Design, memory_at, no_memory}
 use Rattle.design_model.specs.declared.design.Memory.{Memory}
 use Rattle.design_model.specs.Value.{named_word}
-use Rattle.body_replay.specs.KnownBits.{KnownBits, AllAllow, told, sure, unknown, on_told}
+use Rattle.body_replay.specs.KnownBits.{KnownBits, AllAllow, whole_bits, sure, unknown, on_whole}
 use Rattle.body_replay.specs.Store.{Kept, KnownWrite, is_word, kept_word, may_name, weaken, words, write_word}
 use Rattle.memory_rebuild.specs.declared.shape.Shape.{Shape}
 
@@ -67,11 +67,11 @@ join_of r may (i ∷ is) = if may i then joined (word_at r i) (join_of r may is)
 
 -- the bits that an index reads: of the word that it names, or the join of x and all words that it may name
 abbrev pub bits_read : KnownWords → Partly → KnownBits
-bits_read r k = on_told (told k.bits) (λ bs. option_word r (named_by r.shape k.signed bs)) (join_of r (may_be r.shape k) (words (memory_of r.shape)))
+bits_read r k = on_whole (whole_bits k.bits) (λ bs. option_word r (named_by r.shape k.signed bs)) (join_of r (may_be r.shape k) (words (memory_of r.shape)))
 
 -- the thing to blame for a read that is not wholly sure: that of the index where the index is not, or else that of the memory
 abbrev pub blame_read : KnownWords → Partly → ℕ
-blame_read r k = if is_told k then r.shape.blame else k.blame
+blame_read r k = if is_whole k then r.shape.blame else k.blame
 
 -- what an index reads
 abbrev pub read_of : KnownWords → Partly → Partly
@@ -85,7 +85,7 @@ bits_left certain value old = if certain then value else joined old value
 abbrev pub word_after : KnownWords → Partly → KnownBits → Bool → ℕ → KnownBits
 word_after r k value certain i =
     let old = word_at r i in
-    on_told (told k.bits) (λ bs. if is_word (named_by r.shape k.signed bs) i then bits_left certain value old else old) (if may_be r.shape k i then joined old value else old)
+    on_whole (whole_bits k.bits) (λ bs. if is_word (named_by r.shape k.signed bs) i then bits_left certain value old else old) (if may_be r.shape k i then joined old value else old)
 
 -- the true words are among those that the sure bits allow
 abbrev pub AllowsWords : KnownWords → (ℕ → List Bit) → Type 0

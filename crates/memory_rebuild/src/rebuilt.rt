@@ -1,8 +1,8 @@
 ghost use Rattle.std.specs.Prelude.{◌≡◌, ◌+◌, ◌<◌, ◌≤◌, ℕ, List, IfOk, None, Some, false, if◌then◌else◌, length};
 ghost use Rattle.four_state.specs.declared.bit.Bit.{Bit};
-ghost use Rattle.known_state.specs.Partly.{is_told as is_told_whole, with_blame};
+ghost use Rattle.known_state.specs.Partly.{is_whole as is_whole_value, with_blame};
 ghost use Rattle.design_model.specs.Design.{Design, memory_at};
-ghost use Rattle.body_replay.specs.KnownBits.{AllAllow, told as told_bits};
+ghost use Rattle.body_replay.specs.KnownBits.{AllAllow, whole_bits};
 ghost use Rattle.body_replay.specs.Store.{Kept, keep_all, read_word};
 ghost use Rattle.memory_rebuild.specs.Words.{AllowsWords, HaveWidth, IsForgotten, IsIndex, StandsFor, bits_left, cell_writes, least, count, may_be, named_by, option_word, read_of, true_word, true_words, unwritten, word_after, word_at};
 
@@ -96,8 +96,8 @@ impl Rebuilt {
         ensures value { result ≡ read_of self.now index.now }
         ensures width { length result.bits ≡ self.now.shape.width }
         ensures sound { (v : ℕ → List Bit) (is : List Bit) → AllowsWords self.now v → AllAllow index.now.bits is → AllAllow result.bits (true_word self.now.shape v (named_by self.now.shape index.now.signed is)) }
-        ensures sure_index { (is : List Bit) → told_bits index.now.bits ≡ Some is → result.bits ≡ option_word self.now (named_by self.now.shape index.now.signed is) }
-        ensures blame { is_told_whole result ≡ false → result.blame ≡ (if is_told_whole index.now then self.now.shape.blame else index.now.blame) }
+        ensures sure_index { (is : List Bit) → whole_bits index.now.bits ≡ Some is → result.bits ≡ option_word self.now (named_by self.now.shape index.now.signed is) }
+        ensures blame { is_whole_value result ≡ false → result.blame ≡ (if is_whole_value index.now then self.now.shape.blame else index.now.blame) }
         ensures stands { (d : Design) (k : Kept) (m : ℕ) → StandsFor d k m self.now → result.bits ≡ read_word d k m index.now.signed index.now.bits }
     {
         self.looked_up(index)
@@ -116,7 +116,7 @@ impl Rebuilt {
         ensures words { (i : ℕ) → IsIndex self.old.shape i → word_at self.new i ≡ word_after self.old index.now value.now.bits certain i }
         ensures sound { (v : ℕ → List Bit) (is bs : List Bit) → AllowsWords self.old v → AllAllow index.now.bits is → AllAllow value.now.bits bs → AllowsWords self.new (true_words v (named_by self.old.shape index.now.signed is) bs) }
         ensures not_certain { certain ≡ false → (v : ℕ → List Bit) → AllowsWords self.old v → AllowsWords self.new v }
-        ensures sure_index { (is : List Bit) (i : ℕ) → told_bits index.now.bits ≡ Some is → named_by self.old.shape index.now.signed is ≡ Some i → word_at self.new i ≡ bits_left certain value.now.bits (word_at self.old i) }
+        ensures sure_index { (is : List Bit) (i : ℕ) → whole_bits index.now.bits ≡ Some is → named_by self.old.shape index.now.signed is ≡ Some i → word_at self.new i ≡ bits_left certain value.now.bits (word_at self.old i) }
         ensures others { (i : ℕ) → IsIndex self.old.shape i → may_be self.old.shape index.now i ≡ false → word_at self.new i ≡ word_at self.old i }
         ensures stands { (d : Design) (k : Kept) (m : ℕ) → StandsFor d k m self.old → StandsFor d (keep_all k (cell_writes d m index.now value.now.bits certain)) m self.new }
     {
@@ -141,7 +141,7 @@ impl Rebuilt {
         ensures widths { HaveWidth self.now }
     {
         let shape = self.shape();
-        if !index.is_told() {
+        if !index.is_whole() {
             return self.joined(index);
         }
         match shape.place_named(&index.value()) {
@@ -159,7 +159,7 @@ impl Rebuilt {
         ensures words { (q : ℕ) → q < count self.old.shape → word_at self.new (least self.old.shape + q) ≡ word_after self.old index.now value.now.bits certain (least self.old.shape + q) }
     {
         let shape = self.shape();
-        if !index.is_told() {
+        if !index.is_whole() {
             self.put_anywhere(index, value);
         } else if let Some(place) = shape.place_named(&index.value()) {
             self.put_at(place, value, certain);
@@ -182,7 +182,7 @@ impl Rebuilt {
 
     /// What x and the words that an index may name have in common, for an index that is not sure.
     fn joined(&self, index: &Known) -> Known
-        requires { is_told_whole index.now ≡ false }
+        requires { is_whole_value index.now ≡ false }
         ensures { result ≡ read_of self.now index.now }
     {
         let shape = self.shape();
@@ -227,7 +227,7 @@ impl Rebuilt {
     fn put_anywhere(&mut self, index: &Known, value: &Known)
         requires width { length value.now.bits ≡ self.old.shape.width }
         requires sign { value.now.signed ≡ self.old.shape.signed }
-        requires index { is_told_whole index.now ≡ false }
+        requires index { is_whole_value index.now ≡ false }
         ensures shape { self.new.shape ≡ self.old.shape }
         ensures words { (q : ℕ) → q < count self.old.shape → word_at self.new (least self.old.shape + q) ≡ word_after self.old index.now value.now.bits false (least self.old.shape + q) }
     {

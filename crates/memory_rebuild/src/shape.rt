@@ -1,6 +1,6 @@
 ghost use Rattle.std.specs.Prelude.{◌≡◌, ◌+◌, ◌<◌, ◌≤◌, ℕ, None, Some, MatchOption, false, map, min, max, replicate};
 ghost use Rattle.four_state.specs.Vector.{fill};
-ghost use Rattle.known_state.specs.Partly.{told_of};
+ghost use Rattle.known_state.specs.Partly.{whole_of};
 ghost use Rattle.memory_rebuild.specs.Words.{least as least_index, count as word_count, named_by, may_be};
 
 use four_state::{Bit, Four, Index};
@@ -104,8 +104,8 @@ impl Shape {
     pub(crate) fn strange(&self) -> Known
         requires at_least { 1 ≤ self.now.width }
         requires at_most { self.now.width ≤ 128 }
-        ensures { result ≡ told_of (record { bits = fill self.now.width Bit.X; signed = self.now.signed }) }
+        ensures { result ≡ whole_of (record { bits = fill self.now.width Bit.X; signed = self.now.signed }) }
     {
-        Known::told(Four::fill(self.width, self.signed, Bit::X))
+        Known::whole(Four::fill(self.width, self.signed, Bit::X))
     }
 }

@@ -37,13 +37,13 @@ has_st = (One ∷ Zero ∷ [], inr (refl, refl))
 
 -- the test of rst, the selector and the labels are fixed
 fixed_rst : IsFixed controller in_run (body_at controller 0) (signal (counted 1) 1)
-fixed_rst = record { told = λ v a. (has_rst, node_inside in_run (counted 1).node (cases controller v (signal (counted 1) 1))); unwritten = λ x m. refl }
+fixed_rst = record { within = λ v a. (has_rst, node_inside in_run (counted 1).node (cases controller v (signal (counted 1) 1))); unwritten = λ x m. refl }
 
 fixed_st : IsFixed controller in_run (body_at controller 0) (signal wide 3)
-fixed_st = record { told = λ v a. (has_st, tt); unwritten = λ x m. refl }
+fixed_st = record { within = λ v a. (has_st, tt); unwritten = λ x m. refl }
 
 fixed_two : (low high : Bit) → IsFixed controller in_run (body_at controller 0) (two low high)
-fixed_two low high = record { told = λ v a. tt; unwritten = λ x m. refl }
+fixed_two low high = record { within = λ v a. tt; unwritten = λ x m. refl }
 
 rst_is : (w : Values Bit) → Agrees controller in_run w → value controller w (signal (counted 1) 1) ≡ Zero ∷ []
 rst_is w aw = ap (extend 1 false) (aw (a_signal 1) (Zero ∷ []) (inl (refl, refl)))
@@ -83,11 +83,11 @@ not_last h = ⊎_elim (λ k. apart_one k.0) (λ k. apart_three k.0) h.1
 -- the two ways through the arm that matches are open
 follows_three : Follows 3
 follows_three =
-    (tt, ((λ f w aw. ap (λ z. is_true (truth z)) (rst_is w aw)), (tt, (tt, ((λ f g w aw. ap (λ z. matches Exact z (Zero ∷ Zero ∷ [])) (st_is w aw)), ((λ f g w aw. ap (λ z. matches Exact z (One ∷ Zero ∷ [])) (st_is w aw)), (tt, (tt, (tt, ((λ f w aw. absurd (not_last (f.told a_state agrees).0)), (tt, (tt, tt))))))))))))
+    (tt, ((λ f w aw. ap (λ z. is_true (truth z)) (rst_is w aw)), (tt, (tt, ((λ f g w aw. ap (λ z. matches Exact z (Zero ∷ Zero ∷ [])) (st_is w aw)), ((λ f g w aw. ap (λ z. matches Exact z (One ∷ Zero ∷ [])) (st_is w aw)), (tt, (tt, (tt, ((λ f w aw. absurd (not_last (f.within a_state agrees).0)), (tt, (tt, tt))))))))))))
 
 follows_four : Follows 4
 follows_four =
-    (tt, ((λ f w aw. ap (λ z. is_true (truth z)) (rst_is w aw)), (tt, (tt, ((λ f g w aw. ap (λ z. matches Exact z (Zero ∷ Zero ∷ [])) (st_is w aw)), ((λ f g w aw. ap (λ z. matches Exact z (One ∷ Zero ∷ [])) (st_is w aw)), (tt, (tt, (tt, ((λ f w aw. absurd (not_last (f.told a_state agrees).0)), tt))))))))))
+    (tt, ((λ f w aw. ap (λ z. is_true (truth z)) (rst_is w aw)), (tt, (tt, ((λ f g w aw. ap (λ z. matches Exact z (Zero ∷ Zero ∷ [])) (st_is w aw)), ((λ f g w aw. ap (λ z. matches Exact z (One ∷ Zero ∷ [])) (st_is w aw)), (tt, (tt, (tt, ((λ f w aw. absurd (not_last (f.within a_state agrees).0)), tt))))))))))
 
 -- an open path is one of the two
 one_of_two : (P : Path → Type 0) → P (path_at 3) → P (path_at 4) → (path : Path) → IsOpenPath controller in_run (body_at controller 0) path → P path

@@ -112,7 +112,7 @@ has_en : HasValue (KnownAtEnd closing Free closing_dump 5 0) (a_signal 0)
 has_en = (Zero ∷ [], (refl, (1, of_dump 0 (Zero ∷ []) (lit≤ tt, lit< tt) refl (lit< tt) refl)))
 
 fixed_en : IsFixed closing (KnownAtEnd closing Free closing_dump 5 0) (body_at closing 0) (signal (counted 1) 0)
-fixed_en = record { told = λ v a. (has_en, node_inside (KnownAtEnd closing Free closing_dump 5 0) (counted 1).node (cases closing v (signal (counted 1) 0))); unwritten = unwritten }
+fixed_en = record { within = λ v a. (has_en, node_inside (KnownAtEnd closing Free closing_dump 5 0) (counted 1).node (cases closing v (signal (counted 1) 0))); unwritten = unwritten }
   where
     unwritten : (x : ℕ) → mentions x (signal (counted 1) 0) ≡ true → body_blocks x (body_at closing 0) ≡ false
     unwritten x m = subst (λ y. body_blocks y (body_at closing 0) ≡ false) (eqb-true 0 x m) refl

@@ -18,7 +18,7 @@ use Rattle.design_model.specs.Design.{In, IsThing, a_signal, a_word, body_at, ce
 use Rattle.design_model.specs.Value.{head, value}
 use Rattle.design_model.specs.declared.point.NodeCase.TheVariants.{ValueFalse, ValueTrue}
 use Rattle.design_model.specs.Execution.{cases}
-use Rattle.design_model.specs.Reads.{Agrees, Known}
+use Rattle.design_model.specs.Reads.{Agrees, PartialMap}
 use Rattle.design_model.specs.Machine.{is_input_cell, machine}
 use Rattle.design_model.specs.MayMove.{CanWakeAt, IsCleanAt, IsSingleAt, MayMoveAt, told_at}
 use Rattle.design_model.specs.Early.{IsEarlyAt}
@@ -115,14 +115,14 @@ agrees = on_entry divided Free (divided_dump 1) 5 0 (cell 0 0) only (divided_val
     others (suc (suc (suc zero))) below ne not_early bits k = sym (clear_bound divided Free (divided_dump 1) 4 3 bits k refl)
     others (suc (suc (suc (suc s)))) below ne not_early bits k = absurd (omega (arith, below))
 
-abbrev K : Known
+abbrev K : PartialMap
 K = KnownOnEntry divided Free (divided_dump 1) 5 0
 
 knows_h : KnownOnEntry divided Free (divided_dump 1) 5 0 (a_signal 2) (Zero ∷ [])
 knows_h = (cell 0 0, clean_h, inr ((λ e. suc-ne-zero 1 (ap thing_of e)), none_early Free 2, (1, of_dump 2 (Zero ∷ []) (lit≤ tt, lit< tt) refl (lit< tt) refl)))
 
 fixed : IsFixed divided (KnownOnEntry divided Free (divided_dump 1) 5 0) (body_at divided 0) inverted
-fixed = record { told = λ v a. ((Zero ∷ [], knows_h), node_inside K (Some 1) (cases divided v inverted)); unwritten = λ x m. refl }
+fixed = record { within = λ v a. ((Zero ∷ [], knows_h), node_inside K (Some 1) (cases divided v inverted)); unwritten = λ x m. refl }
 
 truth_is : (v : Values Bit) → Agrees divided (KnownOnEntry divided Free (divided_dump 1) 5 0) v → truth (value divided v inverted) ≡ True
 truth_is v av = ap (λ bs. truth (extend 1 false (unary_value BitwiseNot (extend 1 false bs)))) (av (a_signal 2) (Zero ∷ []) knows_h)

@@ -13,14 +13,14 @@ use Rattle.four_state.specs.declared.bit.Bit.TheVariants.{One, Zero}
 use Rattle.design_model.specs.Tree.{signal}
 use Rattle.design_model.specs.Design.{In, IsThing, a_signal, a_word, body_at, cell, signal_bits}
 use Rattle.design_model.specs.Execution.{at_line, cases, execution}
-use Rattle.design_model.specs.Reads.{Agrees, HasValue, Known}
+use Rattle.design_model.specs.Reads.{Agrees, HasValue, PartialMap}
 use Rattle.design_model.specs.Machine.{is_input_cell, machine}
 use Rattle.design_model.specs.Paths.{Path, paths, reaches}
 use Rattle.design_model.specs.MayMove.{IsCleanAt, told_at}
 use Rattle.design_model.specs.Early.{IsEarlyAt}
 use Rattle.design_model.specs.Clear.{EntryFrom, clear, clear_before, of_dump}
 use Rattle.design_model.specs.Open.{FollowsAll, HasAction, IsFixed, IsOpen, IsSurelyOpen, KnownOnEntry}
-use Rattle.design_model.specs.Doubt.{IsInDoubt, early, of_block}
+use Rattle.design_model.specs.Doubt.{IsInDoubt, read_early, of_block}
 use Rattle.design_model.specs.ExampleParts.{counted}
 use Rattle.design_model.proofs.Bound.{clear_bound}
 use Rattle.model_examples.specs.HoldBit.{IsOldOrNew, hold_bit, hold_bit_dump, hold_bit_values, line_last, line_one, line_zero}
@@ -87,7 +87,7 @@ agrees a = on_entry hold_bit Free hold_bit_dump 5 0 (cell 0 0) only (hold_bit_va
     others (suc (suc (suc (suc zero)))) below ne not_early bits k = sym (clear_bound hold_bit Free hold_bit_dump 4 4 bits k refl)
     others (suc (suc (suc (suc (suc s))))) below ne not_early bits k = absurd (omega (arith, below))
 
-abbrev K : Known
+abbrev K : PartialMap
 K = KnownOnEntry hold_bit Free hold_bit_dump 5 0
 
 abbrev old_a : List Bit
@@ -108,7 +108,7 @@ has_en = (Zero ∷ [], (cell 0 0, is_clean, inr ((λ e. suc-ne-zero 0 (ap thing_
     one_two n e f = omega (arith, e, f)
 
 fixed_en : IsFixed hold_bit (KnownOnEntry hold_bit Free hold_bit_dump 5 0) (body_at hold_bit 0) (signal (counted 2) 1)
-fixed_en = record { told = λ v a. (has_en, node_inside K (Some 2) (cases hold_bit v (signal (counted 2) 1))); unwritten = λ x m. refl }
+fixed_en = record { within = λ v a. (has_en, node_inside K (Some 2) (cases hold_bit v (signal (counted 2) 1))); unwritten = λ x m. refl }
 
 pub is_not_open : IsOpen hold_bit (KnownOnEntry hold_bit Free hold_bit_dump 5 0) (body_at hold_bit 0) line_zero → ⊥
 is_not_open h = go h.1.is_path
@@ -135,12 +135,12 @@ is_surely_open = (1 ∷ [], λ path o. go path o.is_path)
     go path (inr (inr (inr n))) = absurd n
 
 open_one : IsOpen hold_bit (KnownOnEntry hold_bit Free hold_bit_dump 5 0) (body_at hold_bit 0) line_one
-open_one = (_, record { is_path = inl refl; follows = (tt, ((λ fixed. absurd (unknown (fixed.told (hold_bit_values One old_a Zero) (agrees old_a)).0)), (tt, (tt, (tt, (tt, tt)))))) }, (_, (_, inr (inr (inl refl)), refl, refl)))
+open_one = (_, record { is_path = inl refl; follows = (tt, ((λ fixed. absurd (unknown (fixed.within (hold_bit_values One old_a Zero) (agrees old_a)).0)), (tt, (tt, (tt, (tt, tt)))))) }, (_, (_, inr (inr (inl refl)), refl, refl)))
 
 pub doubt_a : IsInDoubt hold_bit Free hold_bit_dump line_one 5 2
 doubt_a =
     of_block 0 (lit< tt, lit< tt) refl (inl ((cell 0 0, is_clean.can_wake), inr open_one))
-    (early (record { thing = a_signal 2; trigger = cell 0 0; of_owner = refl; is_clean = is_clean; is_read = inl (hold_bit_values One old_a Zero, agrees old_a, inr (tt, inl refl)); is_early = a_early }))
+    (read_early (record { thing = a_signal 2; trigger = cell 0 0; of_owner = refl; is_clean = is_clean; is_read = inl (hold_bit_values One old_a Zero, agrees old_a, inr (tt, inl refl)); is_early = a_early }))
 
 -- old or new, bit 1 is 1
 pub high_one : (v : Values Bit) → IsOldOrNew v (cell 2 1) → v (cell 2 1) ≡ One

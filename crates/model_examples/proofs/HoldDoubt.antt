@@ -20,7 +20,7 @@ use Rattle.design_model.specs.MayMove.{IsCleanAt, told_at}
 use Rattle.design_model.specs.Early.{IsEarlyAt}
 use Rattle.design_model.specs.Clear.{EntryFrom, clear, clear_before, of_dump}
 use Rattle.design_model.specs.Open.{FollowsAll, HasAction, IsFixed, IsOpen, IsSurelyOpen, KnownOnEntry}
-use Rattle.design_model.specs.Doubt.{IsInDoubt, early, of_block}
+use Rattle.design_model.specs.Doubt.{IsInDoubt, read_early, of_block}
 use Rattle.design_model.specs.ExampleParts.{counted}
 use Rattle.design_model.proofs.Bound.{clear_bound}
 use Rattle.model_examples.specs.Hold.{hold, hold_dump, hold_values, line_last, line_one, line_zero}
@@ -135,7 +135,7 @@ has_en = (Zero ∷ [], (cell 0 0, is_clean, inr ((λ e. suc-ne-zero 0 (ap thing_
     one_two n e f = omega (arith, e, f)
 
 fixed_en : IsFixed hold (KnownOnEntry hold Free hold_dump 5 0) (body_at hold 0) (signal (counted 2) 1)
-fixed_en = record { told = λ v a. (has_en, node_inside (KnownOnEntry hold Free hold_dump 5 0) (Some 2) (cases hold v (signal (counted 2) 1))); unwritten = λ x m. refl }
+fixed_en = record { within = λ v a. (has_en, node_inside (KnownOnEntry hold Free hold_dump 5 0) (Some 2) (cases hold v (signal (counted 2) 1))); unwritten = λ x m. refl }
 
 abbrev path_at : ℕ → List Path → Path
 path_at n [] = []
@@ -167,8 +167,8 @@ surely_open = (1 ∷ [], λ path o. go path o.is_path)
     go path (inr (inr (inr n))) = absurd n
 
 open_one : IsOpen hold (KnownOnEntry hold Free hold_dump 5 0) (body_at hold 0) line_one
-open_one = (_, record { is_path = inl refl; follows = (tt, ((λ fixed. absurd (unknown (fixed.told (hold_values One Zero Zero Zero Zero) (agrees Zero)).0)), (tt, (tt, (tt, (tt, tt)))))) }, (_, (_, inr (inr (inl refl)), refl, refl)))
+open_one = (_, record { is_path = inl refl; follows = (tt, ((λ fixed. absurd (unknown (fixed.within (hold_values One Zero Zero Zero Zero) (agrees Zero)).0)), (tt, (tt, (tt, (tt, tt)))))) }, (_, (_, inr (inr (inl refl)), refl, refl)))
 
 pub doubt_a : IsInDoubt hold Free hold_dump line_one 5 2
 doubt_a =
-    of_block 0 (lit< tt, lit< tt) refl (inl ((cell 0 0, is_clean.can_wake), inr open_one)) (early (record { thing = a_signal 2; trigger = cell 0 0; of_owner = refl; is_clean = is_clean; is_read = inl (hold_values One Zero Zero Zero Zero, agrees Zero, inr (tt, inl refl)); is_early = a_early }))
+    of_block 0 (lit< tt, lit< tt) refl (inl ((cell 0 0, is_clean.can_wake), inr open_one)) (read_early (record { thing = a_signal 2; trigger = cell 0 0; of_owner = refl; is_clean = is_clean; is_read = inl (hold_values One Zero Zero Zero Zero, agrees Zero, inr (tt, inl refl)); is_early = a_early }))

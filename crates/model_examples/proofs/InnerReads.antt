@@ -9,7 +9,7 @@ use Rattle.design_model.specs.Design.{a_signal, body_at, cell, thing_bits}
 use Rattle.design_model.specs.Execution.{Visit, execution, reads}
 use Rattle.design_model.specs.Machine.{machine}
 use Rattle.design_model.specs.Paths.{PathReadsUnwritten, ReadsUnwritten}
-use Rattle.design_model.specs.Reads.{Agrees, IsTold, ReadsFrom, UpToOutside}
+use Rattle.design_model.specs.Reads.{Agrees, ReadsWithin, ReadsFrom, UpToOutside}
 use Rattle.model_examples.specs.Inner.{IsInnerExample, helped, helped_values, only_a}
 
 agrees : Agrees helped only_a (helped_values One X X)
@@ -20,7 +20,7 @@ abbrev is_outer_t : Visit → Bool
 is_outer_t (reads (a_signal s) false) = s == 1
 is_outer_t _ = false
 
-is_told : IsTold helped only_a (body_at helped 0)
+is_told : ReadsWithin helped only_a (body_at helped 0)
 is_told v a = (tt, ((One ∷ [], (refl, refl)), (tt, (tt, tt))))
 
 not_t : ReadsFrom helped only_a (body_at helped 0) (a_signal 1) → ⊥
@@ -47,7 +47,7 @@ inner_example =
       writes_first = refl;
       reads_a = (_, inl refl, inl refl);
       reads_no_t = no_t;
-      told = is_told;
+      within = is_told;
       from_a = inl (helped_values One X X, agrees, inr (tt, inl refl));
       not_from_t = not_t;
       combinational = record { reads = same; writes = λ v. inr (inl refl) };

@@ -15,7 +15,7 @@ use Rattle.design_model.specs.Execution.{cases}
 use Rattle.design_model.specs.Paths.{paths}
 use Rattle.design_model.specs.Design.{In, IsThing, Thing, a_signal, a_word, body_at, cell, signal_bits}
 use Rattle.design_model.specs.declared.point.NodeCase.TheVariants.{ValueTrue}
-use Rattle.design_model.specs.Reads.{Agrees, HasValue, IsTold, Known, nothing_known}
+use Rattle.design_model.specs.Reads.{Agrees, HasValue, ReadsWithin, PartialMap, nothing_known}
 use Rattle.design_model.specs.Machine.{machine}
 use Rattle.design_model.specs.declared.point.LineWord.TheVariants.{Assign}
 use Rattle.design_model.specs.declared.point.Point.TheVariants.{Line as line_point, Logic as logic_point}
@@ -59,26 +59,26 @@ not_clocked_z (suc (suc zero)) h = h.is_clocked
 not_clocked_z (suc (suc (suc p))) h = h.is_clocked
 
 -- the block of y does not write it on each path
-not_comb_y : (p t : ℕ) (K : Known) (bits : List Bit) → IsCombValue latch latch_dump t K p 4 bits → ⊥
+not_comb_y : (p t : ℕ) (K : PartialMap) (bits : List Bit) → IsCombValue latch latch_dump t K p 4 bits → ⊥
 not_comb_y zero t K bits h = false≢true h.written_whole
 not_comb_y (suc zero) t K bits h = h.is_comb
 not_comb_y (suc (suc zero)) t K bits h = h.is_comb
 not_comb_y (suc (suc (suc p))) t K bits h = false≢true h.target
 
-not_comb_z : (p t : ℕ) (K : Known) (bits : List Bit) → IsCombValue latch latch_dump t K p 5 bits → ⊥
+not_comb_z : (p t : ℕ) (K : PartialMap) (bits : List Bit) → IsCombValue latch latch_dump t K p 5 bits → ⊥
 not_comb_z zero t K bits h = false≢true h.target
 not_comb_z (suc zero) t K bits h = h.is_comb
 not_comb_z (suc (suc zero)) t K bits h = h.is_comb
 not_comb_z (suc (suc (suc p))) t K bits h = false≢true h.target
 
-by_rule : (t : ℕ) (start K : Known) (x : Thing) (bits : List Bit) → IsClearBy latch Free latch_dump t start K x bits → x ≡ a_signal 4 → ⊥
+by_rule : (t : ℕ) (start K : PartialMap) (x : Thing) (bits : List Bit) → IsClearBy latch Free latch_dump t start K x bits → x ≡ a_signal 4 → ⊥
 by_rule t start K x bits (of_dump s w0 is_shown is_bound is_signal is) e = false≢true (subst IsBoundHere e is_bound)
 by_rule t start K x bits (of_assigns s w0 unbound is) e = false≢true (subst (λ y. is_driven latch y ≡ true) (ap thing_of e) is.driven)
 by_rule t start K x bits (of_comb p s w0 unbound is) e = not_comb_y p t K w0 (subst (λ y. IsCombValue latch latch_dump t K p y w0) (ap thing_of e) is)
 by_rule t start K x bits (of_unwoken p x0 w0 w unbound target still old) e = not_clocked_y p (subst (IsClockedTarget latch p) e target)
 by_rule t start K x bits (of_clean p c x0 w0 w unbound is) e = not_clocked_y p (subst (IsClockedTarget latch p) e is.writer)
 
-y_none : (t : ℕ) (start : Known) (n : ℕ) (bits : List Bit) → clear_in latch Free latch_dump t start n (a_signal 4) bits → ⊥
+y_none : (t : ℕ) (start : PartialMap) (n : ℕ) (bits : List Bit) → clear_in latch Free latch_dump t start n (a_signal 4) bits → ⊥
 y_none t start zero bits k = k
 y_none t start (suc n) bits k = by_rule t start (clear_in latch Free latch_dump t start n) (a_signal 4) bits k refl
 
@@ -87,10 +87,10 @@ never zero k = y_none 0 nothing_known k.1.0 k.0 k.1.1
 never (suc t) k = y_none (suc t) (clear latch Free latch_dump t) k.1.0 k.0 k.1.1
 
 -- nor is z clear, as its Assign is not told
-by_net : (t : ℕ) (start K : Known) → Agrees latch K (latch_dump.values t) → ((bits : List Bit) → K (a_signal 4) bits → ⊥) → (x : Thing) (bits : List Bit) → IsClearBy latch Free latch_dump t start K x bits → x ≡ a_signal 5 → ⊥
+by_net : (t : ℕ) (start K : PartialMap) → Agrees latch K (latch_dump.values t) → ((bits : List Bit) → K (a_signal 4) bits → ⊥) → (x : Thing) (bits : List Bit) → IsClearBy latch Free latch_dump t start K x bits → x ≡ a_signal 5 → ⊥
 by_net t start K av none x bits (of_dump s w0 is_shown is_bound is_signal is) e = false≢true (subst IsBoundHere e is_bound)
 by_net t start K av none x bits (of_assigns s w0 unbound is) e =
-    let told : IsTold latch K (body_at latch 2) = (subst (λ y. IsNetValue latch K y w0) (ap thing_of e) is).told 2 refl in
+    let told : ReadsWithin latch K (body_at latch 2) = (subst (λ y. IsNetValue latch K y w0) (ap thing_of e) is).within 2 refl in
     let has = (told (latch_dump.values t) av).1.0 in
     none has.0 has.1
 by_net t start K av none x bits (of_comb p s w0 unbound is) e = not_comb_z p t K w0 (subst (λ y. IsCombValue latch latch_dump t K p y w0) (ap thing_of e) is)
@@ -98,7 +98,7 @@ by_net t start K av none x bits (of_unwoken p x0 w0 w unbound target still old) 
 by_net t start K av none x bits (of_clean p c x0 w0 w unbound is) e = not_clocked_z p (subst (IsClockedTarget latch p) e is.writer)
 
 -- the dump's values agree with what is clear
-agrees_in : (t : ℕ) (start : Known) (n : ℕ) → Agrees latch (clear_in latch Free latch_dump t start n) (latch_dump.values t)
+agrees_in : (t : ℕ) (start : PartialMap) (n : ℕ) → Agrees latch (clear_in latch Free latch_dump t start n) (latch_dump.values t)
 agrees_in t start zero x bits k = absurd k
 agrees_in t start (suc n) (a_signal zero) bits k = sym (in_bound latch Free latch_dump t start (suc n) 0 bits k refl)
 agrees_in t start (suc n) (a_signal (suc zero)) bits k = sym (in_bound latch Free latch_dump t start (suc n) 1 bits k refl)
@@ -154,7 +154,7 @@ unknown k = go k.1.2
     go (inr old) = never 9 (k.0, old.2)
 
 open_line : IsOpen latch (KnownOnEntry latch Free latch_dump 10 1) (body_at latch 1) (line_point 1 4 (at 32) Assign)
-open_line = (_, record { is_path = inl refl; follows = (tt, ((λ fixed. absurd (unknown (fixed.told (latch_values One Zero One X X X) entry).0)), (tt, (tt, tt)))) }, (_, (_, inr (inr (inl refl)), refl, refl)))
+open_line = (_, record { is_path = inl refl; follows = (tt, ((λ fixed. absurd (unknown (fixed.within (latch_values One Zero One X X X) entry).0)), (tt, (tt, tt)))) }, (_, (_, inr (inr (inl refl)), refl, refl)))
 
 apart : (c : Cell) → IsCleanAt latch latch_dump 10 1 c → a_signal 4 ≢ a_signal c.thing
 apart c clean e = suc-ne-zero 3 (ap thing_of e ∙ ap (λ y. y.thing) (only c clean))
@@ -169,7 +169,7 @@ settled : Agrees latch (KnownAtEnd latch Free latch_dump 5 2) (latch_dump.values
 settled = at_end latch Free latch_dump 5 2 (latch_dump.values 5) no_words (λ s below bits k. agrees_in 5 (clear latch Free latch_dump 4) k.0 (a_signal s) bits k.1)
 
 open_net : IsOpen latch (KnownAtEnd latch Free latch_dump 5 2) (body_at latch 2) (logic_point 2 3 (at 0) (Rattle.std.specs.Prelude.codes "y") ValueTrue)
-open_net = (_, record { is_path = inl refl; follows = (tt, (tt, tt)) }, (_, (_, inr (inl refl), refl, (_, (inl refl, refl), ((λ fixed. absurd (never 5 ((fixed.told (latch_dump.values 5) settled).0.0, (fixed.told (latch_dump.values 5) settled).0.1.1))), tt)))))
+open_net = (_, record { is_path = inl refl; follows = (tt, (tt, tt)) }, (_, (_, inr (inl refl), refl, (_, (inl refl, refl), ((λ fixed. absurd (never 5 ((fixed.within (latch_dump.values 5) settled).0.0, (fixed.within (latch_dump.values 5) settled).0.1.1))), tt)))))
 
 -- the block of y at 5 knows en
 open_block : Agrees latch (KnownAtEnd latch Free latch_dump 5 0) (latch_dump.values 5)
@@ -179,7 +179,7 @@ has_en : HasValue (KnownAtEnd latch Free latch_dump 5 0) (a_signal 1)
 has_en = (Zero ∷ [], (refl, (1, of_dump 1 (Zero ∷ []) (lit≤ tt, lit< tt) refl (lit< tt) refl)))
 
 fixed_en : IsFixed latch (KnownAtEnd latch Free latch_dump 5 0) (body_at latch 0) (signal (counted 1) 1)
-fixed_en = record { told = λ v a. (has_en, node_inside (KnownAtEnd latch Free latch_dump 5 0) (counted 1).node (cases latch v (signal (counted 1) 1))); unwritten = unwritten }
+fixed_en = record { within = λ v a. (has_en, node_inside (KnownAtEnd latch Free latch_dump 5 0) (counted 1).node (cases latch v (signal (counted 1) 1))); unwritten = unwritten }
   where
     unwritten : (x : ℕ) → mentions x (signal (counted 1) 1) ≡ true → body_blocks x (body_at latch 0) ≡ false
     unwritten x m = subst (λ y. body_blocks y (body_at latch 0) ≡ false) (eqb-true 1 x m) refl

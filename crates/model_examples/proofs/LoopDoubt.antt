@@ -5,7 +5,7 @@ use Rattle.four_state.specs.declared.operator.Binary.TheVariants.{BitwiseXor}
 use Rattle.design_model.specs.Tree.{all_of, binary, signal}
 use Rattle.design_model.specs.Design.{In, body_at}
 use Rattle.design_model.specs.declared.point.LineWord.TheVariants.{Assign}
-use Rattle.design_model.specs.Paths.{Path, PathStep, assigns, paths, reaches}
+use Rattle.design_model.specs.Paths.{Path, PlacedAction, assigns, paths, reaches}
 use Rattle.design_model.specs.declared.point.Point.TheVariants.{Line as line_point}
 use Rattle.design_model.specs.Open.{HasAction, IsOpen, IsSurelyOpen, KnownAtEnd}
 use Rattle.design_model.specs.Doubt.{IsInDoubt, of_block, own_target}
@@ -23,7 +23,7 @@ sure_line : IsSurelyOpen loop (KnownAtEnd loop Free loop_dump 5 0) (body_at loop
 sure_line = ([], λ path o. ⊎_elim (λ e. subst (HasAction (λ x. x ≡ reaches 1) []) e (_, inl refl, refl, refl)) (λ n. absurd n) o.is_path)
 
 -- the steps of the path reach no second line
-no_second : (x : PathStep) → In x (head_path (paths [] (body_at loop 0))) → x.action ≡ reaches 2 → ⊥
+no_second : (x : PlacedAction) → In x (head_path (paths [] (body_at loop 0))) → x.action ≡ reaches 2 → ⊥
 no_second x (inl a) is = first_apart (ap (λ y. y.action) a ∙ is)
   where
     first_apart : reaches 1 ≡ reaches 2 → ⊥

@@ -12,8 +12,8 @@ use Rattle.design_model.specs.Design.{Design, In, cell}
 use Rattle.design_model.specs.Value.{head}
 use Rattle.design_model.specs.Mentions.{subterms}
 use Rattle.design_model.specs.Machine.{same_edge}
-use Rattle.design_model.specs.Paths.{Path, PathStep, assigns, reaches, step}
-use Rattle.design_model.specs.Reads.{Known}
+use Rattle.design_model.specs.Paths.{Path, PlacedAction, assigns, reaches, action_at}
+use Rattle.design_model.specs.Reads.{PartialMap}
 use Rattle.design_model.specs.Open.{HasAction, IsNode, OnEachPath, OnSomePath}
 
 -- a list of one rising edge has that cell alone
@@ -23,15 +23,15 @@ one_rise x Posedge c h =
     λ i. record { thing = ⊎_elim (λ e. sym (eqb-true x c.thing e)) (λ e. absurd (false≢true e)) (or_cases (x == c.thing) false p.1) i; place = eqb-true c.place 0 p.0 i }
 one_rise x Negedge c h = absurd (false≢true (and_parts (c.place == 0) false h).1)
 
-module _ (d : Design) (K : Known) (at : Place) (l : ℕ) (k : Bool) (s : ℕ) (t : Term) where
+module _ (d : Design) (K : PartialMap) (at : Place) (l : ℕ) (k : Bool) (s : ℕ) (t : Term) where
   abbrev only_path : Path
-  only_path = step [] (reaches l) ∷ step [] (assigns k (all_of s) t) ∷ []
+  only_path = action_at [] (reaches l) ∷ action_at [] (assigns k (all_of s) t) ∷ []
 
   -- a node on some path is in the right side
   pub node_met : (n : ℕ) (P : Term → Type 0) → OnSomePath d K (set at l k (all_of s) t) (λ x. (u : Term) × IsNode n x u × P u) → (u : Term) × In u (subterms t) × ((head u).node ≡ Some n) × P u
   node_met n P h = by_path h.1.is_path
     where
-      by_step : (x : PathStep) → In x only_path → ((u : Term) × IsNode n x.action u × P u) → (u : Term) × In u (subterms t) × ((head u).node ≡ Some n) × P u
+      by_step : (x : PlacedAction) → In x only_path → ((u : Term) × IsNode n x.action u × P u) → (u : Term) × In u (subterms t) × ((head u).node ≡ Some n) × P u
       by_step x (inl e) has = absurd (subst (λ y. (u : Term) × IsNode n y.action u × P u) (sym e) has).1.0
       by_step x (inr (inl e)) has = let y = subst (λ z. (u : Term) × IsNode n z.action u × P u) (sym e) has in (y.0, y.1.0, y.1.1, y.2)
       by_step x (inr (inr none)) has = absurd none

@@ -5,7 +5,7 @@ use Rattle.std.proofs.lemmas.Bool.{and_right, cases_lt, le-leb, lt-leb}
 use Rattle.event_machine.specs.Cell.{Values, Write}
 use Rattle.event_machine.specs.Machine.{Machine, wakes}
 use Rattle.event_machine.specs.State.{State}
-use Rattle.event_machine.specs.Event.{Event, end_state, is_evaluation, state_after, writes}
+use Rattle.event_machine.specs.Event.{Event, end_state, is_evaluation, state_after, event_writes}
 use Rattle.event_machine.specs.Run.{step_start}
 use Rattle.four_state.specs.declared.bit.Bit.{Bit}
 use Rattle.design_model.specs.Design.{Design, signal_bits}
@@ -39,4 +39,4 @@ module _ (d : Design) (bound : ℕ → Bool) (round : ℕ → ℕ) (a b c : Valu
 -- a process that no write wakes is not woken
 pub never_woken : (m : Machine Bit) (p : ℕ) → ((v : Values Bit) (ws : List (Write Bit)) → wakes m p v ws ≡ false) → (es : List (Event Bit)) (s : State Bit) → s.woken p ≡ false → (end_state m s es).woken p ≡ false
 never_woken m p deaf [] s is = is
-never_woken m p deaf (e ∷ es) s is = never_woken m p deaf es (state_after m s e) (and_right (not (is_evaluation p e)) (s.woken p || wakes m p s.values (writes m s e)) (rw is (deaf s.values (writes m s e))))
+never_woken m p deaf (e ∷ es) s is = never_woken m p deaf es (state_after m s e) (and_right (not (is_evaluation p e)) (s.woken p || wakes m p s.values (event_writes m s e)) (rw is (deaf s.values (event_writes m s e))))

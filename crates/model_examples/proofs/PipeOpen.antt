@@ -14,7 +14,7 @@ use Rattle.design_model.specs.Design.{In, IsThing, a_signal, a_word, body_at, ce
 use Rattle.design_model.specs.Value.{head, value}
 use Rattle.design_model.specs.Mentions.{body_blocks, mentions}
 use Rattle.design_model.specs.declared.point.NodeCase.TheVariants.{BothTrue, RightFalse}
-use Rattle.design_model.specs.Reads.{Agrees, Known}
+use Rattle.design_model.specs.Reads.{Agrees, PartialMap}
 use Rattle.design_model.specs.Clear.{of_dump}
 use Rattle.design_model.specs.Open.{IsFixed, IsOpen, IsSurelyOpen, KnownAtEnd, MayBeAsked, asks}
 use Rattle.design_model.specs.ExampleParts.{at, counted, plain}
@@ -37,7 +37,7 @@ agrees (a_signal (suc (suc (suc (suc zero))))) bits k = absurd (false≢true (sy
 agrees (a_signal (suc (suc (suc (suc (suc s)))))) bits k = absurd (omega (arith, clear-thing pipe Free pipe_dump 5 (a_signal (suc (suc (suc (suc (suc s)))))) bits k.1))
 agrees (a_word m i) bits k = absurd (no_words m i (clear-thing pipe Free pipe_dump 5 (a_word m i) bits k.1))
 
-abbrev K : Known
+abbrev K : PartialMap
 K = KnownAtEnd pipe Free pipe_dump 5 0
 
 abbrev gate : Term
@@ -50,13 +50,13 @@ knows_b : KnownAtEnd pipe Free pipe_dump 5 0 (a_signal 2) (One ∷ [])
 knows_b = (refl, (1, of_dump 2 (One ∷ []) (lit≤ tt, lit< tt) refl (lit< tt) refl))
 
 fixed_a : IsFixed pipe (KnownAtEnd pipe Free pipe_dump 5 0) (body_at pipe 0) (signal plain 1)
-fixed_a = record { told = λ v a. ((One ∷ [], knows_a), tt); unwritten = unwritten }
+fixed_a = record { within = λ v a. ((One ∷ [], knows_a), tt); unwritten = unwritten }
   where
     unwritten : (x : ℕ) → mentions x (signal plain 1) ≡ true → body_blocks x (body_at pipe 0) ≡ false
     unwritten x m = subst (λ y. body_blocks y (body_at pipe 0) ≡ false) (eqb-true 1 x m) refl
 
 fixed_b : IsFixed pipe (KnownAtEnd pipe Free pipe_dump 5 0) (body_at pipe 0) (signal plain 2)
-fixed_b = record { told = λ v a. ((One ∷ [], knows_b), tt); unwritten = unwritten }
+fixed_b = record { within = λ v a. ((One ∷ [], knows_b), tt); unwritten = unwritten }
   where
     unwritten : (x : ℕ) → mentions x (signal plain 2) ≡ true → body_blocks x (body_at pipe 0) ≡ false
     unwritten x m = subst (λ y. body_blocks y (body_at pipe 0) ≡ false) (eqb-true 2 x m) refl

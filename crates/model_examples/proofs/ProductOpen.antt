@@ -17,7 +17,7 @@ use Rattle.design_model.specs.Design.{In, IsThing, a_signal, a_word, body_at, ce
 use Rattle.design_model.specs.Value.{head, value}
 use Rattle.design_model.specs.Mentions.{body_blocks, mentions}
 use Rattle.design_model.specs.declared.point.NodeCase.TheVariants.{BothTrue, RightFalse}
-use Rattle.design_model.specs.Reads.{Agrees, Known}
+use Rattle.design_model.specs.Reads.{Agrees, PartialMap}
 use Rattle.design_model.specs.Machine.{machine}
 use Rattle.design_model.specs.Run.{IsRun}
 use Rattle.design_model.specs.Shows.{Shows}
@@ -90,14 +90,14 @@ agrees = at_end product Free product_dump 5 0 (product_values One Zero Zero) no_
     signals (suc (suc zero)) below bits k = sym (clear_bound product Free product_dump 5 2 bits k refl)
     signals (suc (suc (suc s))) below bits k = absurd (omega (arith, below))
 
-abbrev K : Known
+abbrev K : PartialMap
 K = KnownAtEnd product Free product_dump 5 0
 
 knows_b : KnownAtEnd product Free product_dump 5 0 (a_signal 1) (Zero ∷ [])
 knows_b = (refl, (1, of_dump 1 (Zero ∷ []) (lit≤ tt, lit< tt) refl (lit< tt) refl))
 
 fixed_b : IsFixed product (KnownAtEnd product Free product_dump 5 0) (body_at product 0) (signal plain 1)
-fixed_b = record { told = λ v a. ((Zero ∷ [], knows_b), tt); unwritten = unwritten }
+fixed_b = record { within = λ v a. ((Zero ∷ [], knows_b), tt); unwritten = unwritten }
   where
     unwritten : (x : ℕ) → mentions x (signal plain 1) ≡ true → body_blocks x (body_at product 0) ≡ false
     unwritten x m = subst (λ y. body_blocks y (body_at product 0) ≡ false) (eqb-true 1 x m) refl

@@ -18,7 +18,7 @@ use Rattle.design_model.specs.MayMove.{IsCleanAt, told_at}
 use Rattle.design_model.specs.Early.{IsEarlyAt}
 use Rattle.design_model.specs.Clear.{EntryFrom, clear, clear_before}
 use Rattle.design_model.specs.Open.{IsOpen, KnownOnEntry}
-use Rattle.design_model.specs.Doubt.{early, of_block}
+use Rattle.design_model.specs.Doubt.{read_early, of_block}
 use Rattle.design_model.specs.ExampleParts.{at, plain}
 use Rattle.design_model.proofs.Bound.{clear_bound}
 use Rattle.model_examples.specs.Race.{IsRaceExample, line_one, race, race_dump, race_values}
@@ -131,7 +131,7 @@ unknown k = go k.1.2
     go (inr old) = old.1 (subst (λ c. IsEarlyAt race Free race_dump 5 1 c 2) (sym (only 1 k.1.0 k.1.1)) (a_early Free))
 
 open_one : IsOpen race (KnownOnEntry race Free race_dump 5 1) (body_at race 1) line_one
-open_one = (_, record { is_path = inl refl; follows = (tt, ((λ fixed. absurd (unknown (fixed.told (race_values One One Zero Zero) (reader_agrees Zero)).0)), (tt, (tt, tt)))) }, (_, (_, inr (inr (inl refl)), refl, refl)))
+open_one = (_, record { is_path = inl refl; follows = (tt, ((λ fixed. absurd (unknown (fixed.within (race_values One One Zero Zero) (reader_agrees Zero)).0)), (tt, (tt, tt)))) }, (_, (_, inr (inr (inl refl)), refl, refl)))
 
 pub race_example : IsRaceExample
 race_example =
@@ -146,5 +146,5 @@ race_example =
       write_reached = ((lit< tt, lit< tt), refl, inl (cell 0 0, writer_is_clean, inl (at_line 1, refl, (race_values One One Zero Zero, writer_agrees, inl refl))));
       if_surely_open = test_line_sure race (KnownOnEntry race Free race_dump 5 1) (at 35) 2 _ _ _;
       if_reached = ((lit< tt, lit< tt), refl, inl (cell 0 0, reader_is_clean, inl (at_line 2, refl, (race_values One One Zero Zero, reader_agrees Zero, inl refl))));
-      doubt = of_block 1 (lit< tt, lit< tt) refl (inl ((cell 0 0, reader_is_clean.can_wake), inr open_one)) (early (record { thing = a_signal 2; trigger = cell 0 0; of_owner = refl; is_clean = reader_is_clean; is_read = inl (race_values One One Zero Zero, reader_agrees Zero, inr (tt, inl refl)); is_early = a_early Free }));
+      doubt = of_block 1 (lit< tt, lit< tt) refl (inl ((cell 0 0, reader_is_clean.can_wake), inr open_one)) (read_early (record { thing = a_signal 2; trigger = cell 0 0; of_owner = refl; is_clean = reader_is_clean; is_read = inl (race_values One One Zero Zero, reader_agrees Zero, inr (tt, inl refl)); is_early = a_early Free }));
     }

@@ -16,7 +16,7 @@ use Rattle.design_model.specs.Design.{In, Thing, a_signal, a_word, body_at, cell
 use Rattle.design_model.specs.Value.{named_word, option_word, value, word_named}
 use Rattle.design_model.specs.Execution.{cases, node_visits, visits_of, word_read}
 use Rattle.design_model.specs.Paths.{Path, paths, reaches}
-use Rattle.design_model.specs.Reads.{Agrees, AllInside, Known}
+use Rattle.design_model.specs.Reads.{Agrees, AllInside, PartialMap}
 use Rattle.design_model.specs.Machine.{is_input_cell, machine}
 use Rattle.design_model.specs.declared.point.Point.TheVariants.{Word as word_point}
 use Rattle.design_model.specs.MayMove.{IsCleanAt, told_at}
@@ -72,7 +72,7 @@ none_is_early x (IsEarly.of_nonblocking y p c is stirs queues away) = none_is_ea
 
 -- ---- what the block knows
 
-abbrev K : Known
+abbrev K : PartialMap
 K = KnownOnEntry ram Free ram_dump 15 0
 
 abbrev now : Values Bit
@@ -110,13 +110,13 @@ knows_word = (cell 0 0, is_clean, inr ((λ e. no_word 0 6 3 (sym e)), none_is_ea
 -- ---- the tests
 
 fixed_we : IsFixed ram (KnownOnEntry ram Free ram_dump 15 0) (body_at ram 0) (signal (counted 1) 1)
-fixed_we = record { told = λ v a. ((Zero ∷ [], knows_we), node_inside K (Some 1) (cases ram v (signal (counted 1) 1))); unwritten = λ x m. refl }
+fixed_we = record { within = λ v a. ((Zero ∷ [], knows_we), node_inside K (Some 1) (cases ram v (signal (counted 1) 1))); unwritten = λ x m. refl }
 
 we_is : (v : Values Bit) → Agrees ram (KnownOnEntry ram Free ram_dump 15 0) v → is_true (truth (value ram v (signal (counted 1) 1))) ≡ false
 we_is v av = ap (λ bs. is_true (truth (extend 1 false bs))) (av (a_signal 1) (Zero ∷ []) knows_we)
 
 fixed_ra : IsFixed ram (KnownOnEntry ram Free ram_dump 15 0) (body_at ram 0) (signal wide 3)
-fixed_ra = record { told = λ v a. ((One ∷ One ∷ [], knows_ra), tt); unwritten = λ x m. refl }
+fixed_ra = record { within = λ v a. ((One ∷ One ∷ [], knows_ra), tt); unwritten = λ x m. refl }
 
 -- ra names word 3
 names_three : (v : Values Bit) → Agrees ram (KnownOnEntry ram Free ram_dump 15 0) v → word_named ram v 6 (signal wide 3) ≡ Some 3
@@ -127,7 +127,7 @@ abbrev read_word : Term
 read_word = word (counted 2) 6 (signal wide 3)
 
 fixed_word : IsFixed ram (KnownOnEntry ram Free ram_dump 15 0) (body_at ram 0) read_word
-fixed_word = record { told = told; unwritten = λ x m. refl }
+fixed_word = record { within = told; unwritten = λ x m. refl }
   where
     told : (v : Values Bit) → Agrees ram K v → AllInside K (visits_of ram v outer read_word)
     told v av = ((One ∷ One ∷ [], knows_ra), subst (λ o. AllInside K (word_read outer 6 o ++ node_visits (Some 2) (cases ram v read_word))) (sym (names_three v av)) ((One ∷ [], knows_word), node_inside K (Some 2) (cases ram v read_word)))

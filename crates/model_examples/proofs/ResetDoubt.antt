@@ -18,7 +18,7 @@ use Rattle.design_model.specs.MayMove.{CanWakeAt, IsCleanAt, IsSingleAt, told_at
 use Rattle.design_model.specs.Early.{IsEarlyAt}
 use Rattle.design_model.specs.Clear.{EntryFrom, clear, clear_before}
 use Rattle.design_model.specs.Open.{IsNotClean, IsOpen, IsOpenFor, IsReached, KnownOnEntry}
-use Rattle.design_model.specs.Doubt.{early, not_clean, of_block}
+use Rattle.design_model.specs.Doubt.{read_early, not_clean, of_block}
 use Rattle.design_model.specs.ExampleParts.{at}
 use Rattle.design_model.proofs.Bound.{clear_bound}
 use Rattle.model_examples.specs.Reset.{IsBothExample, IsReleaseExample, both_dump, line_if, line_reset, release_dump, reset, reset_values}
@@ -126,7 +126,7 @@ unknown k = go k.1.2
     go (inr old) = old.1 (subst (λ c. IsEarlyAt reset Free release_dump 5 0 c 1) (sym (only k.1.0 k.1.1)) rst_early)
 
 open_reset : IsOpen reset (KnownOnEntry reset Free release_dump 5 0) (body_at reset 0) line_reset
-open_reset = (_, record { is_path = inl refl; follows = (tt, ((λ fixed. absurd (unknown (fixed.told (reset_values One Zero One Zero) (agrees Zero)).0)), (tt, (tt, tt)))) }, (_, (_, inr (inr (inl refl)), refl, refl)))
+open_reset = (_, record { is_path = inl refl; follows = (tt, ((λ fixed. absurd (unknown (fixed.within (reset_values One Zero One Zero) (agrees Zero)).0)), (tt, (tt, tt)))) }, (_, (_, inr (inr (inl refl)), refl, refl)))
 
 pub release_example : IsReleaseExample
 release_example =
@@ -135,5 +135,5 @@ release_example =
       early = rst_early;
       surely_open = test_line_sure reset (KnownOnEntry reset Free release_dump 5 0) (at 5) 1 _ _ _;
       reached = ((lit< tt, lit< tt), refl, inl (cell 0 0, is_clean, inl (at_line 1, refl, (reset_values One Zero One Zero, agrees Zero, inl refl))));
-      doubt = of_block 0 (lit< tt, lit< tt) refl (inl ((cell 0 0, is_clean.can_wake), inr open_reset)) (early (record { thing = a_signal 1; trigger = cell 0 0; of_owner = refl; is_clean = is_clean; is_read = inl (reset_values One Zero One Zero, agrees Zero, inr (tt, inl refl)); is_early = rst_early }));
+      doubt = of_block 0 (lit< tt, lit< tt) refl (inl ((cell 0 0, is_clean.can_wake), inr open_reset)) (read_early (record { thing = a_signal 1; trigger = cell 0 0; of_owner = refl; is_clean = is_clean; is_read = inl (reset_values One Zero One Zero, agrees Zero, inr (tt, inl refl)); is_early = rst_early }));
     }

@@ -8,7 +8,7 @@ use Rattle.four_state.specs.declared.bit.Bit.TheVariants.{One}
 use Rattle.design_model.specs.Design.{Thing, a_signal, a_word, body_at}
 use Rattle.design_model.specs.declared.point.NodeCase.TheVariants.{ValueTrue}
 use Rattle.design_model.specs.declared.point.Point.TheVariants.{Logic as logic_point}
-use Rattle.design_model.specs.Reads.{Agrees, HasValue, Known, nothing_known}
+use Rattle.design_model.specs.Reads.{Agrees, HasValue, PartialMap, nothing_known}
 use Rattle.design_model.specs.Clear.{IsClearBy, IsClockedTarget, clear, clear_in, of_assigns, of_clean, of_comb, of_dump, of_unwoken}
 use Rattle.design_model.specs.Open.{IsOpen, KnownAtEnd}
 use Rattle.design_model.specs.Doubt.{of_block, unclear_word}
@@ -24,14 +24,14 @@ no_clocked : (p : ℕ) (x : Thing) → IsClockedTarget rom p x → ⊥
 no_clocked zero x h = h.is_clocked
 no_clocked (suc p) x h = h.is_clocked
 
-by_rule : (t : ℕ) (start K : Known) (x : Thing) (bits : List Bit) → IsClearBy rom Free rom_dump t start K x bits → IsWord x → ⊥
+by_rule : (t : ℕ) (start K : PartialMap) (x : Thing) (bits : List Bit) → IsClearBy rom Free rom_dump t start K x bits → IsWord x → ⊥
 by_rule t start K x bits (of_dump s w0 is_shown is_bound is_signal is) e = e
 by_rule t start K x bits (of_assigns s w0 unbound is) e = e
 by_rule t start K x bits (of_comb p s w0 unbound is) e = e
 by_rule t start K x bits (of_unwoken p x0 w0 w unbound target still old) e = no_clocked p x0 target
 by_rule t start K x bits (of_clean p c x0 w0 w unbound is) e = no_clocked p x0 is.writer
 
-in_none : (t : ℕ) (start : Known) (n m i : ℕ) (bits : List Bit) → clear_in rom Free rom_dump t start n (a_word m i) bits → ⊥
+in_none : (t : ℕ) (start : PartialMap) (n m i : ℕ) (bits : List Bit) → clear_in rom Free rom_dump t start n (a_word m i) bits → ⊥
 in_none t start zero m i bits k = k
 in_none t start (suc n) m i bits k = by_rule t start (clear_in rom Free rom_dump t start n) (a_word m i) bits k tt
 
@@ -47,7 +47,7 @@ agrees (a_signal (suc (suc s))) bits k = absurd (omega (arith, clear-thing rom F
 agrees (a_word m i) bits k = absurd (never 5 m i (bits, k.1))
 
 open_net : IsOpen rom (KnownAtEnd rom Free rom_dump 5 0) (body_at rom 0) (logic_point 0 1 (at 0) (codes "[]") ValueTrue)
-open_net = (_, record { is_path = inl refl; follows = (tt, (tt, tt)) }, (_, (_, inr (inl refl), refl, (_, (inl refl, refl), ((λ fixed. absurd (never 5 2 1 ((fixed.told (rom_values One) agrees).1.0.0, (fixed.told (rom_values One) agrees).1.0.1.1))), tt)))))
+open_net = (_, record { is_path = inl refl; follows = (tt, (tt, tt)) }, (_, (_, inr (inl refl), refl, (_, (inl refl, refl), ((λ fixed. absurd (never 5 2 1 ((fixed.within (rom_values One) agrees).1.0.0, (fixed.within (rom_values One) agrees).1.0.1.1))), tt)))))
 
 pub rom_example : IsRomExample
 rom_example =

@@ -20,7 +20,7 @@ use Rattle.design_model.specs.Mentions.{body_blocks, mentions}
 use Rattle.design_model.specs.declared.point.NodeCase.TheVariants.{BothTrue, RightFalse}
 use Rattle.design_model.specs.Execution.{cases, execution}
 use Rattle.design_model.specs.Paths.{Path, paths, reaches, reads_signal_before_writing}
-use Rattle.design_model.specs.Reads.{Agrees, AllInside, HasValue, Known}
+use Rattle.design_model.specs.Reads.{Agrees, AllInside, HasValue, PartialMap}
 use Rattle.design_model.specs.Machine.{is_input_cell, is_level, machine}
 use Rattle.design_model.specs.MayMove.{IsCleanAt, IsSingleAt, told_at}
 use Rattle.design_model.specs.Early.{IsEarlyAt}
@@ -30,7 +30,7 @@ use Rattle.design_model.specs.Doubt.{of_signal}
 use Rattle.design_model.specs.ExampleParts.{at, counted, plain}
 use Rattle.design_model.specs.Pipe.{pipe, pipe_values}
 use Rattle.design_model.proofs.Bound.{clear-thing, clear_bound, clear_in-thing, in_bound}
-use Rattle.design_model.proofs.Told.{told_blocking, told_by}
+use Rattle.design_model.proofs.WithinMap.{within_blocking, within_by}
 use Rattle.model_examples.specs.Settling.{IsSettlingExample, case_of, line_one, line_zero, settling_dump}
 use Rattle.model_examples.proofs.Entry.{on_entry}
 use Rattle.model_examples.proofs.OneSet.{node_met, node_sure, one_rise}
@@ -52,12 +52,12 @@ not_clocked zero h = h.is_clocked
 not_clocked (suc zero) h = false≢true h.target
 not_clocked (suc (suc p)) h = h.is_clocked
 
-only_gate : (p : ℕ) (K : Known) (t : ℕ) (bits : List Bit) → IsCombValue pipe settling_dump t K p 4 bits → p ≡ 0
+only_gate : (p : ℕ) (K : PartialMap) (t : ℕ) (bits : List Bit) → IsCombValue pipe settling_dump t K p 4 bits → p ≡ 0
 only_gate zero K t bits h = refl
 only_gate (suc zero) K t bits h = absurd h.is_comb
 only_gate (suc (suc p)) K t bits h = absurd (false≢true h.target)
 
-by_rule : (P : List Bit → Type 0) (t : ℕ) (start K : Known) → ((bits : List Bit) → IsCombValue pipe settling_dump t K 0 4 bits → P bits) → (x : Thing) (bits : List Bit) → IsClearBy pipe Free settling_dump t start K x bits → x ≡ a_signal 4 → P bits
+by_rule : (P : List Bit → Type 0) (t : ℕ) (start K : PartialMap) → ((bits : List Bit) → IsCombValue pipe settling_dump t K 0 4 bits → P bits) → (x : Thing) (bits : List Bit) → IsClearBy pipe Free settling_dump t start K x bits → x ≡ a_signal 4 → P bits
 by_rule P t start K f x bits (of_dump s w0 is_shown is_bound is_signal is) e = absurd (false≢true (subst IsBoundHere e is_bound))
 by_rule P t start K f x bits (of_assigns s w0 unbound is) e = absurd (false≢true (subst (λ y. is_driven pipe y ≡ true) (ap thing_of e) is.driven))
 by_rule P t start K f x bits (of_comb p s w0 unbound is) e =
@@ -76,7 +76,7 @@ unchanged h =
     let then' : settling_dump.values (h.time - 1) ≡ pipe_values Zero Zero One X X = values_early (h.time - 1) (omega (arith, h.until)) in
     h.changed (ap (λ v. signal_bits pipe v h.by) (then' ∙ sym now))
 
-in_early : (start : Known) (n : ℕ) (bits : List Bit) → clear_in pipe Free settling_dump 4 start n (a_signal 4) bits → ⊥
+in_early : (start : PartialMap) (n : ℕ) (bits : List Bit) → clear_in pipe Free settling_dump 4 start n (a_signal 4) bits → ⊥
 in_early start zero bits k = k
 in_early start (suc n) bits k = by_rule (λ w. ⊥) 4 start (clear_in pipe Free settling_dump 4 start n) (λ w h. unchanged h.has_changed) (a_signal 4) bits k refl
 
@@ -84,7 +84,7 @@ not_clear_y : HasValue (clear pipe Free settling_dump 4) (a_signal 4) → ⊥
 not_clear_y k = in_early (clear pipe Free settling_dump 3) k.1.0 k.0 k.1.1
 
 -- at 9 a is 1 and b is 0, so y is 0
-abbrev start_9 : Known
+abbrev start_9 : PartialMap
 start_9 = clear pipe Free settling_dump 8
 
 abbrev values_9 : Values Bit
@@ -108,7 +108,7 @@ agrees_9 (suc n) (a_word m i) bits k = absurd (no_words m i (clear_in-thing pipe
 y_is : (n : ℕ) (bits : List Bit) → clear_in pipe Free settling_dump 9 (clear pipe Free settling_dump 8) n (a_signal 4) bits → bits ≡ Zero ∷ []
 y_is n bits k = sym (agrees_9 n (a_signal 4) bits k)
 
-abbrev clear_1 : Known
+abbrev clear_1 : PartialMap
 clear_1 = clear_in pipe Free settling_dump 9 start_9 1
 
 clear_a : HasValue (clear_in pipe Free settling_dump 9 (clear pipe Free settling_dump 8) 1) (a_signal 1)
@@ -122,7 +122,7 @@ all_inside = (tt, (clear_a, (clear_b, (tt, tt))))
 
 gives : (v : Values Bit) → Agrees pipe (clear_in pipe Free settling_dump 9 (clear pipe Free settling_dump 8) 1) v → bits_after pipe v (execution pipe (body_at pipe 0) v).blocking (a_signal 4) ≡ Zero ∷ []
 unfolding put
-gives v agrees = subst (λ ws. bits_after pipe v ws (a_signal 4) ≡ Zero ∷ []) (told_blocking pipe _ (body_at pipe 0) (pipe_values Zero One Zero X Zero) v (agrees_9 1) agrees all_inside) refl
+gives v agrees = subst (λ ws. bits_after pipe v ws (a_signal 4) ≡ Zero ∷ []) (within_blocking pipe _ (body_at pipe 0) (pipe_values Zero One Zero X Zero) v (agrees_9 1) agrees all_inside) refl
 
 mentioned : (x : ℕ) → is_level (process_at pipe 0) x ≡ true → HasValue (clear_in pipe Free settling_dump 9 (clear pipe Free settling_dump 8) 1) (a_signal x)
 mentioned x h = ⊎_elim (λ e. ⊎_elim (λ f. subst (λ y. HasValue clear_1 (a_signal y)) (eqb-true 1 x f) clear_a) (λ f. subst (λ y. HasValue clear_1 (a_signal y)) (eqb-true 2 x f) clear_b) (or_cases (1 == x) (2 == x) e)) (λ e. absurd (false≢true e)) (or_cases ((1 == x) || (2 == x)) false h)
@@ -142,7 +142,7 @@ clear_y = (2, of_comb 0 4 (Zero ∷ []) refl is_made)
           written_whole = refl;
           writes_first = λ x h. subst (λ y. reads_signal_before_writing pipe (body_at pipe 0) y ≡ false) (eqb-true 4 x h) refl;
           all_clear = λ x h away is_signal. mentioned x h;
-          told = told_by pipe _ (body_at pipe 0) (pipe_values Zero One Zero X Zero) (agrees_9 1) all_inside;
+          within = within_by pipe _ (body_at pipe 0) (pipe_values Zero One Zero X Zero) (agrees_9 1) all_inside;
           has_changed = record { by = 1; time = 5; mentioned = refl; is_bound = refl; until = lit≤ tt; in_window = (lit< tt, lit< tt); changed = zero_one };
           gives = gives;
         }
@@ -161,7 +161,7 @@ gate_agrees = by_thing
     by_thing (a_signal (suc (suc (suc (suc (suc s)))))) bits k = absurd (omega (arith, clear-thing pipe Free settling_dump 5 (a_signal (suc (suc (suc (suc (suc s)))))) bits k.1))
     by_thing (a_word m i) bits k = absurd (no_words m i (clear-thing pipe Free settling_dump 5 (a_word m i) bits k.1))
 
-abbrev AtEnd : Known
+abbrev AtEnd : PartialMap
 AtEnd = KnownAtEnd pipe Free settling_dump 5 0
 
 abbrev gate : Term
@@ -171,7 +171,7 @@ knows_b : KnownAtEnd pipe Free settling_dump 5 0 (a_signal 2) (Zero ∷ [])
 knows_b = (refl, (1, of_dump 2 (Zero ∷ []) (lit≤ tt, lit< tt) refl (lit< tt) refl))
 
 fixed_b : IsFixed pipe (KnownAtEnd pipe Free settling_dump 5 0) (body_at pipe 0) (signal plain 2)
-fixed_b = record { told = λ v a. ((Zero ∷ [], knows_b), tt); unwritten = unwritten }
+fixed_b = record { within = λ v a. ((Zero ∷ [], knows_b), tt); unwritten = unwritten }
   where
     unwritten : (x : ℕ) → mentions x (signal plain 2) ≡ true → body_blocks x (body_at pipe 0) ≡ false
     unwritten x m = subst (λ y. body_blocks y (body_at pipe 0) ≡ false) (eqb-true 2 x m) refl
@@ -249,14 +249,14 @@ entry_agrees = on_entry pipe Free settling_dump 10 1 (cell 0 0) only (pipe_value
     others (suc (suc (suc (suc zero)))) below ne not_early bits k = sym (y_is k.0 bits k.1)
     others (suc (suc (suc (suc (suc s))))) below ne not_early bits k = absurd (omega (arith, below))
 
-abbrev Entry : Known
+abbrev Entry : PartialMap
 Entry = KnownOnEntry pipe Free settling_dump 10 1
 
 knows_y : KnownOnEntry pipe Free settling_dump 10 1 (a_signal 4) (Zero ∷ [])
 knows_y = (cell 0 0, is_clean, inr ((λ e. suc-ne-zero 3 (ap thing_of e)), none_is_early Free 4, clear_y))
 
 fixed_y : IsFixed pipe (KnownOnEntry pipe Free settling_dump 10 1) (body_at pipe 1) (signal (counted 2) 4)
-fixed_y = record { told = λ v a. ((Zero ∷ [], knows_y), node_inside Entry (Some 2) (cases pipe v (signal (counted 2) 4))); unwritten = λ x m. refl }
+fixed_y = record { within = λ v a. ((Zero ∷ [], knows_y), node_inside Entry (Some 2) (cases pipe v (signal (counted 2) 4))); unwritten = λ x m. refl }
 
 test_is : (v : Values Bit) → Agrees pipe (KnownOnEntry pipe Free settling_dump 10 1) v → is_true (truth (value pipe v (signal (counted 2) 4))) ≡ false
 test_is v av = ap (λ bs. is_true (truth (extend 1 false bs))) (av (a_signal 4) (Zero ∷ []) knows_y)

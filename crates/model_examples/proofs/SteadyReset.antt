@@ -17,7 +17,7 @@ use Rattle.design_model.specs.Design.{In, a_signal, body_at, cell, signal_bits}
 use Rattle.design_model.specs.Value.{value}
 use Rattle.design_model.specs.Execution.{cases}
 use Rattle.design_model.specs.Paths.{Path, paths, reaches}
-use Rattle.design_model.specs.Reads.{Agrees, Known}
+use Rattle.design_model.specs.Reads.{Agrees, PartialMap}
 use Rattle.design_model.specs.Machine.{is_input_cell, machine}
 use Rattle.design_model.specs.MayMove.{IsCleanAt, IsSingleAt, told_at}
 use Rattle.design_model.specs.Early.{IsEarlyAt}
@@ -79,7 +79,7 @@ agrees = on_entry reset Free steady_dump 5 0 (cell 0 0) only (reset_values One O
     others (suc (suc (suc zero))) below ne not_early bits k = sym (clear_bound reset Free steady_dump 4 3 bits k refl)
     others (suc (suc (suc (suc s)))) below ne not_early bits k = absurd (omega (arith, below))
 
-abbrev K : Known
+abbrev K : PartialMap
 K = KnownOnEntry reset Free steady_dump 5 0
 
 -- !rst_n
@@ -90,7 +90,7 @@ knows_rst_n : KnownOnEntry reset Free steady_dump 5 0 (a_signal 1) (One ∷ [])
 knows_rst_n = (cell 0 0, is_clean, inr ((λ e. suc-ne-zero 0 (ap thing_of e)), none_is_early Free 1, (1, of_dump 1 (One ∷ []) (lit≤ tt, lit< tt) refl (lit< tt) refl)))
 
 fixed : IsFixed reset (KnownOnEntry reset Free steady_dump 5 0) (body_at reset 0) no_reset
-fixed = record { told = λ v a. ((One ∷ [], knows_rst_n), node_inside K (Some 1) (cases reset v no_reset)); unwritten = λ x m. refl }
+fixed = record { within = λ v a. ((One ∷ [], knows_rst_n), node_inside K (Some 1) (cases reset v no_reset)); unwritten = λ x m. refl }
 
 test_is : (v : Values Bit) → Agrees reset (KnownOnEntry reset Free steady_dump 5 0) v → is_true (truth (value reset v no_reset)) ≡ false
 test_is v av = ap (λ bs. is_true (truth (extend 1 false (unary_value LogicalNot (extend 1 false bs))))) (av (a_signal 1) (One ∷ []) knows_rst_n)

@@ -99,7 +99,7 @@ module _ (b : Bit) where
       record {
         writer = record { is_thing = lit< tt; is_clocked = tt; target = refl };
         is_clean = is_clean;
-        told = λ v av. (tt, ((Zero ∷ [], knows_a), tt));
+        within = λ v av. (tt, ((Zero ∷ [], knows_a), tt));
         gives = leaves;
       }
 

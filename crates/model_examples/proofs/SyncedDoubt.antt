@@ -17,7 +17,7 @@ use Rattle.design_model.specs.Design.{In, IsThing, a_signal, a_word, body_at, ce
 use Rattle.design_model.specs.Value.{value}
 use Rattle.design_model.specs.Execution.{cases}
 use Rattle.design_model.specs.Paths.{Path, paths, reaches}
-use Rattle.design_model.specs.Reads.{Agrees, Known}
+use Rattle.design_model.specs.Reads.{Agrees, PartialMap}
 use Rattle.design_model.specs.Machine.{is_input_cell, machine}
 use Rattle.design_model.specs.MayMove.{CanWakeAt, IsCleanAt, IsSingleAt, MayMoveAt, told_at}
 use Rattle.design_model.specs.Early.{IsEarlyAt}
@@ -123,14 +123,14 @@ agrees = on_entry synced Free (synced_dump 1) 5 1 (cell 0 0) only (synced_values
     others (suc (suc (suc (suc zero)))) below ne not_early bits k = sym (clear_bound synced Free (synced_dump 1) 4 4 bits k refl)
     others (suc (suc (suc (suc (suc s))))) below ne not_early bits k = absurd (omega (arith, below))
 
-abbrev K : Known
+abbrev K : PartialMap
 K = KnownOnEntry synced Free (synced_dump 1) 5 1
 
 knows_n : KnownOnEntry synced Free (synced_dump 1) 5 1 (a_signal 3) (One ∷ [])
 knows_n = (cell 0 0, is_clean, inr ((λ e. suc-ne-zero 2 (ap thing_of e)), none_is_early Free 3, (1, of_dump 3 (One ∷ []) (lit≤ tt, lit< tt) refl (lit< tt) refl)))
 
 fixed : IsFixed synced (KnownOnEntry synced Free (synced_dump 1) 5 1) (body_at synced 1) no_reset
-fixed = record { told = λ v a. ((One ∷ [], knows_n), node_inside K (Some 1) (cases synced v no_reset)); unwritten = λ x m. refl }
+fixed = record { within = λ v a. ((One ∷ [], knows_n), node_inside K (Some 1) (cases synced v no_reset)); unwritten = λ x m. refl }
 
 test_is : (v : Values Bit) → Agrees synced (KnownOnEntry synced Free (synced_dump 1) 5 1) v → is_true (truth (value synced v no_reset)) ≡ false
 test_is v av = ap (λ bs. is_true (truth (extend 1 false (unary_value LogicalNot (extend 1 false bs))))) (av (a_signal 3) (One ∷ []) knows_n)

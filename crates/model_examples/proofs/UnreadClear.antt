@@ -11,7 +11,7 @@ use Rattle.four_state.specs.declared.bit.Bit.{Bit}
 use Rattle.four_state.specs.declared.bit.Bit.TheVariants.{One, X, Z, Zero}
 use Rattle.design_model.specs.Design.{Thing, a_signal, a_word, body_at, cell, cells, is_memory, thing_bits}
 use Rattle.design_model.specs.Execution.{covers, execution}
-use Rattle.design_model.specs.Reads.{Agrees, HasValue, Known}
+use Rattle.design_model.specs.Reads.{Agrees, HasValue, PartialMap}
 use Rattle.design_model.specs.Machine.{is_edge, is_input_cell, machine}
 use Rattle.design_model.specs.MayMove.{CanWakeSome, IsCleanAt, told_at}
 use Rattle.design_model.specs.Early.{IsEarlyAt}
@@ -83,14 +83,14 @@ module _ (wa ra : List Bit) where
       (cases_lt t 10)
 
   -- a word is clear by its old value, or by a write of a block that can wake
-  by_word : (t : ℕ) (start K : Known) (m i : ℕ) (x : Thing) (bits : List Bit) → IsClearBy ram Free (words_dump wa ra) t start K x bits → x ≡ a_word m i → start (a_word m i) bits ⊎ ((p : ℕ) × (c : Cell) × CanWakeSome ram (words_dump wa ra) t p × IsWrittenValue ram Free (words_dump wa ra) t start p c (a_word m i) bits)
+  by_word : (t : ℕ) (start K : PartialMap) (m i : ℕ) (x : Thing) (bits : List Bit) → IsClearBy ram Free (words_dump wa ra) t start K x bits → x ≡ a_word m i → start (a_word m i) bits ⊎ ((p : ℕ) × (c : Cell) × CanWakeSome ram (words_dump wa ra) t p × IsWrittenValue ram Free (words_dump wa ra) t start p c (a_word m i) bits)
   by_word t start K m i x bits (of_dump s w0 is_shown is_bound is_signal is) e = absurd (no_word s m i e)
   by_word t start K m i x bits (of_assigns s w0 unbound is) e = absurd (no_word s m i e)
   by_word t start K m i x bits (of_comb p s w0 unbound is) e = absurd (no_word s m i e)
   by_word t start K m i x bits (of_unwoken p x0 w0 w unbound target still old) e = inl (subst (λ y. start y w0) e old)
   by_word t start K m i x bits (of_clean p c x0 w0 w unbound is) e = inr (p, c, (c, is.is_clean.can_wake), subst (λ y. IsWrittenValue ram Free (words_dump wa ra) t start p c y w0) e is)
 
-  in_word : (t : ℕ) (start : Known) (n m i : ℕ) (bits : List Bit) → clear_in ram Free (words_dump wa ra) t start n (a_word m i) bits → start (a_word m i) bits ⊎ ((p : ℕ) × (c : Cell) × CanWakeSome ram (words_dump wa ra) t p × IsWrittenValue ram Free (words_dump wa ra) t start p c (a_word m i) bits)
+  in_word : (t : ℕ) (start : PartialMap) (n m i : ℕ) (bits : List Bit) → clear_in ram Free (words_dump wa ra) t start n (a_word m i) bits → start (a_word m i) bits ⊎ ((p : ℕ) × (c : Cell) × CanWakeSome ram (words_dump wa ra) t p × IsWrittenValue ram Free (words_dump wa ra) t start p c (a_word m i) bits)
   in_word t start zero m i bits k = absurd k
   in_word t start (suc n) m i bits k = by_word t start (clear_in ram Free (words_dump wa ra) t start n) m i (a_word m i) bits k refl
 
@@ -153,7 +153,7 @@ module _ (wa ra : List Bit) where
   only t e clean = one_rise 0 clean.can_wake.0.0 e clean.can_wake.0.1
 
   -- what a map that a clean block reads has, besides the trigger
-  old_of : (t : ℕ) (start : Known) (x : Thing) (bits : List Bit) → EntryFrom ram Free (words_dump wa ra) t start 0 (cell 0 0) x bits → x ≢ a_signal 0 → start x bits
+  old_of : (t : ℕ) (start : PartialMap) (x : Thing) (bits : List Bit) → EntryFrom ram Free (words_dump wa ra) t start 0 (cell 0 0) x bits → x ≢ a_signal 0 → start x bits
   old_of t start x bits (inl new) other = absurd (other new.0)
   old_of t start x bits (inr old) other = old.2
 

@@ -11,8 +11,8 @@ use Rattle.design_model.specs.Tree.{Head, Term, signal, word}
 use Rattle.design_model.specs.Design.{In, a_signal, a_word, body_at, cell, thing_bits}
 use Rattle.design_model.specs.Value.{value}
 use Rattle.design_model.specs.Execution.{at_line, cases, execution, reads}
-use Rattle.design_model.specs.Paths.{Path, PathStep, paths, reaches}
-use Rattle.design_model.specs.Reads.{Agrees, HasValue, Known, UpToOutside}
+use Rattle.design_model.specs.Paths.{Path, PlacedAction, paths, reaches}
+use Rattle.design_model.specs.Reads.{Agrees, HasValue, PartialMap, UpToOutside}
 use Rattle.design_model.specs.declared.point.Point.TheVariants.{Word as word_point}
 use Rattle.design_model.specs.Clear.{all_writes, clear}
 use Rattle.design_model.specs.Open.{ActionReads, ActionWrites, FollowsAll, HasAction, IsFixed, IsOpen, IsOpenPath, IsSurelyOpen, KnownOnEntry, NamesWord, is_true}
@@ -44,18 +44,18 @@ abbrev WritesBy : Term → Path → Type 0
 WritesBy j [] = Unit {0}
 WritesBy j (x ∷ xs) = ((i : Term) → ActionWrites 6 x.action i → j ≡ i) × WritesBy j xs
 
-read_by : (j : Term) (path : Path) → ReadsBy j path → (x : PathStep) → In x path → (i : Term) → ActionReads 6 x.action i → j ≡ i
+read_by : (j : Term) (path : Path) → ReadsBy j path → (x : PlacedAction) → In x path → (i : Term) → ActionReads 6 x.action i → j ≡ i
 read_by j [] all x h i does = absurd h
 read_by j (y ∷ ys) all x (inl e) i does = all.0 i (subst (λ z. ActionReads 6 z.action i) (sym e) does)
 read_by j (y ∷ ys) all x (inr h) i does = read_by j ys all.1 x h i does
 
-written_by : (j : Term) (path : Path) → WritesBy j path → (x : PathStep) → In x path → (i : Term) → ActionWrites 6 x.action i → j ≡ i
+written_by : (j : Term) (path : Path) → WritesBy j path → (x : PlacedAction) → In x path → (i : Term) → ActionWrites 6 x.action i → j ≡ i
 written_by j [] all x h i does = absurd h
 written_by j (y ∷ ys) all x (inl e) i does = all.0 i (subst (λ z. ActionWrites 6 z.action i) (sym e) does)
 written_by j (y ∷ ys) all x (inr h) i does = written_by j ys all.1 x h i does
 
 module _ (wa ra : List Bit) where
-  abbrev K : Known
+  abbrev K : PartialMap
   K = KnownOnEntry ram Free (words_dump wa ra) 15 0
 
   abbrev now : List Bit → Values Bit
@@ -64,7 +64,7 @@ module _ (wa ra : List Bit) where
   module _ (words : List Bit) (agrees : Agrees ram (KnownOnEntry ram Free (words_dump wa ra) 15 0) (words_values One Zero wa ra Zero words)) where
     -- we is known to be 0
     fixed_we : IsFixed ram (KnownOnEntry ram Free (words_dump wa ra) 15 0) (body_at ram 0) (signal (counted 1) 1)
-    fixed_we = record { told = λ v a. (has_15 wa ra 0 (lit< tt), node_inside K (Some 1) (cases ram v (signal (counted 1) 1))); unwritten = λ x m. refl }
+    fixed_we = record { within = λ v a. (has_15 wa ra 0 (lit< tt), node_inside K (Some 1) (cases ram v (signal (counted 1) 1))); unwritten = λ x m. refl }
 
     we_is : (v : Values Bit) → Agrees ram (KnownOnEntry ram Free (words_dump wa ra) 15 0) v → is_true (truth (value ram v (signal (counted 1) 1))) ≡ false
     we_is v av = ap (λ bs. is_true (truth (extend 1 false bs))) (av (a_signal 1) (Zero ∷ []) (knows_we wa ra))
@@ -134,14 +134,14 @@ other_fits (suc (suc (suc (suc i)))) bits below k = absurd (omega (arith, below)
 other_agrees : Agrees ram (KnownOnEntry ram Free other_dump 15 0) (words_values One Zero (One ∷ One ∷ []) (Zero ∷ One ∷ []) Zero (X ∷ X ∷ X ∷ One ∷ []))
 other_agrees = knows_15 (One ∷ One ∷ []) (Zero ∷ One ∷ []) (X ∷ X ∷ X ∷ One ∷ []) other_fits
 
-abbrev OtherK : Known
+abbrev OtherK : PartialMap
 OtherK = KnownOnEntry ram Free other_dump 15 0
 
 reads_two : UpToOutside (KnownOnEntry ram Free other_dump 15 0) (reads (a_word 6 2) false) (execution ram (body_at ram 0) (words_values One Zero (One ∷ One ∷ []) (Zero ∷ One ∷ []) Zero (X ∷ X ∷ X ∷ One ∷ []))).visits
 reads_two = inr (tt, inr (has_15 (One ∷ One ∷ []) (Zero ∷ One ∷ []) 0 (lit< tt), inr (tt, inr (tt, inr (has_15 (One ∷ One ∷ []) (Zero ∷ One ∷ []) 2 (lit< tt), inl refl)))))
 
 other_not_fixed : IsFixed ram (KnownOnEntry ram Free other_dump 15 0) (body_at ram 0) read_word → ⊥
-other_not_fixed f = word_unknown (One ∷ One ∷ []) (Zero ∷ One ∷ []) 2 two_unclear (f.told (words_values One Zero (One ∷ One ∷ []) (Zero ∷ One ∷ []) Zero (X ∷ X ∷ X ∷ One ∷ [])) other_agrees).1.0
+other_not_fixed f = word_unknown (One ∷ One ∷ []) (Zero ∷ One ∷ []) 2 two_unclear (f.within (words_values One Zero (One ∷ One ∷ []) (Zero ∷ One ∷ []) Zero (X ∷ X ∷ X ∷ One ∷ [])) other_agrees).1.0
 
 -- the only word that is read is that of ra
 abbrev index_of : Term → Term
@@ -173,7 +173,7 @@ word_terms i (h, inr (inl e)) = absurd (not_word (signal wide 3) h i (λ n. n) e
 word_terms i (h, inr (inr n)) = absurd n
 
 fixed_ra : IsFixed ram (KnownOnEntry ram Free other_dump 15 0) (body_at ram 0) (signal wide 3)
-fixed_ra = record { told = λ v a. (has_15 (One ∷ One ∷ []) (Zero ∷ One ∷ []) 2 (lit< tt), tt); unwritten = λ x m. refl }
+fixed_ra = record { within = λ v a. (has_15 (One ∷ One ∷ []) (Zero ∷ One ∷ []) 2 (lit< tt), tt); unwritten = λ x m. refl }
 
 three_closed : IsOpen ram (KnownOnEntry ram Free other_dump 15 0) (body_at ram 0) (word_point 6 3 false) → ⊥
 three_closed h = named (by_path h.1.is_path)
@@ -205,7 +205,7 @@ other_word_example =
 
 -- ---- no word is written
 
-abbrev UnknownK : Known
+abbrev UnknownK : PartialMap
 UnknownK = KnownOnEntry ram Free unknown_dump 5 0
 
 none_clear : (i : ℕ) → HasValue (clear ram Free unknown_dump 14) (a_word 6 i) → ⊥
@@ -218,10 +218,10 @@ reads_three : UpToOutside (KnownOnEntry ram Free unknown_dump 15 0) (reads (a_wo
 reads_three = inr (tt, inr (has_15 (X ∷ One ∷ []) (One ∷ One ∷ []) 0 (lit< tt), inr (tt, inr (tt, inr (has_15 (X ∷ One ∷ []) (One ∷ One ∷ []) 2 (lit< tt), inl refl)))))
 
 unknown_not_fixed : IsFixed ram (KnownOnEntry ram Free unknown_dump 15 0) (body_at ram 0) read_word → ⊥
-unknown_not_fixed f = word_unknown (X ∷ One ∷ []) (One ∷ One ∷ []) 3 (none_clear 3) (f.told (words_values One Zero (X ∷ One ∷ []) (One ∷ One ∷ []) Zero []) unknown_agrees).1.0
+unknown_not_fixed f = word_unknown (X ∷ One ∷ []) (One ∷ One ∷ []) 3 (none_clear 3) (f.within (words_values One Zero (X ∷ One ∷ []) (One ∷ One ∷ []) Zero []) unknown_agrees).1.0
 
 fixed_wa : IsFixed ram (KnownOnEntry ram Free unknown_dump 5 0) (body_at ram 0) (signal wide 2)
-fixed_wa = record { told = λ v a. (has_5 (X ∷ One ∷ []) (One ∷ One ∷ []) 1 (lit< tt), tt); unwritten = λ x m. refl }
+fixed_wa = record { within = λ v a. (has_5 (X ∷ One ∷ []) (One ∷ One ∷ []) 1 (lit< tt), tt); unwritten = λ x m. refl }
 
 no_target : (i : Term) → ⊥ → signal wide 2 ≡ i
 no_target i none = absurd none

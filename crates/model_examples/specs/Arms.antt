@@ -15,7 +15,7 @@ use Rattle.design_model.specs.Design.{Design, a_signal, body_at}
 use Rattle.design_model.specs.declared.point.LineWord.TheVariants.{Assign}
 use Rattle.design_model.specs.declared.point.Point.{Point}
 use Rattle.design_model.specs.declared.point.Point.TheVariants.{Line as line_point}
-use Rattle.design_model.specs.Reads.{Known}
+use Rattle.design_model.specs.Reads.{PartialMap}
 use Rattle.design_model.specs.Open.{IsOpen, IsSurelyOpen}
 use Rattle.design_model.specs.ExampleParts.{at, counted, one_bit, one_instance, two_bits, wide}
 
@@ -43,7 +43,7 @@ controller =
     }
 
 -- known are rst, which is 0, and st, which is 1
-abbrev pub in_run : Known
+abbrev pub in_run : PartialMap
 in_run x bits = ((x ≡ a_signal 1) × (bits ≡ Zero ∷ [])) ⊎ ((x ≡ a_signal 3) × (bits ≡ One ∷ Zero ∷ []))
 
 -- the line point with this number

@@ -10,7 +10,7 @@ use Rattle.design_model.specs.Design.{Design, Thing, a_signal, body_at, cell}
 use Rattle.design_model.specs.Execution.{at_line, execution, reads}
 use Rattle.design_model.specs.Machine.{machine}
 use Rattle.design_model.specs.Paths.{ReadsUnwritten, each_writes_whole, reads_signal_before_writing}
-use Rattle.design_model.specs.Reads.{IsTold, ReadsFrom}
+use Rattle.design_model.specs.Reads.{ReadsWithin, ReadsFrom}
 use Rattle.design_model.specs.ExampleParts.{at, one_bit, one_instance, plain}
 
 -- the design
@@ -34,14 +34,14 @@ helped_values a t y c = slice_index_or (a ∷ t ∷ y ∷ []) c.thing X
 abbrev pub only_a : Thing → List Bit → Type 0
 only_a x bits = (x ≡ a_signal 0) × (bits ≡ One ∷ [])
 
--- The read of t is inner, as t is written whole before: so the body is told by a alone, and from that reads a and not t, and it is combinational for y.
+-- The read of t is inner, as t is written whole before: so the body reads within the map of a alone, and from that reads a and not t, and it is combinational for y.
 pub record IsInnerExample : Type 0 where
   pub visits : (a t y : Bit) → (execution helped (body_at helped 0) (helped_values a t y)).visits ≡ at_line 1 ∷ reads (a_signal 0) false ∷ at_line 2 ∷ reads (a_signal 1) true ∷ []
   pub whole : each_writes_whole helped (body_at helped 0) 1 ≡ true
   pub writes_first : reads_signal_before_writing helped (body_at helped 0) 1 ≡ false
   pub reads_a : ReadsUnwritten helped (body_at helped 0) 0
   pub reads_no_t : ReadsUnwritten helped (body_at helped 0) 1 → ⊥
-  pub told : IsTold helped only_a (body_at helped 0)
+  pub within : ReadsWithin helped only_a (body_at helped 0)
   pub from_a : ReadsFrom helped only_a (body_at helped 0) (a_signal 0)
   pub not_from_t : ReadsFrom helped only_a (body_at helped 0) (a_signal 1) → ⊥
   pub combinational : IsCombinational (machine helped) 0 (cell 2 0)

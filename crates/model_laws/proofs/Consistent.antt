@@ -6,7 +6,7 @@ use Rattle.event_machine.specs.Habit.{Habit}
 use Rattle.four_state.specs.declared.bit.Bit.{Bit}
 use Rattle.design_model.specs.Design.{Design, IsThing, Thing, a_signal, a_word, memory_at, owner, thing_bits}
 use Rattle.design_model.specs.Mentions.{blank}
-use Rattle.design_model.specs.Reads.{Agrees, HasValue, Known, nothing_known}
+use Rattle.design_model.specs.Reads.{Agrees, HasValue, PartialMap, nothing_known}
 use Rattle.design_model.specs.Shows.{BoundDump}
 use Rattle.design_model.specs.Clear.{clear, clear_from, clear_in}
 use Rattle.design_model.specs.Lawful.{IsLawfulDesign}
@@ -17,7 +17,7 @@ use Rattle.model_laws.specs.Consistent.{ConsistentLaw, HasOwnUnclear, OneValueLa
 use Rattle.model_laws.proofs.Rules.{served}
 use Rattle.model_laws.proofs.States.{bits_or, combine, middle, owner_below, some_round}
 
-module _ (d : Design) (lawful : IsLawfulDesign d) (h : Habit) (dump : BoundDump) (t : ℕ) (start : Known) (u : Values Bit) (au : Agrees d start u) (things : (x : Thing) (bits : List Bit) → start x bits → IsThing d x) where
+module _ (d : Design) (lawful : IsLawfulDesign d) (h : Habit) (dump : BoundDump) (t : ℕ) (start : PartialMap) (u : Values Bit) (au : Agrees d start u) (things : (x : Thing) (bits : List Bit) → start x bits → IsThing d x) where
   -- each round agrees with some state
   round_agrees : (n : ℕ) → ((v : Values Bit) → Agrees d (clear_in d h dump t start n) v → ⊥) → ⊥
   round_agrees zero done = done u (λ x bits none. absurd none)

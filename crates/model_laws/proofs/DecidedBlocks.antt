@@ -13,7 +13,7 @@ use Rattle.design_model.specs.Design.{Design, In, IsClocked, IsComb, IsThing, Th
 use Rattle.design_model.specs.Mentions.{body_assigns, body_mentions}
 use Rattle.design_model.specs.Execution.{Visit, execution, execution_start, reads}
 use Rattle.design_model.specs.Paths.{reads_signal_before_writing}
-use Rattle.design_model.specs.Reads.{Agrees, AllInside, HasValue, IsTold, Known, ReadsFrom, UpToOutside}
+use Rattle.design_model.specs.Reads.{Agrees, AllInside, HasValue, ReadsWithin, PartialMap, ReadsFrom, UpToOutside}
 use Rattle.design_model.specs.Machine.{machine}
 use Rattle.design_model.specs.Run.{IsRun, Run, StepOf, evaluations_of, settled, start_of}
 use Rattle.design_model.specs.Shows.{BoundDump, IsDumpOf, IsShown, IsWindow, Shows, ShowsUpTo}
@@ -45,7 +45,7 @@ use Rattle.design_model.proofs.Sound.{IsSeen}
 use Rattle.design_model.proofs.StepFacts.{facts_law}
 use Rattle.design_model.proofs.StepLaws.{StepLaws}
 use Rattle.design_model.proofs.Toggles.{end_values, start_values, window_shown_at}
-use Rattle.design_model.proofs.Told.{execution_same}
+use Rattle.design_model.proofs.WithinMap.{execution_same}
 use Rattle.design_model.proofs.Untouched.{put_other}
 use Rattle.design_model.proofs.VisitedOpen.{visited_open}
 use Rattle.model_laws.proofs.Cells.{has, has_in, in_has, in_signal, input_cell, on_design, outer_on, pick_in, signal_place, word_of_cell}
@@ -133,7 +133,7 @@ module _ (d : Design) (lawful : IsLawfulDesign d) (h : Habit) (laws : StepLaws (
   counts : Settles d r k p visits.0
   counts = from_scored (process_at d p) d r k p visits.0 not_clocked visits.1
 
-  abbrev K : Known
+  abbrev K : PartialMap
   K = KnownAtEnd d h dump (suc t) p
 
   abbrev Mentioned : ℕ → Type 0
@@ -236,7 +236,7 @@ module _ (d : Design) (lawful : IsLawfulDesign d) (h : Habit) (laws : StepLaws (
         w = f.entry
 
         -- of an Assign that is not told each word that it mentions may be read
-        module _ (is_an_assign : is_assign (process_at d p) ≡ true) (not_told : IsTold d (KnownAtEnd d h dump (suc t) p) (body_at d p) → ⊥) where
+        module _ (is_an_assign : is_assign (process_at d p) ≡ true) (not_told : ReadsWithin d (KnownAtEnd d h dump (suc t) p) (body_at d p) → ⊥) where
           -- so a wake cell of the design ends the step alike in both runs
           end_same : (z : Thing) (b : Cell) → In b (cells d z) → (IsUnclear d h dump (suc t) z → ⊥) → settled d r (suc t) b ≡ settled d q (suc t) b
           end_same z b inside known = ⊎_elim (λ a. same_bit_is _ _ a) (λ a. absurd (apart a)) (cases_Bool (same_bit (settled d r (suc t) b) (settled d q (suc t) b)))

@@ -1,7 +1,7 @@
-mod Cells
-mod DecidedBlocks
-mod DecidedPoints
-mod States
-mod Rules
-mod Consistent
-mod Own
+pub mod Cells
+pub mod DecidedBlocks
+pub mod DecidedPoints
+pub mod States
+pub mod Rules
+pub mod Consistent
+pub mod Own

@@ -19,7 +19,7 @@ use Rattle.design_model.specs.BodyLaws.{all_cells}
 use Rattle.design_model.proofs.AssignLaws.{assign_visits_law, own_wake_law}
 use Rattle.design_model.proofs.SettledHits.{settling_level}
 use Rattle.design_model.proofs.ReadThings.{execute_things}
-use Rattle.design_model.proofs.Told.{execution_same}
+use Rattle.design_model.proofs.WithinMap.{execution_same}
 use Rattle.model_laws.specs.Own.{IsIgnored, IsPickingExample, OwnWakesLaw, WakeOrIgnoredLaw, picking}
 use Rattle.model_laws.proofs.Cells.{has, in_has, on_design, outer_on, signal_place}
 

@@ -10,7 +10,7 @@ use Rattle.design_model.specs.Tree.{Process, assign, clocked, comb}
 use Rattle.design_model.specs.Design.{Design, IsAssign, IsClocked, IsComb, IsThing, Thing, a_signal, a_word, body, body_at, cell, is_assign, no_process, owner, process_at, signal_at, thing_bits}
 use Rattle.design_model.specs.Mentions.{any_set, body_assigns, may_write, target_names}
 use Rattle.design_model.specs.Execution.{execution}
-use Rattle.design_model.specs.Reads.{Agrees, Known}
+use Rattle.design_model.specs.Reads.{Agrees, PartialMap}
 use Rattle.design_model.specs.Shows.{BoundDump}
 use Rattle.design_model.specs.MayMove.{CanWakeAt, IsCleanAt}
 use Rattle.design_model.specs.Clear.{EntryFrom, IsNetValue, all_writes, clear_in, driven_writes, is_driven, of_assigns, of_clean, of_comb, of_dump, of_unwoken}
@@ -72,11 +72,11 @@ module _ (d : Design) (lawful : IsLawfulDesign d) where
       first zero one h = absurd (omega (arith, one))
       first (suc w) one h = (and_parts (is_driven_cell (cell s 0)) _ h).0
 
-  module _ (h : Habit) (dump : BoundDump) (t : ℕ) (start : Known) (u : Values Bit) (au : Agrees d start u) (things : (x : Thing) (bits : List Bit) → start x bits → IsThing d x) (n : ℕ) (v : Values Bit) (av : Agrees d (clear_in d h dump t start n) v) where
-    abbrev K : Known
+  module _ (h : Habit) (dump : BoundDump) (t : ℕ) (start : PartialMap) (u : Values Bit) (au : Agrees d start u) (things : (x : Thing) (bits : List Bit) → start x bits → IsThing d x) (n : ℕ) (v : Values Bit) (av : Agrees d (clear_in d h dump t start n) v) where
+    abbrev K : PartialMap
     K = clear_in d h dump t start n
 
-    abbrev Next : Known
+    abbrev Next : PartialMap
     Next = clear_in d h dump t start (suc n)
 
     -- the state on which clean block p with trigger c is evaluated

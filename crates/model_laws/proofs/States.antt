@@ -6,7 +6,7 @@ use Rattle.event_machine.specs.Cell.{Cell, Values}
 use Rattle.four_state.specs.Vector.{same_bit}
 use Rattle.four_state.specs.declared.bit.Bit.{Bit}
 use Rattle.design_model.specs.Design.{Design, IsThing, Thing, a_signal, a_word, owner, thing_bits}
-use Rattle.design_model.specs.Reads.{Known}
+use Rattle.design_model.specs.Reads.{PartialMap}
 use Rattle.design_model.proofs.Lawful.{same_bit_is, same_bit_self}
 use Rattle.design_model.proofs.Sound.{cells_eq}
 
@@ -29,11 +29,11 @@ with_away o v w c ne = go (c.thing == o) refl
     go false e = refl
 
 -- the state has the map's values of the things with this number
-abbrev pub Serves : Design → Known → ℕ → Values Bit → Type 0
+abbrev pub Serves : Design → PartialMap → ℕ → Values Bit → Type 0
 Serves d K o v = (x : Thing) (bits : List Bit) → owner x ≡ o → K x bits → thing_bits d v x ≡ bits
 
 -- where no number lacks its state, some state serves them all
-pub combine : (d : Design) (K : Known) → ((o : ℕ) → ((v : Values Bit) → Serves d K o v → ⊥) → ⊥) → Values Bit → (n : ℕ) → ((v : Values Bit) → ((o : ℕ) → o < n → Serves d K o v) → ⊥) → ⊥
+pub combine : (d : Design) (K : PartialMap) → ((o : ℕ) → ((v : Values Bit) → Serves d K o v → ⊥) → ⊥) → Values Bit → (n : ℕ) → ((v : Values Bit) → ((o : ℕ) → o < n → Serves d K o v) → ⊥) → ⊥
 combine d K each any zero done = done any (λ o below. absurd (omega (arith, below)))
 combine d K each any (suc n) done = combine d K each any n (λ v all. each n (λ w last. done (with_thing n v w) (λ o below. go v w all last o below)))
   where

@@ -1,5 +1,5 @@
 ghost use Rattle.std.specs.Prelude.{◌≡◌, ◌<◌, ◌++◌, ◌∷◌, [], List, IfOk, length, replicate, slice_index_or, slice_set};
-ghost use Rattle.point_marks.specs.Told.{IsMarked, IsVerdict, Told, doubt_of, hit_of, with_doubt};
+ghost use Rattle.point_marks.specs.Marking.{IsMarked, IsVerdict, Marking, doubt_of, hit_of, with_doubt};
 
 use crate::{Doubt, Verdict};
 use cov_host::NoMemory;
@@ -22,10 +22,10 @@ impl Model for PointMarks {
 }
 
 impl PointMarks {
-    /// Marks of so many points, with nothing told of any.
+    /// Marks of so many points, none of which is marked yet.
     pub fn new(alloc: Global, count: u32) -> Result<Self, NoMemory>
         ensures verdicts { IfOk result (λ marks. marks ≡ replicate count Verdict.Missed) }
-        ensures told { IfOk result (IsMarked []) }
+        ensures markings { IfOk result (IsMarked []) }
     {
         let verdicts = vec![in alloc; Verdict::Missed; count as usize]?;
         Ok(PointMarks { verdicts })
@@ -35,7 +35,7 @@ impl PointMarks {
     pub fn hit(&mut self, point: u32)
         requires { point < length self.old }
         ensures verdicts { self.new ≡ slice_set self.old point Verdict.Hit }
-        ensures told { (told : List Told) → IsMarked told self.old → IsMarked (told ++ hit_of point ∷ []) self.new }
+        ensures markings { (markings : List Marking) → IsMarked markings self.old → IsMarked (markings ++ hit_of point ∷ []) self.new }
     {
         self.verdicts[point as usize] = Verdict::Hit;
     }
@@ -45,18 +45,18 @@ impl PointMarks {
     pub fn doubt(&mut self, point: u32, thing: u32, time: u64)
         requires { point < length self.old }
         ensures verdicts { let doubt : Doubt = record { thing = thing; time = time } in self.new ≡ slice_set self.old point (with_doubt doubt (slice_index_or self.old point Verdict.Missed)) }
-        ensures told { let doubt : Doubt = record { thing = thing; time = time } in (told : List Told) → IsMarked told self.old → IsMarked (told ++ doubt_of point doubt ∷ []) self.new }
+        ensures markings { let doubt : Doubt = record { thing = thing; time = time } in (markings : List Marking) → IsMarked markings self.old → IsMarked (markings ++ doubt_of point doubt ∷ []) self.new }
     {
         let place = point as usize;
         self.verdicts[place] = self.verdicts[place].with_doubt(Doubt { thing, time });
     }
 
-    /// How the point came out: hit where it was told to be, else undetermined by the first doubt told of it, else
+    /// How the point came out: hit where it was marked so, else undetermined by its first doubt, else
     /// missed. It takes no memory.
     pub fn verdict(&self, point: u32) -> Verdict
         requires { point < length self.now }
         ensures value { result ≡ slice_index_or self.now point Verdict.Missed }
-        ensures told { (told : List Told) → IsMarked told self.now → IsVerdict told point result }
+        ensures markings { (markings : List Marking) → IsMarked markings self.now → IsVerdict markings point result }
     {
         self.verdicts[point as usize]
     }

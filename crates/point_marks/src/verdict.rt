@@ -1,5 +1,5 @@
 ghost use Rattle.std.specs.Prelude.{◌≡◌};
-ghost use Rattle.point_marks.specs.Told.{with_doubt};
+ghost use Rattle.point_marks.specs.Marking.{with_doubt};
 
 /// Why a point may have been hit: this signal or memory is in doubt at this time.
 #[derive(Clone, Copy, Debug, PartialEq, Eq)]

@@ -21,7 +21,7 @@ use Rattle.design_model.proofs.Assigns.{machine_lawful}
 use Rattle.design_model.proofs.Lawful.{assign_or}
 use Rattle.design_model.proofs.Named.{has_cell-from}
 use Rattle.design_model.proofs.StepLaws.{StepLaws}
-use Rattle.design_model.proofs.Told.{put_covered}
+use Rattle.design_model.proofs.WithinMap.{put_covered}
 use Rattle.design_model.proofs.StepFacts.{facts_law}
 use Rattle.design_model.specs.StepLaws.{IsLeft, StepFacts}
 use Rattle.body_replay.specs.KnownBits.{Allows}

@@ -29,7 +29,7 @@ use Rattle.replay_model.specs.Sets.{AreSets, Sets}
 use Rattle.design_model.specs.BodyLaws.{all_cells}
 use Rattle.design_model.specs.StepLaws.{IsLeft, StepFacts}
 use Rattle.replay_model.specs.Tables.{Tables}
-use Rattle.replay_model.specs.Marks.{IsKeyOf, Told, all_told_by, of_process}
+use Rattle.replay_model.specs.Marks.{IsKeyOf, Marking, markings_by, of_process}
 use Rattle.replay_model.specs.Step.{Closing, Replay, all_run, certainty, clocked_run, entry_kept, is_touched, opened, plain_store, run_all_clean, settled_kept, surely_same, wake_cells}
 use Rattle.replay_model.specs.Laws.{IsReplayOf, closing_at}
 use Rattle.replay_model.proofs.Allows.{below_of, here, in_all, past}
@@ -75,23 +75,23 @@ module _ (d : Design) (h : Habit) (dump : BoundDump) (run : Runs) (tables : Tabl
 
   -- something is told of a spot of p at this time
   abbrev TellsNow : ℕ → Spot → Type 0
-  TellsNow p s = (n : Told) × In n (all_run st).notes × (n.key ≡ of_process p s) × ((n.doubt ≡ None) ⊎ ((y : ℕ) × (n.doubt ≡ Some (record { time = suc t; thing = y }))))
+  TellsNow p s = (n : Marking) × In n (all_run st).notes × (n.key ≡ of_process p s) × ((n.doubt ≡ None) ⊎ ((y : ℕ) × (n.doubt ≡ Some (record { time = suc t; thing = y }))))
 
-  from_notes : (p : ℕ) (s : Spot) (ns : List Note) → ((n : Told) → In n (all_told_by p ns) → In n (all_run st).notes) → HasHitNote s ns ⊎ ((y : Doubted) × (y.time ≡ suc t) × HasDoubtNote s y ns) → TellsNow p s
+  from_notes : (p : ℕ) (s : Spot) (ns : List Note) → ((n : Marking) → In n (markings_by p ns) → In n (all_run st).notes) → HasHitNote s ns ⊎ ((y : Doubted) × (y.time ≡ suc t) × HasDoubtNote s y ns) → TellsNow p s
   from_notes p s ns there (inl e) = let n = hit_told p ns s e in (n.0, there n.0 n.1, n.2, inl n.3)
   from_notes p s ns there (inr y) =
       let n = doubt_told p ns s y.0 y.2 in
       (n.0, there n.0 n.1, n.2, inr (y.0.thing, n.3 ∙ ap Some (λ i. record { time = y.1 i; thing = y.0.thing })))
 
   module _ (k : StepOf r) (at : k.step.time ≡ suc t) (p : ℕ) (v : Values Bit) (scored : IsScored d r k p v) (s : Spot) (seen : Visited s (execution d (body_at d p) v).visits) where
-    later : (n : Told) → In n (clocked_run st).notes → In n (all_run st).notes
+    later : (n : Marking) → In n (clocked_run st).notes → In n (all_run st).notes
     later n y =
         (last_told d h dump run tables points is laws early_law asked t window sets are a r showing starts acted).keeps n ((order_told d h dump run tables points is laws early_law asked t window sets are a r showing starts acted).keeps n y)
 
     by_clean : (e : ℕ) → sets.trigger p ≡ Some e → IsClocked (process_at d p) → TellsNow p s
     by_clean e f is_clocked = tells ((clean_told d h dump run tables points is laws early_law asked t window sets are a r showing starts acted).has p ((is.tabled.clocked p).1 (clocked_below p is_clocked, is_clocked), (e, f)))
       where
-        tells : (ns : List Note) × CleanRun d is.lawful h early_law dump run is.runs tables t sets are a p ns × ((n : Told) → In n (all_told_by p ns) → In n (run_all_clean st tables.clocked (opened st)).notes) → TellsNow p s
+        tells : (ns : List Note) × CleanRun d is.lawful h early_law dump run is.runs tables t sets are a p ns × ((n : Marking) → In n (markings_by p ns) → In n (run_all_clean st tables.clocked (opened st)).notes) → TellsNow p s
         tells c =
             from_notes p s c.0 (λ n y. later n ((weak_told d h dump run tables points is laws early_law asked t window sets are a r showing starts acted).keeps n (c.2 n y)))
             (subst (λ ns. HasHitNote s ns ⊎ ((y : Doubted) × (y.time ≡ suc t) × HasDoubtNote s y ns)) (sym c.1.notes)
@@ -105,7 +105,7 @@ module _ (d : Design) (h : Habit) (dump : BoundDump) (run : Runs) (tables : Tabl
     by_weak : (thing : ℕ) → sets.trigger p ≡ None → sets.wakes p ≡ Some thing → IsClocked (process_at d p) → TellsNow p s
     by_weak thing e f is_clocked = tells ((weak_told d h dump run tables points is laws early_law asked t window sets are a r showing starts acted).has p ((is.tabled.clocked p).1 (clocked_below p is_clocked, is_clocked), (e, (thing, f))))
       where
-        tells : (ns : List Note) × WeakRun d is.lawful h early_law dump run is.runs tables t sets are a p ns × ((n : Told) → In n (all_told_by p ns) → In n (clocked_run st).notes) → TellsNow p s
+        tells : (ns : List Note) × WeakRun d is.lawful h early_law dump run is.runs tables t sets are a p ns × ((n : Marking) → In n (markings_by p ns) → In n (clocked_run st).notes) → TellsNow p s
         tells c =
             from_notes p s c.0 (λ n y. later n (c.2 n y))
             (subst (λ ns. HasHitNote s ns ⊎ ((y : Doubted) × (y.time ≡ suc t) × HasDoubtNote s y ns)) (sym c.1.notes) (inr (record { time = suc t; thing = c.1.thing }, refl, is.runs.weak_marked p c.1.store (suc t) c.1.thing v s seen)))
@@ -119,7 +119,7 @@ module _ (d : Design) (h : Habit) (dump : BoundDump) (run : Runs) (tables : Tabl
         e : OnWakes d h dump run tables points is laws t window r showing p v × ((c : Cell) × IsWakeCell (machine d) p c × (settled d r t c ≡ settled d r (suc t) c → ⊥))
         e = every_settling d h dump run tables points is laws t window r showing k at p settles v scored
 
-        tells : (ns : List Note) × SettleRun d is.lawful h early_law dump run is.runs tables t sets are a (Good d h dump run tables points is laws early_law asked t window sets are a r showing starts acted) p ns × ((n : Told) → In n (all_told_by p ns) → In n (all_run st).notes) → (OnWakes d h dump run tables points is laws t window r showing p v × ((c : Cell) × IsWakeCell (machine d) p c × (settled d r t c ≡ settled d r (suc t) c → ⊥))) → TellsNow p s
+        tells : (ns : List Note) × SettleRun d is.lawful h early_law dump run is.runs tables t sets are a (Good d h dump run tables points is laws early_law asked t window sets are a r showing starts acted) p ns × ((n : Marking) → In n (markings_by p ns) → In n (all_run st).notes) → (OnWakes d h dump run tables points is laws t window r showing p v × ((c : Cell) × IsWakeCell (machine d) p c × (settled d r t c ≡ settled d r (suc t) c → ⊥))) → TellsNow p s
         tells c e = from_notes p s c.0 c.2 (subst (λ ns. HasHitNote s ns ⊎ ((y : Doubted) × (y.time ≡ suc t) × HasDoubtNote s y ns)) (sym c.1.notes) (go (way_of st c.1.wk.kept p)))
           where
             abbrev_how : (how : Certainty) → certainty st c.1.wk.kept p ≡ how → HasHitNote s (run p (plain_store (settled_kept d p c.1.wk.kept)) how).notes ⊎ ((y : Doubted) × (y.time ≡ suc t) × HasDoubtNote s y (run p (plain_store (settled_kept d p c.1.wk.kept)) how).notes) → HasHitNote s (run p (plain_store (settled_kept d p c.1.wk.kept)) (certainty st c.1.wk.kept p)).notes ⊎ ((y : Doubted) × (y.time ≡ suc t) × HasDoubtNote s y (run p (plain_store (settled_kept d p c.1.wk.kept)) (certainty st c.1.wk.kept p)).notes)
@@ -169,7 +169,7 @@ module _ (d : Design) (h : Habit) (dump : BoundDump) (run : Runs) (tables : Tabl
 
   -- what is told of the point
   abbrev pub PointTold : Point → Type 0
-  PointTold x = (n : Told) × In n (all_run st).notes × IsKeyOf d x n.key × ((n.doubt ≡ None) ⊎ ((y : ℕ) × (n.doubt ≡ Some (record { time = suc t; thing = y }))))
+  PointTold x = (n : Marking) × In n (all_run st).notes × IsKeyOf d x n.key × ((n.doubt ≡ None) ⊎ ((y : ℕ) × (n.doubt ≡ Some (record { time = suc t; thing = y }))))
 
   with_key : (x : Point) (p : ℕ) (s : Spot) → spot_at x ≡ Some s → IsBlock d x p → TellsNow p s → PointTold x
   with_key x p s e block n = (n.0, n.1, subst (IsKeyOf d x) (sym n.2) (e, block), n.3)

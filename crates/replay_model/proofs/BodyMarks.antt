@@ -25,7 +25,7 @@ use Rattle.replay_model.specs.Sets.{AreSets, Sets}
 use Rattle.design_model.specs.BodyLaws.{all_cells}
 use Rattle.design_model.specs.StepLaws.{CleanEvaluation, IsLeft, StepFacts}
 use Rattle.replay_model.specs.Tables.{Tables}
-use Rattle.replay_model.specs.Marks.{IsKeyOf, Told, all_told_by, of_process}
+use Rattle.replay_model.specs.Marks.{IsKeyOf, Marking, markings_by, of_process}
 use Rattle.replay_model.specs.Step.{Closing, Replay, Working, all_run, certainty, clocked_run, entry_kept, has_changed, is_comb, is_touched, opened, plain_store, run_all_clean, run_all_settling, run_settling, settle_start, settled_kept, surely_differ, wake_cells}
 use Rattle.replay_model.specs.Laws.{IsReplayOf, closing_at}
 use Rattle.replay_model.proofs.Allows.{Sound, here, nets_at, settle_starts}
@@ -111,30 +111,30 @@ module _ (d : Design) (h : Habit) (dump : BoundDump) (run : Runs) (tables : Tabl
       ((settle_keeps d is.lawful h early_law dump run is.runs tables t sets are a Good true (next true) tables.order (settle_start st (clocked_run st)) (settle_starts d h dump run tables points is laws early_law t window sets are a r showing starts acted, settles_order)).0, settles_last)
 
   -- what was told before stays told
-  pub old_kept : (n : Told) → In n a.notes → In n (all_run st).notes
+  pub old_kept : (n : Marking) → In n a.notes → In n (all_run st).notes
   old_kept n y = last_told.keeps n (order_told.keeps n (weak_told.keeps n (clean_told.keeps n y)))
 
   -- a hit of the step
   abbrev HitNow : Point → Type 0
   HitNow x = (k : StepOf r) × (k.step.time ≡ suc t) × HitIn d r k x
 
-  key_spot : (x : Point) (n : Told) (p : ℕ) (s : Spot) → IsKeyOf d x n.key → n.key ≡ of_process p s → (spot_at x ≡ Some s) × IsBlock d x p
+  key_spot : (x : Point) (n : Marking) (p : ℕ) (s : Spot) → IsKeyOf d x n.key → n.key ≡ of_process p s → (spot_at x ≡ Some s) × IsBlock d x p
   key_spot x n p s key e = subst (IsKeyOf d x) e key
 
-  clean_hit : (x : Point) (n : Told) (p : ℕ) (ns : List Note) → CleanRun d is.lawful h early_law dump run is.runs tables t sets are a p ns → In n (all_told_by p ns) → IsKeyOf d x n.key → n.doubt ≡ None → HitNow x
+  clean_hit : (x : Point) (n : Marking) (p : ℕ) (ns : List Note) → CleanRun d is.lawful h early_law dump run is.runs tables t sets are a p ns → In n (markings_by p ns) → IsKeyOf d x n.key → n.doubt ≡ None → HitNow x
   clean_hit x n p ns k there key e =
       let s = told_hit p ns n there e in
       let b = key_spot x n p s.0 key s.1 in
       let o = clean_entry d h dump run tables points is laws t window r showing p (cell k.trigger 0) (are.trigger p k.trigger k.is_trigger) in
       (o.0, o.1, visited_hit d r o.0 p o.2.entry o.3 x s.0 b.0 b.1 (is.runs.hits_sound p k.store (suc t) s.0 (subst (HasHitNote s.0) k.notes s.2) o.2.entry (λ c. subst (λ z. Allows z (o.2.entry c)) (sym (k.reads c)) (entry_allowed p k.trigger k.is_trigger o.2 c))))
 
-  weak_hit : (x : Point) (n : Told) (p : ℕ) (ns : List Note) → WeakRun d is.lawful h early_law dump run is.runs tables t sets are a p ns → In n (all_told_by p ns) → n.doubt ≡ None → ⊥
+  weak_hit : (x : Point) (n : Marking) (p : ℕ) (ns : List Note) → WeakRun d is.lawful h early_law dump run is.runs tables t sets are a p ns → In n (markings_by p ns) → n.doubt ≡ None → ⊥
   weak_hit x n p ns k there e = let s = told_hit p ns n there e in is.runs.weak_no_hit p k.store (suc t) k.thing s.0 (subst (HasHitNote s.0) k.notes s.2)
 
   touched_settles : (p : ℕ) → is_touched st p ≡ true → IsClocked (process_at d p) → ⊥
   touched_settles p e = let x = any_in sets.moves (tables.watched p) e in level_settles (process_at d p) x.0 ((is.tabled.watched p x.0).0 x.1)
 
-  settle_hit : (x : Point) (n : Told) (p : ℕ) (ns : List Note) → SettleRun d is.lawful h early_law dump run is.runs tables t sets are a Good p ns → In n (all_told_by p ns) → IsKeyOf d x n.key → n.doubt ≡ None → HitNow x
+  settle_hit : (x : Point) (n : Marking) (p : ℕ) (ns : List Note) → SettleRun d is.lawful h early_law dump run is.runs tables t sets are a Good p ns → In n (markings_by p ns) → IsKeyOf d x n.key → n.doubt ≡ None → HitNow x
   settle_hit x n p ns k there key e = go (way_of st k.wk.kept p)
     where
       s : (y : Spot) × (n.key ≡ of_process p y) × HasHitNote y ns
@@ -160,7 +160,7 @@ module _ (d : Design) (h : Habit) (dump : BoundDump) (run : Runs) (tables : Tabl
       go (still q g f) = absurd (subst (HasHitNote (told_hit p ns n there e).0) (is.runs.quiet_notes p (plain_store (settled_kept d p k.wk.kept))) (abbrev_notes quiet f))
 
   -- a hit that the step tells is one in each run that shows the dump
-  pub body_hit : (x : Point) (n : Told) → In n (all_run st).notes → IsKeyOf d x n.key → n.doubt ≡ None → In n a.notes ⊎ HitNow x
+  pub body_hit : (x : Point) (n : Marking) → In n (all_run st).notes → IsKeyOf d x n.key → n.doubt ≡ None → In n a.notes ⊎ HitNow x
   body_hit x n there key e = ⊎_elim in_order (λ k. inr (settle_hit x n k.0 k.1 k.2 k.3 key e)) (last_told.from n there)
     where
       in_clean : In n (run_all_clean st tables.clocked (opened st)).notes → In n a.notes ⊎ HitNow x

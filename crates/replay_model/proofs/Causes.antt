@@ -10,7 +10,7 @@ use Rattle.design_model.specs.Shows.{BoundDump}
 use Rattle.design_model.specs.MayMove.{CanWakeAt, CanWakeSome, IsCleanAt, MayMoveAt}
 use Rattle.design_model.specs.Early.{IsEarlyAt}
 use Rattle.design_model.specs.Clear.{clear_before}
-use Rattle.design_model.specs.Doubt.{BlockDoubt, IsUnclear, MayWakeUnlisted, early, not_clean, own_target, unclear_at_start, unclear_signal, unclear_word}
+use Rattle.design_model.specs.Doubt.{BlockDoubt, IsUnclear, MayWakeUnlisted, read_early, not_clean, own_target, unclear_at_start, unclear_signal, unclear_word}
 use Rattle.design_model.specs.Open.{IsNotClean, IsNotClocked, IsWakeBit, KnownAtEnd, KnownOnEntry}
 
 module _ {d : Design} {h : Habit} {dump : BoundDump} {t s p : ℕ} where
@@ -18,7 +18,7 @@ module _ {d : Design} {h : Habit} {dump : BoundDump} {t s p : ℕ} where
   doubt_at_start x is_thing own wakes reads apart unclear = unclear_at_start (record { thing = x; is_thing = is_thing; of_owner = own; can_wake = wakes; is_read = reads; no_trigger = apart; unclear = unclear })
 
   pub doubt_early : (x : Thing) (c : Cell) → owner x ≡ s → IsCleanAt d dump t p c → ReadsFrom d (KnownOnEntry d h dump t p) (body_at d p) x → IsEarlyAt d h dump t p c s → BlockDoubt d h dump t s p
-  doubt_early x c own clean reads is_early = early (record { thing = x; trigger = c; of_owner = own; is_clean = clean; is_read = reads; is_early = is_early })
+  doubt_early x c own clean reads is_early = read_early (record { thing = x; trigger = c; of_owner = own; is_clean = clean; is_read = reads; is_early = is_early })
 
   pub doubt_unclean : (c : Cell) → c.thing ≡ s → CanWakeAt d dump t c p → IsNotClean d dump t p → BlockDoubt d h dump t s p
   doubt_unclean c at wakes unclean = not_clean (record { event = c; of_signal = at; can_wake = wakes; not_clean = unclean })

@@ -14,10 +14,10 @@ use Rattle.design_model.specs.Execution.{execution}
 use Rattle.design_model.specs.Machine.{machine}
 use Rattle.design_model.specs.Shows.{BoundDump}
 use Rattle.design_model.specs.MayMove.{CanWakeSome}
-use Rattle.design_model.specs.Reads.{Agrees, HasValue, IsTold}
+use Rattle.design_model.specs.Reads.{Agrees, HasValue, ReadsWithin}
 use Rattle.design_model.specs.Clear.{EntryFrom, IsClockedTarget, IsUnbound, IsWrittenValue, LeavesValue, all_writes, clear}
 use Rattle.design_model.proofs.Named.{has_cell-from}
-use Rattle.design_model.proofs.Told.{put_covered}
+use Rattle.design_model.proofs.WithinMap.{put_covered}
 use Rattle.design_model.proofs.Untouched.{put_other}
 use Rattle.replay_model.proofs.AskedLaws.{AskedLaws}
 use Rattle.body_replay.specs.Contract.{all_written, clean, flushed, sure_in}
@@ -30,7 +30,7 @@ use Rattle.replay_model.specs.Laws.{IsReplayOf, closing_at}
 use Rattle.replay_model.proofs.Allows.{past}
 use Rattle.replay_model.proofs.Bits.{all_in}
 use Rattle.replay_model.proofs.ClockedKept.{OwnRun, away_from, clocked_final, clocked_made, clocked_stays, own_left}
-use Rattle.replay_model.proofs.Grows.{Within, sample, sample_agrees, within_agrees, within_told}
+use Rattle.replay_model.proofs.Grows.{Within, sample, sample_agrees, within_agrees, reads_within}
 use Rattle.replay_model.proofs.Reasons.{entry_within, in_owner, map_same, map_sure}
 use Rattle.replay_model.proofs.SettleReasons.{sure_at}
 use Rattle.replay_model.proofs.Targets.{input_unassigned, one_assigner, own_not_early, single_input, target_assigns}
@@ -106,9 +106,9 @@ module _ (d : Design) (h : Habit) (early_law : EarlyLaw (machine d)) (dump : Bou
               ∙ or_from (c.thing == s) _ (ne_eqb c.thing s (λ q. input_unassigned d is.lawful p c.thing (subst (λ z. (signal_at d z).input ≡ true) (sym q) (and_parts (signal_at d s).input _ (single_input d dump (suc t) are.first_round (cell s 0) (are.trigger p s e).is_single).0).0) (owns c inside)))
               (false_from_ne_true _ (λ q. own_not_early d is.lawful h dump (suc t) early_law are.first_round p (cell s 0) value.writer.is_clocked (are.trigger p s e) c.thing (owns c inside) ((are.early p (cell s 0) (are.trigger p s e) c.thing).0 q)))
 
-          told : (c : Cell) (inside : In c (cells d x)) → IsTold d (sure_in d (seen_of (left c inside).0.store)) (body_at d p)
+          told : (c : Cell) (inside : In c (cells d x)) → ReadsWithin d (sure_in d (seen_of (left c inside).0.store)) (body_at d p)
           told c inside =
-              subst (λ f. IsTold d (sure_in d f) (body_at d p)) (sym (reads_as (left c inside).0.store (left c inside).0.reads)) (within_told d (EntryFrom d h dump (suc t) (clear d h dump t) p c0) (sure_in d (entry_kept st p s)) (body_at d p) within0 value.told)
+              subst (λ f. ReadsWithin d (sure_in d f) (body_at d p)) (sym (reads_as (left c inside).0.store (left c inside).0.reads)) (reads_within d (EntryFrom d h dump (suc t) (clear d h dump t) p c0) (sure_in d (entry_kept st p s)) (body_at d p) within0 value.within)
 
           gives : LeavesValue d (clear d h dump t) (sample (entry_kept st p s)) (all_writes (execution d (body_at d p) (sample (entry_kept st p s)))) x bits
           gives = value.gives (sample (entry_kept st p s)) (within_agrees d (EntryFrom d h dump (suc t) (clear d h dump t) p c0) (sure_in d (entry_kept st p s)) within0 (sample (entry_kept st p s)) (sample_agrees d (entry_kept st p s)))

@@ -15,7 +15,7 @@ use Rattle.design_model.specs.Mentions.{any_set, blocking_target, body_assigns, 
 use Rattle.design_model.specs.Execution.{Visit, at_line, at_node, execution, execution_start, reads, writes_word}
 use Rattle.design_model.specs.Machine.{is_level, machine}
 use Rattle.design_model.specs.Shows.{BoundDump, IsWindow}
-use Rattle.design_model.specs.Reads.{Agrees, AllInside, HasValue, IsTold, Known}
+use Rattle.design_model.specs.Reads.{Agrees, AllInside, HasValue, ReadsWithin, PartialMap}
 use Rattle.design_model.specs.MayMove.{CanWakeSome}
 use Rattle.design_model.specs.Clear.{HasChanged, IsClockedTarget, IsUnbound, IsWrittenValue, IsClearBy, IsCombValue, IsNetValue, clear_from, clear_in, driven_writes, drives, is_driven, of_assigns, of_clean, of_comb, of_dump, of_unwoken}
 use Rattle.design_model.specs.Lawful.{IsLawfulDesign}
@@ -26,7 +26,7 @@ use Rattle.design_model.proofs.Lawful.{any_weaker, assign_or, names_from}
 use Rattle.design_model.proofs.MadeSound.{comb_blocks}
 use Rattle.design_model.proofs.Mentions.{AllReads, execute_reads}
 use Rattle.design_model.proofs.Named.{has_cell-from, WritesCell-from}
-use Rattle.design_model.proofs.Told.{put_append, put_same, told_by}
+use Rattle.design_model.proofs.WithinMap.{put_append, put_same, within_by}
 use Rattle.design_model.proofs.Untouched.{put_other}
 use Rattle.replay_model.proofs.AskedLaws.{AskedLaws}
 use Rattle.body_replay.specs.Contract.{all_written, sure_in}
@@ -77,13 +77,13 @@ assign_settles (comb i wakes s) e h = h
 assign_settles (clocked i events s) e h = both_ways false refl e
 
 -- a read that is inside
-pub inside_read : (K : Known) (x : Thing) (xs : List Visit) → AllInside K xs → In (reads x false) xs → HasValue K x
+pub inside_read : (K : PartialMap) (x : Thing) (xs : List Visit) → AllInside K xs → In (reads x false) xs → HasValue K x
 inside_read K x [] all h = absurd h
 inside_read K x (y ∷ xs) all (inl e) = (subst (λ z. AllInside K (z ∷ xs)) e all).0
 inside_read K x (y ∷ xs) all (inr h) = inside_read K x xs all.1 h
 
 -- what is inside a map is inside another that has what is so read
-pub inside_as : (K L : Known) (xs : List Visit) → ((x : Thing) → In (reads x false) xs → HasValue K x → HasValue L x) → AllInside K xs → AllInside L xs
+pub inside_as : (K L : PartialMap) (xs : List Visit) → ((x : Thing) → In (reads x false) xs → HasValue K x → HasValue L x) → AllInside K xs → AllInside L xs
 inside_as K L [] f a = tt
 inside_as K L (at_line n ∷ xs) f a = (tt, inside_as K L xs (λ x h. f x (inr h)) a.1)
 inside_as K L (at_node n c ∷ xs) f a = (tt, inside_as K L xs (λ x h. f x (inr h)) a.1)
@@ -118,11 +118,11 @@ bound_sure d bound new k dumped s bits is_bound e = map_same new (sample k) (sig
     value None z e = absurd (cc)
     value (Some b) z e = cc
 
-module _ (d : Design) (h : Habit) (dump : BoundDump) (run : Runs) (tables : Tables) (points : List Point) (is : IsReplayOf d h dump run tables points) (asked : AskedLaws d) (now : ℕ) (start : Known) (final : Kept) (acted : ℕ → Bool) (dumped : (c : Cell) → is_dumped d dump.bound c ≡ true → final c ≡ Some (dump.values now c)) (made : (p : ℕ) → In p tables.order → (IsComb (process_at d p) → acted p ≡ true) → IsMade d dump.bound p final) (has_acted : (p : ℕ) → IsComb (process_at d p) → HasChanged dump d (body_at d p) now → acted p ≡ true) (own_unclear : (p y : ℕ) → is_assign (process_at d p) ≡ true → body_mentions y (body_at d p) ≡ true → body_assigns y (body_at d p) ≡ true → dump.bound y ≡ false → (n : ℕ) → HasValue (clear_in d h dump now start n) (a_signal y) → ⊥) (unwoken : (p : ℕ) (x : Thing) (bits : List Bit) → IsWindow dump now → IsUnbound dump x → IsClockedTarget d p x → (CanWakeSome d dump now p → ⊥) → start x bits → sure_in d final x bits) (written : (p : ℕ) (c : Cell) (x : Thing) (bits : List Bit) → IsWindow dump now → IsUnbound dump x → IsWrittenValue d h dump now start p c x bits → sure_in d final x bits) where
+module _ (d : Design) (h : Habit) (dump : BoundDump) (run : Runs) (tables : Tables) (points : List Point) (is : IsReplayOf d h dump run tables points) (asked : AskedLaws d) (now : ℕ) (start : PartialMap) (final : Kept) (acted : ℕ → Bool) (dumped : (c : Cell) → is_dumped d dump.bound c ≡ true → final c ≡ Some (dump.values now c)) (made : (p : ℕ) → In p tables.order → (IsComb (process_at d p) → acted p ≡ true) → IsMade d dump.bound p final) (has_acted : (p : ℕ) → IsComb (process_at d p) → HasChanged dump d (body_at d p) now → acted p ≡ true) (own_unclear : (p y : ℕ) → is_assign (process_at d p) ≡ true → body_mentions y (body_at d p) ≡ true → body_assigns y (body_at d p) ≡ true → dump.bound y ≡ false → (n : ℕ) → HasValue (clear_in d h dump now start n) (a_signal y) → ⊥) (unwoken : (p : ℕ) (x : Thing) (bits : List Bit) → IsWindow dump now → IsUnbound dump x → IsClockedTarget d p x → (CanWakeSome d dump now p → ⊥) → start x bits → sure_in d final x bits) (written : (p : ℕ) (c : Cell) (x : Thing) (bits : List Bit) → IsWindow dump now → IsUnbound dump x → IsWrittenValue d h dump now start p c x bits → sure_in d final x bits) where
   abbrev v0 : Values Bit
   v0 = sample final
 
-  abbrev In_round : ℕ → Known
+  abbrev In_round : ℕ → PartialMap
   In_round n = clear_in d h dump now start n
 
   wide : (s : ℕ) → s < length d.signals → 0 < (signal_at d s).width
@@ -152,7 +152,7 @@ module _ (d : Design) (h : Habit) (dump : BoundDump) (run : Runs) (tables : Tabl
       is_assign-of (process_at d q) (is.lawful.apart j.0 q s (is_assign-from (process_at d j.0) j.1) (any_assigns (cell s 0) j.0 j.2) theirs)
 
   -- what a map has is sure at the end, and what drives an unbound signal of it is in the order
-  record IsPlaced (K : Known) : Type 0 where
+  record IsPlaced (K : PartialMap) : Type 0 where
     pub sure : Within K (sure_in d final)
     pub order : (s : ℕ) (bits : List Bit) → K (a_signal s) bits → dump.bound s ≡ false → (q : ℕ) → Drives d q s → In q tables.order
     pub words : (m i : ℕ) (bits : List Bit) → K (a_word m i) bits → length d.signals ≤ m
@@ -161,17 +161,17 @@ module _ (d : Design) (h : Habit) (dump : BoundDump) (run : Runs) (tables : Tabl
   in_order : (q : ℕ) → (q < length d.processes) × (IsClocked (process_at d q) → ⊥) → (In q tables.last → ⊥) → In q tables.order
   in_order q known never = ⊎_elim (λ x. x) (λ x. absurd (never x)) ((is.tabled.others q).1 known)
 
-  agrees : (K : Known) → IsPlaced K → Agrees d K v0
+  agrees : (K : PartialMap) → IsPlaced K → Agrees d K v0
   agrees K k = within_agrees d K (sure_in d final) k.sure v0 (sample_agrees d final)
 
-  not_last : (K : Known) → IsPlaced K → (q : ℕ) → is_assign (process_at d q) ≡ true → IsTold d K (body_at d q) → In q tables.last → ⊥
+  not_last : (K : PartialMap) → IsPlaced K → (q : ℕ) → is_assign (process_at d q) ≡ true → ReadsWithin d K (body_at d q) → In q tables.last → ⊥
   not_last K k q is_a told x =
       let b = is.tabled.behind q x in
       let below = asked.settled_signals b.1 b.0 b.6.settles b.6.drives in
       let known = inside_read K (a_signal b.0) (execution d (body_at d q) v0).visits (told v0 (agrees K k)) (asked.mention_read q b.0 is_a (assign_level (process_at d q) b.0 is_a b.2) below v0) in
       distinct_apart tables.order tables.last (distinct_right tables.clocked (tables.order ++ tables.last) is.tabled.once) b.1 (k.order b.0 known.0 known.1 b.3 b.1 b.6) b.4
 
-  comb_not_last : (K : Known) → IsPlaced K → (p s : ℕ) (bits : List Bit) → IsCombValue d dump now K p s bits → In p tables.last → ⊥
+  comb_not_last : (K : PartialMap) → IsPlaced K → (p s : ℕ) (bits : List Bit) → IsCombValue d dump now K p s bits → In p tables.last → ⊥
   comb_not_last K k p s bits value x =
       let b = is.tabled.behind p x in
       let below = asked.settled_signals b.1 b.0 b.6.settles b.6.drives in
@@ -180,12 +180,12 @@ module _ (d : Design) (h : Habit) (dump : BoundDump) (run : Runs) (tables : Tabl
       distinct_apart tables.order tables.last (distinct_right tables.clocked (tables.order ++ tables.last) is.tabled.once) b.1 (k.order b.0 known.0 known.1 b.3 b.1 b.6) b.4
 
   -- the Assigns of a net whose value is known are in the order
-  net_order : (K : Known) → IsPlaced K → (s : ℕ) (bits : List Bit) → IsNetValue d K s bits → (q : ℕ) → Drives d q s → In q tables.order
+  net_order : (K : PartialMap) → IsPlaced K → (s : ℕ) (bits : List Bit) → IsNetValue d K s bits → (q : ℕ) → Drives d q s → In q tables.order
   net_order K k s bits net q drives' =
       let is_a = net_driver s net.is_signal net.driven q drives'.drives in
-      in_order q (drives'.is_process, drives'.settles) (not_last K k q is_a (net.told q (and_from (is_assign (process_at d q)) _ is_a drives'.drives)))
+      in_order q (drives'.is_process, drives'.settles) (not_last K k q is_a (net.within q (and_from (is_assign (process_at d q)) _ is_a drives'.drives)))
 
-  placed_next : (K : Known) → IsPlaced K → (s : ℕ) (bits : List Bit) → IsClearBy d h dump now start K (a_signal s) bits → dump.bound s ≡ false → (q : ℕ) → Drives d q s → In q tables.order
+  placed_next : (K : PartialMap) → IsPlaced K → (s : ℕ) (bits : List Bit) → IsClearBy d h dump now start K (a_signal s) bits → dump.bound s ≡ false → (q : ℕ) → Drives d q s → In q tables.order
   placed_next K k s bits (of_dump z bits' shown bound below e) free q drives = absurd (both_ways _ free bound)
   placed_next K k s bits (of_assigns z bits' unbound net) free q drives' = net_order K k s bits net q drives'
   placed_next K k s bits (of_comb p z bits' unbound value) free q drives' =
@@ -225,10 +225,10 @@ module _ (d : Design) (h : Habit) (dump : BoundDump) (run : Runs) (tables : Tabl
   mentions_all p = execute_reads (λ q. body_mentions q (body_at d p) ≡ true) d (body_at d p) (λ q f. f) (execution_start v0) tt
 
   -- a net
-  module _ (K : Known) (k : IsPlaced K) where
-    assign_told : (p : ℕ) → is_assign (process_at d p) ≡ true → IsTold d K (body_at d p) → IsTold d (sure_in d (made_kept d dump.bound p final)) (body_at d p)
+  module _ (K : PartialMap) (k : IsPlaced K) where
+    assign_told : (p : ℕ) → is_assign (process_at d p) ≡ true → ReadsWithin d K (body_at d p) → ReadsWithin d (sure_in d (made_kept d dump.bound p final)) (body_at d p)
     assign_told p is_a told =
-        told_by d (sure_in d (made_kept d dump.bound p final)) (body_at d p) v0 (made_agrees p) (inside_as K (sure_in d (made_kept d dump.bound p final)) (execution d (body_at d p) v0).visits has (told v0 (agrees K k)))
+        within_by d (sure_in d (made_kept d dump.bound p final)) (body_at d p) v0 (made_agrees p) (inside_as K (sure_in d (made_kept d dump.bound p final)) (execution d (body_at d p) v0).visits has (told v0 (agrees K k)))
       where
         own : (x : Thing) (bits : List Bit) → In (reads x false) (execution d (body_at d p) v0).visits → K x bits → (body_assigns (owner x) (body_at d p) && (is_comb (process_at d p) || not (dump.bound (owner x)))) ≡ false
         own (a_signal s) bits read known =
@@ -259,7 +259,7 @@ module _ (d : Design) (h : Habit) (dump : BoundDump) (run : Runs) (tables : Tabl
         -- a bit that an Assign of s writes is made
         makes_it : (j : ℕ) → is_assign (process_at d j) ≡ true → body_assigns s (body_at d j) ≡ true → (c : Cell) → c.thing ≡ s → has_cell (execution d (body_at d j) v0).blocking c ≡ true → final c ≡ Some (put_all v0 (execution d (body_at d j) v0).blocking c)
         makes_it j is_a mine c on has =
-            made j (known j is_a mine) (λ y. absurd (comb_not_assign (process_at d j) y (is_assign-from (process_at d j) is_a))) v0 (made_agrees j) (assign_told j is_a (net.told j (and_from (is_assign (process_at d j)) _ is_a mine))) c (has_blocking j v0 c has)
+            made j (known j is_a mine) (λ y. absurd (comb_not_assign (process_at d j) y (is_assign-from (process_at d j) is_a))) v0 (made_agrees j) (assign_told j is_a (net.within j (and_from (is_assign (process_at d j)) _ is_a mine))) c (has_blocking j v0 c has)
             ∙ ap Some (settled_writes j (assign_settles (process_at d j) is_a) v0 v0 c)
 
         each : (c : Cell) → In c (signal_cells d s) → final c ≡ Some (v0 c)
@@ -320,10 +320,10 @@ module _ (d : Design) (h : Habit) (dump : BoundDump) (run : Runs) (tables : Tabl
         own (a_word m i) bits' read known =
             false_from_ne_true _ (λ mine. omega (arith, asked.settled_signals p m (comb_not_clocked (process_at d p) value.is_comb) mine, k.words m i bits' known))
 
-        told : IsTold d (sure_in d (made_kept d dump.bound p final)) (body_at d p)
+        told : ReadsWithin d (sure_in d (made_kept d dump.bound p final)) (body_at d p)
         told =
-            told_by d (sure_in d (made_kept d dump.bound p final)) (body_at d p) v0 (made_agrees p)
-            (inside_as K (sure_in d (made_kept d dump.bound p final)) (execution d (body_at d p) v0).visits (λ x read v. (v.0, made_same p x v.0 (and_left _ _ (own x v.0 read v.1)) (k.sure x v.0 v.1))) (value.told v0 (agrees K k)))
+            within_by d (sure_in d (made_kept d dump.bound p final)) (body_at d p) v0 (made_agrees p)
+            (inside_as K (sure_in d (made_kept d dump.bound p final)) (execution d (body_at d p) v0).visits (λ x read v. (v.0, made_same p x v.0 (and_left _ _ (own x v.0 read v.1)) (k.sure x v.0 v.1))) (value.within v0 (agrees K k)))
 
         each : (c : Cell) → In c (signal_cells d s) → final c ≡ Some (put_all v0 (execution d (body_at d p) v0).blocking c)
         each c inside =

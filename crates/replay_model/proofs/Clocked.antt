@@ -19,7 +19,7 @@ use Rattle.design_model.specs.Lawful.{IsLawfulDesign}
 use Rattle.design_model.proofs.Assigns.{machine_lawful}
 use Rattle.design_model.proofs.Lawful.{edge_one}
 use Rattle.design_model.proofs.Named.{WritesCell-halves}
-use Rattle.design_model.proofs.Told.{put_append, put_same}
+use Rattle.design_model.proofs.WithinMap.{put_append, put_same}
 use Rattle.design_model.proofs.Untouched.{put_other}
 use Rattle.design_model.specs.StepLaws.{CleanEvaluation, StepFacts}
 use Rattle.body_replay.specs.Contract.{Arises, Outcome, acts, all_written, applies, clean, flushed, same, weak}

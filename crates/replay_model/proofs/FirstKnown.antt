@@ -12,13 +12,13 @@ use Rattle.design_model.specs.Mentions.{blocking_target, body_assigns, body_ment
 use Rattle.design_model.specs.Execution.{execution, execution_start}
 use Rattle.design_model.specs.Machine.{is_level}
 use Rattle.design_model.specs.Shows.{BoundDump, IsFirst, IsFirstOf, IsWindow, IsWindowOf}
-use Rattle.design_model.specs.Reads.{Agrees, IsTold, Known}
+use Rattle.design_model.specs.Reads.{Agrees, ReadsWithin, PartialMap}
 use Rattle.design_model.specs.Clear.{HasChanged, IsNetValue, clear, clear_from, clear_in, clear_start}
 use Rattle.design_model.proofs.Assigns.{machine_lawful}
 use Rattle.design_model.proofs.Lawful.{any_gives, may_any, place_from}
 use Rattle.design_model.proofs.Mentions.{execute_reads}
 use Rattle.design_model.proofs.Named.{WritesCell-from}
-use Rattle.design_model.proofs.Told.{put_covered, told_blocking, told_by, told_nonblocking}
+use Rattle.design_model.proofs.WithinMap.{put_covered, within_blocking, within_by, within_nonblocking}
 use Rattle.replay_model.proofs.AskedLaws.{AskedLaws, asked_of}
 use Rattle.body_replay.specs.Contract.{all_written, quiet, sure_in}
 use Rattle.body_replay.specs.Runs.{Runs}
@@ -234,9 +234,9 @@ module _ (d : Design) (h : Habit) (dump : BoundDump) (run : Runs) (tables : Tabl
                 (λ g. absurd (both_ways _ free (and_from (body_assigns c.thing (body_at d p)) _ (blocks_assigns c.thing (body_at d p) (blocks_from d p c f)) (or_right (is_comb (process_at d p)) _ (not_from_false _ (makes_unbound p c (and_from (blocking_target d (body_at d p) c) _ f (not_from_false _ g))))))))
                 (cases_Bool (is_dumped d dump.bound c))
 
-    met_told : IsTold d (sure_in d (made_kept d dump.bound p final)) (body_at d p) → IsTold d (sure_in d wk.kept) (body_at d p)
+    met_told : ReadsWithin d (sure_in d (made_kept d dump.bound p final)) (body_at d p) → ReadsWithin d (sure_in d wk.kept) (body_at d p)
     met_told told =
-        told_by d (sure_in d wk.kept) (body_at d p) (sample final) met_agrees
+        within_by d (sure_in d wk.kept) (body_at d p) (sample final) met_agrees
         (inside_as (sure_in d (made_kept d dump.bound p final)) (sure_in d wk.kept) (execution d (body_at d p) (sample final)).visits
         (λ x read v. (v.0, met_sure x v.0 (read_in (λ q. body_mentions q (body_at d p) ≡ true) _ x (execute_reads (λ q. body_mentions q (body_at d p) ≡ true) d (body_at d p) (λ q f. f) (execution_start (sample final)) tt) read) v.1)) (told (sample final) (first_agrees p)))
 
@@ -259,8 +259,8 @@ module _ (d : Design) (h : Habit) (dump : BoundDump) (run : Runs) (tables : Tabl
 
         same : all_written d (body_at d p) (sample final) ≡ all_written d (body_at d p) v
         same =
-            ap (λ z. z ++ join (execution d (body_at d p) (sample final)).nonblocking) (told_blocking d (sure_in d (made_kept d dump.bound p final)) (body_at d p) (sample final) v (first_agrees p) agrees all_inside)
-            ∙ ap (λ z. (execution d (body_at d p) v).blocking ++ join z) (told_nonblocking d (sure_in d (made_kept d dump.bound p final)) (body_at d p) (sample final) v (first_agrees p) agrees all_inside)
+            ap (λ z. z ++ join (execution d (body_at d p) (sample final)).nonblocking) (within_blocking d (sure_in d (made_kept d dump.bound p final)) (body_at d p) (sample final) v (first_agrees p) agrees all_inside)
+            ∙ ap (λ z. (execution d (body_at d p) v).blocking ++ join z) (within_nonblocking d (sure_in d (made_kept d dump.bound p final)) (body_at d p) (sample final) v (first_agrees p) agrees all_inside)
 
         leaves : (run p (first_store d dump.bound run tables (dump.values t) wk.kept) quiet).kept c ≡ Some (put_all v (all_written d (body_at d p) v) c)
         leaves =

@@ -13,22 +13,22 @@ use Rattle.design_model.specs.Design.{Design, Thing, cells, memory_at}
 use Rattle.design_model.specs.Value.{head, named_word, value}
 use Rattle.design_model.specs.Execution.{Visit, at_line, at_node, reads, visits_of, writes_word}
 use Rattle.design_model.specs.Paths.{Action, Path, assigns, compares, reaches, selects, tests}
-use Rattle.design_model.specs.Reads.{Agrees, AllInside, IsInside, IsTold, Known, UpToOutside, VisitsFrom}
+use Rattle.design_model.specs.Reads.{Agrees, AllInside, IsInside, ReadsWithin, PartialMap, UpToOutside, VisitsFrom}
 use Rattle.design_model.specs.Open.{ActionOnWord, AreAsked, Asked, FollowsAll, FollowsFixed, IsFixed, IsNode, IsOpen, IsOpenPath, IsSurelyOpen, MayBeAsked, NamesWord, OnEachPath, OnSomePath, asks, is_true, outer}
 use Rattle.design_model.proofs.Agree.{value_same}
 use Rattle.design_model.proofs.Prefix.{visits_on_all}
-use Rattle.design_model.proofs.Told.{inside_outer}
+use Rattle.design_model.proofs.WithinMap.{inside_outer}
 use Rattle.body_replay.specs.Contract.{sure_in}
 use Rattle.body_replay.specs.Store.{Kept}
 
 -- the first map has no other values than the second
-abbrev pub Within : Known → Known → Type 0
+abbrev pub Within : PartialMap → PartialMap → Type 0
 Within K L = (x : Thing) (bits : List Bit) → K x bits → L x bits
 
-pub within_agrees : (d : Design) (K L : Known) → Within K L → (v : Values Bit) → Agrees d L v → Agrees d K v
+pub within_agrees : (d : Design) (K L : PartialMap) → Within K L → (v : Values Bit) → Agrees d L v → Agrees d K v
 within_agrees d K L w v a x bits k = a x bits (w x bits k)
 
-pub within_inside : (K L : Known) → Within K L → (xs : List Visit) → AllInside K xs → AllInside L xs
+pub within_inside : (K L : PartialMap) → Within K L → (xs : List Visit) → AllInside K xs → AllInside L xs
 within_inside K L w [] a = tt
 within_inside K L w (at_line n ∷ xs) a = (tt, within_inside K L w xs a.1)
 within_inside K L w (at_node n c ∷ xs) a = (tt, within_inside K L w xs a.1)
@@ -36,17 +36,17 @@ within_inside K L w (writes_word m i ∷ xs) a = (tt, within_inside K L w xs a.1
 within_inside K L w (reads x true ∷ xs) a = (tt, within_inside K L w xs a.1)
 within_inside K L w (reads x false ∷ xs) a = ((a.0.0, w x a.0.0 a.0.1), within_inside K L w xs a.1)
 
-pub within_told : (d : Design) (K L : Known) (b : Stmt) → Within K L → IsTold d K b → IsTold d L b
-within_told d K L b w told v a = within_inside K L w _ (told v (within_agrees d K L w v a))
+pub reads_within : (d : Design) (K L : PartialMap) (b : Stmt) → Within K L → ReadsWithin d K b → ReadsWithin d L b
+reads_within d K L b w told v a = within_inside K L w _ (told v (within_agrees d K L w v a))
 
-inside_more : (K L : Known) → Within K L → (y : Visit) → IsInside K y → IsInside L y
+inside_more : (K L : PartialMap) → Within K L → (y : Visit) → IsInside K y → IsInside L y
 inside_more K L w (at_line n) h = tt
 inside_more K L w (at_node n c) h = tt
 inside_more K L w (writes_word m i) h = tt
 inside_more K L w (reads x true) h = tt
 inside_more K L w (reads x false) h = (h.0, w x h.0 h.1)
 
-upto_more : (K L : Known) → Within K L → (y : Visit) (xs : List Visit) → UpToOutside K y xs → UpToOutside L y xs
+upto_more : (K L : PartialMap) → Within K L → (y : Visit) (xs : List Visit) → UpToOutside K y xs → UpToOutside L y xs
 upto_more K L w y [] h = h
 upto_more K L w y (x ∷ xs) (inl e) = inl e
 upto_more K L w y (x ∷ xs) (inr h) = inr (inside_more K L w x h.0, upto_more K L w y xs h.1)
@@ -77,17 +77,17 @@ pub sample_agrees : (d : Design) (k : Kept) → Agrees d (sure_in d k) (sample k
 sample_agrees d k x bits e = sample_bits k (cells d x) bits e
 
 -- a larger map, with which some state agrees
-module _ (d : Design) (K L : Known) (w : Within K L) (v0 : Values Bit) (a0 : Agrees d L v0) (b : Stmt) where
+module _ (d : Design) (K L : PartialMap) (w : Within K L) (v0 : Values Bit) (a0 : Agrees d L v0) (b : Stmt) where
   pub visits_more : (y : Visit) → VisitsFrom d K b y → VisitsFrom d L b y
   visits_more y from = (v0, a0, upto_more K L w y _ (visits_on_all d K b y from v0 (within_agrees d K L w v0 a0)))
 
   pub fixed_more : (t : Term) → IsFixed d K b t → IsFixed d L b t
-  fixed_more t f = record { told = λ v a. within_inside K L w (visits_of d v outer t) (f.told v (within_agrees d K L w v a)); unwritten = f.unwritten }
+  fixed_more t f = record { within = λ v a. within_inside K L w (visits_of d v outer t) (f.within v (within_agrees d K L w v a)); unwritten = f.unwritten }
 
   -- the value of a term that is fixed is one
   pub fixed_value : (t : Term) → IsFixed d K b t → (v : Values Bit) → Agrees d K v → value d v0 t ≡ value d v t
   fixed_value t f v a =
-      value_same d v0 v outer (λ x e. absurd (Rattle.std.proofs.lemmas.Bool.both_ways false refl e)) t (inside_outer d K v0 v (within_agrees d K L w v0 a0) a (visits_of d v0 outer t) (f.told v0 (within_agrees d K L w v0 a0)))
+      value_same d v0 v outer (λ x e. absurd (Rattle.std.proofs.lemmas.Bool.both_ways false refl e)) t (inside_outer d K v0 v (within_agrees d K L w v0 a0) a (visits_of d v0 outer t) (f.within v0 (within_agrees d K L w v0 a0)))
 
   follows_less : (x : Action) → FollowsFixed d L b x → FollowsFixed d K b x
   follows_less (reaches n) f = tt

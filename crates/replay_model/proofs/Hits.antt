@@ -30,27 +30,27 @@ use Rattle.body_replay.specs.Replay.{Spot, Visited, line, node, spot_of, word_re
 use Rattle.body_replay.specs.Runs.{HasDoubtNote, Runs}
 use Rattle.body_replay.specs.Store.{Kept}
 use Rattle.replay_model.specs.Tables.{Tables}
-use Rattle.replay_model.specs.Marks.{Told, all_told_by, of_process}
+use Rattle.replay_model.specs.Marks.{Marking, markings_by, of_process}
 use Rattle.replay_model.specs.Step.{Closing, certainty, certainty_from, first_unsure, has_changed, is_still, not_assigned}
 use Rattle.replay_model.specs.Laws.{IsReplayOf}
 
 -- a note of a run as it is told
-pub told_hit : (p : ℕ) (ns : List Note) (n : Told) → In n (all_told_by p ns) → n.doubt ≡ None → (x : Spot) × (n.key ≡ of_process p x) × HasHitNote x ns
+pub told_hit : (p : ℕ) (ns : List Note) (n : Marking) → In n (markings_by p ns) → n.doubt ≡ None → (x : Spot) × (n.key ≡ of_process p x) × HasHitNote x ns
 told_hit p [] n h e = absurd h
 told_hit p (m ∷ ns) n (inl q) e = (m.spot, ap (λ z. z.key) (sym q), inl (refl, ap (λ z. z.doubt) q ∙ e))
 told_hit p (m ∷ ns) n (inr h) e = let r = told_hit p ns n h e in (r.0, r.1, inr r.2)
 
-pub hit_told : (p : ℕ) (ns : List Note) (x : Spot) → HasHitNote x ns → (n : Told) × In n (all_told_by p ns) × (n.key ≡ of_process p x) × (n.doubt ≡ None)
+pub hit_told : (p : ℕ) (ns : List Note) (x : Spot) → HasHitNote x ns → (n : Marking) × In n (markings_by p ns) × (n.key ≡ of_process p x) × (n.doubt ≡ None)
 hit_told p [] x h = absurd h
 hit_told p (m ∷ ns) x (inl q) = (record { key = of_process p m.spot; doubt = m.doubt }, inl refl, ap (of_process p) q.0, q.1)
 hit_told p (m ∷ ns) x (inr h) = let r = hit_told p ns x h in (r.0, inr r.1, r.2, r.3)
 
-pub told_doubt : (p : ℕ) (ns : List Note) (n : Told) (y : Doubted) → In n (all_told_by p ns) → n.doubt ≡ Some y → (x : Spot) × (n.key ≡ of_process p x) × HasDoubtNote x y ns
+pub told_doubt : (p : ℕ) (ns : List Note) (n : Marking) (y : Doubted) → In n (markings_by p ns) → n.doubt ≡ Some y → (x : Spot) × (n.key ≡ of_process p x) × HasDoubtNote x y ns
 told_doubt p [] n y h e = absurd h
 told_doubt p (m ∷ ns) n y (inl q) e = (m.spot, ap (λ z. z.key) (sym q), inl (refl, ap (λ z. z.doubt) q ∙ e))
 told_doubt p (m ∷ ns) n y (inr h) e = let r = told_doubt p ns n y h e in (r.0, r.1, inr r.2)
 
-pub doubt_told : (p : ℕ) (ns : List Note) (x : Spot) (y : Doubted) → HasDoubtNote x y ns → (n : Told) × In n (all_told_by p ns) × (n.key ≡ of_process p x) × (n.doubt ≡ Some y)
+pub doubt_told : (p : ℕ) (ns : List Note) (x : Spot) (y : Doubted) → HasDoubtNote x y ns → (n : Marking) × In n (markings_by p ns) × (n.key ≡ of_process p x) × (n.doubt ≡ Some y)
 doubt_told p [] x y h = absurd h
 doubt_told p (m ∷ ns) x y (inl q) = (record { key = of_process p m.spot; doubt = m.doubt }, inl refl, ap (of_process p) q.0, q.1)
 doubt_told p (m ∷ ns) x y (inr h) = let r = doubt_told p ns x y h in (r.0, inr r.1, r.2, r.3)

@@ -12,11 +12,11 @@ use Rattle.design_model.specs.Mentions.{blocking_target, body_assigns, body_ment
 use Rattle.design_model.specs.Execution.{execution, execution_start}
 use Rattle.design_model.specs.Machine.{is_level, machine}
 use Rattle.design_model.specs.Shows.{BoundDump}
-use Rattle.design_model.specs.Reads.{Agrees, IsTold, Known}
+use Rattle.design_model.specs.Reads.{Agrees, ReadsWithin, PartialMap}
 use Rattle.design_model.proofs.Assigns.{machine_lawful}
 use Rattle.design_model.proofs.Mentions.{execute_reads}
 use Rattle.design_model.proofs.Named.{WritesCell-from}
-use Rattle.design_model.proofs.Told.{put_covered, told_blocking, told_by, told_nonblocking}
+use Rattle.design_model.proofs.WithinMap.{put_covered, within_blocking, within_by, within_nonblocking}
 use Rattle.body_replay.specs.Contract.{Outcome, all_written, sure_in}
 use Rattle.body_replay.specs.Replay.{flush}
 use Rattle.body_replay.specs.Runs.{Runs}
@@ -107,9 +107,9 @@ module _ (d : Design) (h : Habit) (early_law : EarlyLaw (machine d)) (dump : Bou
   made_is p k x bits e c inside = ⊎_elim (λ f. absurd (sure_bit (made_kept d dump.bound p k) (cells d x) bits e c inside (at_true (λ z. z ≡ None) _ None (k c) f refl))) (λ f. (f, at_false (λ z. z ≡ k c) _ None (k c) f refl)) (cases_Bool (body_assigns c.thing (body_at d p) && (is_comb (process_at d p) || not (dump.bound c.thing))))
 
   -- the writes of an execution on what is told
-  pub same_all : (K : Known) (p : ℕ) (u v : Values Bit) → Agrees d K u → Agrees d K v → IsTold d K (body_at d p) → all_written d (body_at d p) u ≡ all_written d (body_at d p) v
+  pub same_all : (K : PartialMap) (p : ℕ) (u v : Values Bit) → Agrees d K u → Agrees d K v → ReadsWithin d K (body_at d p) → all_written d (body_at d p) u ≡ all_written d (body_at d p) v
   same_all K p u v au av told =
-      ap (λ z. z ++ join (execution d (body_at d p) u).nonblocking) (told_blocking d K (body_at d p) u v au av (told u au)) ∙ ap (λ z. (execution d (body_at d p) v).blocking ++ join z) (told_nonblocking d K (body_at d p) u v au av (told u au))
+      ap (λ z. z ++ join (execution d (body_at d p) u).nonblocking) (within_blocking d K (body_at d p) u v au av (told u au)) ∙ ap (λ z. (execution d (body_at d p) v).blocking ++ join z) (within_nonblocking d K (body_at d p) u v au av (told u au))
 
   module _ (p : ℕ) (settles : IsClocked (process_at d p) → ⊥) where
     -- what it writes is a target of its
@@ -220,9 +220,9 @@ module _ (d : Design) (h : Habit) (early_law : EarlyLaw (machine d)) (dump : Bou
           same : all_written d (body_at d p) (sample final) ≡ all_written d (body_at d p) v
           same = same_all (sure_in d (made_kept d dump.bound p final)) p (sample final) v (made_agrees p final) agrees told
 
-          met_told : IsTold d (sure_in d (settled_kept d p wk.kept)) (body_at d p)
+          met_told : ReadsWithin d (sure_in d (settled_kept d p wk.kept)) (body_at d p)
           met_told =
-              told_by d (sure_in d (settled_kept d p wk.kept)) (body_at d p) (sample final) met_agrees
+              within_by d (sure_in d (settled_kept d p wk.kept)) (body_at d p) (sample final) met_agrees
               (inside_as (sure_in d (made_kept d dump.bound p final)) (sure_in d (settled_kept d p wk.kept)) (execution d (body_at d p) (sample final)).visits
               (λ x read v. (v.0, met_sure x v.0 (read_in (λ q. body_mentions q (body_at d p) ≡ true) _ x (execute_reads (λ q. body_mentions q (body_at d p) ≡ true) d (body_at d p) (λ q f. f) (execution_start (sample final)) tt) read) v.1)) (told (sample final) (made_agrees p final)))
 

@@ -13,12 +13,12 @@ use Rattle.design_model.specs.Mentions.{blocking_target, body_assigns, body_ment
 use Rattle.design_model.specs.Execution.{execution, execution_start}
 use Rattle.design_model.specs.Machine.{is_level, machine}
 use Rattle.design_model.specs.Shows.{BoundDump, IsListed, IsWindow}
-use Rattle.design_model.specs.Reads.{Agrees, IsTold}
+use Rattle.design_model.specs.Reads.{Agrees, ReadsWithin}
 use Rattle.design_model.specs.Clear.{HasChanged, clear}
 use Rattle.design_model.proofs.Assigns.{machine_lawful}
 use Rattle.design_model.proofs.Lawful.{same_bit_is}
 use Rattle.design_model.proofs.Mentions.{execute_reads}
-use Rattle.design_model.proofs.Told.{put_covered, told_by}
+use Rattle.design_model.proofs.WithinMap.{put_covered, within_by}
 use Rattle.design_model.proofs.Toggles.{window_shown_at}
 use Rattle.replay_model.proofs.AskedLaws.{AskedLaws}
 use Rattle.body_replay.specs.Contract.{all_written, sure_in}
@@ -144,9 +144,9 @@ module _ (h : Habit) (d : Design) (dump : BoundDump) (run : Runs) (tables : Tabl
             same_writes d (body_at d p) mixed (sample final) mixed_final
             ∙ same_all d h (early_law (machine d)) dump run tables points is t sets are a (sure_in d (made_kept d dump.bound p final)) p (sample final) v (made_agrees d h (early_law (machine d)) dump run tables points is t sets are a p final) agrees told
 
-        mixed_told : IsTold d (sure_in d (made_kept d dump.bound p a.kept)) (body_at d p)
+        mixed_told : ReadsWithin d (sure_in d (made_kept d dump.bound p a.kept)) (body_at d p)
         mixed_told =
-            told_by d (sure_in d (made_kept d dump.bound p a.kept)) (body_at d p) mixed mixed_agrees
+            within_by d (sure_in d (made_kept d dump.bound p a.kept)) (body_at d p) mixed mixed_agrees
             (subst (Rattle.design_model.specs.Reads.AllInside (sure_in d (made_kept d dump.bound p a.kept))) (sym (same_visits d (body_at d p) mixed (sample final) mixed_final))
             (inside_as (sure_in d (made_kept d dump.bound p final)) (sure_in d (made_kept d dump.bound p a.kept)) (execution d (body_at d p) (sample final)).visits
             (λ x read v. (v.0, map_same (made_kept d dump.bound p a.kept) (made_kept d dump.bound p final) (cells d x) (λ c inside. sym (kept_same x (read_in (λ q. body_mentions q (body_at d p) ≡ true) _ x (execute_reads (λ q. body_mentions q (body_at d p) ≡ true) d (body_at d p) (λ q f. f) (execution_start (sample final)) tt) read) c inside)) ∙ v.1))

@@ -18,12 +18,12 @@ use Rattle.design_model.proofs.Toggles.{window_shown_at}
 use Rattle.body_replay.specs.Contract.{Doubted, sure_in}
 use Rattle.body_replay.specs.Runs.{Runs}
 use Rattle.replay_model.specs.Tables.{Tables}
-use Rattle.replay_model.specs.Marks.{IsToldDoubt, IsToldHit, Told}
+use Rattle.replay_model.specs.Marks.{IsDoubtMarked, IsHitMarked, Marking}
 use Rattle.replay_model.specs.Step.{Replay, all_run, contradicts, is_comb, is_dumped, is_touched}
 use Rattle.replay_model.specs.Sets.{AreSets, Sets}
-use Rattle.replay_model.specs.Stands.{AreKnown, AreTold, IsMade}
+use Rattle.replay_model.specs.Stands.{AreKnown, AreReasoned, IsMade}
 use Rattle.replay_model.proofs.AskedLaws.{AskedLaws, asked_of}
-use Rattle.replay_model.specs.Laws.{IsReplayOf, ReasonedVerdictLaw, RestForcedLaw, RestKnownLaw, RestToldLaw, StepKnownLaw, StepToldLaw, closed_at, closing_at}
+use Rattle.replay_model.specs.Laws.{IsReplayOf, ReasonedVerdictLaw, RestForcedLaw, RestKnownLaw, RestReasonedLaw, StepKnownLaw, StepReasonedLaw, closed_at, closing_at}
 use Rattle.replay_model.proofs.Bits.{in_left}
 use Rattle.replay_model.proofs.Calm.{calm_dumped}
 use Rattle.replay_model.proofs.ClearClocked.{unwoken_sure, written_sure}
@@ -68,24 +68,24 @@ step_known h d dump run tables points is asked t sets a window listed are known 
         rested untouched =
             made_untouched h d dump run tables points is asked t sets a window listed are known.is_clear agreed p settles untouched (known.made p inside (λ c. sym (untouched_acted h d dump run tables points is asked t sets a window listed are known.is_clear agreed p untouched) ∙ acted c))
 
-step_told :
+step_reasoned :
     (h : Habit)
     → (d : Design) (dump : BoundDump) (run : Runs) (tables : Tables) (points : List Point) → IsReplayOf d h dump run tables points → AskedLaws d
     → (t : ℕ) (sets : Sets) (a : Replay) → IsWindow dump (suc t) → IsListed dump (suc t) → AreSets d h dump (suc t) sets
-    → AreKnown d h dump tables t a → ((c : Cell) → contradicts (closing_at d dump run tables sets t a) c ≡ false) → AreTold d h dump t a
-    → AreTold d h dump (suc t) (closed_at d dump run tables points sets t a)
-step_told h d dump run tables points is asked t sets a window listed are known agreed told =
+    → AreKnown d h dump tables t a → ((c : Cell) → contradicts (closing_at d dump run tables sets t a) c ≡ false) → AreReasoned d h dump t a
+    → AreReasoned d h dump (suc t) (closed_at d dump run tables points sets t a)
+step_reasoned h d dump run tables points is asked t sets a window listed are known agreed reasoned =
     record {
-      doubts = λ x y now. ⊎_elim (λ old. let k = told.doubts x y old in (k.0, omega (arith, k.1), k.2)) (λ n. (subst (IsWindow dump) (sym n.0) window, omega (arith, n.0), subst (λ u. Rattle.design_model.specs.Doubt.IsInDoubt d h dump x u y.thing) (sym n.0) n.1))
+      doubts = λ x y now. ⊎_elim (λ old. let k = reasoned.doubts x y old in (k.0, omega (arith, k.1), k.2)) (λ n. (subst (IsWindow dump) (sym n.0) window, omega (arith, n.0), subst (λ u. Rattle.design_model.specs.Doubt.IsInDoubt d h dump x u y.thing) (sym n.0) n.1))
           (doubt_step d h (early_law (machine d)) dump run tables points is asked t window listed sets are a known.is_clear at_end x y now);
       reached = λ u p x le reached. ⊎_elim (λ e. reached_step d h (early_law (machine d)) dump run tables points is asked t window listed sets are a known.is_clear at_end (calm_dumped h d dump run tables points is asked t sets a window listed are known.is_clear agreed) p x (subst (λ z. Rattle.design_model.specs.Open.IsReached d h dump z p x) e reached))
-          (λ differ. keep x (told.reached u p x (omega (arith, le, differ)) reached)) (cases_eq u (suc t));
+          (λ differ. keep x (reasoned.reached u p x (omega (arith, le, differ)) reached)) (cases_eq u (suc t));
     }
   where
     at_end : (x : Thing) (bits : List Bit) → clear d h dump (suc t) x bits → sure_in d (all_run (closing_at d dump run tables sets t a)).kept x bits
     at_end = (step_known h d dump run tables points is asked t sets a window listed are known agreed).is_clear
 
-    keep : (x : Point) → IsToldHit d x a.notes → IsToldHit d x (closed_at d dump run tables points sets t a).notes
+    keep : (x : Point) → IsHitMarked d x a.notes → IsHitMarked d x (closed_at d dump run tables points sets t a).notes
     keep x old =
         let n = hit_in d x a.notes old in
         in_hit d x (closed_at d dump run tables points sets t a).notes n.0 (in_left n.0 (all_run (closing_at d dump run tables sets t a)).notes (Rattle.replay_model.specs.Step.all_point_notes (closing_at d dump run tables sets t a) points) (kept_told d h (early_law (machine d)) dump run tables points is asked t window listed sets are a known.is_clear at_end n.0 n.1)) n.2 n.3
@@ -109,11 +109,11 @@ module _ (d : Design) (h : Habit) (dump : BoundDump) (run : Runs) (tables : Tabl
   none_clean : (p : ℕ) (c : Cell) → IsCleanAt d dump (suc t) p c → ⊥
   none_clean p c clean = none_moves c.thing clean.can_wake.1
 
-pub rest_told_law : RestToldLaw
-rest_told_law d h dump run tables points is t a window unlisted told =
+pub rest_reasoned_law : RestReasonedLaw
+rest_reasoned_law d h dump run tables points is t a window unlisted reasoned =
     record {
-      doubts = λ x y old. let k = told.doubts x y old in (k.0, omega (arith, k.1), k.2);
-      reached = λ u p x le reached. ⊎_elim (λ e. absurd (none p x (subst (λ z. Rattle.design_model.specs.Open.IsReached d h dump z p x) e reached))) (λ differ. told.reached u p x (omega (arith, le, differ)) reached) (cases_eq u (suc t));
+      doubts = λ x y old. let k = reasoned.doubts x y old in (k.0, omega (arith, k.1), k.2);
+      reached = λ u p x le reached. ⊎_elim (λ e. absurd (none p x (subst (λ z. Rattle.design_model.specs.Open.IsReached d h dump z p x) e reached))) (λ differ. reasoned.reached u p x (omega (arith, le, differ)) reached) (cases_eq u (suc t));
     }
   where
     none : (p : ℕ) (x : Point) → Rattle.design_model.specs.Open.IsReached d h dump (suc t) p x → ⊥
@@ -158,22 +158,22 @@ reasoned_verdict_law d h dump points t a ends shown sound told_all =
     record {
       doubted = λ x y verdict. let k = told_all.doubts x y (first_doubt x y verdict) in (k.0, k.2);
       decided = λ x y member verdict r is_run shows u window none hit.
-          ⊎_elim (λ told. verdict.0 told) (λ s. none s.0 (told_all.doubts x (record { time = u; thing = s.0 }) s.1).2) (sound.marked x member r (record { is_run = is_run; shows = record { starts = shows.starts; shows = λ v is_shown le. shows.shows v is_shown } }) u window (ends u window) hit);
+          ⊎_elim (λ reasoned. verdict.0 reasoned) (λ s. none s.0 (told_all.doubts x (record { time = u; thing = s.0 }) s.1).2) (sound.marked x member r (record { is_run = is_run; shows = record { starts = shows.starts; shows = λ v is_shown le. shows.shows v is_shown } }) u window (ends u window) hit);
       reached = λ u p x reached. told_all.reached u p x (ends u reached.0) reached;
     }
   where
-    in_middle : (before : List Told) (n : Told) (after : List Told) → In n (before ++ n ∷ after)
+    in_middle : (before : List Marking) (n : Marking) (after : List Marking) → In n (before ++ n ∷ after)
     in_middle [] n after = inl refl
     in_middle (m ∷ before) n after = inr (in_middle before n after)
 
-    first_doubt : (x : Point) (y : Doubted) → Rattle.replay_model.specs.Marks.IsVerdict d x a.notes (Rattle.replay_model.specs.Marks.Undetermined y) → IsToldDoubt d x y a.notes
+    first_doubt : (x : Point) (y : Doubted) → Rattle.replay_model.specs.Marks.IsVerdict d x a.notes (Rattle.replay_model.specs.Marks.Undetermined y) → IsDoubtMarked d x y a.notes
     first_doubt x y v = Rattle.replay_model.proofs.Trace.in_doubt d x y a.notes v.1.1 (subst (In v.1.1) (sym v.1.3) (in_middle v.1.0 v.1.1 v.1.2)) v.1.5 v.1.6
 
 pub step_known_law : (h : Habit) → StepKnownLaw h
 step_known_law h d dump run tables points is own = step_known h d dump run tables points is (asked_of d is.lawful own)
 
-pub step_told_law : (h : Habit) → StepToldLaw h
-step_told_law h d dump run tables points is own = step_told h d dump run tables points is (asked_of d is.lawful own)
+pub step_reasoned_law : (h : Habit) → StepReasonedLaw h
+step_reasoned_law h d dump run tables points is own = step_reasoned h d dump run tables points is (asked_of d is.lawful own)
 
 pub rest_known_law : RestKnownLaw
 rest_known_law d h dump run tables points is own = rest_known d h dump run tables points is (asked_of d is.lawful own)

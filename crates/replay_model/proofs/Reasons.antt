@@ -16,7 +16,7 @@ use Rattle.design_model.specs.Shows.{BoundDump, IsListed, IsWindow}
 use Rattle.design_model.specs.MayMove.{IsCleanAt}
 use Rattle.design_model.specs.Early.{IsEarlyAt}
 use Rattle.design_model.specs.Points.{IsBlock}
-use Rattle.design_model.specs.Reads.{IsTold, Known, ReadsFrom}
+use Rattle.design_model.specs.Reads.{ReadsWithin, PartialMap, ReadsFrom}
 use Rattle.design_model.specs.Clear.{EntryFrom, clear, clear_before}
 use Rattle.design_model.specs.Open.{IsOpenFor, IsSurelyOpen, IsVisitOf, KnownOnEntry, ReachesFrom}
 use Rattle.design_model.specs.Doubt.{BlockDoubt, IsInDoubt, of_block}
@@ -34,7 +34,7 @@ use Rattle.replay_model.specs.Step.{Closing, Replay}
 use Rattle.replay_model.specs.Laws.{IsReplayOf, closing_at}
 use Rattle.replay_model.proofs.Targets.{single_input}
 use Rattle.replay_model.proofs.Clocked.{at_false, at_true}
-use Rattle.replay_model.proofs.Grows.{Within, open_less, sample, sample_agrees, surely_more, visits_more, within_told}
+use Rattle.replay_model.proofs.Grows.{Within, open_less, sample, sample_agrees, surely_more, visits_more, reads_within}
 use Rattle.replay_model.proofs.Settling.{in_signal, in_word}
 use Rattle.replay_model.proofs.Trace.{CleanRun, WeakRun}
 
@@ -79,7 +79,7 @@ visit_spot (arc_point i name s from to old new) y is = absurd is
 visit_spot (word_point m k true) y is = (word_write m k, ap spot_of is, refl)
 visit_spot (word_point m k false) y is = (word_read m k, ap spot_of is.1, refl)
 
-pub surely_spot : (d : Design) (K : Known) (b : Rattle.design_model.specs.Tree.Stmt) (x : Point) → IsSurelyOpen d K b x → (s : Spot) × (spot_at x ≡ Some s)
+pub surely_spot : (d : Design) (K : PartialMap) (b : Rattle.design_model.specs.Tree.Stmt) (x : Point) → IsSurelyOpen d K b x → (s : Spot) × (spot_at x ≡ Some s)
 surely_spot d K b (line_point p n at w) is = (line n, refl)
 surely_spot d K b (logic_point p n at op c) is = (node n c, refl)
 surely_spot d K b (toggle_point s i rise) is = absurd is
@@ -157,8 +157,8 @@ module _ (d : Design) (h : Habit) (dump : BoundDump) (run : Runs) (tables : Tabl
         open_for : IsOpenFor d h dump (suc t) p x
         open_for = inl ((cell k.trigger 0, is_clean.can_wake), inr (open_less d (KnownOnEntry d h dump (suc t) p) (sure_in d (seen_of k.store)) entry_within (sample (seen_of k.store)) (sample_agrees d (seen_of k.store)) (body_at d p) x (is.runs.doubt_open p k.store (suc t) x s y spot (subst (HasDoubtNote s y) k.notes told))))
 
-        untold : IsTold d (KnownOnEntry d h dump (suc t) p) (body_at d p) → ⊥
-        untold f = is.runs.no_doubt p k.store (suc t) (sample (seen_of k.store), sample_agrees d (seen_of k.store)) (within_told d (KnownOnEntry d h dump (suc t) p) (sure_in d (seen_of k.store)) (body_at d p) entry_within f) s y (subst (HasDoubtNote s y) k.notes told)
+        untold : ReadsWithin d (KnownOnEntry d h dump (suc t) p) (body_at d p) → ⊥
+        untold f = is.runs.no_doubt p k.store (suc t) (sample (seen_of k.store), sample_agrees d (seen_of k.store)) (reads_within d (KnownOnEntry d h dump (suc t) p) (sure_in d (seen_of k.store)) (body_at d p) entry_within f) s y (subst (HasDoubtNote s y) k.notes told)
 
         thing : Thing
         thing = (is.runs.blames p k.store (suc t) s y (subst (HasDoubtNote s y) k.notes told)).1.0

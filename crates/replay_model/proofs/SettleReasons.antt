@@ -16,7 +16,7 @@ use Rattle.design_model.specs.Paths.{ReadsUnwritten, paths, reads_signal_unwritt
 use Rattle.design_model.specs.Machine.{is_level, machine}
 use Rattle.design_model.specs.Shows.{BoundDump, IsListed, IsShown, IsWindow}
 use Rattle.design_model.specs.Points.{IsBlock}
-use Rattle.design_model.specs.Reads.{IsTold}
+use Rattle.design_model.specs.Reads.{ReadsWithin}
 use Rattle.design_model.specs.Clear.{clear, clear_before, of_dump}
 use Rattle.design_model.specs.Open.{HasChangedWakeBit, IsOpen, IsOpenFor, KnownAtEnd, ReachesFrom}
 use Rattle.design_model.specs.Doubt.{BlockDoubt, IsInDoubt, IsUnclear, of_block}
@@ -36,7 +36,7 @@ use Rattle.replay_model.specs.Laws.{IsReplayOf, closing_at}
 use Rattle.replay_model.proofs.Bits.{any_in, in_any, in_halves, none_in}
 use Rattle.replay_model.proofs.Clocked.{at_false, at_true}
 use Rattle.replay_model.proofs.Existing.{all_has, signal_has}
-use Rattle.replay_model.proofs.Grows.{Within, open_less, sample, sample_agrees, surely_more, visits_more, within_told}
+use Rattle.replay_model.proofs.Grows.{Within, open_less, sample, sample_agrees, surely_more, visits_more, reads_within}
 use Rattle.replay_model.proofs.Hits.{Way, in_not_assigned, level_settles, still, sure, unsure, way_of}
 use Rattle.replay_model.proofs.Order.{MeetingRun, final_dumped}
 use Rattle.replay_model.proofs.Reasons.{in_owner, map_same, sure_bit, surely_spot, visit_spot}
@@ -202,7 +202,7 @@ module _ (d : Design) (h : Habit) (early_law : EarlyLaw (machine d)) (dump : Bou
     opens x open_here = inr (settles, open_less d (KnownAtEnd d h dump (suc t) p) (sure_in d (settled_kept d p met)) end_within (sample (settled_kept d p met)) (sample_agrees d (settled_kept d p met)) (body_at d p) x open_here)
 
     -- why a thing that is unsure as the body reads it is in doubt
-    module _ (y : ℕ) (b : IsUnsure d (settled_kept d p met) y) (bare : ReadsUnwritten d (body_at d p) y) (untold : IsTold d (KnownAtEnd d h dump (suc t) p) (body_at d p) → ⊥) where
+    module _ (y : ℕ) (b : IsUnsure d (settled_kept d p met) y) (bare : ReadsUnwritten d (body_at d p) y) (untold : ReadsWithin d (KnownAtEnd d h dump (suc t) p) (body_at d p) → ⊥) where
       mentioned : body_mentions y (body_at d p) ≡ true
       mentioned = asked.path_mentions p y bare
 
@@ -300,7 +300,7 @@ module _ (d : Design) (h : Habit) (early_law : EarlyLaw (machine d)) (dump : Bou
             let blame = is.runs.blames p (plain_store (settled_kept d p met)) (suc t) s y n in (
               blame.0,
               of_block p window block (opens x (is.runs.doubt_open p (plain_store (settled_kept d p met)) (suc t) x s y spot n))
-                  (why y.thing blame.1 blame.2 (λ g. is.runs.no_doubt p (plain_store (settled_kept d p met)) (suc t) (sample (settled_kept d p met), sample_agrees d (settled_kept d p met)) (within_told d (KnownAtEnd d h dump (suc t) p) (sure_in d (settled_kept d p met)) (body_at d p) end_within g) s y n)),
+                  (why y.thing blame.1 blame.2 (λ g. is.runs.no_doubt p (plain_store (settled_kept d p met)) (suc t) (sample (settled_kept d p met), sample_agrees d (settled_kept d p met)) (reads_within d (KnownAtEnd d h dump (suc t) p) (sure_in d (settled_kept d p met)) (body_at d p) end_within g) s y n)),
             )
         go (unsure z e g f) =
             let n = is.runs.perhaps_open p (plain_store (settled_kept d p met)) (suc t) z x s y spot (note (perhaps (suc t) z) f) in

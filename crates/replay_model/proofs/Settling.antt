@@ -11,14 +11,14 @@ use Rattle.design_model.specs.Tree.{Process, Stmt, assign, clocked, comb}
 use Rattle.design_model.specs.Design.{Design, In, IsClocked, IsComb, body, body_at, cell, is_assign, memory_at, owner, process_at, signal_at, signal_cells, thing_bits, word_cells}
 use Rattle.design_model.specs.Mentions.{blocking_target, body_assigns, body_mentions, body_queues}
 use Rattle.design_model.specs.Execution.{Visit, at_line, at_node, execution, execution_start, reads, writes_word}
-use Rattle.design_model.specs.Reads.{Agrees, AllInside, Known}
+use Rattle.design_model.specs.Reads.{Agrees, AllInside, PartialMap}
 use Rattle.design_model.specs.Machine.{is_level, machine}
 use Rattle.design_model.specs.Shows.{BoundDump, IsDumpOf}
 use Rattle.design_model.specs.Lawful.{IsLawfulDesign, target_once}
 use Rattle.design_model.proofs.Lawful.{any_weaker}
 use Rattle.design_model.proofs.Mentions.{AllReads, execute_reads}
 use Rattle.design_model.proofs.Sound.{cells_eq}
-use Rattle.design_model.proofs.Told.{execution_same, inside_outer, put_same, told_blocking, told_nonblocking}
+use Rattle.design_model.proofs.WithinMap.{execution_same, inside_outer, put_same, within_blocking, within_nonblocking}
 use Rattle.body_replay.specs.Contract.{Certainty, IsStrong, Outcome, all_written, clean, flushed}
 use Rattle.body_replay.specs.KnownBits.{Allows}
 use Rattle.body_replay.specs.Runs.{AreRuns, Runs}
@@ -34,7 +34,7 @@ use Rattle.replay_model.proofs.Clocked.{at_false, at_true}
 use Rattle.replay_model.proofs.Targets.{blocks_assigns, blocks_from, not_queueing}
 
 -- the values of what a body mentions
-abbrev pub Mentioned : Design → Stmt → Values Bit → Known
+abbrev pub Mentioned : Design → Stmt → Values Bit → PartialMap
 Mentioned d b v x bits = (body_mentions (owner x) b ≡ true) × (bits ≡ thing_bits d v x)
 
 all_mentioned : (d : Design) (b : Stmt) (v : Values Bit) (xs : List Visit) → AllReads (λ q. body_mentions q b ≡ true) xs → AllInside (Mentioned d b v) xs
@@ -60,7 +60,7 @@ module _ (d : Design) (b : Stmt) (u v : Values Bit) (agree : (c : Cell) → body
   same_visits = (execution_same d u v b (inside_outer d (Mentioned d b u) u v mine theirs _ inside)).visits
 
   pub same_writes : all_written d b u ≡ all_written d b v
-  same_writes = ap (λ z. z ++ join (execution d b u).nonblocking) (told_blocking d (Mentioned d b u) b u v mine theirs inside) ∙ ap (λ z. (execution d b v).blocking ++ join z) (told_nonblocking d (Mentioned d b u) b u v mine theirs inside)
+  same_writes = ap (λ z. z ++ join (execution d b u).nonblocking) (within_blocking d (Mentioned d b u) b u v mine theirs inside) ∙ ap (λ z. (execution d b v).blocking ++ join z) (within_nonblocking d (Mentioned d b u) b u v mine theirs inside)
 
 -- what an Assign or Comb mentions it is sensitive to
 pub level_mentioned : (x : Process) (y : ℕ) → (IsClocked x → ⊥) → body_mentions y (body x) ≡ true → is_level x y ≡ true

@@ -28,35 +28,35 @@ use Rattle.body_replay.specs.Runs.{Runs}
 use Rattle.body_replay.specs.Store.{AllowsState, Kept}
 use Rattle.replay_model.specs.Sets.{AreSets, Sets}
 use Rattle.replay_model.specs.Tables.{Tables}
-use Rattle.replay_model.specs.Marks.{Told, of_point}
-use Rattle.replay_model.specs.Step.{Closing, Replay, all_point_notes, all_run, are_surely, known_bits, may_be, point_notes, surely_differ, surely_same, tell, tell_toggle}
+use Rattle.replay_model.specs.Marks.{Marking, of_point}
+use Rattle.replay_model.specs.Step.{Closing, Replay, all_point_notes, all_run, are_surely, known_bits, may_be, point_notes, surely_differ, surely_same, tell, mark_toggle}
 use Rattle.replay_model.specs.Laws.{IsReplayOf, closing_at}
 use Rattle.replay_model.proofs.Allows.{all_sound, here}
 use Rattle.replay_model.proofs.Bits.{differ_apart, in_halves, in_left, in_right, same_equal}
 use Rattle.replay_model.proofs.Settling.{in_signal}
 
 -- what is told of one point
-pub in_point_notes : (st : Closing) (xs : List Point) (n : Told) → In n (all_point_notes st xs) → (x : Point) × In x xs × In n (point_notes st x)
+pub in_point_notes : (st : Closing) (xs : List Point) (n : Marking) → In n (all_point_notes st xs) → (x : Point) × In x xs × In n (point_notes st x)
 in_point_notes st [] n h = absurd h
 in_point_notes st (x ∷ xs) n h = ⊎_elim (λ a. (x, inl refl, a)) (λ b. let r = in_point_notes st xs n b in (r.0, inr r.1, r.2)) (in_halves n (point_notes st x) (all_point_notes st xs) h)
 
-pub point_notes_in : (st : Closing) (xs : List Point) (x : Point) (n : Told) → In x xs → In n (point_notes st x) → In n (all_point_notes st xs)
+pub point_notes_in : (st : Closing) (xs : List Point) (x : Point) (n : Marking) → In x xs → In n (point_notes st x) → In n (all_point_notes st xs)
 point_notes_in st [] x n h there = absurd h
 point_notes_in st (y ∷ xs) x n (inl e) there = in_left n (point_notes st y) (all_point_notes st xs) (subst (λ z. In n (point_notes st z)) (sym e) there)
 point_notes_in st (y ∷ xs) x n (inr h) there = in_right n (point_notes st y) (all_point_notes st xs) (point_notes_in st xs x n h there)
 
-pub told_of : (st : Closing) (x : Point) (s : ℕ) (a b : Bool) (n : Told) → In n (tell st x s a b) → (n.key ≡ of_point x) × (((a ≡ true) × (n.doubt ≡ None)) ⊎ ((a ≡ false) × (b ≡ true) × (n.doubt ≡ Some (record { time = st.time; thing = s }))))
+pub told_of : (st : Closing) (x : Point) (s : ℕ) (a b : Bool) (n : Marking) → In n (tell st x s a b) → (n.key ≡ of_point x) × (((a ≡ true) × (n.doubt ≡ None)) ⊎ ((a ≡ false) × (b ≡ true) × (n.doubt ≡ Some (record { time = st.time; thing = s }))))
 told_of st x s true b n (inl e) = (ap (λ z. z.key) (sym e), inl (refl, ap (λ z. z.doubt) (sym e)))
 told_of st x s true b n (inr e) = absurd e
 told_of st x s false true n (inl e) = (ap (λ z. z.key) (sym e), inr (refl, refl, ap (λ z. z.doubt) (sym e)))
 told_of st x s false true n (inr e) = absurd e
 told_of st x s false false n h = absurd h
 
-key_if : (st : Closing) (x : Point) (s : ℕ) (m a b : Bool) (n : Told) → In n (if m then tell st x s a b else []) → n.key ≡ of_point x
+key_if : (st : Closing) (x : Point) (s : ℕ) (m a b : Bool) (n : Marking) → In n (if m then tell st x s a b else []) → n.key ≡ of_point x
 key_if st x s true a b n h = (told_of st x s a b n h).0
 key_if st x s false a b n h = absurd h
 
-pub note_key : (st : Closing) (x : Point) (n : Told) → In n (point_notes st x) → n.key ≡ of_point x
+pub note_key : (st : Closing) (x : Point) (n : Marking) → In n (point_notes st x) → n.key ≡ of_point x
 note_key st (line_point q k at word) n h = absurd h
 note_key st (logic_point q k at op c) n h = absurd h
 note_key st (word_point m i write) n h = absurd h
@@ -66,8 +66,8 @@ note_key st (state_point i name s state x) n h = (told_of st (state_point i name
 note_key st (arc_point i name s from to' x y) n h = key_if st (arc_point i name s from to' x y) s (st.sets.moves s) _ _ n h
 
 -- something is told of the point at this time
-abbrev pub PointNow : Closing → Point → List Told → Type 0
-PointNow st x ns = (n : Told) × In n ns × (n.key ≡ of_point x) × ((n.doubt ≡ None) ⊎ ((y : ℕ) × (n.doubt ≡ Some (record { time = st.time; thing = y }))))
+abbrev pub PointNow : Closing → Point → List Marking → Type 0
+PointNow st x ns = (n : Marking) × In n ns × (n.key ≡ of_point x) × ((n.doubt ≡ None) ⊎ ((y : ℕ) × (n.doubt ≡ Some (record { time = st.time; thing = y }))))
 
 pub tells_of : (st : Closing) (x : Point) (s : ℕ) (a b : Bool) → b ≡ true → PointNow st x (tell st x s a b)
 tells_of st x s true b e = (record { key = of_point x; doubt = None }, inl refl, refl, inl refl)
@@ -140,29 +140,29 @@ module _ (d : Design) (h : Habit) (dump : BoundDump) (run : Runs) (tables : Tabl
       let k = step_now (λ same. apart (sym before ∙ ap (λ f. f c) (sym same) ∙ after)) in
       (k.0, k.1, ap (λ f. f c) (start_values d h r showing.is_run k.0 t k.1) ∙ before, ap (λ f. f c) (end_values d h r showing.is_run k.0 (suc t) k.1) ∙ after)
 
-  if_in : (b : Bool) (n : Told) (ns : List Told) → In n (if b then ns else []) → (b ≡ true) × In n ns
+  if_in : (b : Bool) (n : Marking) (ns : List Marking) → In n (if b then ns else []) → (b ≡ true) × In n ns
   if_in true n ns h = (refl, h)
   if_in false n ns h = absurd h
 
-  sure_told : (x : Point) (s : ℕ) (p q : Bool) (n : Told) → In n (tell st x s p q) → n.doubt ≡ None → p ≡ true
+  sure_told : (x : Point) (s : ℕ) (p q : Bool) (n : Marking) → In n (tell st x s p q) → n.doubt ≡ None → p ≡ true
   sure_told x s p q n there e = ⊎_elim (λ z. z.0) (λ z. absurd (not_both n.doubt (record { time = suc t; thing = s }) e z.2)) (told_of st x s p q n there).1
     where
       not_both : (o : Option Doubted) (y : Doubted) → o ≡ None → o ≡ Some y → ⊥
       not_both o y e f = cc
 
-  toggle_hit : (x : Point) (s : ℕ) (c : Cell) (p q : Bit) (n : Told) → In n (tell_toggle st x s c p q) → n.doubt ≡ None → (surely_same (a.kept c) (Some p) && surely_same ((all_run st).kept c) (Some q)) ≡ true
+  toggle_hit : (x : Point) (s : ℕ) (c : Cell) (p q : Bit) (n : Marking) → In n (mark_toggle st x s c p q) → n.doubt ≡ None → (surely_same (a.kept c) (Some p) && surely_same ((all_run st).kept c) (Some q)) ≡ true
   toggle_hit x s c p q n there e = sure_told x s (surely_same (a.kept c) (Some p) && surely_same ((all_run st).kept c) (Some q)) (not (surely_differ (a.kept c) (Some p)) && not (surely_differ ((all_run st).kept c) (Some q))) n there e
 
   -- a hit that is told of a point on a signal is one
-  pub point_hit : (x : Point) → In x points → (n : Told) → In n (point_notes st x) → n.doubt ≡ None → IsHitAt d dump r x (suc t)
+  pub point_hit : (x : Point) → In x points → (n : Marking) → In n (point_notes st x) → n.doubt ≡ None → IsHitAt d dump r x (suc t)
   point_hit (line_point q k at word) member n there e = absurd there
   point_hit (logic_point q k at op c) member n there e = absurd there
   point_hit (word_point m i write) member n there e = absurd there
   point_hit (toggle_point s i true) member n there e =
-      let p = toggle_hit (toggle_point s i true) s (toggle_cell d s i) Zero One n (if_in (sets.moves s) n (tell_toggle st (toggle_point s i true) s (toggle_cell d s i) Zero One) there).1 e in
+      let p = toggle_hit (toggle_point s i true) s (toggle_cell d s i) Zero One n (if_in (sets.moves s) n (mark_toggle st (toggle_point s i true) s (toggle_cell d s i) Zero One) there).1 e in
       inl (let k = stands (toggle_cell d s i) Zero One zero_one p in (k.0, k.1, (k.2, k.3)))
   point_hit (toggle_point s i false) member n there e =
-      let p = toggle_hit (toggle_point s i false) s (toggle_cell d s i) One Zero n (if_in (sets.moves s) n (tell_toggle st (toggle_point s i false) s (toggle_cell d s i) One Zero) there).1 e in
+      let p = toggle_hit (toggle_point s i false) s (toggle_cell d s i) One Zero n (if_in (sets.moves s) n (mark_toggle st (toggle_point s i false) s (toggle_cell d s i) One Zero) there).1 e in
       inl (let k = stands (toggle_cell d s i) One Zero one_zero p in (k.0, k.1, (k.2, k.3)))
   point_hit (state_point i name s state x) member n there e =
       let p = sure_told (state_point i name s state x) s (are_surely (known_bits d (all_run st).kept s) x.bits) (may_be (known_bits d (all_run st).kept s) x.bits) n there e in
@@ -179,13 +179,13 @@ module _ (d : Design) (h : Habit) (dump : BoundDump) (run : Runs) (tables : Tabl
   moves_of : (c : Cell) → (settled d r t c ≡ settled d r (suc t) c → ⊥) → sets.moves c.thing ≡ true
   moves_of c differ = true_from_ne_false _ (λ f. differ (sym (facts.unmoved c (λ m. both_ways _ f ((are.moves c.thing).1 m)))))
 
-  if_then : (x : Point) (b : Bool) (ns : List Told) → b ≡ true → PointNow st x ns → PointNow st x (if b then ns else [])
+  if_then : (x : Point) (b : Bool) (ns : List Marking) → b ≡ true → PointNow st x ns → PointNow st x (if b then ns else [])
   if_then x true ns e now = now
   if_then x false ns e now = absurd (both_ways false refl e)
 
-  toggle_marked : (x : Point) (s i : ℕ) (p q : Bit) → (p ≡ q → ⊥) → settled d r t (toggle_cell d s i) ≡ p → settled d r (suc t) (toggle_cell d s i) ≡ q → PointNow st x (if sets.moves s then tell_toggle st x s (toggle_cell d s i) p q else [])
+  toggle_marked : (x : Point) (s i : ℕ) (p q : Bit) → (p ≡ q → ⊥) → settled d r t (toggle_cell d s i) ≡ p → settled d r (suc t) (toggle_cell d s i) ≡ q → PointNow st x (if sets.moves s then mark_toggle st x s (toggle_cell d s i) p q else [])
   toggle_marked x s i p q apart before after =
-      if_then x (sets.moves s) (tell_toggle st x s (toggle_cell d s i) p q) (subst (λ z. sets.moves z ≡ true) (toggle_thing d s i) (moves_of (toggle_cell d s i) (λ same. apart (sym before ∙ same ∙ after))))
+      if_then x (sets.moves s) (mark_toggle st x s (toggle_cell d s i) p q) (subst (λ z. sets.moves z ≡ true) (toggle_thing d s i) (moves_of (toggle_cell d s i) (λ same. apart (sym before ∙ same ∙ after))))
       (tells_of st x s (surely_same (a.kept (toggle_cell d s i)) (Some p) && surely_same ((all_run st).kept (toggle_cell d s i)) (Some q)) (not (surely_differ (a.kept (toggle_cell d s i)) (Some p)) && not (surely_differ ((all_run st).kept (toggle_cell d s i)) (Some q)))
       (and_from _ _ (may_bit (a.kept (toggle_cell d s i)) (settled d r t (toggle_cell d s i)) p (starts (toggle_cell d s i)) before) (may_bit ((all_run st).kept (toggle_cell d s i)) (settled d r (suc t) (toggle_cell d s i)) q (ends (toggle_cell d s i)) after)))
 

@@ -31,7 +31,7 @@ use Rattle.body_replay.specs.Runs.{Runs}
 use Rattle.body_replay.specs.Store.{AllowsState}
 use Rattle.replay_model.specs.Sets.{AreSets, Sets}
 use Rattle.replay_model.specs.Tables.{Tables}
-use Rattle.replay_model.specs.Marks.{IsKeyOf, IsToldDoubt, IsToldHit, IsUntold, Told}
+use Rattle.replay_model.specs.Marks.{IsKeyOf, IsDoubtMarked, IsHitMarked, IsUnmarked, Marking}
 use Rattle.replay_model.specs.Step.{Replay, all_point_notes, all_run, contradicts}
 use Rattle.replay_model.specs.Stands.{IsSound}
 use Rattle.replay_model.specs.Laws.{ContradictionLaw, FirstContradictionLaw, FirstSoundLaw, IsReplayOf, RestSoundLaw, SoundVerdictLaw, StepSoundLaw, closed_at, closing_at}
@@ -98,7 +98,7 @@ module _ (h : Habit) (d : Design) (dump : BoundDump) (run : Runs) (tables : Tabl
     acted : (p : ℕ) → IsComb (process_at d p) → a.acted p ≡ true → IsLeft d p (settled d r t)
     acted = sound.acted r before
 
-    in_step : (x : Point) (n : Told) → In n ((all_run (closing_at d dump run tables sets t a)).notes ++ all_point_notes (closing_at d dump run tables sets t a) points) → IsKeyOf d x n.key → n.doubt ≡ None → (u : ℕ) × IsWindow dump u × (u ≤ suc t) × IsHitAt d dump r x u
+    in_step : (x : Point) (n : Marking) → In n ((all_run (closing_at d dump run tables sets t a)).notes ++ all_point_notes (closing_at d dump run tables sets t a) points) → IsKeyOf d x n.key → n.doubt ≡ None → (u : ℕ) × IsWindow dump u × (u ≤ suc t) × IsHitAt d dump r x u
     in_step x n there key e = ⊎_elim of_body of_signal (in_halves n (all_run (closing_at d dump run tables sets t a)).notes (all_point_notes (closing_at d dump run tables sets t a) points) there)
       where
         of_old : In n a.notes → (u : ℕ) × IsWindow dump u × (u ≤ suc t) × IsHitAt d dump r x u
@@ -113,20 +113,20 @@ module _ (h : Habit) (d : Design) (dump : BoundDump) (run : Runs) (tables : Tabl
             let k = in_point_notes (closing_at d dump run tables sets t a) points n y in
             (suc t, window, omega arith, subst (λ z. IsHitAt d dump r z (suc t)) (subst (IsKeyOf d x) (note_key (closing_at d dump run tables sets t a) k.0 n k.2) key) (point_hit d h dump run tables points is laws (early_law (machine d)) t window listed sets are a r showing starts acted k.0 k.1 n k.2 e))
 
-    abbrev After : List Told
+    abbrev After : List Marking
     After = (all_run (closing_at d dump run tables sets t a)).notes ++ all_point_notes (closing_at d dump run tables sets t a) points
 
     abbrev Told_at : Point → ℕ → Type 0
-    Told_at x u = IsToldHit d x After ⊎ ((s : ℕ) × IsToldDoubt d x (record { time = u; thing = s }) After)
+    Told_at x u = IsHitMarked d x After ⊎ ((s : ℕ) × IsDoubtMarked d x (record { time = u; thing = s }) After)
 
-    told_as : (x : Point) (u : ℕ) (n : Told) → In n After → IsKeyOf d x n.key → (n.doubt ≡ None) ⊎ ((y : ℕ) × (n.doubt ≡ Some (record { time = u; thing = y }))) → Told_at x u
+    told_as : (x : Point) (u : ℕ) (n : Marking) → In n After → IsKeyOf d x n.key → (n.doubt ≡ None) ⊎ ((y : ℕ) × (n.doubt ≡ Some (record { time = u; thing = y }))) → Told_at x u
     told_as x u n there key (inl e) = inl (in_hit d x After n there key e)
     told_as x u n there key (inr e) = inr (e.0, in_doubt d x (record { time = u; thing = e.0 }) After n there key e.1)
 
-    kept_told : (n : Told) → In n a.notes → In n After
+    kept_told : (n : Marking) → In n a.notes → In n After
     kept_told n y = in_left n (all_run (closing_at d dump run tables sets t a)).notes (all_point_notes (closing_at d dump run tables sets t a) points) (old_kept d h dump run tables points is laws (early_law (machine d)) asked t window sets are a r showing starts acted n y)
 
-    of_past : (x : Point) (u : ℕ) → IsToldHit d x a.notes ⊎ ((s : ℕ) × IsToldDoubt d x (record { time = u; thing = s }) a.notes) → Told_at x u
+    of_past : (x : Point) (u : ℕ) → IsHitMarked d x a.notes ⊎ ((s : ℕ) × IsDoubtMarked d x (record { time = u; thing = s }) a.notes) → Told_at x u
     of_past x u (inl e) = let n = hit_in d x a.notes e in told_as x u n.0 (kept_told n.0 n.1) n.2 (inl n.3)
     of_past x u (inr e) = let n = doubt_in d x (record { time = u; thing = e.0 }) a.notes e.1 in told_as x u n.0 (kept_told n.0 n.1) n.2 (inr (e.0, n.3))
 
@@ -207,7 +207,7 @@ rest_sound_law d h dump run tables points is t a window unlisted sound =
     }
 
 -- the verdicts
-untold_none : (d : Design) (x : Point) (ns : List Told) → IsUntold d x ns → (n : Told) → In n ns → IsKeyOf d x n.key → ⊥
+untold_none : (d : Design) (x : Point) (ns : List Marking) → IsUnmarked d x ns → (n : Marking) → In n ns → IsKeyOf d x n.key → ⊥
 untold_none d x [] none n h key = absurd h
 untold_none d x (m ∷ ns) none n (inl e) key = none.0 (subst (λ z. IsKeyOf d x z.key) (sym e) key)
 untold_none d x (m ∷ ns) none n (inr h) key = untold_none d x ns none.1 n h key

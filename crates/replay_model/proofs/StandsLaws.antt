@@ -3,7 +3,7 @@ use Rattle.event_machine.specs.Habit.{Habit}
 use Rattle.replay_model.specs.Laws.{FirstStandsLaw, RestStandsLaw, StepStandsLaw}
 use Rattle.replay_model.proofs.FirstForced.{first_forced_law}
 use Rattle.replay_model.proofs.FirstKnown.{first_known_law, not_window}
-use Rattle.replay_model.proofs.ReasonedLaws.{rest_forced_law, rest_known_law, rest_told_law, step_known_law, step_told_law}
+use Rattle.replay_model.proofs.ReasonedLaws.{rest_forced_law, rest_known_law, rest_reasoned_law, step_known_law, step_reasoned_law}
 use Rattle.replay_model.proofs.SoundLaws.{first_sound_law, rest_sound_law, step_sound_law}
 use Rattle.replay_model.proofs.StepForced.{step_forced_law}
 
@@ -12,7 +12,7 @@ first_stands_law d h dump run tables points is own t first shown agreed =
     record {
       sound = first_sound_law d h dump run tables points is t first shown;
       known = first_known_law d h dump run tables points is own t first shown agreed;
-      told = record { doubts = λ x y none. absurd none; reached = λ u p x le reached. absurd (not_window dump.times t u first reached.0 le) };
+      reasoned = record { doubts = λ x y none. absurd none; reached = λ u p x le reached. absurd (not_window dump.times t u first reached.0 le) };
       forced = first_forced_law d h dump run tables points is own t first shown agreed;
     }
 
@@ -21,7 +21,7 @@ step_stands_law h d dump run tables points is own t sets a window listed are agr
     record {
       sound = step_sound_law h d dump run tables points is own t sets a window listed are stands.sound;
       known = step_known_law h d dump run tables points is own t sets a window listed are stands.known agreed;
-      told = step_told_law h d dump run tables points is own t sets a window listed are stands.known agreed stands.told;
+      reasoned = step_reasoned_law h d dump run tables points is own t sets a window listed are stands.known agreed stands.reasoned;
       forced = step_forced_law h d dump run tables points is own t sets a window listed are stands.known agreed stands.forced;
     }
 
@@ -30,6 +30,6 @@ rest_stands_law d h dump run tables points is own t a window unlisted stands =
     record {
       sound = rest_sound_law d h dump run tables points is t a window unlisted stands.sound;
       known = rest_known_law d h dump run tables points is own t a window unlisted stands.known;
-      told = rest_told_law d h dump run tables points is t a window unlisted stands.told;
+      reasoned = rest_reasoned_law d h dump run tables points is t a window unlisted stands.reasoned;
       forced = rest_forced_law d h dump t unlisted stands.forced;
     }

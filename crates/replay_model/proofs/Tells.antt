@@ -30,8 +30,8 @@ use Rattle.body_replay.specs.Runs.{Runs}
 use Rattle.body_replay.specs.Store.{Kept}
 use Rattle.replay_model.specs.Sets.{AreSets, Sets}
 use Rattle.replay_model.specs.Tables.{Tables}
-use Rattle.replay_model.specs.Marks.{IsKeyOf, IsToldDoubt, IsToldHit, Told, all_told_by, of_process}
-use Rattle.replay_model.specs.Step.{Closing, Replay, all_point_notes, all_run, are_surely, clocked_run, is_dumped, is_touched, known_bits, may_be, opened, point_notes, run_all_clean, run_all_settling, settle_start, surely_differ, surely_same, tell, tell_toggle}
+use Rattle.replay_model.specs.Marks.{IsKeyOf, IsDoubtMarked, IsHitMarked, Marking, markings_by, of_process}
+use Rattle.replay_model.specs.Step.{Closing, Replay, all_point_notes, all_run, are_surely, clocked_run, is_dumped, is_touched, known_bits, may_be, opened, point_notes, run_all_clean, run_all_settling, settle_start, surely_differ, surely_same, tell, mark_toggle}
 use Rattle.replay_model.specs.Laws.{IsReplayOf, closing_at}
 use Rattle.replay_model.proofs.Bits.{in_any, in_halves, in_left}
 use Rattle.replay_model.proofs.Allows.{past}
@@ -95,33 +95,33 @@ module _ (d : Design) (h : Habit) (early_law : EarlyLaw (machine d)) (dump : Bou
   weak_told : Traced (WeakRun d is.lawful h early_law dump run is.runs tables t sets are a) (λ q. In q tables.clocked × ((sets.trigger q ≡ None) × ((s : ℕ) × (sets.wakes q ≡ Some s)))) (run_all_clean st tables.clocked (opened st)).notes (clocked_run st).notes
   weak_told = weak_all d is.lawful h early_law dump run is.runs tables t sets are a tables.clocked (run_all_clean st tables.clocked (opened st))
 
-  pub kept_told : (n : Told) → In n a.notes → In n (all_run st).notes
+  pub kept_told : (n : Marking) → In n a.notes → In n (all_run st).notes
   kept_told n y = (last_runs d h early_law dump run tables points is t sets are a).keeps n ((order_runs d h early_law dump run tables points is t sets are a).keeps n (weak_told.keeps n (clean_told.keeps n y)))
 
   -- a doubt of the point at this time
   abbrev DoubtNow : Point → Doubted → Type 0
   DoubtNow x y = (y.time ≡ suc t) × IsInDoubt d h dump x (suc t) y.thing
 
-  key_spot : (x : Point) (n : Told) (p : ℕ) (s : Spot) → IsKeyOf d x n.key → n.key ≡ of_process p s → (spot_at x ≡ Some s) × IsBlock d x p
+  key_spot : (x : Point) (n : Marking) (p : ℕ) (s : Spot) → IsKeyOf d x n.key → n.key ≡ of_process p s → (spot_at x ≡ Some s) × IsBlock d x p
   key_spot x n p s key e = subst (IsKeyOf d x) e key
 
   -- each doubt that is told of a point of a body is one
-  pub body_doubt : (x : Point) (y : Doubted) (n : Told) → In n (all_run st).notes → IsKeyOf d x n.key → n.doubt ≡ Some y → In n a.notes ⊎ DoubtNow x y
+  pub body_doubt : (x : Point) (y : Doubted) (n : Marking) → In n (all_run st).notes → IsKeyOf d x n.key → n.doubt ≡ Some y → In n a.notes ⊎ DoubtNow x y
   body_doubt x y n there key e = ⊎_elim in_order (λ k. inr (of_settling k.0 k.1 (of_last d h early_law dump run tables points is t sets are a k.0 k.1 k.2) k.3)) ((last_runs d h early_law dump run tables points is t sets are a).from n there)
     where
-      of_settling : (p : ℕ) (ns : List Note) → MeetingRun d h early_law dump run tables points is t sets are a p ns → In n (all_told_by p ns) → DoubtNow x y
+      of_settling : (p : ℕ) (ns : List Note) → MeetingRun d h early_law dump run tables points is t sets are a p ns → In n (markings_by p ns) → DoubtNow x y
       of_settling p ns k z =
           let s = told_doubt p ns n y z e in
           let b = key_spot x n p s.0 key s.1 in
           settle_doubt d h early_law dump run tables points is asked t window listed sets are a at_start at_end p ns k x s.0 y b.0 b.1 s.2
 
-      of_clean : (p : ℕ) (ns : List Note) → CleanRun d is.lawful h early_law dump run is.runs tables t sets are a p ns → In n (all_told_by p ns) → DoubtNow x y
+      of_clean : (p : ℕ) (ns : List Note) → CleanRun d is.lawful h early_law dump run is.runs tables t sets are a p ns → In n (markings_by p ns) → DoubtNow x y
       of_clean p ns k z =
           let s = told_doubt p ns n y z e in
           let b = key_spot x n p s.0 key s.1 in
           clean_doubt d h dump run tables points is early_law asked t window listed sets are a at_start p ns k x s.0 y b.0 b.1 s.2
 
-      of_weak : (p : ℕ) (ns : List Note) → WeakRun d is.lawful h early_law dump run is.runs tables t sets are a p ns → In n (all_told_by p ns) → DoubtNow x y
+      of_weak : (p : ℕ) (ns : List Note) → WeakRun d is.lawful h early_law dump run is.runs tables t sets are a p ns → In n (markings_by p ns) → DoubtNow x y
       of_weak p ns k z =
           let s = told_doubt p ns n y z e in
           let b = key_spot x n p s.0 key s.1 in
@@ -153,7 +153,7 @@ module _ (d : Design) (h : Habit) (early_law : EarlyLaw (machine d)) (dump : Bou
   none_some y o e f = cc
 
   -- a doubt that is told of a point on signal s
-  told_doubt_of : (x : Point) (s : ℕ) (p q : Bool) (n : Told) (y : Doubted) → In n (tell st x s p q) → n.doubt ≡ Some y → (p ≡ false) × (q ≡ true) × (record { time = suc t; thing = s } ≡ y)
+  told_doubt_of : (x : Point) (s : ℕ) (p q : Bool) (n : Marking) (y : Doubted) → In n (tell st x s p q) → n.doubt ≡ Some y → (p ≡ false) × (q ≡ true) × (record { time = suc t; thing = s } ≡ y)
   told_doubt_of x s p q n y there e = ⊎_elim (λ z. absurd (none_some y n.doubt e z.1)) (λ z. (z.0, z.1, some_some y (record { time = suc t; thing = s }) n.doubt e z.2)) (told_of st x s p q n there).1
 
   wide : (s : ℕ) → s < length d.signals → 0 < (signal_at d s).width
@@ -164,14 +164,14 @@ module _ (d : Design) (h : Habit) (early_law : EarlyLaw (machine d)) (dump : Bou
   toggle_has : (s i : ℕ) (rise : Bool) → In (toggle_point s i rise) points → In (toggle_cell d s i) (signal_cells d s)
   toggle_has s i rise member = subst (λ z. In (toggle_cell d s i) (signal_cells d z)) (toggle_thing d s i) (signal_has d (toggle_cell d s i) (subst (λ z. (toggle_cell d s i).place < (signal_at d z).width) (sym (toggle_thing d s i)) (toggle_in d s i (wide s (is.listed (toggle_point s i rise) member).1.0))))
 
-  if_in : (b : Bool) (n : Told) (ns : List Told) → In n (if b then ns else []) → In n ns
+  if_in : (b : Bool) (n : Marking) (ns : List Marking) → In n (if b then ns else []) → In n ns
   if_in true n ns h' = h'
   if_in false n ns h' = absurd h'
 
   as_doubt : (x : Point) (s : ℕ) (y : Doubted) → Rattle.design_model.specs.Doubt.IsPointOn x s → IsUnclear d h dump (suc t) (a_signal s) → record { time = suc t; thing = s } ≡ y → DoubtNow x y
   as_doubt x s y on unclear e = (ap (λ z. z.time) (sym e), subst (λ z. IsInDoubt d h dump x (suc t) z.thing) e (of_signal window on (inl listed) unclear))
 
-  toggle_doubt : (x : Point) (s i : ℕ) (rise : Bool) → In (toggle_point s i rise) points → Rattle.design_model.specs.Doubt.IsPointOn x s → (p q : Bit) (n : Told) (y : Doubted) → In n (tell_toggle st x s (toggle_cell d s i) p q) → n.doubt ≡ Some y → DoubtNow x y
+  toggle_doubt : (x : Point) (s i : ℕ) (rise : Bool) → In (toggle_point s i rise) points → Rattle.design_model.specs.Doubt.IsPointOn x s → (p q : Bit) (n : Marking) (y : Doubted) → In n (mark_toggle st x s (toggle_cell d s i) p q) → n.doubt ≡ Some y → DoubtNow x y
   toggle_doubt x s i rise member on p q n y there e =
       let c = toggle_cell d s i in
       let told = told_doubt_of x s (surely_same (a.kept (toggle_cell d s i)) (Some p) && surely_same ((all_run st).kept (toggle_cell d s i)) (Some q)) (not (surely_differ (a.kept (toggle_cell d s i)) (Some p)) && not (surely_differ ((all_run st).kept (toggle_cell d s i)) (Some q))) n y there e in
@@ -179,14 +179,14 @@ module _ (d : Design) (h : Habit) (early_law : EarlyLaw (machine d)) (dump : Bou
       as_doubt x s y on
       (⊎_elim (λ f. start_unclear s (toggle_cell d s i) (toggle_has s i rise member) (unknown_bit (a.kept (toggle_cell d s i)) p f may.0)) (λ f. end_unclear s (toggle_cell d s i) (toggle_has s i rise member) (unknown_bit ((all_run st).kept (toggle_cell d s i)) q f may.1)) (and_cases (surely_same (a.kept (toggle_cell d s i)) (Some p)) _ told.0)) told.2
 
-  point_doubt : (x : Point) → In x points → (n : Told) (y : Doubted) → In n (point_notes st x) → n.doubt ≡ Some y → DoubtNow x y
+  point_doubt : (x : Point) → In x points → (n : Marking) (y : Doubted) → In n (point_notes st x) → n.doubt ≡ Some y → DoubtNow x y
   point_doubt (line_point q k at word) member n y there e = absurd there
   point_doubt (logic_point q k at op c) member n y there e = absurd there
   point_doubt (word_point m i write) member n y there e = absurd there
   point_doubt (toggle_point s i true) member n y there e =
-      toggle_doubt (toggle_point s i true) s i true member refl Zero One n y (if_in (sets.moves s) n (tell_toggle st (toggle_point s i true) s (toggle_cell d s i) Zero One) there) e
+      toggle_doubt (toggle_point s i true) s i true member refl Zero One n y (if_in (sets.moves s) n (mark_toggle st (toggle_point s i true) s (toggle_cell d s i) Zero One) there) e
   point_doubt (toggle_point s i false) member n y there e =
-      toggle_doubt (toggle_point s i false) s i false member refl One Zero n y (if_in (sets.moves s) n (tell_toggle st (toggle_point s i false) s (toggle_cell d s i) One Zero) there) e
+      toggle_doubt (toggle_point s i false) s i false member refl One Zero n y (if_in (sets.moves s) n (mark_toggle st (toggle_point s i false) s (toggle_cell d s i) One Zero) there) e
   point_doubt (state_point i name s state x) member n y there e =
       let told = told_doubt_of (state_point i name s state x) s (are_surely (known_bits d (all_run st).kept s) x.bits) (may_be (known_bits d (all_run st).kept s) x.bits) n y there e in
       let c = unknown_in (all_run st).kept (signal_cells d s) x.bits told.0 told.1 in
@@ -198,10 +198,10 @@ module _ (d : Design) (h : Habit) (early_law : EarlyLaw (machine d)) (dump : Bou
       (⊎_elim (λ f. let c = unknown_in a.kept (signal_cells d s) x.bits f may.0 in start_unclear s c.0 c.1 c.2) (λ f. let c = unknown_in (all_run st).kept (signal_cells d s) z.bits f may.1 in end_unclear s c.0 c.1 c.2) (and_cases (are_surely (known_bits d a.kept s) x.bits) _ told.0)) told.2
 
   -- each doubt that is told in the step is one
-  abbrev After : List Told
+  abbrev After : List Marking
   After = (all_run st).notes ++ all_point_notes st points
 
-  pub doubt_step : (x : Point) (y : Doubted) → IsToldDoubt d x y After → IsToldDoubt d x y a.notes ⊎ DoubtNow x y
+  pub doubt_step : (x : Point) (y : Doubted) → IsDoubtMarked d x y After → IsDoubtMarked d x y a.notes ⊎ DoubtNow x y
   doubt_step x y told =
       let n = doubt_in d x y After told in
       ⊎_elim (λ there. ⊎_elim (λ old. inl (in_doubt d x y a.notes n.0 old n.2 n.3)) (λ now. inr now) (body_doubt x y n.0 there n.2 n.3))
@@ -210,31 +210,31 @@ module _ (d : Design) (h : Habit) (early_law : EarlyLaw (machine d)) (dump : Bou
 
   -- where a bit that the dump has changes, it may move
   module _ (calm : (c : Cell) → is_dumped d dump.bound c ≡ true → sets.moves c.thing ≡ false → dump.values t c ≡ dump.values (suc t) c) where
-    hit_told_as : (x : Point) (p : ℕ) (ns : List Note) (s : Spot) → spot_at x ≡ Some s → IsBlock d x p → HasHitNote s ns → ((n : Told) → In n (all_told_by p ns) → In n (all_run st).notes) → IsToldHit d x After
+    hit_told_as : (x : Point) (p : ℕ) (ns : List Note) (s : Spot) → spot_at x ≡ Some s → IsBlock d x p → HasHitNote s ns → ((n : Marking) → In n (markings_by p ns) → In n (all_run st).notes) → IsHitMarked d x After
     hit_told_as x p ns s spot block note there =
         let n = hit_told p ns s note in
         in_hit d x After n.0 (in_left n.0 (all_run st).notes (all_point_notes st points) (there n.0 n.1)) (subst (IsKeyOf d x) (sym n.2) (spot, block)) n.3
 
-    later : (n : Told) → In n (clocked_run st).notes → In n (all_run st).notes
+    later : (n : Marking) → In n (clocked_run st).notes → In n (all_run st).notes
     later n z = (last_runs d h early_law dump run tables points is t sets are a).keeps n ((order_runs d h early_law dump run tables points is t sets are a).keeps n z)
 
     clocked_known : (p : ℕ) → IsClocked (process_at d p) → In p tables.clocked
     clocked_known p is_clocked = (is.tabled.clocked p).1 (⊎_elim (λ lt. lt) (λ le. absurd (subst IsClocked (past d.processes p le) is_clocked)) (Rattle.std.proofs.lemmas.Bool.cases_lt p (length d.processes)), is_clocked)
 
-    pub reached_step : (p : ℕ) (x : Point) → IsReached d h dump (suc t) p x → IsToldHit d x After
+    pub reached_step : (p : ℕ) (x : Point) → IsReached d h dump (suc t) p x → IsHitMarked d x After
     reached_step p x reached = ⊎_elim by_clean by_settling reached.2
       where
-        by_clean : (c : Cell) × IsCleanAt d dump (suc t) p c × Rattle.design_model.specs.Open.ReachesFrom d (Rattle.design_model.specs.Open.KnownOnEntry d h dump (suc t) p) (body_at d p) x → IsToldHit d x After
+        by_clean : (c : Cell) × IsCleanAt d dump (suc t) p c × Rattle.design_model.specs.Open.ReachesFrom d (Rattle.design_model.specs.Open.KnownOnEntry d h dump (suc t) p) (body_at d p) x → IsHitMarked d x After
         by_clean c = go (sets.trigger p) refl
           where
-            go : (o : Option ℕ) → sets.trigger p ≡ o → IsToldHit d x After
+            go : (o : Option ℕ) → sets.trigger p ≡ o → IsHitMarked d x After
             go None e = absurd (are.no_trigger p e c.0 c.1)
             go (Some s) e =
                 let k = clean_told.has p (clocked_known p (edge_clocked (process_at d p) c.1.can_wake.0.0 c.0 c.1.can_wake.0.1), (s, e)) in
                 let n = clean_reached d h dump run tables points is early_law asked t window listed sets are a at_start p k.0 k.1 x c.2 in
                 hit_told_as x p k.0 n.0 n.1 reached.1 n.2 (λ n z. later n (weak_told.keeps n (k.2 n z)))
 
-        by_settling : (IsClocked (process_at d p) → ⊥) × Rattle.design_model.specs.Open.HasChangedWakeBit d dump (suc t) p × Rattle.design_model.specs.Open.ReachesFrom d (Rattle.design_model.specs.Open.KnownAtEnd d h dump (suc t) p) (body_at d p) x → IsToldHit d x After
+        by_settling : (IsClocked (process_at d p) → ⊥) × Rattle.design_model.specs.Open.HasChangedWakeBit d dump (suc t) p × Rattle.design_model.specs.Open.ReachesFrom d (Rattle.design_model.specs.Open.KnownAtEnd d h dump (suc t) p) (body_at d p) x → IsHitMarked d x After
         by_settling b = ⊎_elim in_order in_last ((is.tabled.others p).1 (below, b.0))
           where
             below : p < length d.processes
@@ -245,13 +245,13 @@ module _ (d : Design) (h : Habit) (early_law : EarlyLaw (machine d)) (dump : Bou
                 in_any sets.moves (tables.watched p) b.1.0.thing ((is.tabled.watched p b.1.0.thing).1 b.1.1.2.0)
                 (true_from_ne_false _ (λ f. b.1.3 (ap (λ u. dump.values u b.1.0) last ∙ calm b.1.0 (and_from (dump.bound b.1.0.thing) _ b.1.2 (lt-ltb _ _ b.1.1.1)) f)))
 
-            in_order : In p tables.order → IsToldHit d x After
+            in_order : In p tables.order → IsHitMarked d x After
             in_order z =
                 let k = (order_runs d h early_law dump run tables points is t sets are a).has p (z, touched) in
                 let n = settle_reached d h early_law dump run tables points is asked t window listed sets are a at_start at_end p k.0 (of_order d h early_law dump run tables points is t sets are a p k.0 k.1) b.1 x b.2 in
                 hit_told_as x p k.0 n.0 n.1 reached.1 n.2 (λ n y. (last_runs d h early_law dump run tables points is t sets are a).keeps n (k.2 n y))
 
-            in_last : In p tables.last → IsToldHit d x After
+            in_last : In p tables.last → IsHitMarked d x After
             in_last z =
                 let k = (last_runs d h early_law dump run tables points is t sets are a).has p (z, touched) in
                 let n = settle_reached d h early_law dump run tables points is asked t window listed sets are a at_start at_end p k.0 (of_last d h early_law dump run tables points is t sets are a p k.0 k.1) b.1 x b.2 in

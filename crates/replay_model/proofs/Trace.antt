@@ -15,51 +15,51 @@ use Rattle.body_replay.specs.Contract.{Doubted, Note, clean, weak}
 use Rattle.body_replay.specs.Runs.{AreRuns, Runs, StoreView, seen_of}
 use Rattle.replay_model.specs.Sets.{AreSets, Sets}
 use Rattle.replay_model.specs.Tables.{Tables}
-use Rattle.replay_model.specs.Marks.{IsKeyOf, IsToldDoubt, IsToldHit, Told, all_told_by}
+use Rattle.replay_model.specs.Marks.{IsKeyOf, IsDoubtMarked, IsHitMarked, Marking, markings_by}
 use Rattle.replay_model.specs.Step.{Closing, Replay, Working, all_run, certainty, clean_store, clocked_run, entry, entry_kept, is_touched, opened, plain_store, run_all_clean, run_all_settling, run_all_weak, run_clean, run_settling, run_weak, settle_start, settled_kept}
 use Rattle.replay_model.specs.Laws.{closing_at}
 use Rattle.replay_model.proofs.Bits.{in_halves, in_left, in_right}
 use Rattle.replay_model.proofs.Targets.{others_early}
 
 -- what was told of a point stands in the list
-pub hit_in : (d : Design) (x : Point) (ns : List Told) → IsToldHit d x ns → (n : Told) × In n ns × IsKeyOf d x n.key × (n.doubt ≡ None)
+pub hit_in : (d : Design) (x : Point) (ns : List Marking) → IsHitMarked d x ns → (n : Marking) × In n ns × IsKeyOf d x n.key × (n.doubt ≡ None)
 hit_in d x [] h = absurd h
 hit_in d x (n ∷ ns) (inl h) = (n, inl refl, h.0, h.1)
 hit_in d x (n ∷ ns) (inr h) = let r = hit_in d x ns h in (r.0, inr r.1, r.2, r.3)
 
-pub in_hit : (d : Design) (x : Point) (ns : List Told) (n : Told) → In n ns → IsKeyOf d x n.key → n.doubt ≡ None → IsToldHit d x ns
+pub in_hit : (d : Design) (x : Point) (ns : List Marking) (n : Marking) → In n ns → IsKeyOf d x n.key → n.doubt ≡ None → IsHitMarked d x ns
 in_hit d x [] n h k e = absurd h
 in_hit d x (m ∷ ns) n (inl q) k e = inl (subst (λ z. IsKeyOf d x z.key) (sym q) k, subst (λ z. z.doubt ≡ None) (sym q) e)
 in_hit d x (m ∷ ns) n (inr h) k e = inr (in_hit d x ns n h k e)
 
-pub doubt_in : (d : Design) (x : Point) (y : Doubted) (ns : List Told) → IsToldDoubt d x y ns → (n : Told) × In n ns × IsKeyOf d x n.key × (n.doubt ≡ Some y)
+pub doubt_in : (d : Design) (x : Point) (y : Doubted) (ns : List Marking) → IsDoubtMarked d x y ns → (n : Marking) × In n ns × IsKeyOf d x n.key × (n.doubt ≡ Some y)
 doubt_in d x y [] h = absurd h
 doubt_in d x y (n ∷ ns) (inl h) = (n, inl refl, h.0, h.1)
 doubt_in d x y (n ∷ ns) (inr h) = let r = doubt_in d x y ns h in (r.0, inr r.1, r.2, r.3)
 
-pub in_doubt : (d : Design) (x : Point) (y : Doubted) (ns : List Told) (n : Told) → In n ns → IsKeyOf d x n.key → n.doubt ≡ Some y → IsToldDoubt d x y ns
+pub in_doubt : (d : Design) (x : Point) (y : Doubted) (ns : List Marking) (n : Marking) → In n ns → IsKeyOf d x n.key → n.doubt ≡ Some y → IsDoubtMarked d x y ns
 in_doubt d x y [] n h k e = absurd h
 in_doubt d x y (m ∷ ns) n (inl q) k e = inl (subst (λ z. IsKeyOf d x z.key) (sym q) k, subst (λ z. z.doubt ≡ Some y) (sym q) e)
 in_doubt d x y (m ∷ ns) n (inr h) k e = inr (in_doubt d x y ns n h k e)
 
 -- from one state of the replay to a later one: each note is an old one or one of a run of this kind, and these runs are there
-pub record Traced (Of : ℕ → List Note → Type 0) (Must : ℕ → Type 0) (before later : List Told) : Type 0 where
-  pub from : (n : Told) → In n later → In n before ⊎ ((p : ℕ) × (ns : List Note) × Of p ns × In n (all_told_by p ns))
-  pub keeps : (n : Told) → In n before → In n later
-  pub has : (p : ℕ) → Must p → (ns : List Note) × Of p ns × ((n : Told) → In n (all_told_by p ns) → In n later)
+pub record Traced (Of : ℕ → List Note → Type 0) (Must : ℕ → Type 0) (before later : List Marking) : Type 0 where
+  pub from : (n : Marking) → In n later → In n before ⊎ ((p : ℕ) × (ns : List Note) × Of p ns × In n (markings_by p ns))
+  pub keeps : (n : Marking) → In n before → In n later
+  pub has : (p : ℕ) → Must p → (ns : List Note) × Of p ns × ((n : Marking) → In n (markings_by p ns) → In n later)
 
-pub traced_none : (Of : ℕ → List Note → Type 0) (Must : ℕ → Type 0) → ((p : ℕ) → Must p → ⊥) → (xs : List Told) → Traced Of Must xs xs
+pub traced_none : (Of : ℕ → List Note → Type 0) (Must : ℕ → Type 0) → ((p : ℕ) → Must p → ⊥) → (xs : List Marking) → Traced Of Must xs xs
 traced_none Of Must never xs = record { from = λ n h. inl h; keeps = λ n h. h; has = λ p m. absurd (never p m) }
 
-pub traced_one : (Of : ℕ → List Note → Type 0) (Must : ℕ → Type 0) (p : ℕ) (ns : List Note) → Of p ns → ((q : ℕ) → Must q → q ≡ p) → (xs : List Told) → Traced Of Must xs (xs ++ all_told_by p ns)
+pub traced_one : (Of : ℕ → List Note → Type 0) (Must : ℕ → Type 0) (p : ℕ) (ns : List Note) → Of p ns → ((q : ℕ) → Must q → q ≡ p) → (xs : List Marking) → Traced Of Must xs (xs ++ markings_by p ns)
 traced_one Of Must p ns of_kind only xs =
     record {
-      from = λ n h. ⊎_elim (λ x. inl x) (λ x. inr (p, ns, of_kind, x)) (in_halves n xs (all_told_by p ns) h);
-      keeps = λ n h. in_left n xs (all_told_by p ns) h;
-      has = λ q m. (ns, subst (λ z. Of z ns) (sym (only q m)) of_kind, λ n h. in_right n xs (all_told_by p ns) (subst (λ z. In n (all_told_by z ns)) (only q m) h));
+      from = λ n h. ⊎_elim (λ x. inl x) (λ x. inr (p, ns, of_kind, x)) (in_halves n xs (markings_by p ns) h);
+      keeps = λ n h. in_left n xs (markings_by p ns) h;
+      has = λ q m. (ns, subst (λ z. Of z ns) (sym (only q m)) of_kind, λ n h. in_right n xs (markings_by p ns) (subst (λ z. In n (markings_by z ns)) (only q m) h));
     }
 
-pub traced_next : (Of : ℕ → List Note → Type 0) (M N : ℕ → Type 0) (xs ys zs : List Told) → Traced Of M xs ys → Traced Of N ys zs → Traced Of (λ q. M q ⊎ N q) xs zs
+pub traced_next : (Of : ℕ → List Note → Type 0) (M N : ℕ → Type 0) (xs ys zs : List Marking) → Traced Of M xs ys → Traced Of N ys zs → Traced Of (λ q. M q ⊎ N q) xs zs
 traced_next Of M N xs ys zs a b =
     record {
       from = λ n h. ⊎_elim (λ x. a.from n x) (λ x. inr x) (b.from n h);
@@ -67,7 +67,7 @@ traced_next Of M N xs ys zs a b =
       has = λ p m. ⊎_elim (λ x. let k = a.has p x in (k.0, k.1, λ n h. b.keeps n (k.2 n h))) (λ x. b.has p x) m;
     }
 
-pub traced_weaker : (Of Of' : ℕ → List Note → Type 0) (M N : ℕ → Type 0) (xs ys : List Told) → ((p : ℕ) (ns : List Note) → Of p ns → Of' p ns) → ((q : ℕ) → N q → M q) → Traced Of M xs ys → Traced Of' N xs ys
+pub traced_weaker : (Of Of' : ℕ → List Note → Type 0) (M N : ℕ → Type 0) (xs ys : List Marking) → ((p : ℕ) (ns : List Note) → Of p ns → Of' p ns) → ((q : ℕ) → N q → M q) → Traced Of M xs ys → Traced Of' N xs ys
 traced_weaker Of Of' M N xs ys wider fewer a =
     record {
       from = λ n h. ⊎_elim (λ x. inl x) (λ x. inr (x.0, x.1, wider x.0 x.1 x.2, x.3)) (a.from n h);

@@ -6,7 +6,7 @@ use Rattle.four_state.specs.declared.bit.Bit.{Bit}
 use Rattle.design_model.specs.declared.point.Point.{Point}
 use Rattle.design_model.specs.Design.{Design, In, IsComb, Thing, body_at, process_at, signal_bits}
 use Rattle.design_model.specs.Mentions.{body_assigns, has_cell}
-use Rattle.design_model.specs.Reads.{Agrees, IsTold}
+use Rattle.design_model.specs.Reads.{Agrees, ReadsWithin}
 use Rattle.design_model.specs.Run.{Run, settled}
 use Rattle.design_model.specs.Shows.{BoundDump, IsShowing, IsWindow}
 use Rattle.design_model.specs.StepLaws.{IsLeft}
@@ -17,7 +17,7 @@ use Rattle.design_model.specs.Doubt.{IsInDoubt}
 use Rattle.body_replay.specs.Contract.{Doubted, all_written, sure_in}
 use Rattle.body_replay.specs.Store.{AllowsState, Kept}
 use Rattle.replay_model.specs.Tables.{Tables}
-use Rattle.replay_model.specs.Marks.{IsToldDoubt, IsToldHit}
+use Rattle.replay_model.specs.Marks.{IsDoubtMarked, IsHitMarked}
 use Rattle.replay_model.specs.Step.{Replay, is_comb}
 
 -- what is known except the targets of p: of a Comb all, of an Assign those that are unbound
@@ -27,7 +27,7 @@ made_kept d bound p k c = if body_assigns c.thing (body_at d p) && (is_comb (pro
 -- where all that p reads is sure, so is each bit that it writes, with its value
 abbrev pub IsMade : Design → (ℕ → Bool) → ℕ → Kept → Type 0
 IsMade d bound p k =
-    (v : Values Bit) → Agrees d (sure_in d (made_kept d bound p k)) v → IsTold d (sure_in d (made_kept d bound p k)) (body_at d p) → (c : Cell)
+    (v : Values Bit) → Agrees d (sure_in d (made_kept d bound p k)) v → ReadsWithin d (sure_in d (made_kept d bound p k)) (body_at d p) → (c : Cell)
     → has_cell (all_written d (body_at d p) v) c ≡ true
     → k c ≡ Some (put_all v (all_written d (body_at d p) v) c)
 
@@ -38,10 +38,10 @@ pub record IsSound (d : Design) (h : Habit) (dump : BoundDump) (points : List Po
   -- a Comb that has acted has left its targets so
   pub acted : (r : Run) → IsShowing d h dump t r → (p : ℕ) → IsComb (process_at d p) → a.acted p ≡ true → IsLeft d p (settled d r t)
   -- a point that was reported to be hit is hit in each such run
-  pub hits : (x : Point) → IsToldHit d x a.notes → (r : Run) → IsShowing d h dump t r → (u : ℕ) × IsWindow dump u × (u ≤ t) × IsHitAt d dump r x u
+  pub hits : (x : Point) → IsHitMarked d x a.notes → (r : Run) → IsShowing d h dump t r → (u : ℕ) × IsWindow dump u × (u ≤ t) × IsHitAt d dump r x u
   -- a point that is hit in such a run was reported to be hit, or to be in doubt at that time
   pub marked : (x : Point) → In x points → (r : Run) → IsShowing d h dump t r → (u : ℕ) → IsWindow dump u → u ≤ t → IsHitAt d dump r x u
-      → IsToldHit d x a.notes ⊎ ((s : ℕ) × IsToldDoubt d x (record { time = u; thing = s }) a.notes)
+      → IsHitMarked d x a.notes ⊎ ((s : ℕ) × IsDoubtMarked d x (record { time = u; thing = s }) a.notes)
 
 -- what is known in it: what is clear is sure
 pub record AreKnown (d : Design) (h : Habit) (dump : BoundDump) (tables : Tables) (t : ℕ) (a : Replay) : Type 0 where
@@ -57,15 +57,15 @@ abbrev pub AreForced : Design → Habit → BoundDump → ℕ → Type 0
 AreForced d h dump t = (u s : ℕ) (bits : List Bit) → u ≤ t → IsForced d h dump u s bits → signal_bits d (dump.values u) s ≡ bits
 
 -- what it reports is reasoned
-pub record AreTold (d : Design) (h : Habit) (dump : BoundDump) (t : ℕ) (a : Replay) : Type 0 where
+pub record AreReasoned (d : Design) (h : Habit) (dump : BoundDump) (t : ℕ) (a : Replay) : Type 0 where
   -- each doubt that was reported is one
-  pub doubts : (x : Point) (y : Doubted) → IsToldDoubt d x y a.notes → IsWindow dump y.time × (y.time ≤ t) × IsInDoubt d h dump x y.time y.thing
+  pub doubts : (x : Point) (y : Doubted) → IsDoubtMarked d x y a.notes → IsWindow dump y.time × (y.time ≤ t) × IsInDoubt d h dump x y.time y.thing
   -- each point that is reached was reported to be hit
-  pub reached : (u p : ℕ) (x : Point) → u ≤ t → IsReached d h dump u p x → IsToldHit d x a.notes
+  pub reached : (u p : ℕ) (x : Point) → u ≤ t → IsReached d h dump u p x → IsHitMarked d x a.notes
 
 -- all that holds of the replay up to time t of the dump
 pub record Stands (d : Design) (h : Habit) (dump : BoundDump) (tables : Tables) (points : List Point) (t : ℕ) (a : Replay) : Type 0 where
   pub sound : IsSound d h dump points t a
   pub known : AreKnown d h dump tables t a
-  pub told : AreTold d h dump t a
+  pub reasoned : AreReasoned d h dump t a
   pub forced : AreForced d h dump t

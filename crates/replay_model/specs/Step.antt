@@ -20,13 +20,13 @@ use Rattle.known_state.specs.Join.{join_bit}
 use Rattle.replay_model.specs.Sets.{Sets}
 use Rattle.design_model.specs.BodyLaws.{all_cells}
 use Rattle.replay_model.specs.Tables.{Tables}
-use Rattle.replay_model.specs.Marks.{Told, all_told_by, of_point}
+use Rattle.replay_model.specs.Marks.{Marking, markings_by, of_point}
 
 -- what the replay keeps from step to step
 pub record Replay : Type 0 where
   pub kept : Kept  -- what is known of the settled values
   pub acted : ℕ → Bool  -- the Comb has surely acted in the window
-  pub notes : List Told  -- what was reported to the marks
+  pub notes : List Marking  -- what was reported to the marks
 
 -- the replay within a step
 pub record Working : Type 0 where
@@ -34,7 +34,7 @@ pub record Working : Type 0 where
   pub queue : List (List KnownWrite)
   pub made : Kept  -- what was made of each cell in this step, before the dump's value took its place
   pub acted : ℕ → Bool
-  pub notes : List Told
+  pub notes : List Marking
 
 -- a bit that the dump has: of a signal that is bound
 abbrev pub is_dumped : Design → (ℕ → Bool) → Cell → Bool
@@ -135,7 +135,7 @@ entry_kept st p trigger c = if (c.thing == trigger) || st.sets.early p c.thing t
 
 -- what a run of a Clocked leaves
 abbrev pub after_clocked : Closing → ℕ → Outcome → Working → Working
-after_clocked st p o w = record w { kept = o.kept; queue = w.queue ++ o.queue; notes = w.notes ++ all_told_by p o.notes }
+after_clocked st p o w = record w { kept = o.kept; queue = w.queue ++ o.queue; notes = w.notes ++ markings_by p o.notes }
 
 -- a Clocked that is clean runs clean
 abbrev pub run_clean : Closing → Option ℕ → ℕ → Working → Working
@@ -226,7 +226,7 @@ after_settling st ordered p how o w =
       queue = w.queue;
       made = λ c. if blocking_target st.design (body_at st.design p) c then (if not (is_comb (process_at st.design p)) || acts st p how w then o.kept c else None) else w.made c;
       acted = λ q. if q == p then acts st p how w else w.acted q;
-      notes = w.notes ++ all_told_by p o.notes;
+      notes = w.notes ++ markings_by p o.notes;
     }
 
 -- an Assign or Comb runs on settled values, where a thing that it watches may move
@@ -256,7 +256,7 @@ abbrev pub contradicts : Closing → Cell → Bool
 contradicts st c = is_dumped st.design st.bound c && (not (signal_at st.design c.thing).input && surely_differ ((all_run st).made c) (Some (st.new c)))
 
 -- a hit where it is sure, else a doubt where it may be
-abbrev pub tell : Closing → Point → ℕ → Bool → Bool → List Told
+abbrev pub tell : Closing → Point → ℕ → Bool → Bool → List Marking
 tell st x s sure possible =
     if sure then record { key = of_point x; doubt = None } ∷ [] else (if possible then record { key = of_point x; doubt = Some (record { time = st.time; thing = s }) } ∷ [] else [])
 
@@ -265,13 +265,13 @@ abbrev pub bit_may_be : Option Bit → Bit → Bool
 bit_may_be o b = not (surely_differ o (Some b))
 
 -- whether a bit surely goes, or may go, from one value to another
-abbrev pub tell_toggle : Closing → Point → ℕ → Cell → Bit → Bit → List Told
-tell_toggle st x s c a b =
+abbrev pub mark_toggle : Closing → Point → ℕ → Cell → Bit → Bit → List Marking
+mark_toggle st x s c a b =
     tell st x s (surely_same (st.start.kept c) (Some a) && surely_same ((all_run st).kept c) (Some b)) (bit_may_be (st.start.kept c) a && bit_may_be ((all_run st).kept c) b)
 
 -- whether a signal surely goes, or may go, from some bits to others
-abbrev pub tell_arc : Closing → Point → ℕ → List Bit → List Bit → List Told
-tell_arc st x s from to =
+abbrev pub mark_arc : Closing → Point → ℕ → List Bit → List Bit → List Marking
+mark_arc st x s from to =
     let before = known_bits st.design st.start.kept s in
     let after = known_bits st.design (all_run st).kept s in
     tell st x s (are_surely before from && are_surely after to) (may_be before from && may_be after to)
@@ -285,17 +285,17 @@ abbrev pub to_bit : Bool → Bit
 to_bit rise = if rise then One else Zero
 
 -- what is reported of a point on a signal
-abbrev pub point_notes : Closing → Point → List Told
+abbrev pub point_notes : Closing → Point → List Marking
 point_notes st (toggle_point s i rise) =
-    if st.sets.moves s then tell_toggle st (toggle_point s i rise) s (toggle_cell st.design s i) (from_bit rise) (to_bit rise) else []
+    if st.sets.moves s then mark_toggle st (toggle_point s i rise) s (toggle_cell st.design s i) (from_bit rise) (to_bit rise) else []
 point_notes st (state_point i name s state x) =
     tell st (state_point i name s state x) s (are_surely (known_bits st.design (all_run st).kept s) x.bits) (may_be (known_bits st.design (all_run st).kept s) x.bits)
 point_notes st (arc_point i name s from to x y) =
-    if st.sets.moves s then tell_arc st (arc_point i name s from to x y) s x.bits y.bits else []
+    if st.sets.moves s then mark_arc st (arc_point i name s from to x y) s x.bits y.bits else []
 point_notes st _ = []
 
 -- what is reported of all points on signals
-abbrev pub all_point_notes : Closing → List Point → List Told
+abbrev pub all_point_notes : Closing → List Point → List Marking
 all_point_notes st [] = []
 all_point_notes st (x ∷ xs) = point_notes st x ++ all_point_notes st xs
 

@@ -2,7 +2,7 @@
 #![tactic(auto)]
 
 ghost use Rattle.event_machine.specs.Habit.{Habit};
-ghost use Rattle.replay_model.specs.Laws.{ContradictionLaw, FirstContradictionLaw, FirstForcedLaw, FirstKnownLaw, FirstSoundLaw, FirstStandsLaw, ReasonedVerdictLaw, RestForcedLaw, RestKnownLaw, RestSoundLaw, RestStandsLaw, RestToldLaw, SoundVerdictLaw, StepForcedLaw, StepKnownLaw, StepSoundLaw, StepStandsLaw, StepToldLaw};
+ghost use Rattle.replay_model.specs.Laws.{ContradictionLaw, FirstContradictionLaw, FirstForcedLaw, FirstKnownLaw, FirstSoundLaw, FirstStandsLaw, ReasonedVerdictLaw, RestForcedLaw, RestKnownLaw, RestSoundLaw, RestStandsLaw, RestReasonedLaw, SoundVerdictLaw, StepForcedLaw, StepKnownLaw, StepSoundLaw, StepStandsLaw, StepReasonedLaw};
 
 /// After the first step, after each closing step and over each time that the dump does not list, the settled values of
 /// each run that shows the dump are allowed, what was reported to be hit is hit, and what is hit was reported.
@@ -33,14 +33,14 @@ pub fn reasoned_first()
 /// that each point that a block reaches was reported to be hit, and that no forced value differs from the dump's.
 pub fn reasoned_step()
     ensures known { (h : Habit) → StepKnownLaw h }
-    ensures told { (h : Habit) → StepToldLaw h }
+    ensures reasoned { (h : Habit) → StepReasonedLaw h }
     ensures forced { (h : Habit) → StepForcedLaw h }
 {}
 
 /// So does a time that the dump does not list.
 pub fn reasoned_rest()
     ensures known { RestKnownLaw }
-    ensures told { RestToldLaw }
+    ensures reasoned { RestReasonedLaw }
     ensures forced { RestForcedLaw }
 {}
 

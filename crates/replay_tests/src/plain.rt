@@ -56,7 +56,7 @@ impl Plain {
         Ok(Plain {
             least: least as u128,
             blame,
-            strange: Known::told(Four::fill(width, signed, Bit::X)),
+            strange: Known::whole(Four::fill(width, signed, Bit::X)),
             words,
         })
     }
@@ -86,7 +86,7 @@ impl Plain {
 
     /// What all values read that the index may have.
     pub(crate) fn read(&self, index: &Known) -> Known {
-        let blame = if index.is_told() {
+        let blame = if index.is_whole() {
             self.blame
         } else {
             index.blame()

@@ -41,6 +41,6 @@ impl Random {
         let value = Four::make(128, false, ones as u128, strange as u128).extend(width, signed);
         let changed = ones ^ unsure;
         let other = Four::make(128, false, changed as u128, strange as u128).extend(width, signed);
-        common(&Known::told(value), &Known::told(other), blame)
+        common(&Known::whole(value), &Known::whole(other), blame)
     }
 }

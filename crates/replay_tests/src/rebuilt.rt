@@ -14,7 +14,7 @@ fn number(width: u8, value: u64) -> Known
     requires at_least { 1 ≤ width }
     requires at_most { width ≤ 128 }
 {
-    Known::told(Four::make(128, false, value as u128, 0).extend(width, false))
+    Known::whole(Four::make(128, false, value as u128, 0).extend(width, false))
 }
 
 /// Writes a value, if it has the width and the sign of the words.
@@ -47,7 +47,7 @@ fn write_by_an_unsure_index(rt: HostRuntime) -> Result<(), NoMemory> {
     assert!(rt; memory.read(&number(3, 1)) == number(1, 0));
     assert!(rt; memory.read(&number(3, 2)) == Known::unknown(1, false, 7));
     assert!(rt; memory.read(&number(3, 3)) == Known::unknown(1, false, 7));
-    assert!(rt; memory.read(&number(3, 4)) == Known::told(Four::fill(1, false, Bit::X)));
+    assert!(rt; memory.read(&number(3, 4)) == Known::whole(Four::fill(1, false, Bit::X)));
     Ok(())
 }
 
@@ -83,12 +83,12 @@ fn blames(rt: HostRuntime) -> Result<(), NoMemory> {
 #[test]
 fn bounds_that_are_far_apart(rt: HostRuntime) -> Result<(), NoMemory> {
     let mut memory = Rebuilt::new(rt.alloc(), u32::MAX, u32::MAX - 1, 128, true, 7)?;
-    let value = Known::told(Four::fill(128, true, Bit::One));
+    let value = Known::whole(Four::fill(128, true, Bit::One));
     assert!(rt; put(&mut memory, &number(32, u32::MAX as u64), &value, true));
     assert!(rt; memory.read(&number(128, u32::MAX as u64)) == value);
     assert!(rt; memory.read(&Known::unknown(128, true, 1)) == Known::unknown(128, true, 1));
     assert!(rt;
-        memory.read(&number(31, u32::MAX as u64)) == Known::told(Four::fill(128, true, Bit::X))
+        memory.read(&number(31, u32::MAX as u64)) == Known::whole(Four::fill(128, true, Bit::X))
     );
     Ok(())
 }

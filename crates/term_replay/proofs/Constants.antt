@@ -8,12 +8,12 @@ use Rattle.four_state.specs.Operators.{binary_value, choice_value, unary_value}
 use Rattle.four_state.specs.Parts.{index}
 use Rattle.four_state.specs.Vector.{truth}
 use Rattle.four_state.specs.declared.bit.Bit.TheVariants.{Zero}
-use Rattle.known_state.specs.Partly.{Partly, are_sure, filled, is_told}
+use Rattle.known_state.specs.Partly.{Partly, are_sure, filled, is_whole}
 use Rattle.design_model.specs.Design.{Design}
 use Rattle.design_model.specs.Mentions.{are_constant, blank, is_constant}
 use Rattle.design_model.specs.Tree.{Term, Terms, a_term, binary, bit, choice, concat, no_terms, number, part, repeat, sign, signal, slide, unary, word}
 use Rattle.design_model.specs.Value.{bits_from_option, copies, head, joined, offset_option, part_width, range_of, slide_offset, value}
-use Rattle.body_replay.specs.KnownBits.{binary_partly, choose_partly, copies_partly, extend_partly, known_truth, on_told, select_option, sure, told, unary_partly, unknown}
+use Rattle.body_replay.specs.KnownBits.{binary_partly, choose_partly, copies_partly, extend_partly, known_truth, on_whole, select_option, sure, whole_bits, unary_partly, unknown}
 use Rattle.body_replay.specs.Store.{Kept, binary_of, choice_of, known_joined, known_value}
 use Rattle.body_replay.proofs.Answered.{same_sure}
 use Rattle.body_replay.proofs.Unsure.{all_sure_sure}
@@ -30,21 +30,21 @@ module _ (d : Design) (b : Kept) (v : Values Bit) where
         let p = and_parts (is_constant t) (is_constant i) c in
         let e = constant_known i p.1 in
         let g = constant_known t p.0 in
-        ap₂ (λ x y. on_told (told x) (λ is. extend_partly h.width h.signed (select_option y (offset_option (range_of d t) (index (head i).signed is)) 1)) (unknown h.width)) e g ∙ on_sure (value d v i) (λ is. extend_partly h.width h.signed (select_option (sure (value d v t)) (offset_option (range_of d t) (index (head i).signed is)) 1)) (unknown h.width) ∙ ap (extend_partly h.width h.signed) (select_option_exact (value d v t) (offset_option (range_of d t) (index (head i).signed (value d v i))) 1) ∙ extend_exact h.width h.signed (bits_from_option (value d v t) (offset_option (range_of d t) (index (head i).signed (value d v i))) 1)
+        ap₂ (λ x y. on_whole (whole_bits x) (λ is. extend_partly h.width h.signed (select_option y (offset_option (range_of d t) (index (head i).signed is)) 1)) (unknown h.width)) e g ∙ on_sure (value d v i) (λ is. extend_partly h.width h.signed (select_option (sure (value d v t)) (offset_option (range_of d t) (index (head i).signed is)) 1)) (unknown h.width) ∙ ap (extend_partly h.width h.signed) (select_option_exact (value d v t) (offset_option (range_of d t) (index (head i).signed (value d v i))) 1) ∙ extend_exact h.width h.signed (bits_from_option (value d v t) (offset_option (range_of d t) (index (head i).signed (value d v i))) 1)
     constant_known (part h t i j) c =
         let p = and_parts (is_constant t) (is_constant i && is_constant j) c in
         let q = and_parts (is_constant i) (is_constant j) p.1 in
         let e = constant_known i q.0 in
         let e2 = constant_known j q.1 in
         let g = constant_known t p.0 in
-        ap₂ (λ x y. on_told (told x) (λ is. on_told (told (known_value d b j)) (λ js. extend_partly h.width h.signed (select_option y (offset_option (range_of d t) (index (head j).signed js)) (part_width is js))) (unknown h.width)) (unknown h.width)) e g ∙ on_sure (value d v i) (λ is. on_told (told (known_value d b j)) (λ js. extend_partly h.width h.signed (select_option (sure (value d v t)) (offset_option (range_of d t) (index (head j).signed js)) (part_width is js))) (unknown h.width)) (unknown h.width) ∙ ap (λ x. on_told (told x) (λ js. extend_partly h.width h.signed (select_option (sure (value d v t)) (offset_option (range_of d t) (index (head j).signed js)) (part_width (value d v i) js))) (unknown h.width)) e2 ∙ on_sure (value d v j) (λ js. extend_partly h.width h.signed (select_option (sure (value d v t)) (offset_option (range_of d t) (index (head j).signed js)) (part_width (value d v i) js))) (unknown h.width) ∙ ap (extend_partly h.width h.signed) (select_option_exact (value d v t) (offset_option (range_of d t) (index (head j).signed (value d v j))) (part_width (value d v i) (value d v j))) ∙ extend_exact h.width h.signed (bits_from_option (value d v t) (offset_option (range_of d t) (index (head j).signed (value d v j))) (part_width (value d v i) (value d v j)))
+        ap₂ (λ x y. on_whole (whole_bits x) (λ is. on_whole (whole_bits (known_value d b j)) (λ js. extend_partly h.width h.signed (select_option y (offset_option (range_of d t) (index (head j).signed js)) (part_width is js))) (unknown h.width)) (unknown h.width)) e g ∙ on_sure (value d v i) (λ is. on_whole (whole_bits (known_value d b j)) (λ js. extend_partly h.width h.signed (select_option (sure (value d v t)) (offset_option (range_of d t) (index (head j).signed js)) (part_width is js))) (unknown h.width)) (unknown h.width) ∙ ap (λ x. on_whole (whole_bits x) (λ js. extend_partly h.width h.signed (select_option (sure (value d v t)) (offset_option (range_of d t) (index (head j).signed js)) (part_width (value d v i) js))) (unknown h.width)) e2 ∙ on_sure (value d v j) (λ js. extend_partly h.width h.signed (select_option (sure (value d v t)) (offset_option (range_of d t) (index (head j).signed js)) (part_width (value d v i) js))) (unknown h.width) ∙ ap (extend_partly h.width h.signed) (select_option_exact (value d v t) (offset_option (range_of d t) (index (head j).signed (value d v j))) (part_width (value d v i) (value d v j))) ∙ extend_exact h.width h.signed (bits_from_option (value d v t) (offset_option (range_of d t) (index (head j).signed (value d v j))) (part_width (value d v i) (value d v j)))
     constant_known (slide h t x w up) c =
         let p = and_parts (is_constant t) (is_constant x && is_constant w) c in
         let q = and_parts (is_constant x) (is_constant w) p.1 in
         let e = constant_known x q.0 in
         let e2 = constant_known w q.1 in
         let g = constant_known t p.0 in
-        ap₂ (λ z y. on_told (told z) (λ xs. on_told (told (known_value d b w)) (λ ws. extend_partly h.width h.signed (select_option y (slide_offset (range_of d t) up (natural ws) (index (head x).signed xs)) (natural ws))) (unknown h.width)) (unknown h.width)) e g ∙ on_sure (value d v x) (λ xs. on_told (told (known_value d b w)) (λ ws. extend_partly h.width h.signed (select_option (sure (value d v t)) (slide_offset (range_of d t) up (natural ws) (index (head x).signed xs)) (natural ws))) (unknown h.width)) (unknown h.width) ∙ ap (λ z. on_told (told z) (λ ws. extend_partly h.width h.signed (select_option (sure (value d v t)) (slide_offset (range_of d t) up (natural ws) (index (head x).signed (value d v x))) (natural ws))) (unknown h.width)) e2 ∙ on_sure (value d v w) (λ ws. extend_partly h.width h.signed (select_option (sure (value d v t)) (slide_offset (range_of d t) up (natural ws) (index (head x).signed (value d v x))) (natural ws))) (unknown h.width) ∙ ap (extend_partly h.width h.signed) (select_option_exact (value d v t) (slide_offset (range_of d t) up (natural (value d v w)) (index (head x).signed (value d v x))) (natural (value d v w))) ∙ extend_exact h.width h.signed (bits_from_option (value d v t) (slide_offset (range_of d t) up (natural (value d v w)) (index (head x).signed (value d v x))) (natural (value d v w)))
+        ap₂ (λ z y. on_whole (whole_bits z) (λ xs. on_whole (whole_bits (known_value d b w)) (λ ws. extend_partly h.width h.signed (select_option y (slide_offset (range_of d t) up (natural ws) (index (head x).signed xs)) (natural ws))) (unknown h.width)) (unknown h.width)) e g ∙ on_sure (value d v x) (λ xs. on_whole (whole_bits (known_value d b w)) (λ ws. extend_partly h.width h.signed (select_option (sure (value d v t)) (slide_offset (range_of d t) up (natural ws) (index (head x).signed xs)) (natural ws))) (unknown h.width)) (unknown h.width) ∙ ap (λ z. on_whole (whole_bits z) (λ ws. extend_partly h.width h.signed (select_option (sure (value d v t)) (slide_offset (range_of d t) up (natural ws) (index (head x).signed (value d v x))) (natural ws))) (unknown h.width)) e2 ∙ on_sure (value d v w) (λ ws. extend_partly h.width h.signed (select_option (sure (value d v t)) (slide_offset (range_of d t) up (natural ws) (index (head x).signed (value d v x))) (natural ws))) (unknown h.width) ∙ ap (extend_partly h.width h.signed) (select_option_exact (value d v t) (slide_offset (range_of d t) up (natural (value d v w)) (index (head x).signed (value d v x))) (natural (value d v w))) ∙ extend_exact h.width h.signed (bits_from_option (value d v t) (slide_offset (range_of d t) up (natural (value d v w)) (index (head x).signed (value d v x))) (natural (value d v w)))
     constant_known (unary h op t) c =
         ap (λ x. extend_partly h.width h.signed (unary_partly op x)) (constant_known t c) ∙ ap (extend_partly h.width h.signed) (unary_exact op (value d v t)) ∙ extend_exact h.width h.signed (unary_value op (value d v t))
     constant_known (binary h op t u) c =
@@ -62,7 +62,7 @@ module _ (d : Design) (b : Kept) (v : Values Bit) where
         let p = and_parts (is_constant n) (are_constant ts) c in
         let e = constant_known n p.0 in
         let g = constants_known ts p.1 in
-        ap₂ (λ x y. on_told (told x) (λ ns. extend_partly h.width h.signed (copies_partly (natural ns) y)) (unknown h.width)) e g ∙ on_sure (value d v n) (λ ns. extend_partly h.width h.signed (copies_partly (natural ns) (sure (joined d v ts)))) (unknown h.width) ∙ ap (extend_partly h.width h.signed) (copies_exact (natural (value d v n)) (joined d v ts)) ∙ extend_exact h.width h.signed (copies (natural (value d v n)) (joined d v ts))
+        ap₂ (λ x y. on_whole (whole_bits x) (λ ns. extend_partly h.width h.signed (copies_partly (natural ns) y)) (unknown h.width)) e g ∙ on_sure (value d v n) (λ ns. extend_partly h.width h.signed (copies_partly (natural ns) (sure (joined d v ts)))) (unknown h.width) ∙ ap (extend_partly h.width h.signed) (copies_exact (natural (value d v n)) (joined d v ts)) ∙ extend_exact h.width h.signed (copies (natural (value d v n)) (joined d v ts))
     constant_known (sign h s t) c = ap (extend_partly h.width h.signed) (constant_known t c) ∙ extend_exact h.width h.signed (value d v t)
 
     pub constants_known : (ts : Terms) → are_constant ts ≡ true → known_joined d b ts ≡ sure (joined d v ts)
@@ -80,9 +80,9 @@ module _ (v : Scene) (first : Option ℕ) (x : Term) (r : Partly) (c : is_consta
   pub bits_are : r.bits ≡ sure (value v.design blank x)
   bits_are = a.bits ∙ constant_known v.design v.kept blank x c
 
-  -- the value of a constant is told
-  pub constant_told : is_told r ≡ true
-  constant_told = ap are_sure bits_are ∙ sym (same_sure (sure (value v.design blank x))) ∙ all_sure_sure (value v.design blank x)
+  -- the value of a constant is whole
+  pub constant_whole : is_whole r ≡ true
+  constant_whole = ap are_sure bits_are ∙ sym (same_sure (sure (value v.design blank x))) ∙ all_sure_sure (value v.design blank x)
 
   pub constant_bits : filled Zero r.bits ≡ value v.design blank x
   constant_bits = ap (filled Zero) bits_are ∙ filled_sure (value v.design blank x)

@@ -19,7 +19,7 @@ use Rattle.design_model.specs.Shape.{are_alone, has_shape, is_logic, is_shaped, 
 use Rattle.design_model.specs.Tree.{Head, Term, Terms, a_term, binary, bit, choice, concat, no_terms, number, part, repeat, sign, signal, slide, unary, word}
 use Rattle.four_state.specs.Parts.{index}
 use Rattle.design_model.specs.Value.{head, offset_option, part_width, range_of, slide_offset, value}
-use Rattle.body_replay.specs.KnownBits.{KnownBits, binary_partly, choose_partly, copies_partly, extend_partly, known_truth, select_option, sure, unary_partly, fits, on_told, told, unknown}
+use Rattle.body_replay.specs.KnownBits.{KnownBits, binary_partly, choose_partly, copies_partly, extend_partly, known_truth, select_option, sure, unary_partly, fits, on_whole, whole_bits, unknown}
 use Rattle.body_replay.specs.Store.{Kept, choice_of, known_joined, known_value, read_word}
 use Rattle.body_replay.proofs.Operators.{extend_length}
 use Rattle.term_replay.specs.Stands.{AreSideBySide, IsInContext, IsHead, Scene, Stands}
@@ -33,9 +33,9 @@ length-extended w s ps = length-moved (extend w s) ps w (λ cs e. extend_length 
 length-unknown : (w : ℕ) → length (unknown w) ≡ w
 length-unknown w = length-replicate w _
 
-length-told : (w : ℕ) (o : Option (List Bit)) (f : List Bit → KnownBits) → ((bs : List Bit) → length (f bs) ≡ w) → length (on_told o f (unknown w)) ≡ w
-length-told w None f h = length-unknown w
-length-told w (Some bs) f h = h bs
+length-whole : (w : ℕ) (o : Option (List Bit)) (f : List Bit → KnownBits) → ((bs : List Bit) → length (f bs) ≡ w) → length (on_whole o f (unknown w)) ≡ w
+length-whole w None f h = length-unknown w
+length-whole w (Some bs) f h = h bs
 
 length-either : (b : Bool) (w : ℕ) (s : Bool) (ps : KnownBits) → length (if b then extend_partly w s ps else unknown w) ≡ w
 length-either true w s ps = length-extended w s ps
@@ -49,14 +49,14 @@ pub length-value : (d : Design) (k : Kept) (x : Term) → length (known_value d 
 length-value d k (number h n) = length-extended h.width h.signed (sure n.bits)
 length-value d k (signal h s) = length-extended h.width h.signed (map k (signal_cells d s))
 length-value d k (word h m i) = length-extended h.width h.signed (read_word d k m (head i).signed (known_value d k i))
-length-value d k (bit h t i) = length-told h.width (told (known_value d k i)) _ (λ bs. length-extended h.width h.signed (select_option (known_value d k t) (offset_option (range_of d t) (index (head i).signed bs)) 1))
-length-value d k (part h t i j) = length-told h.width (told (known_value d k i)) _ (λ bs. length-told h.width (told (known_value d k j)) _ (λ cs. length-extended h.width h.signed (select_option (known_value d k t) (offset_option (range_of d t) (index (head j).signed cs)) (part_width bs cs))))
-length-value d k (slide h t b w up) = length-told h.width (told (known_value d k b)) _ (λ bs. length-told h.width (told (known_value d k w)) _ (λ cs. length-extended h.width h.signed (select_option (known_value d k t) (slide_offset (range_of d t) up (natural cs) (index (head b).signed bs)) (natural cs))))
+length-value d k (bit h t i) = length-whole h.width (whole_bits (known_value d k i)) _ (λ bs. length-extended h.width h.signed (select_option (known_value d k t) (offset_option (range_of d t) (index (head i).signed bs)) 1))
+length-value d k (part h t i j) = length-whole h.width (whole_bits (known_value d k i)) _ (λ bs. length-whole h.width (whole_bits (known_value d k j)) _ (λ cs. length-extended h.width h.signed (select_option (known_value d k t) (offset_option (range_of d t) (index (head j).signed cs)) (part_width bs cs))))
+length-value d k (slide h t b w up) = length-whole h.width (whole_bits (known_value d k b)) _ (λ bs. length-whole h.width (whole_bits (known_value d k w)) _ (λ cs. length-extended h.width h.signed (select_option (known_value d k t) (slide_offset (range_of d t) up (natural cs) (index (head b).signed bs)) (natural cs))))
 length-value d k (unary h op t) = length-extended h.width h.signed (unary_partly op (known_value d k t))
 length-value d k (binary h op t u) = length-either (fits op (known_value d k t) (known_value d k u)) h.width h.signed (binary_partly op (head t).signed (known_value d k t) (known_value d k u))
 length-value d k (choice h c t u) = length-choice h (known_truth (known_value d k c)) (known_value d k t) (known_value d k u)
 length-value d k (concat h ts) = length-extended h.width h.signed (known_joined d k ts)
-length-value d k (repeat h n ts) = length-told h.width (told (known_value d k n)) _ (λ bs. length-extended h.width h.signed (copies_partly (natural bs) (known_joined d k ts)))
+length-value d k (repeat h n ts) = length-whole h.width (whole_bits (known_value d k n)) _ (λ bs. length-extended h.width h.signed (copies_partly (natural bs) (known_joined d k ts)))
 length-value d k (sign h s t) = length-extended h.width h.signed (known_value d k t)
 
 pub length-stands : (v : Scene) (first : Option ℕ) (x : Term) (r : Partly) → Stands v first x r → length r.bits ≡ (head x).width

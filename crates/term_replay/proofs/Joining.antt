@@ -6,7 +6,7 @@ use Rattle.four_state.specs.declared.bit.Bit.{Bit}
 use Rattle.four_state.specs.Arithmetic.{natural}
 use Rattle.four_state.specs.Vector.{Vector}
 use Rattle.four_state.specs.Parts.{appended_vector}
-use Rattle.known_state.specs.Partly.{Partly, allows, are_sure, is_told, told_of}
+use Rattle.known_state.specs.Partly.{Partly, allows, are_sure, is_whole, whole_of}
 use Rattle.known_state.specs.Join.{first_blame}
 use Rattle.known_state.specs.Answers.{IsTight, allow_both}
 use Rattle.design_model.specs.Shape.{are_alone, own_widths}
@@ -20,14 +20,14 @@ use Rattle.body_replay.proofs.Answered.{append_answer, same_sure}
 use Rattle.body_replay.proofs.Exact.{append_exact}
 use Rattle.body_replay.proofs.Steps as s
 use Rattle.term_replay.specs.Noted.{Adds, in_this}
-use Rattle.term_replay.specs.Stands.{Fitted, Scene, Stands, StandsAll, copied, first_after, head_of, so_far, told_at}
+use Rattle.term_replay.specs.Stands.{Fitted, Scene, Stands, StandsAll, copied, first_after, head_of, so_far, whole_at}
 use Rattle.term_replay.specs.declared.head.TermHead.{TermHead}
 use Rattle.term_replay.proofs.Contexts.{length-joined}
 use Rattle.term_replay.proofs.Marking.{adds_more, adds_none}
-use Rattle.term_replay.proofs.Standing.{from_step, not_false, to_all, to_fit, to_step, told_fits}
+use Rattle.term_replay.proofs.Standing.{from_step, not_false, to_all, to_fit, to_step, whole_fits}
 
-pub told_appended : (a b q : Partly) (m n : Vector) → a ≡ told_of m → b ≡ told_of n → q ≡ told_of (appended_vector m n) → q.bits ≡ b.bits ++ a.bits
-told_appended a b q m n ea eb eq = ap (λ y. y.bits) eq ∙ sym (append_exact n.bits m.bits) ∙ sym (ap₂ (λ x y. x.bits ++ y.bits) eb ea)
+pub whole_appended : (a b q : Partly) (m n : Vector) → a ≡ whole_of m → b ≡ whole_of n → q ≡ whole_of (appended_vector m n) → q.bits ≡ b.bits ++ a.bits
+whole_appended a b q m n ea eb eq = ap (λ y. y.bits) eq ∙ sym (append_exact n.bits m.bits) ∙ sym (ap₂ (λ x y. x.bits ++ y.bits) eb ea)
 
 pub slow_appended : (a b q : Partly) → ((v w : Vector) → IsTrue (allows a v) → IsTrue (allows b w) → IsTrue (allows q (appended_vector v w))) → IsTight (allow_both a b) (λ p. p.1.bits ++ p.0.bits) q.bits → q.bits ≡ b.bits ++ a.bits
 slow_appended a b q sound tight = append_answer a b q sound tight
@@ -51,24 +51,24 @@ no_copies zero = refl
 no_copies (suc n) = no_copies n
 
 -- one copy more
-pub blame_again : (a c : Partly) (thing : ℕ) → (is_told a ≡ false → a.blame ≡ thing) → c.blame ≡ thing → first_blame a c ≡ thing
-blame_again a c thing h e = go (is_told a) refl
+pub blame_again : (a c : Partly) (thing : ℕ) → (is_whole a ≡ false → a.blame ≡ thing) → c.blame ≡ thing → first_blame a c ≡ thing
+blame_again a c thing h e = go (is_whole a) refl
   where
-    go : (b : Bool) → is_told a ≡ b → (if is_told a then c.blame else a.blame) ≡ thing
+    go : (b : Bool) → is_whole a ≡ b → (if is_whole a then c.blame else a.blame) ≡ thing
     go true f = ap (λ g. if g then c.blame else a.blame) f ∙ e
     go false f = ap (λ g. if g then c.blame else a.blame) f ∙ h f
 
 -- the same bits, and the same blame where not all are sure
-pub fits_same : (x : TermHead) (p q r : Partly) → p.bits ≡ q.bits → (is_told p ≡ false → p.blame ≡ q.blame) → Fitted x p r → Fitted x q r
+pub fits_same : (x : TermHead) (p q r : Partly) → p.bits ≡ q.bits → (is_whole p ≡ false → p.blame ≡ q.blame) → Fitted x p r → Fitted x q r
 fits_same x p q r e b f = record {
   bits = f.bits ∙ ap (extend_partly x.width x.signed) e;
   sign_is = f.sign_is;
   blame = λ u. let g = f.blame u in (ap are_sure (sym e) ∙ g.0, g.1 ∙ b g.0);
 }
 
-pub blank_fits : (x : TermHead) (q r : Partly) → q.bits ≡ [] → r ≡ told_at x [] → Fitted x q r
+pub blank_fits : (x : TermHead) (q r : Partly) → q.bits ≡ [] → r ≡ whole_at x [] → Fitted x q r
 blank_fits x q r e f =
-    fits_same x (told_of (record { bits = []; signed = false })) q r (sym e) (λ u. not_false true refl u) (told_fits x (record { bits = []; signed = false }) _ r refl f)
+    fits_same x (whole_of (record { bits = []; signed = false })) q r (sym e) (λ u. not_false true refl u) (whole_fits x (record { bits = []; signed = false }) _ r refl f)
 
 -- copies that are more than 128 have no bits
 pub copies_cut : (n : ℕ) (ps : KnownBits) → n * length ps ≤ 128 → copies_partly (min n 128) ps ≡ copies_partly n ps
@@ -86,7 +86,7 @@ concat_stands v first x ts q r sq f =
 
 pub repeat_stands : (v : Scene) (first : Option ℕ) (x : TermHead) (i : t.Term) (ts : t.Terms) (ns : List Bit) (c q r : Partly) → Stands v first i c → c.bits ≡ sure ns → StandsAll v (first_after v first i) ts q → Fitted x (copied (natural ns) q) r → Stands v first (t.repeat (head_of x) i ts) r
 repeat_stands v first x i ts ns c q r sc e sq f =
-    from_step v first _ r (s.told_copies_stand v.design v.kept v.blames first (head_of x) i ts ns c q (copied (natural ns) q) r (to_step v first i c sc) e (to_all v (first_after v first i) ts q sq) (record { bits = refl; blame = λ u. refl }) (to_fit x (copied (natural ns) q) r f))
+    from_step v first _ r (s.whole_copies_stand v.design v.kept v.blames first (head_of x) i ts ns c q (copied (natural ns) q) r (to_step v first i c sc) e (to_all v (first_after v first i) ts q sq) (record { bits = refl; blame = λ u. refl }) (to_fit x (copied (natural ns) q) r f))
 
 -- a concatenation that is repeated, as often as it has bits for
 pub repeat_all : (v : Scene) (first : Option ℕ) (x : TermHead) (i : t.Term) (ts : t.Terms) (ns : List Bit) (c q r : Partly) → Stands v first i c → c.bits ≡ sure ns → are_alone v.design ts ≡ true → natural ns * own_widths v.design ts ≤ 128 → (own_widths v.design ts ≤ 128 → StandsAll v (first_after v first i) ts q) → Fitted x (copied (min (natural ns) 128) q) r → Stands v first (t.repeat (head_of x) i ts) r
@@ -130,7 +130,7 @@ terms_from xs i x within is = rw (add-one, drop-cons xs i x within, ← is) refl
 -- the bits so far and those of the rest are those of all, and so are the blames
 pub record GoesOn (v : Scene) (first : Option ℕ) (all : t.Terms) (now : Option ℕ) (rest : t.Terms) (q : Partly) : Type 0 where
   pub bits : known_joined v.design v.kept all ≡ known_joined v.design v.kept rest ++ q.bits
-  pub blame : blame_of_all v.design v.kept v.blames first all ≡ (if is_told q then blame_of_all v.design v.kept v.blames now rest else q.blame)
+  pub blame : blame_of_all v.design v.kept v.blames first all ≡ (if is_whole q then blame_of_all v.design v.kept v.blames now rest else q.blame)
 
 pub goes_start : (v : Scene) (first : Option ℕ) (all : t.Terms) → GoesOn v first all first all (so_far None)
 goes_start v first all = record { bits = sym (append-nil (known_joined v.design v.kept all)); blame = refl }
@@ -155,35 +155,35 @@ are_both [] qs = refl
 are_both (None ∷ ps) qs = refl
 are_both (Some b ∷ ps) qs = are_both ps qs
 
-pub goes_further : (v : Scene) (first : Option ℕ) (all : t.Terms) (now next : Option ℕ) (x : t.Term) (rest : t.Terms) (p q r : Partly) → GoesOn v first all now (t.a_term x rest) q → Stands v now x p → next ≡ first_after v now x → r.bits ≡ p.bits ++ q.bits → (is_told r ≡ false → r.blame ≡ first_blame q p) → GoesOn v first all next rest r
+pub goes_further : (v : Scene) (first : Option ℕ) (all : t.Terms) (now next : Option ℕ) (x : t.Term) (rest : t.Terms) (p q r : Partly) → GoesOn v first all now (t.a_term x rest) q → Stands v now x p → next ≡ first_after v now x → r.bits ≡ p.bits ++ q.bits → (is_whole r ≡ false → r.blame ≡ first_blame q p) → GoesOn v first all next rest r
 goes_further v first all now next x rest p q r g sp e bits blame = record {
   bits = g.bits ∙ ap (λ ps. (known_joined v.design v.kept rest ++ ps) ++ q.bits) (sym sp.bits) ∙ append_assoc (known_joined v.design v.kept rest) p.bits q.bits ∙ ap (λ ps. known_joined v.design v.kept rest ++ ps) (sym bits);
-  blame = g.blame ∙ go (is_told q) (is_told p) refl refl ∙ ap (λ o. if is_told r then blame_of_all v.design v.kept v.blames o rest else r.blame) (sym e);
+  blame = g.blame ∙ go (is_whole q) (is_whole p) refl refl ∙ ap (λ o. if is_whole r then blame_of_all v.design v.kept v.blames o rest else r.blame) (sym e);
 }
   where
     later : ℕ
     later = blame_of_all v.design v.kept v.blames (first_after v now x) rest
 
-    told_both : is_told r ≡ (is_told p && is_told q)
-    told_both = ap are_sure bits ∙ are_both p.bits q.bits
+    whole_both : is_whole r ≡ (is_whole p && is_whole q)
+    whole_both = ap are_sure bits ∙ are_both p.bits q.bits
 
-    -- the blame of the rest, by whether the next value is told
-    told_x : Rattle.body_replay.specs.KnownBits.all_sure (known_value v.design v.kept x) ≡ is_told p
-    told_x = ap Rattle.body_replay.specs.KnownBits.all_sure (sym sp.bits) ∙ same_sure p.bits
+    -- the blame of the rest, by whether the next value is whole
+    whole_x : Rattle.body_replay.specs.KnownBits.all_sure (known_value v.design v.kept x) ≡ is_whole p
+    whole_x = ap Rattle.body_replay.specs.KnownBits.all_sure (sym sp.bits) ∙ same_sure p.bits
 
-    go : (b c : Bool) → is_told q ≡ b → is_told p ≡ c → (if is_told q then (if Rattle.body_replay.specs.KnownBits.all_sure (known_value v.design v.kept x) then later else blame_of v.design v.kept v.blames now x) else q.blame) ≡ (if is_told r then later else r.blame)
-    go true true f h = rw (f, told_x, h, told_both, h, f) refl
+    go : (b c : Bool) → is_whole q ≡ b → is_whole p ≡ c → (if is_whole q then (if Rattle.body_replay.specs.KnownBits.all_sure (known_value v.design v.kept x) then later else blame_of v.design v.kept v.blames now x) else q.blame) ≡ (if is_whole r then later else r.blame)
+    go true true f h = rw (f, whole_x, h, whole_both, h, f) refl
     go true false f h =
-        let u : is_told r ≡ false = rw (told_both, h) refl in
-        rw (f, told_x, h, u) (sym (blame u ∙ ap (λ g. if g then p.blame else q.blame) f ∙ sp.blame h))
+        let u : is_whole r ≡ false = rw (whole_both, h) refl in
+        rw (f, whole_x, h, u) (sym (blame u ∙ ap (λ g. if g then p.blame else q.blame) f ∙ sp.blame h))
     go false true f h =
-        let u : is_told r ≡ false = rw (told_both, h, f) refl in
+        let u : is_whole r ≡ false = rw (whole_both, h, f) refl in
         rw (f, u) (sym (blame u ∙ ap (λ g. if g then p.blame else q.blame) f))
     go false false f h =
-        let u : is_told r ≡ false = rw (told_both, h) refl in
+        let u : is_whole r ≡ false = rw (whole_both, h) refl in
         rw (f, u) (sym (blame u ∙ ap (λ g. if g then p.blame else q.blame) f))
 
--- what the sink is told of the rest makes it told of all
+-- what the sink takes of the rest makes it take all
 pub record TellsOn {S : Type 0} (noted : List Mark → S → Type 0) (mode : Mode) (before : S) (all : List Mark) (now : S) (rest : List Mark) : Type 0 where
   pub goes : (after : S) → Adds noted now (in_this mode rest) after → Adds noted before (in_this mode all) after
 

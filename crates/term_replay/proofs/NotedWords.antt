@@ -4,7 +4,7 @@ use Rattle.std.specs.List.{range_with_len}
 use Rattle.std.specs.Option.{unwrap_or}
 use Rattle.four_state.specs.Parts.{index}
 use Rattle.four_state.specs.Vector.{Vector}
-use Rattle.known_state.specs.Partly.{Partly, is_told, told_of}
+use Rattle.known_state.specs.Partly.{Partly, is_whole, whole_of}
 use Rattle.design_model.specs.declared.design.Memory.{Memory}
 use Rattle.design_model.specs.declared.design.Range.{Range}
 use Rattle.design_model.specs.Value.{named_word}
@@ -13,24 +13,24 @@ use Rattle.body_replay.specs.Store.{may_name, words}
 use Rattle.body_replay.specs.Replay.{Mark, Mode, Spot, doubted, named_mark, perhaps_marks}
 use Rattle.body_replay.proofs.Answered.{same_sure}
 use Rattle.body_replay.proofs.Exact.{on_sure}
-use Rattle.body_replay.proofs.Unsure.{not_told}
+use Rattle.body_replay.proofs.Unsure.{not_whole}
 use Rattle.term_replay.specs.Noted.{Adds, in_this}
 use Rattle.term_replay.specs.Words.{IsOf, marks_of_words}
 use Rattle.term_replay.proofs.Marking.{adds_both, adds_same, perhaps_in, perhaps_more}
 
--- by a told index
-pub words_told : (m : Memory) (at : ℕ → Spot) (q : Partly) (n : Vector) (o : Option ℕ) → q ≡ told_of n → o ≡ named_word m (index n.signed n.bits) → named_mark at o ≡ marks_of_words m at q.signed q.bits q.blame
-words_told m at q n o e is =
+-- by a whole index
+pub words_whole : (m : Memory) (at : ℕ → Spot) (q : Partly) (n : Vector) (o : Option ℕ) → q ≡ whole_of n → o ≡ named_word m (index n.signed n.bits) → named_mark at o ≡ marks_of_words m at q.signed q.bits q.blame
+words_whole m at q n o e is =
     ap (named_mark at) is
     ∙ sym (on_sure n.bits (λ js. named_mark at (named_word m (index n.signed js))) (perhaps_marks at (may_name m n.signed (sure n.bits)) (words m) 0))
     ∙ ap (λ y. marks_of_words m at y.signed y.bits y.blame) (sym e)
 
 -- by one that is not
-pub words_unsure : (mode : Mode) (m : Memory) (at : ℕ → Spot) (q : Partly) (thing : ℕ) → is_told q ≡ false → thing ≡ unwrap_or mode q.blame → perhaps_marks at (may_name m q.signed q.bits) (words m) thing ≡ in_this mode (marks_of_words m at q.signed q.bits q.blame)
+pub words_unsure : (mode : Mode) (m : Memory) (at : ℕ → Spot) (q : Partly) (thing : ℕ) → is_whole q ≡ false → thing ≡ unwrap_or mode q.blame → perhaps_marks at (may_name m q.signed q.bits) (words m) thing ≡ in_this mode (marks_of_words m at q.signed q.bits q.blame)
 words_unsure mode m at q thing u e =
     ap (perhaps_marks at (may_name m q.signed q.bits) (words m)) e
     ∙ sym (perhaps_in mode at (may_name m q.signed q.bits) (words m) q.blame)
-    ∙ ap (in_this mode) (sym (not_told q.bits (same_sure q.bits ∙ u) (λ js. named_mark at (named_word m (index q.signed js))) (perhaps_marks at (may_name m q.signed q.bits) (words m) q.blame)))
+    ∙ ap (in_this mode) (sym (not_whole q.bits (same_sure q.bits ∙ u) (λ js. named_mark at (named_word m (index q.signed js))) (perhaps_marks at (may_name m q.signed q.bits) (words m) q.blame)))
 
 -- the numbers of the words
 pub words_from : (r : Range) (m : Memory) (low high : ℕ) → IsOf r m → low ≡ min r.high r.low → high ≡ max r.high r.low → range_with_len low (high + 1 - low) ≡ words m

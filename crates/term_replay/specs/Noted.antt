@@ -1,4 +1,4 @@
--- What a sink of notes is told.
+-- What a sink of notes takes.
 use Rattle.std.specs.Prelude.{ℕ, List, [], ◌∷◌, ◌++◌, map, Option}
 use Rattle.four_state.specs.declared.truth.Truth.TheVariants.{True, False}
 use Rattle.design_model.specs.declared.point.NodeCase.TheVariants.{ValueFalse, ValueTrue, LeftFalse, RightFalse, LeftTrue, RightTrue, BothFalse, BothTrue}
@@ -30,7 +30,7 @@ abbrev pub access_spot : Access → ℕ → ℕ → r.Spot
 access_spot Read m i = r.word_read m i
 access_spot Write m i = r.word_write m i
 
--- whatever marks the sink was told before, it has then been told these too
+-- whatever marks the sink took before, it has then taken these too
 pub record Adds {S : Type 0} (noted : List Mark → S → Type 0) (before : S) (marks : List Mark) (after : S) : Type 0 where
   pub added : (earlier : List Mark) → noted earlier before → noted (earlier ++ marks) after
 

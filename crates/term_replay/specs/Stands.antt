@@ -4,7 +4,7 @@ use Rattle.four_state.specs.declared.bit.Bit.{Bit}
 use Rattle.four_state.specs.Arithmetic.{natural}
 use Rattle.four_state.specs.Parts.{index}
 use Rattle.four_state.specs.Vector.{Vector, extend}
-use Rattle.known_state.specs.Partly.{Partly, is_told, told_of}
+use Rattle.known_state.specs.Partly.{Partly, is_whole, whole_of}
 use Rattle.design_model.specs.Design.{Design, signal_cells}
 use Rattle.design_model.specs.Tree.{Head, Term, Terms}
 use Rattle.design_model.specs.Value.{head, slide_offset}
@@ -28,11 +28,11 @@ head_of x = record { place = x.place; width = x.width; signed = x.signed; node =
 pub record Fitted (x : TermHead) (q r : Partly) : Type 0 where
   pub bits : r.bits ≡ extend_partly x.width x.signed q.bits
   pub sign_is : r.signed ≡ x.signed
-  pub blame : is_told r ≡ false → (is_told q ≡ false) × (r.blame ≡ q.blame)
+  pub blame : is_whole r ≡ false → (is_whole q ≡ false) × (r.blame ≡ q.blame)
 
--- these bits, told whole, extended by this sign
-abbrev pub told_at : TermHead → List Bit → Partly
-told_at x bs = told_of (record { bits = extend x.width x.signed bs; signed = x.signed })
+-- these bits, whole, extended by this sign
+abbrev pub whole_at : TermHead → List Bit → Partly
+whole_at x bs = whole_of (record { bits = extend x.width x.signed bs; signed = x.signed })
 
 -- no bits, or those of the vector
 abbrev pub so_far : Option Partly → Partly
@@ -57,18 +57,18 @@ all_first_after v first ts = first_reads v.design v.kept v.blames first ts
 -- what is known of the bits of the signal, with its blame
 pub record IsRead (v : Scene) (s : ℕ) (q : Partly) : Type 0 where
   pub bits : q.bits ≡ map v.kept (signal_cells v.design s)
-  pub blame : is_told q ≡ false → q.blame ≡ v.blames.blame s
+  pub blame : is_whole q ≡ false → q.blame ≡ v.blames.blame s
 
 -- the vector is the value of the term, read after this first read that was not wholly sure
 pub record Stands (v : Scene) (first : Option ℕ) (t : Term) (r : Partly) : Type 0 where
   pub bits : r.bits ≡ known_value v.design v.kept t
   pub sign_is : r.signed ≡ (head t).signed
-  pub blame : is_told r ≡ false → r.blame ≡ blame_of v.design v.kept v.blames first t
+  pub blame : is_whole r ≡ false → r.blame ≡ blame_of v.design v.kept v.blames first t
 
 -- the vector is that of the values of the terms side by side, the first one highest
 pub record StandsAll (v : Scene) (first : Option ℕ) (ts : Terms) (r : Partly) : Type 0 where
   pub bits : r.bits ≡ known_joined v.design v.kept ts
-  pub blame : is_told r ≡ false → r.blame ≡ blame_of_all v.design v.kept v.blames first ts
+  pub blame : is_whole r ≡ false → r.blame ≡ blame_of_all v.design v.kept v.blames first ts
 
 -- the term has the width and sign of its context, and alone it would be no wider
 pub record IsInContext (d : Design) (t : Term) : Type 0 where

@@ -6,7 +6,7 @@ use Rattle.four_state.specs.declared.index.Index.TheVariants.{At, Below, Strange
 use Rattle.design_model.specs.declared.design.Memory.{Memory}
 use Rattle.design_model.specs.declared.design.Range.{Range}
 use Rattle.design_model.specs.Value.{named_word}
-use Rattle.body_replay.specs.KnownBits.{KnownBits, on_told, told}
+use Rattle.body_replay.specs.KnownBits.{KnownBits, on_whole, whole_bits}
 use Rattle.body_replay.specs.Store.{may_name, words}
 use Rattle.body_replay.specs.Replay.{Mark, Spot, named_mark, perhaps_marks}
 
@@ -17,7 +17,7 @@ pub record IsOf (r : Range) (m : Memory) : Type 0 where
 
 -- a hit of the named word, or doubts of those that may be named
 abbrev pub marks_of_words : Memory → (ℕ → Spot) → Bool → KnownBits → ℕ → List Mark
-marks_of_words m at signed ps blame = on_told (told ps) (λ is. named_mark at (named_word m (index signed is))) (perhaps_marks at (may_name m signed ps) (words m) blame)
+marks_of_words m at signed ps blame = on_whole (whole_bits ps) (λ is. named_mark at (named_word m (index signed is))) (perhaps_marks at (may_name m signed ps) (words m) blame)
 
 -- the index is this number
 abbrev pub is_index_at : Index → ℕ → Bool

@@ -1,10 +1,10 @@
 //! A value at the width and with the sign of its term, and the terms that stand alone.
 
 ghost use Rattle.std.specs.Prelude.{◌≡◌, ℕ, Bool, [], Option, false};
-ghost use Rattle.known_state.specs.Partly.{is_told, told_of};
+ghost use Rattle.known_state.specs.Partly.{is_whole, whole_of};
 ghost use Rattle.design_model.specs.Tree as t;
 ghost use Rattle.body_replay.specs.Replay.{note};
-ghost use Rattle.term_replay.specs.Stands.{Scene, Fitted, IsRead, IsHead, Stands, head_of, told_at};
+ghost use Rattle.term_replay.specs.Stands.{Scene, Fitted, IsRead, IsHead, Stands, head_of, whole_at};
 
 use crate::TermHead;
 use four_state::{Bit, Four};
@@ -18,36 +18,36 @@ pub fn fitted(value: &Known, head: TermHead) -> Known
     if value.width() == head.width && value.is_signed() == head.signed {
         return *value;
     }
-    if value.is_told() {
-        return told_fitted(&value.value(), head);
+    if value.is_whole() {
+        return whole_fitted(&value.value(), head);
     }
     let value = value.extend(value.width(), head.signed);
     value.extend(head.width, head.signed)
 }
 
 /// The same of a value of which all bits are sure.
-fn told_fitted(value: &Four, head: TermHead) -> Known
+fn whole_fitted(value: &Four, head: TermHead) -> Known
     requires { IsHead head }
-    ensures { result ≡ told_at head value.now.bits }
+    ensures { result ≡ whole_at head value.now.bits }
 {
     let own = value.extend(value.width(), head.signed);
-    Known::told(own.extend(head.width, head.signed))
+    Known::whole(own.extend(head.width, head.signed))
 }
 
 /// The value of no bits: 0.
 pub(crate) fn blank(head: TermHead) -> Known
     requires { IsHead head }
-    ensures { result ≡ told_at head [] }
+    ensures { result ≡ whole_at head [] }
 {
-    Known::told(Four::fill(head.width, head.signed, Bit::Zero))
+    Known::whole(Four::fill(head.width, head.signed, Bit::Zero))
 }
 
 /// The same bits with this thing to blame where not all are sure.
 pub(crate) fn blamed(value: &Known, thing: u32) -> Known
     ensures bits { result.bits ≡ value.now.bits }
-    ensures blame { is_told result ≡ false → result.blame ≡ thing }
+    ensures blame { is_whole result ≡ false → result.blame ≡ thing }
 {
-    if value.is_told() {
+    if value.is_whole() {
         return *value;
     }
     value.join(value, thing)
@@ -55,9 +55,9 @@ pub(crate) fn blamed(value: &Known, thing: u32) -> Known
 
 /// The first read of a run that was not wholly sure, after this read.
 pub(crate) fn noted(first: Option<u32>, value: &Known) -> Option<u32>
-    ensures { result ≡ note (is_told value.now) value.now.blame first }
+    ensures { result ≡ note (is_whole value.now) value.now.blame first }
 {
-    if value.is_told() || first.is_some() {
+    if value.is_whole() || first.is_some() {
         first
     } else {
         Some(value.blame())
@@ -69,7 +69,7 @@ pub fn number(value: &Four, head: TermHead) -> Known
     requires { IsHead head }
     ensures { (v : Scene) (first : Option ℕ) → Stands v first (t.number (head_of head) value.now) result }
 {
-    fitted(&Known::told(*value), head)
+    fitted(&Known::whole(*value), head)
 }
 
 /// The value of a signal of which this was read.

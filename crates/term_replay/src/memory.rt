@@ -2,7 +2,7 @@
 
 ghost use Rattle.std.specs.Prelude.{◌≡◌, ◌-◌, ◌^◌, ◌≤◌, ◌∷◌, [], if◌then◌else◌, false, true, max, min};
 ghost use Rattle.four_state.specs.Parts.{index as index_value};
-ghost use Rattle.known_state.specs.Partly.{is_told};
+ghost use Rattle.known_state.specs.Partly.{is_whole};
 ghost use Rattle.design_model.specs.declared.design.Memory.{Memory};
 ghost use Rattle.design_model.specs.Design.{is_memory};
 ghost use Rattle.design_model.specs.Value.{named_word};
@@ -18,11 +18,11 @@ use four_state::{Four, Index};
 use known_state::Known;
 
 /// What is read of a memory by an index, with its blame: the first read of the run that was not wholly sure where the run
-/// has written the memory, else the index where it is not told, else the memory.
+/// has written the memory, else the index where it is not whole, else the memory.
 pub fn word<R: Reads>(reads: &R, memory: u32, index: &Known, first: Option<u32>) -> Known
     requires { is_memory (R.scene reads.now).design memory ≡ true }
     ensures bits { result.bits ≡ read_word (R.scene reads.now).design (R.scene reads.now).kept memory index.now.signed index.now.bits }
-    ensures blame { is_told result ≡ false → result.blame ≡ word_blame (R.scene reads.now).blames memory (is_told index.now) index.now.blame first }
+    ensures blame { is_whole result ≡ false → result.blame ≡ word_blame (R.scene reads.now).blames memory (is_whole index.now) index.now.blame first }
 {
     let thing = thing_to_blame(reads, memory, index, first);
     blamed(&reads.word(memory, index), thing)
@@ -31,7 +31,7 @@ pub fn word<R: Reads>(reads: &R, memory: u32, index: &Known, first: Option<u32>)
 /// What a word that is read by an index is blamed on.
 fn thing_to_blame<R: Reads>(reads: &R, memory: u32, index: &Known, first: Option<u32>) -> u32
     requires { is_memory (R.scene reads.now).design memory ≡ true }
-    ensures { result ≡ word_blame (R.scene reads.now).blames memory (is_told index.now) index.now.blame first }
+    ensures { result ≡ word_blame (R.scene reads.now).blames memory (is_whole index.now) index.now.blame first }
 {
     let own = reads.blame(memory);
     if reads.wrote(memory) {
@@ -40,7 +40,7 @@ fn thing_to_blame<R: Reads>(reads: &R, memory: u32, index: &Known, first: Option
             None => own,
         };
     }
-    if index.is_told() { own } else { index.blame() }
+    if index.is_whole() { own } else { index.blame() }
 }
 
 /// The mask of the lowest `width` places.
@@ -76,7 +76,7 @@ fn is_number(index: Index, number: u128) -> bool
     }
 }
 
-/// The word of a memory that a told index names, if there is one.
+/// The word of a memory that a whole index names, if there is one.
 fn named(words: Range, index: &Four) -> Option<u32>
     ensures { (m : Memory) → IsOf words m → result ≡ named_word m (index_value index.now.signed index.now.bits) }
 {
@@ -100,7 +100,7 @@ pub fn note_words<N: Notes>(
 )
     ensures { (m : Memory) → IsOf words m → Adds N.noted notes.old (in_this mode (marks_of_words m (access_spot access memory) index.now.signed index.now.bits index.now.blame)) notes.new }
 {
-    if index.is_told() {
+    if index.is_whole() {
         return note_named(access, memory, named(words, &index.value()), mode, notes);
     }
     let thing = mode.unwrap_or(index.blame());

@@ -40,7 +40,7 @@ impl Access {
 
 /// Takes what a run notes, in order: that a spot is hit, or that it may be hit and which thing is to blame for that.
 pub trait Notes {
-    /// The sink may have been told these marks, in order, since it was made. A sink need not keep the marks: that of a
+    /// The sink may have taken these marks, in order, since it was made. A sink need not keep the marks: that of a
     /// table of verdicts says which verdicts these marks give.
     ghost noted: { List Mark → Self → Type 0 };
 

@@ -1,5 +1,5 @@
 ghost use Rattle.std.specs.Prelude.{◌≡◌, ◌<◌, true, false, length, map};
-ghost use Rattle.known_state.specs.Partly.{is_told};
+ghost use Rattle.known_state.specs.Partly.{is_whole};
 ghost use Rattle.design_model.specs.Design.{is_memory, memory_at, signal_at, signal_cells};
 ghost use Rattle.body_replay.specs.Store.{read_word};
 ghost use Rattle.term_replay.specs.Stands.{Scene};
@@ -18,7 +18,7 @@ pub trait Reads {
     fn signal(&self, signal: u32) -> Known
         requires { signal < length (scene self.now).design.signals }
         ensures bits { result.bits ≡ map (scene self.now).kept (signal_cells (scene self.now).design signal) }
-        ensures blame { is_told result ≡ false → result.blame ≡ (scene self.now).blames.blame signal };
+        ensures blame { is_whole result ≡ false → result.blame ≡ (scene self.now).blames.blame signal };
 
     /// What is known of the word of a memory that an index names: all bits x where it names none (IEEE 1364-2001, clause
     /// 4.2.2), and where the index is not wholly sure what x and all words that it may name have in common. The sign flag

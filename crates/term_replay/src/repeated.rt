@@ -2,7 +2,7 @@
 
 ghost use Rattle.std.specs.Prelude.{◌≡◌, ◌+◌, ◌*◌, ◌++◌, ◌≤◌, false, length};
 ghost use Rattle.known_state.specs.Join.{first_blame};
-ghost use Rattle.known_state.specs.Partly.{is_told};
+ghost use Rattle.known_state.specs.Partly.{is_whole};
 ghost use Rattle.body_replay.specs.KnownBits.{copies_partly};
 ghost use Rattle.term_replay.specs.Stands.{Fitted, IsHead, copied, so_far};
 
@@ -15,7 +15,7 @@ use known_state::Known;
 /// repeated 0 times can have, are left out.
 pub fn followed_by(high: Option<Known>, low: &Known) -> Known
     ensures bits { length (so_far high).bits + length low.now.bits ≤ 128 → result.bits ≡ low.now.bits ++ (so_far high).bits }
-    ensures blame { length (so_far high).bits + length low.now.bits ≤ 128 → is_told result ≡ false → result.blame ≡ first_blame (so_far high) low.now }
+    ensures blame { length (so_far high).bits + length low.now.bits ≤ 128 → is_whole result ≡ false → result.blame ≡ first_blame (so_far high) low.now }
 {
     match high {
         None => *low,
@@ -28,10 +28,10 @@ pub fn followed_by(high: Option<Known>, low: &Known) -> Known
 fn appended(high: &Known, low: &Known) -> Known
     requires { length high.now.bits + length low.now.bits ≤ 128 }
     ensures bits { result.bits ≡ low.now.bits ++ high.now.bits }
-    ensures blame { is_told result ≡ false → result.blame ≡ first_blame high.now low.now }
+    ensures blame { is_whole result ≡ false → result.blame ≡ first_blame high.now low.now }
 {
-    if high.is_told() && low.is_told() {
-        return Known::told(Four::append(&high.value(), &low.value()));
+    if high.is_whole() && low.is_whole() {
+        return Known::whole(Four::append(&high.value(), &low.value()));
     }
     Known::append(high, low)
 }
@@ -41,7 +41,7 @@ pub fn copies(value: &Known, count: u8) -> Known
     requires some { 1 ≤ count }
     requires room { length value.now.bits * count ≤ 128 }
     ensures bits { result.bits ≡ copies_partly count value.now.bits }
-    ensures blame { is_told result ≡ false → result.blame ≡ value.now.blame }
+    ensures blame { is_whole result ≡ false → result.blame ≡ value.now.blame }
 {
     let mut all = *value;
     for made in 1..count {

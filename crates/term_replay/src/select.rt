@@ -3,7 +3,7 @@
 ghost use Rattle.std.specs.Prelude.{◌≡◌, ◌≤◌, ℕ, Option, false, length, true};
 ghost use Rattle.four_state.specs.Arithmetic.{natural};
 ghost use Rattle.four_state.specs.declared.bit.Bit.TheVariants as bits;
-ghost use Rattle.known_state.specs.Partly.{filled, is_told};
+ghost use Rattle.known_state.specs.Partly.{filled, is_whole};
 ghost use Rattle.design_model.specs.Tree as t;
 ghost use Rattle.design_model.specs.Value.{part_width, range_of as range_of_term};
 ghost use Rattle.design_model.specs.View.{term_view};
@@ -22,23 +22,23 @@ fn selected(of: &Known, offset: Option<i64>, width: u8) -> Known
     requires at_least { 1 ≤ width }
     requires at_most { width ≤ 128 }
     ensures bits { result.bits ≡ select_option of.now.bits offset width }
-    ensures blame { is_told result ≡ false → result.blame ≡ of.now.blame }
+    ensures blame { is_whole result ≡ false → result.blame ≡ of.now.blame }
     ensures long { length of.now.bits ≤ 128 }
 {
     prove!(of.width() <= 128);
     match offset {
-        None => Known::told(Four::fill(width, false, Bit::X)),
-        Some(low) if of.is_told() => Known::told(of.value().select(low, width)),
+        None => Known::whole(Four::fill(width, false, Bit::X)),
+        Some(low) if of.is_whole() => Known::whole(of.value().select(low, width)),
         Some(low) => of.select(low, width),
     }
 }
 
-/// The value of `of[index]`, where `of` has this range. By an index that is not told nothing is known.
+/// The value of `of[index]`, where `of` has this range. By an index that is not whole nothing is known.
 pub fn bit(range: Range, index: &Known, of: &Known, head: TermHead) -> Known
     requires { IsHead head }
     ensures { (v : Scene) (first : Option ℕ) (x i : t.Term) → range_of_term v.design x ≡ range → Stands v first i index.now → Stands v (first_after v first i) x of.now → Stands v first (t.bit (head_of head) x i) result }
 {
-    if index.is_told() {
+    if index.is_whole() {
         let offset = bit_offset(range, &index.value());
         return fitted(&selected(of, offset, 1), head);
     }
@@ -48,8 +48,8 @@ pub fn bit(range: Range, index: &Known, of: &Known, head: TermHead) -> Known
 /// The value of `of[high:low]`, where `of` has this range.
 pub fn part(range: Range, high: &Known, low: &Known, of: &Known, head: TermHead) -> Known
     requires head { IsHead head }
-    requires high { is_told high.now ≡ true }
-    requires low { is_told low.now ≡ true }
+    requires high { is_whole high.now ≡ true }
+    requires low { is_whole low.now ≡ true }
     requires count { part_width (filled bits.Zero high.now.bits) (filled bits.Zero low.now.bits) ≤ 128 }
     ensures { (v : Scene) (first : Option ℕ) (x i j : t.Term) → range_of_term v.design x ≡ range → Stands v first i high.now → Stands v (first_after v first i) j low.now → Stands v (first_after v (first_after v first i) j) x of.now → Stands v first (t.part (head_of head) x i j) result }
 {
@@ -71,7 +71,7 @@ fn bits_between(high: &Four, low: &Four) -> u8
 }
 
 /// The value of `of[base +: count]`, or where `up` is false of `of[base -: count]`, where `of` has this range. By a base
-/// that is not told nothing is known.
+/// that is not whole nothing is known.
 pub fn slide(
     range: Range,
     base: &Known,
@@ -81,18 +81,18 @@ pub fn slide(
     head: TermHead,
 ) -> Known
     requires head { IsHead head }
-    requires told { is_told count.now ≡ true }
+    requires whole { is_whole count.now ≡ true }
     requires count { natural (filled bits.Zero count.now.bits) ≤ 128 }
     ensures { (v : Scene) (first : Option ℕ) (x b w : t.Term) → range_of_term v.design x ≡ range → Stands v first b base.now → Stands v (first_after v first b) w count.now → Stands v (first_after v (first_after v first b) w) x of.now → Stands v first (t.slide (head_of head) x b w up) result }
 {
-    if base.is_told() {
-        return told_slide(range, &base.value(), &count.value(), up, of, head);
+    if base.is_whole() {
+        return whole_slide(range, &base.value(), &count.value(), up, of, head);
     }
     Known::unknown(head.width, head.signed, base.blame())
 }
 
-/// The same by a base and a count that are told: 0 where the count is.
-fn told_slide(
+/// The same by a base and a count that are whole: 0 where the count is.
+fn whole_slide(
     range: Range,
     base: &Four,
     count: &Four,

@@ -2,7 +2,7 @@
 use Rattle.std.proofs.Common.{◌≡◌, ℕ, ◌<◌, ◌==◌, Bool, true, false, if◌then◌else◌, length, map, get_or, set, replicate, refl, sym, ap, ap₂, subst, ◌∙◌, ◌≢◌, arith, eq-eqb, length-set, get_or-set_same, get_or-set_other}
 use Rattle.std.proofs.lemmas.Bool.{eqb-true, eqb-false}
 use Rattle.std.proofs.lemmas.List.{get_or-map}
-use Rattle.known_state.specs.Partly.{Partly, is_told, with_blame}
+use Rattle.known_state.specs.Partly.{Partly, is_whole, with_blame}
 use Rattle.known_state.specs.Join.{joined}
 use Rattle.design_model.specs.Design.{Design, no_signal, signal_at, signal_cells}
 use Rattle.design_model.specs.declared.design.Range.{Range}
@@ -13,7 +13,7 @@ use Rattle.body_replay.specs.Replay.{part_blame}
 use Rattle.body_replay.proofs.Answered.{same_sure}
 use Rattle.body_replay.proofs.Stored.{signal_stored, weak_signal_stored}
 use Rattle.value_store.specs.Signals.{Shape, Signals, kept_at, no_shape, no_value, shape_at, shape_of}
-use Rattle.value_store.specs.Parts.{common_bits, part_written, placed_bits, told_offset, updated}
+use Rattle.value_store.specs.Parts.{common_bits, part_written, placed_bits, whole_offset, updated}
 use Rattle.value_store.specs.Held.{HoldsSignals, IsSignal, SetLaw, SetPartLaw, UpdateLaw, UpdatePartLaw, after_part, if_certain, itself, whole_blame, with_kept}
 use Rattle.value_store.proofs.Left.{bits_after, part_left, part_weak, placed_unsure}
 use Rattle.value_store.proofs.Missed.{part_missed, whole_missed}
@@ -48,26 +48,26 @@ set_law d k blame v s p l size h =
 
 -- the bits of a vector are known by this shape
 bits_written : (d : Design) (s : ℕ) (i p q : Partly) (k : Kept) (r : Shape) → r ≡ shape_of (signal_at d s) → q.bits ≡ map k (signal_cells d s) → (part_written r.range i p q).bits ≡ bits_after d s i p.bits (map k (signal_cells d s))
-bits_written d s i p q k r shape e = ap (λ x. (part_written x.range i p q).bits) shape ∙ go (is_told i) ∙ ap (bits_after d s i p.bits) e
+bits_written d s i p q k r shape e = ap (λ x. (part_written x.range i p q).bits) shape ∙ go (is_whole i) ∙ ap (bits_after d s i p.bits) e
   where
-    go : (t : Bool) → (let w : Partly = (if t then with_blame (placed_bits q.bits p.bits (told_offset (signal_range d s) i)) q.signed (if is_told p then q.blame else p.blame) else with_blame (joined q.bits (replicate (length q.bits) (common_bits p.bits))) q.signed i.blame) in w).bits ≡ (if t then placed_bits q.bits p.bits (told_offset (signal_range d s) i) else joined q.bits (replicate (length q.bits) (common_bits p.bits)))
+    go : (t : Bool) → (let w : Partly = (if t then with_blame (placed_bits q.bits p.bits (whole_offset (signal_range d s) i)) q.signed (if is_whole p then q.blame else p.blame) else with_blame (joined q.bits (replicate (length q.bits) (common_bits p.bits))) q.signed i.blame) in w).bits ≡ (if t then placed_bits q.bits p.bits (whole_offset (signal_range d s) i) else joined q.bits (replicate (length q.bits) (common_bits p.bits)))
     go true = refl
     go false = refl
 
--- what a part leaves, by whether the index and the part are told
+-- what a part leaves, by whether the index and the part are whole
 abbrev left_by : Range → Partly → Partly → Partly → Bool → Bool → Partly
 left_by r i p q t u =
-    if t then with_blame (placed_bits q.bits p.bits (told_offset r i)) q.signed (if u then q.blame else p.blame) else with_blame (joined q.bits (replicate (length q.bits) (common_bits p.bits))) q.signed i.blame
+    if t then with_blame (placed_bits q.bits p.bits (whole_offset r i)) q.signed (if u then q.blame else p.blame) else with_blame (joined q.bits (replicate (length q.bits) (common_bits p.bits))) q.signed i.blame
 
-blamed_by : (r : Range) (i p q : Partly) (old : ℕ) → (is_told q ≡ false → q.blame ≡ old) → (t u : Bool) → is_told p ≡ u → is_told (left_by r i p q t u) ≡ false → (left_by r i p q t u).blame ≡ part_blame t u i.blame p.blame old
-blamed_by r i p q old blamed true true e h = ap (λ z. if z then 0 else q.blame) h ∙ blamed (placed_unsure q.bits p.bits (told_offset r i) h e)
+blamed_by : (r : Range) (i p q : Partly) (old : ℕ) → (is_whole q ≡ false → q.blame ≡ old) → (t u : Bool) → is_whole p ≡ u → is_whole (left_by r i p q t u) ≡ false → (left_by r i p q t u).blame ≡ part_blame t u i.blame p.blame old
+blamed_by r i p q old blamed true true e h = ap (λ z. if z then 0 else q.blame) h ∙ blamed (placed_unsure q.bits p.bits (whole_offset r i) h e)
 blamed_by r i p q old blamed true false e h = ap (λ z. if z then 0 else p.blame) h
 blamed_by r i p q old blamed false u e h = ap (λ z. if z then 0 else i.blame) h
 
 -- what is to blame where not all bits are sure
-part_blamed : (r : Range) (i p q : Partly) (old : ℕ) → (is_told q ≡ false → q.blame ≡ old) → is_told (part_written r i p q) ≡ false → (part_written r i p q).blame ≡ part_blame (all_sure i.bits) (all_sure p.bits) i.blame p.blame old
+part_blamed : (r : Range) (i p q : Partly) (old : ℕ) → (is_whole q ≡ false → q.blame ≡ old) → is_whole (part_written r i p q) ≡ false → (part_written r i p q).blame ≡ part_blame (all_sure i.bits) (all_sure p.bits) i.blame p.blame old
 part_blamed r i p q old blamed un =
-    blamed_by r i p q old blamed (is_told i) (is_told p) refl un ∙ sym (ap₂ (λ t u. part_blame t u i.blame p.blame old) (same_sure i.bits) (same_sure p.bits))
+    blamed_by r i p q old blamed (is_whole i) (is_whole p) refl un ∙ sym (ap₂ (λ t u. part_blame t u i.blame p.blame old) (same_sure i.bits) (same_sure p.bits))
 
 pub set_part_law : SetPartLaw
 set_part_law d k blame v s i p l some h =

@@ -6,9 +6,9 @@ use Rattle.four_state.specs.declared.bit.Bit.{Bit}
 use Rattle.four_state.specs.declared.bit.Bit.TheVariants.{Zero}
 use Rattle.four_state.specs.Parts.{index, within}
 use Rattle.four_state.specs.Vector.{same_bit}
-use Rattle.known_state.specs.Partly.{Partly, are_sure, filled, is_told}
+use Rattle.known_state.specs.Partly.{Partly, are_sure, filled, is_whole}
 use Rattle.known_state.specs.Join.{join_bit, joined}
-use Rattle.known_state.proofs.Allowed.{told_filled}
+use Rattle.known_state.proofs.Allowed.{whole_filled}
 use Rattle.known_state.proofs.Cases.{both_true}
 use Rattle.design_model.specs.Design.{Design, signal_at, signal_cells}
 use Rattle.design_model.specs.Value.{offset_option}
@@ -18,9 +18,9 @@ use Rattle.body_replay.specs.Store.{Kept, KnownWrite, keep_all, known_bit_option
 use Rattle.body_replay.proofs.Answered.{same_sure}
 use Rattle.body_replay.proofs.Exact.{on_sure}
 use Rattle.body_replay.proofs.Frames.{join_self}
-use Rattle.body_replay.proofs.Unsure.{all_sure_is, not_told}
+use Rattle.body_replay.proofs.Unsure.{all_sure_is, not_whole}
 use Rattle.body_replay.proofs.Stored.{join_each, part_stored, unsure_part_stored, weak_part_stored}
-use Rattle.value_store.specs.Parts.{bit_or_old, bits_over, common_bit, common_bits, placed_bits, told_offset}
+use Rattle.value_store.specs.Parts.{bit_or_old, bits_over, common_bit, common_bits, placed_bits, whole_offset}
 use Rattle.value_store.proofs.Placed.{over_is}
 
 -- ---- joins
@@ -57,7 +57,7 @@ weak_cell c (p ∷ ps) = ap (λ ws. record { cell = c; value = p; certain = fals
 
 -- the bits that a write of a part leaves
 abbrev pub bits_after : Design → ℕ → Partly → KnownBits → KnownBits → KnownBits
-bits_after d s i ps qs = if is_told i then placed_bits qs ps (told_offset (signal_range d s) i) else joined qs (replicate (length qs) (common_bits ps))
+bits_after d s i ps qs = if is_whole i then placed_bits qs ps (whole_offset (signal_range d s) i) else joined qs (replicate (length qs) (common_bits ps))
 
 weaken_append : (ws vs : List KnownWrite) → weaken (ws ++ vs) ≡ weaken ws ++ weaken vs
 weaken_append [] vs = refl
@@ -87,30 +87,30 @@ module _ (d : Design) (s : ℕ) (k : Kept) where
   spread_left (p ∷ ps) l =
       unsure_part_stored d s k p ps ∙ ap (λ o. joined (map k here) (replicate (length (map k here)) o)) (each_common p ps)
 
-  -- the writes of a part by an index that is told
-  told_writes : (i : Partly) (ps : KnownBits) → is_told i ≡ true → write_bits d s i.signed i.bits ps ≡ known_bit_option s width (told_offset (signal_range d s) i) ps
-  told_writes i ps h =
+  -- the writes of a part by an index that is whole
+  whole_writes : (i : Partly) (ps : KnownBits) → is_whole i ≡ true → write_bits d s i.signed i.bits ps ≡ known_bit_option s width (whole_offset (signal_range d s) i) ps
+  whole_writes i ps h =
       let all = all_sure_is i.bits (same_sure i.bits ∙ h) in
-      let value : all.0 ≡ filled Zero i.bits = sym (ap (filled Zero) all.1 ∙ told_filled Zero all.0) in
+      let value : all.0 ≡ filled Zero i.bits = sym (ap (filled Zero) all.1 ∙ whole_filled Zero all.0) in
       ap (λ z. write_bits d s i.signed z ps) all.1 ∙ on_sure all.0 (λ bs. known_bit_option s width (offset_option (signal_range d s) (index i.signed bs)) ps) (perhaps_cells here ps) ∙ ap (λ bs. known_bit_option s width (offset_option (signal_range d s) (index i.signed bs)) ps) value
 
   -- by one that is not
-  unsure_writes : (i : Partly) (ps : KnownBits) → is_told i ≡ false → write_bits d s i.signed i.bits ps ≡ perhaps_cells here ps
+  unsure_writes : (i : Partly) (ps : KnownBits) → is_whole i ≡ false → write_bits d s i.signed i.bits ps ≡ perhaps_cells here ps
   unsure_writes i ps h =
-      not_told i.bits (same_sure i.bits ∙ h) (λ bs. known_bit_option s width (offset_option (signal_range d s) (index i.signed bs)) ps) (perhaps_cells here ps)
+      not_whole i.bits (same_sure i.bits ∙ h) (λ bs. known_bit_option s width (offset_option (signal_range d s) (index i.signed bs)) ps) (perhaps_cells here ps)
 
   pub part_left : (i : Partly) (ps : KnownBits) → 1 ≤ length ps → map (keep_all k (write_bits d s i.signed i.bits ps)) here ≡ bits_after d s i ps (map k here)
-  part_left i ps l = go (is_told i) refl
+  part_left i ps l = go (is_whole i) refl
     where
-      go : (t : Bool) → is_told i ≡ t → map (keep_all k (write_bits d s i.signed i.bits ps)) here ≡ (if t then placed_bits (map k here) ps (told_offset (signal_range d s) i) else joined (map k here) (replicate (length (map k here)) (common_bits ps)))
-      go true h = ap (λ ws. map (keep_all k ws) here) (told_writes i ps h) ∙ placed_left ps (told_offset (signal_range d s) i)
+      go : (t : Bool) → is_whole i ≡ t → map (keep_all k (write_bits d s i.signed i.bits ps)) here ≡ (if t then placed_bits (map k here) ps (whole_offset (signal_range d s) i) else joined (map k here) (replicate (length (map k here)) (common_bits ps)))
+      go true h = ap (λ ws. map (keep_all k ws) here) (whole_writes i ps h) ∙ placed_left ps (whole_offset (signal_range d s) i)
       go false h = ap (λ ws. map (keep_all k ws) here) (unsure_writes i ps h) ∙ spread_left ps l
 
   pub part_weak : (i : Partly) (ps : KnownBits) → 1 ≤ length ps → map (keep_all k (weaken (write_bits d s i.signed i.bits ps))) here ≡ joined (map k here) (bits_after d s i ps (map k here))
-  part_weak i ps l = go (is_told i) refl
+  part_weak i ps l = go (is_whole i) refl
     where
-      go : (t : Bool) → is_told i ≡ t → map (keep_all k (weaken (write_bits d s i.signed i.bits ps))) here ≡ joined (map k here) (if t then placed_bits (map k here) ps (told_offset (signal_range d s) i) else joined (map k here) (replicate (length (map k here)) (common_bits ps)))
-      go true h = ap (λ ws. map (keep_all k (weaken ws)) here) (told_writes i ps h) ∙ placed_weak ps (told_offset (signal_range d s) i)
+      go : (t : Bool) → is_whole i ≡ t → map (keep_all k (weaken (write_bits d s i.signed i.bits ps))) here ≡ joined (map k here) (if t then placed_bits (map k here) ps (whole_offset (signal_range d s) i) else joined (map k here) (replicate (length (map k here)) (common_bits ps)))
+      go true h = ap (λ ws. map (keep_all k (weaken ws)) here) (whole_writes i ps h) ∙ placed_weak ps (whole_offset (signal_range d s) i)
       go false h =
           ap (λ ws. map (keep_all k (weaken ws)) here) (unsure_writes i ps h) ∙ ap (λ ws. map (keep_all k ws) here) (weak_cells here ps) ∙ spread_left ps l ∙ sym (joined_twice (map k here) (replicate (length (map k here)) (common_bits ps)))
 

@@ -7,7 +7,7 @@ use Rattle.four_state.specs.Parts.{index, within}
 use Rattle.design_model.specs.Design.{Design, cell, signal_at, signal_cells}
 use Rattle.design_model.specs.Value.{offset_option}
 use Rattle.design_model.specs.Assignment.{option_cell, signal_range}
-use Rattle.body_replay.specs.KnownBits.{KnownBits, on_told, told}
+use Rattle.body_replay.specs.KnownBits.{KnownBits, on_whole, whole_bits}
 use Rattle.body_replay.specs.Store.{Kept, KnownWrite, keep_all, known_bit_option, known_bit_writes, perhaps_cell, perhaps_cells, write_bits, writes_of}
 use Rattle.body_replay.proofs.Frames.{Misses, miss_append, miss_weaken, missed}
 use Rattle.value_store.specs.Held.{if_certain}
@@ -43,9 +43,9 @@ module _ (s x j : ℕ) (other : (s == x) ≡ false) where
   miss_option n (Some from) ps = miss_bits n from ps
 
   miss_write : (d : Design) (signed : Bool) (is ps : KnownBits) → Misses (cell x j) (write_bits d s signed is ps)
-  miss_write d signed is ps = go (told is)
+  miss_write d signed is ps = go (whole_bits is)
     where
-      go : (o : Option (List Bit)) → Misses (cell x j) (on_told o (λ bs. known_bit_option s (signal_at d s).width (offset_option (signal_range d s) (index signed bs)) ps) (perhaps_cells (signal_cells d s) ps))
+      go : (o : Option (List Bit)) → Misses (cell x j) (on_whole o (λ bs. known_bit_option s (signal_at d s).width (offset_option (signal_range d s) (index signed bs)) ps) (perhaps_cells (signal_cells d s) ps))
       go None = miss_cells (range_with_len 0 (signal_at d s).width) ps
       go (Some bs) = miss_option (signal_at d s).width (offset_option (signal_range d s) (index signed bs)) ps
 

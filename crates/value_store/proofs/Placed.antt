@@ -6,14 +6,14 @@ use Rattle.four_state.specs.declared.bit.Bit.{Bit}
 use Rattle.four_state.specs.declared.bit.Bit.TheVariants.{Zero}
 use Rattle.four_state.specs.Parts.{placed_vector, bits_with, within}
 use Rattle.four_state.specs.Vector.{Vector}
-use Rattle.known_state.specs.Partly.{Partly, allows, allows_bits, same_sign, filled, is_told, with_blame}
+use Rattle.known_state.specs.Partly.{Partly, allows, allows_bits, same_sign, filled, is_whole, with_blame}
 use Rattle.known_state.specs.Join.{joined}
 use Rattle.known_state.specs.Answers.{IsTight, allow_both}
 use Rattle.known_state.proofs.Allowed.{filled_allowed}
 use Rattle.known_state.proofs.BinaryLaws.{vector_allowed}
 use Rattle.body_replay.proofs.Stored.{known_or_part, known_with, place_answer}
 use Rattle.design_model.specs.declared.design.Range.{Range}
-use Rattle.value_store.specs.Parts.{bit_or_old, bits_over, common_bits, placed_bits, part_written, told_offset, updated}
+use Rattle.value_store.specs.Parts.{bit_or_old, bits_over, common_bits, placed_bits, part_written, whole_offset, updated}
 
 old_or_part : (q : Option Bit) (ps : List (Option Bit)) (o : Option ℕ) → known_or_part q ps o ≡ bit_or_old q ps o
 old_or_part q ps None = refl
@@ -58,26 +58,26 @@ replicated (suc n) a = ap suc (replicated n a)
 
 -- a part leaves the width and the sign
 pub part_shape : (r : Range) (i p q : Partly) → (length (part_written r i p q).bits ≡ length q.bits) × ((part_written r i p q).signed ≡ q.signed)
-part_shape r i p q = go (is_told i)
+part_shape r i p q = go (is_whole i)
   where
-    go : (t : Bool) → let w : Partly = (if t then with_blame (placed_bits q.bits p.bits (told_offset r i)) q.signed (if is_told p then q.blame else p.blame) else with_blame (joined q.bits (replicate (length q.bits) (common_bits p.bits))) q.signed i.blame) in (length w.bits ≡ length q.bits) × (w.signed ≡ q.signed)
-    go true = (length-placed q.bits p.bits (told_offset r i), refl)
+    go : (t : Bool) → let w : Partly = (if t then with_blame (placed_bits q.bits p.bits (whole_offset r i)) q.signed (if is_whole p then q.blame else p.blame) else with_blame (joined q.bits (replicate (length q.bits) (common_bits p.bits))) q.signed i.blame) in (length w.bits ≡ length q.bits) × (w.signed ≡ q.signed)
+    go true = (length-placed q.bits p.bits (whole_offset r i), refl)
     go false = (length-joined q.bits (replicate (length q.bits) (common_bits p.bits)) (sym (replicated (length q.bits) (common_bits p.bits))), refl)
 
 pub update_shape : (certain : Bool) (s : ℕ) (new old : Partly) → length new.bits ≡ length old.bits → new.signed ≡ old.signed → (length (updated certain s new old).bits ≡ length old.bits) × ((updated certain s new old).signed ≡ old.signed)
 update_shape true s new old e f = (e, f)
 update_shape false s new old e f = (length-joined old.bits new.bits (sym e), refl)
 
--- ---- a part by a told index
+-- ---- a part by a whole index
 
-module _ (r : Range) (i p q : Partly) (told : is_told i ≡ true) where
+module _ (r : Range) (i p q : Partly) (whole : is_whole i ≡ true) where
   abbrev after : List (Option Bit) → Partly
-  after qs = with_blame qs q.signed (if is_told p then q.blame else p.blame)
+  after qs = with_blame qs q.signed (if is_whole p then q.blame else p.blame)
 
-  part_told : part_written r i p q ≡ after (placed_bits q.bits p.bits (told_offset r i))
-  part_told = ap (λ t. if t then after (placed_bits q.bits p.bits (told_offset r i)) else with_blame (joined q.bits (replicate (length q.bits) (common_bits p.bits))) q.signed i.blame) told
+  part_whole : part_written r i p q ≡ after (placed_bits q.bits p.bits (whole_offset r i))
+  part_whole = ap (λ t. if t then after (placed_bits q.bits p.bits (whole_offset r i)) else with_blame (joined q.bits (replicate (length q.bits) (common_bits p.bits))) q.signed i.blame) whole
 
   -- with an offset of which the part does the same
-  pub written_placed : (o : Option ℤ) → placed_bits q.bits p.bits o ≡ placed_bits q.bits p.bits (told_offset r i) → (w : Partly) (blame : ℕ) → w.bits ≡ placed_bits q.bits p.bits o → w.signed ≡ q.signed → blame ≡ (if is_told p then q.blame else p.blame) → with_blame w.bits w.signed blame ≡ part_written r i p q
+  pub written_placed : (o : Option ℤ) → placed_bits q.bits p.bits o ≡ placed_bits q.bits p.bits (whole_offset r i) → (w : Partly) (blame : ℕ) → w.bits ≡ placed_bits q.bits p.bits o → w.signed ≡ q.signed → blame ≡ (if is_whole p then q.blame else p.blame) → with_blame w.bits w.signed blame ≡ part_written r i p q
   written_placed o same w blame bits sign is =
-      ap₂ (λ ps s. with_blame ps s blame) (bits ∙ same) sign ∙ ap (with_blame (placed_bits q.bits p.bits (told_offset r i)) q.signed) is ∙ sym part_told
+      ap₂ (λ ps s. with_blame ps s blame) (bits ∙ same) sign ∙ ap (with_blame (placed_bits q.bits p.bits (whole_offset r i)) q.signed) is ∙ sym part_whole

@@ -58,16 +58,16 @@ map-replicate : (n : ℕ) (b : Bit) → map Some (replicate n b) ≡ replicate n
 map-replicate zero b = refl
 map-replicate (suc n) b = ap (λ r. Some b ∷ r) (map-replicate n b)
 
--- a told vector whose bits are all its lowest one
+-- a whole vector whose bits are all its lowest one
 pub all_equal : (ps : List (Option Bit)) (bs : List Bit) (b : Bit) (w : ℕ) → ps ≡ map Some bs → slice_get bs 0 ≡ Some b → matches Exact bs (fill (length ps) b) ≡ true → map Some (fill w b) ≡ replicate w (common_bits ps)
-all_equal ps bs b w told first same =
-    let width : length ps ≡ length bs = ap length told ∙ length-map bs Some in
+all_equal ps bs b w whole first same =
+    let width : length ps ≡ length bs = ap length whole ∙ length-map bs Some in
     let all : matches Exact bs (fill (length bs) b) ≡ true = ap (λ n. matches Exact bs (fill n b)) (sym width) ∙ same in
-    map-replicate w b ∙ ap (replicate w) (sym (ap common_bits told ∙ sure_bits_common bs b first ∙ ap (λ t. if t then Some b else None) all))
+    map-replicate w b ∙ ap (replicate w) (sym (ap common_bits whole ∙ sure_bits_common bs b first ∙ ap (λ t. if t then Some b else None) all))
 
 -- one with two bits that differ
 pub not_equal : (ps : List (Option Bit)) (bs : List Bit) (b : Bit) → ps ≡ map Some bs → slice_get bs 0 ≡ Some b → matches Exact bs (fill (length ps) b) ≡ false → common_bits ps ≡ None
-not_equal ps bs b told first other =
-    let width : length ps ≡ length bs = ap length told ∙ length-map bs Some in
+not_equal ps bs b whole first other =
+    let width : length ps ≡ length bs = ap length whole ∙ length-map bs Some in
     let differ : matches Exact bs (fill (length bs) b) ≡ false = ap (λ n. matches Exact bs (fill n b)) (sym width) ∙ other in
-    ap common_bits told ∙ sure_bits_common bs b first ∙ ap (λ t. if t then Some b else None) differ
+    ap common_bits whole ∙ sure_bits_common bs b first ∙ ap (λ t. if t then Some b else None) differ

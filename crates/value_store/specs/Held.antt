@@ -1,6 +1,6 @@
 -- When what a store has of its signals is what is known of the cells of a design, and what its calls keep of that.
 use Rattle.std.specs.Prelude.{◌≡◌, ℕ, ◌<◌, ◌≤◌, ◌==◌, Bool, true, false, if◌then◌else◌, List, length, map, slice_set}
-use Rattle.known_state.specs.Partly.{Partly, is_told}
+use Rattle.known_state.specs.Partly.{Partly, is_whole}
 use Rattle.design_model.specs.Design.{Design, signal_at, signal_cells}
 use Rattle.body_replay.specs.KnownBits.{all_sure}
 use Rattle.body_replay.specs.Store.{Kept, KnownWrite, keep_all, weaken, write_bits, writes_of}
@@ -11,7 +11,7 @@ use Rattle.value_store.specs.Parts.{part_written, updated}
 -- the vector has the bits of the signal, as they are known, and its blame where not all are sure
 pub record IsSignal (d : Design) (k : Kept) (blame : ℕ → ℕ) (s : ℕ) (q : Partly) : Type 0 where
   pub bits : q.bits ≡ map k (signal_cells d s)
-  pub blamed : is_told q ≡ false → q.blame ≡ blame s
+  pub blamed : is_whole q ≡ false → q.blame ≡ blame s
 
 -- the store has the signals of the design, and keeps what is known of them, with these blames
 pub record HoldsSignals (d : Design) (k : Kept) (blame : ℕ → ℕ) (v : Signals) : Type 0 where

@@ -3,7 +3,7 @@ use Rattle.std.specs.Prelude.{ℕ, Bool, true, false, if◌then◌else◌, List,
 use Rattle.four_state.specs.declared.bit.Bit.{Bit}
 use Rattle.four_state.specs.declared.bit.Bit.TheVariants.{Zero, X}
 use Rattle.four_state.specs.Parts.{index, within}
-use Rattle.known_state.specs.Partly.{Partly, filled, is_told, with_blame}
+use Rattle.known_state.specs.Partly.{Partly, filled, is_whole, with_blame}
 use Rattle.known_state.specs.Join.{join_bit, joined}
 use Rattle.design_model.specs.declared.design.Range.{Range}
 use Rattle.design_model.specs.Value.{offset_option}
@@ -33,15 +33,15 @@ abbrev pub common_bits : List (Option Bit) → Option Bit
 common_bits [] = Some X
 common_bits (p ∷ ps) = common_bit p ps
 
--- the offset in this range of the bit that a told index names, if it is a number
-abbrev pub told_offset : Range → Partly → Option ℤ
-told_offset r i = offset_option r (index i.signed (filled Zero i.bits))
+-- the offset in this range of the bit that a whole index names, if it is a number
+abbrev pub whole_offset : Range → Partly → Option ℤ
+whole_offset r i = offset_option r (index i.signed (filled Zero i.bits))
 
--- a part written from the bit with this index up into a vector of this range. By an index that is not told any bit of the
--- part can come to each bit, and the index is to blame; else the part is, if it is not told, and else what was before
+-- a part written from the bit with this index up into a vector of this range. By an index that is not whole any bit of the
+-- part can come to each bit, and the index is to blame; else the part is, if it is not whole, and else what was before
 abbrev pub part_written : Range → Partly → Partly → Partly → Partly
 part_written r i p q =
-    if is_told i then with_blame (placed_bits q.bits p.bits (told_offset r i)) q.signed (if is_told p then q.blame else p.blame)
+    if is_whole i then with_blame (placed_bits q.bits p.bits (whole_offset r i)) q.signed (if is_whole p then q.blame else p.blame)
     else with_blame (joined q.bits (replicate (length q.bits) (common_bits p.bits))) q.signed i.blame
 
 -- an update leaves its value, or, where it is not certain, what it has in common with what was before; the signal with

@@ -29,25 +29,25 @@ fn spread(part: &Known, width: u8) -> Known
         &value,
         &Four::fill(part.width(), false, first),
     );
-    if part.is_told() && all_equal {
-        Known::told(Four::fill(width, false, first))
+    if part.is_whole() && all_equal {
+        Known::whole(Four::fill(width, false, first))
     } else {
         Known::unknown(width, false, 0)
     }
 }
 
-/// What a write of a part leaves of a signal of this range, from the bit with this index up. By an index that is not told
-/// any bit of the part can come to each bit, and the index is to blame; else the part is, if it is not told.
+/// What a write of a part leaves of a signal of this range, from the bit with this index up. By an index that is not whole
+/// any bit of the part can come to each bit, and the index is to blame; else the part is, if it is not whole.
 pub(crate) fn with_part(old: &Known, range: Range, index: &Known, part: &Known) -> Known
     ensures { result ≡ part_written range index.now part.now old.now }
 {
     let (width, part_width) = (old.width(), part.width());
-    if !index.is_told() {
+    if !index.is_whole() {
         return old.join(&spread(part, width), index.blame());
     }
     // So a part whose index is far from 0 reaches no bit.
     prove!(width <= 128 && part_width <= 128);
-    let blame = if part.is_told() {
+    let blame = if part.is_whole() {
         old.blame()
     } else {
         part.blame()

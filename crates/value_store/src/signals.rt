@@ -105,8 +105,8 @@ impl Signals {
         slot.kept = value;
     }
 
-    /// Keeps the bits of a part of a signal, from the bit with this index up. The part is to blame where it is not told;
-    /// by an index that is not told any bit of the part can come to each bit of the signal, and the index is to blame.
+    /// Keeps the bits of a part of a signal, from the bit with this index up. The part is to blame where it is not whole;
+    /// by an index that is not whole any bit of the part can come to each bit of the signal, and the index is to blame.
     pub fn set_part(&mut self, signal: u32, index: &Known, part: &Known)
         requires { signal < length self.old.kept }
         ensures { self.new ≡ record self.old { kept = slice_set self.old.kept signal (part_written (shape_at self.old signal).range index.now part.now (kept_at self.old signal)) } }

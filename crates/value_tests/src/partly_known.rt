@@ -13,11 +13,11 @@ fn number(width: u8, value: u128) -> Four
 }
 
 /// The same, all of whose bits are known.
-fn told(width: u8, value: u128) -> Known
+fn whole(width: u8, value: u128) -> Known
     requires at_least { 1 ≤ width }
     requires at_most { width ≤ 128 }
 {
-    Known::told(number(width, value))
+    Known::whole(number(width, value))
 }
 
 /// A vector of which these bits are known, from a place on.
@@ -40,7 +40,7 @@ fn joins(a: &Known, b: &Known, blame: u32, want: &Known) -> bool {
 
 /// What is known of one bit.
 fn of_one_bit(case: u8) -> bool {
-    let zero = Known::told(Four::fill(1, false, Bit::Zero));
+    let zero = Known::whole(Four::fill(1, false, Bit::Zero));
     let unknown = Known::unknown(1, false, 5);
     match case {
         0 => gives(Binary::BitwiseAnd, &zero, &unknown, &zero),
@@ -59,60 +59,60 @@ fn bits(rt: HostRuntime) {
 
 #[test]
 fn joins_and_tests(rt: HostRuntime) {
-    let a = told(4, 0b1010);
-    let b = told(4, 0b1000);
+    let a = whole(4, 0b1010);
+    let b = whole(4, 0b1000);
     assert!(rt;
         joins(
             &a,
             &b,
             3,
-            &partly(4, 3, 2, &told(2, 0b10)).place(0, &told(1, 0))
+            &partly(4, 3, 2, &whole(2, 0b10)).place(0, &whole(1, 0))
         )
     );
-    assert!(rt; partly(4, 5, 2, &told(1, 1)).holds() == Maybe::Yes);
+    assert!(rt; partly(4, 5, 2, &whole(1, 1)).holds() == Maybe::Yes);
 }
 
 /// An operator on two vectors of 128 bits of which some are known, or on one and a number of places.
 fn of_wide_vectors(case: u8) -> bool {
-    let a = partly(128, 1, 64, &told(64, u128::MAX));
-    let b = partly(128, 2, 0, &told(127, 0xff));
+    let a = partly(128, 1, 64, &whole(64, u128::MAX));
+    let b = partly(128, 2, 0, &whole(127, 0xff));
     match case {
         0 => gives(
             Binary::BitwiseAnd,
             &a,
             &b,
-            &partly(128, 1, 8, &told(119, 0)),
+            &partly(128, 1, 8, &whole(119, 0)),
         ),
         1 => gives(Binary::Add, &a, &b, &Known::unknown(128, false, 1)),
         2 => gives(
             Binary::Equal,
             &a,
             &b,
-            &Known::told(Four::fill(1, false, Bit::Zero)),
+            &Known::whole(Four::fill(1, false, Bit::Zero)),
         ),
-        3 => a.select(60, 8) == partly(8, 1, 4, &told(4, 15)),
-        _ => of_places(case, &a, &b, &told(8, 64)),
+        3 => a.select(60, 8) == partly(8, 1, 4, &whole(4, 15)),
+        _ => of_places(case, &a, &b, &whole(8, 64)),
     }
 }
 
 fn of_places(case: u8, a: &Known, b: &Known, places: &Known) -> bool {
     match case {
-        4 => gives(Binary::ShiftRight, a, places, &told(128, u128::MAX >> 64)),
+        4 => gives(Binary::ShiftRight, a, places, &whole(128, u128::MAX >> 64)),
         5 => gives(
             Binary::ShiftLeft,
             a,
             places,
-            &partly(128, 1, 0, &told(64, 0)),
+            &partly(128, 1, 0, &whole(64, 0)),
         ),
         6 => gives(Binary::ShiftLeft, places, b, &Known::unknown(8, false, 2)),
         7 => gives(
             Binary::LogicalAnd,
             a,
             places,
-            &Known::told(Four::fill(1, false, Bit::One)),
+            &Known::whole(Four::fill(1, false, Bit::One)),
         ),
         8 => places.place(-4, a) == Known::unknown(8, false, 1),
-        _ => places.extend(128, false) == told(128, 64),
+        _ => places.extend(128, false) == whole(128, 64),
     }
 }
 
@@ -125,8 +125,8 @@ fn wide_vectors(rt: HostRuntime) {
 
 #[test]
 fn zero_makes_an_unsure_bit_sure(rt: HostRuntime) {
-    let low = partly(128, 1, 8, &told(120, 0));
-    let zero = told(128, 0);
+    let low = partly(128, 1, 8, &whole(120, 0));
+    let zero = whole(128, 0);
     assert!(rt; low.has_same_shape(&zero));
     assert!(rt; Known::binary(Binary::BitwiseAnd, &low, &zero).sure() == u128::MAX);
 }

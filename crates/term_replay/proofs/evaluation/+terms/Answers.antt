@@ -18,7 +18,7 @@ use Rattle.design_model.specs.Value.{part_width, value}
 use Rattle.body_replay.specs.Replay.{note}
 use Rattle.term_replay.specs.Noted.{access_spot, all_marks, in_this, marks_of}
 use Rattle.term_replay.specs.declared.notes.Access.TheVariants.{Read}
-use Rattle.term_replay.proofs.Constants.{bits_are, constant_bits, constant_told}
+use Rattle.term_replay.proofs.Constants.{bits_are, constant_bits, constant_whole}
 use Rattle.term_replay.proofs.Marking.{adds_more, adds_none, adds_same}
 use Rattle.term_replay.proofs.Walking.{noted_is, on_true, read_is, thing_is, word_stands, words_of_range, words_same}
 use Rattle.term_replay.proofs.Stepping.{along, along_sign, arm_context, arm_notes, arm_value, next_value, same_value, three_first, three_marks, two_first, two_marks}
@@ -334,8 +334,8 @@ part_term-part-value-requires g t c =
     let k = in_part (g.R.Reads.scene c.args.reads.now).design (head_of c.args.head) (term_view c.args.of.now) (term_view c.args.high.now) (term_view c.args.low.now) c.requires in
     record {
       head = (shape_ok (g.R.Reads.scene c.args.reads.now).design (tree.part (head_of c.args.head) (term_view c.args.of.now) (term_view c.args.high.now) (term_view c.args.low.now)) c.args.head refl c.requires);
-      high = constant_told (g.R.Reads.scene c.args.reads.now) c.args.run.first (term_view c.args.high.now) c.evaluate-high.result.value k.high_fixed c.evaluate-high.ensures.value;
-      low = constant_told (g.R.Reads.scene c.args.reads.now) c.after.result.first (term_view c.args.low.now) c.evaluate-low.result.value k.low_fixed c.evaluate-low.ensures.value;
+      high = constant_whole (g.R.Reads.scene c.args.reads.now) c.args.run.first (term_view c.args.high.now) c.evaluate-high.result.value k.high_fixed c.evaluate-high.ensures.value;
+      low = constant_whole (g.R.Reads.scene c.args.reads.now) c.after.result.first (term_view c.args.low.now) c.evaluate-low.result.value k.low_fixed c.evaluate-low.ensures.value;
       count = subst (λ n. n ≤ 128) (sym (ap₂ part_width (constant_bits (g.R.Reads.scene c.args.reads.now) c.args.run.first (term_view c.args.high.now) c.evaluate-high.result.value k.high_fixed c.evaluate-high.ensures.value) (constant_bits (g.R.Reads.scene c.args.reads.now) c.after.result.first (term_view c.args.low.now) c.evaluate-low.result.value k.low_fixed c.evaluate-low.ensures.value))) k.count;
     }
 
@@ -344,7 +344,7 @@ slide_term-slide-value-requires g t c =
     let k = in_slide (g.R.Reads.scene c.args.reads.now).design (head_of c.args.head) (term_view c.args.of.now) (term_view c.args.base.now) (term_view c.args.count.now) c.args.up c.requires in
     record {
       head = (shape_ok (g.R.Reads.scene c.args.reads.now).design (tree.slide (head_of c.args.head) (term_view c.args.of.now) (term_view c.args.base.now) (term_view c.args.count.now) c.args.up) c.args.head refl c.requires);
-      told = constant_told (g.R.Reads.scene c.args.reads.now) c.after.result.first (term_view c.args.count.now) c.evaluate-count.result.value k.fixed c.evaluate-count.ensures.value;
+      whole = constant_whole (g.R.Reads.scene c.args.reads.now) c.after.result.first (term_view c.args.count.now) c.evaluate-count.result.value k.fixed c.evaluate-count.ensures.value;
       count = subst (λ n. n ≤ 128) (sym (ap natural (constant_bits (g.R.Reads.scene c.args.reads.now) c.after.result.first (term_view c.args.count.now) c.evaluate-count.result.value k.fixed c.evaluate-count.ensures.value))) k.count;
     }
 
@@ -596,15 +596,15 @@ join_all-loop-part-preserved g t c =
     let h = c.loop-part.invariant in
     let x = c.part-item.result in
     let next = terms_from c.args.parts.now c.loop-part.part-index x c.loop-part-test.true c.part-item.is in
-    let told = rw c.after.ensures at c.evaluate-part.ensures.value in
+    let whole = rw c.after.ensures at c.evaluate-part.ensures.value in
     let first = rw c.after.ensures at c.evaluate-part.ensures.first in
     let notes = rw c.after.ensures at c.evaluate-part.ensures.notes in
     record {
       alone = (and_parts _ _ (ap (are_alone v.design) (sym next) ∙ h.alone)).1;
       value = λ narrow.
           let g0 = subst (λ ts. GoesOn v c.args.run.first (terms_of (map term_view c.args.parts.now)) c.loop-part.all.first ts (so_far c.loop-part.all.value)) next (h.value narrow) in
-          let room = room_left v c.args.run.first (terms_of (map term_view c.args.parts.now)) c.loop-part.all.first (term_view x) (terms_of (map term_view (drop (c.loop-part.part-index + 1) c.args.parts.now))) c.evaluate-part.result.value (so_far c.loop-part.all.value) c.requires narrow g0 told in
-          goes_further v c.args.run.first (terms_of (map term_view c.args.parts.now)) c.loop-part.all.first c.evaluate-part.result.first (term_view x) (terms_of (map term_view (drop (c.loop-part.part-index + 1) c.args.parts.now))) c.evaluate-part.result.value (so_far c.loop-part.all.value) c.followed_by.result g0 told first (c.followed_by.ensures.bits room) (c.followed_by.ensures.blame room);
+          let room = room_left v c.args.run.first (terms_of (map term_view c.args.parts.now)) c.loop-part.all.first (term_view x) (terms_of (map term_view (drop (c.loop-part.part-index + 1) c.args.parts.now))) c.evaluate-part.result.value (so_far c.loop-part.all.value) c.requires narrow g0 whole in
+          goes_further v c.args.run.first (terms_of (map term_view c.args.parts.now)) c.loop-part.all.first c.evaluate-part.result.first (term_view x) (terms_of (map term_view (drop (c.loop-part.part-index + 1) c.args.parts.now))) c.evaluate-part.result.value (so_far c.loop-part.all.value) c.followed_by.result g0 whole first (c.followed_by.ensures.bits room) (c.followed_by.ensures.blame room);
       first = h.first ∙ ap (all_first_after v c.loop-part.all.first) next ∙ ap (λ o. all_first_after v o (terms_of (map term_view (drop (c.loop-part.part-index + 1) c.args.parts.now)))) (sym first);
       notes = subst (λ o. TellsOn g.N.Notes.noted c.args.run.mode c.args.notes.now (all_marks v c.args.run.first (terms_of (map term_view c.args.parts.now))) c.evaluate-part.new.notes (all_marks v o (terms_of (map term_view (drop (c.loop-part.part-index + 1) c.args.parts.now))))) (sym first)
           (tells_further g.N.Notes.noted c.args.run.mode c.args.notes.now (all_marks v c.args.run.first (terms_of (map term_view c.args.parts.now))) c.loop-part.notes c.evaluate-part.new.notes (marks_of v c.loop-part.all.first (term_view x)) (all_marks v (first_after v c.loop-part.all.first (term_view x)) (terms_of (map term_view (drop (c.loop-part.part-index + 1) c.args.parts.now))))

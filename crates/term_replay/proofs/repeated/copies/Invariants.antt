@@ -1,5 +1,5 @@
 use Rattle.std.proofs.Common.{◌≡◌, false}
-use Rattle.known_state.specs.Partly.{is_told}
+use Rattle.known_state.specs.Partly.{is_whole}
 use Rattle.body_replay.specs.KnownBits.{copies_partly}
 use Rattle.term_replay.proofs.repeated.copies.Given as goal
 
@@ -7,5 +7,5 @@ use Rattle.term_replay.proofs.repeated.copies.Given as goal
 abbrev pub invariant-loop-made : goal.invariant-loop-made
 invariant-loop-made l = record {
   bits : l.all.bits ≡ copies_partly l.made l.value.bits;
-  blame : is_told l.all ≡ false → l.all.blame ≡ l.value.blame;
+  blame : is_whole l.all ≡ false → l.all.blame ≡ l.value.blame;
 }

@@ -1,6 +1,6 @@
 use Rattle.std.proofs.Common.{sym, ◌∙◌}
 use Rattle.known_state.specs.Join.{first_blame}
-use Rattle.known_state.proofs.BinaryLaws.{binary_allows, binary_tight, binary_exact, unknown_shift_allows, unsure_shift, can_shift, not_told}
+use Rattle.known_state.proofs.BinaryLaws.{binary_allows, binary_tight, binary_exact, unknown_shift_allows, unsure_shift, can_shift, not_whole}
 use Rattle.known_state.proofs.known.Known.binary.Goals as goal
 
 pub returns-then-has_unsure_amount-clause-sound : goal.returns-then-has_unsure_amount-clause-sound
@@ -9,7 +9,7 @@ returns-then-has_unsure_amount-clause-sound c =
 
 pub returns-then-has_unsure_amount-clause-exact : goal.returns-then-has_unsure_amount-clause-exact
 returns-then-has_unsure_amount-clause-exact c =
-    λ v w e d. not_told c.args.b.now w (unsure_shift c.args.op c.args.b.now (sym c.has_unsure_amount.ensures ∙ c.if-has_unsure_amount.true)).1 d
+    λ v w e d. not_whole c.args.b.now w (unsure_shift c.args.op c.args.b.now (sym c.has_unsure_amount.ensures ∙ c.if-has_unsure_amount.true)).1 d
 
 pub returns-else-has_unsure_amount-clause-sound : goal.returns-else-has_unsure_amount-clause-sound
 returns-else-has_unsure_amount-clause-sound c =

@@ -14,9 +14,9 @@ returns-in-True c =
 pub returns-in_default : goal.returns-in_default
 returns-in_default c =
     let low : c.truth.result ≡ truth (filled Zero c.args.self.now.bits) = c.truth.ensures ∙ ap (λ (v : Vector). truth v.bits) c.value.ensures.value in
-    λ v h. truth_sure c.args.self.now (inl (sym c.is_told.ensures ∙ c.if-is_told.true)) v h ∙ sym low
+    λ v h. truth_sure c.args.self.now (inl (sym c.is_whole.ensures ∙ c.if-is_whole.true)) v h ∙ sym low
 
 pub returns-in_default-2 : goal.returns-in_default-2
 returns-in_default-2 c =
     let low : c.truth.result ≡ truth (filled Zero c.args.self.now.bits) = c.truth.ensures ∙ ap (λ (v : Vector). truth v.bits) c.value.ensures.value in
-    truth_undecided c.args.self.now (sym c.is_told.ensures ∙ c.if-is_told.false) (λ e. c.in_default-2.not-True (low ∙ e)) c.blame.result c.blame.ensures.value
+    truth_undecided c.args.self.now (sym c.is_whole.ensures ∙ c.if-is_whole.false) (λ e. c.in_default-2.not-True (low ∙ e)) c.blame.result c.blame.ensures.value

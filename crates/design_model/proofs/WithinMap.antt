@@ -14,7 +14,7 @@ use Rattle.design_model.specs.Design.{Design, Thing, cells, thing_bits}
 use Rattle.design_model.specs.Value.{head, value}
 use Rattle.design_model.specs.Assignment.{target_width, target_writes}
 use Rattle.design_model.specs.Execution.{Execution, Visit, assignment_visits, assignment_writes, at_line, at_node, choose, covers, evaluate, execute, execute_all, execute_arms, execute_assignment, execute_default, execution, execution_start, index_visits, is_default, is_inner, label_visits, reads, some_match, visits_of, with_visits, words_written, writes_word}
-use Rattle.design_model.specs.Reads.{Agrees, AllInside, IsTold, Known}
+use Rattle.design_model.specs.Reads.{Agrees, AllInside, ReadsWithin, PartialMap}
 use Rattle.design_model.proofs.Agree.{AllOuter, index_same, outer_halves, value_same, visits_same, words_same, writes_same}
 use Rattle.design_model.proofs.Execution.{all_keeps, arms_keep, default_keeps, each_all, each_all_in, each_all_of, execute_keeps}
 
@@ -268,7 +268,7 @@ module _ (d : Design) (u v : Values Bit) where
   execution_same b a = exec_same b (execution_start u) (execution_start v) (record { blocking = refl; nonblocking = refl; visits = refl; left = λ c. refl; right = λ c. refl }) a
 
 -- what is inside a map is the same on all states with the map's values
-pub inside_outer : (d : Design) (K : Known) (u v : Values Bit) → Agrees d K u → Agrees d K v → (xs : List Visit) → AllInside K xs → AllOuter d u v xs
+pub inside_outer : (d : Design) (K : PartialMap) (u v : Values Bit) → Agrees d K u → Agrees d K v → (xs : List Visit) → AllInside K xs → AllOuter d u v xs
 inside_outer d K u v au av [] a = tt
 inside_outer d K u v au av (at_line n ∷ xs) a = (tt, inside_outer d K u v au av xs a.1)
 inside_outer d K u v au av (at_node n c ∷ xs) a = (tt, inside_outer d K u v au av xs a.1)
@@ -277,12 +277,12 @@ inside_outer d K u v au av (reads x false ∷ xs) a = (au x a.0.0 a.0.1 ∙ sym 
 inside_outer d K u v au av (writes_word m i ∷ xs) a = (tt, inside_outer d K u v au av xs a.1)
 
 -- so one state with the map's values tells whether a body is told by the map
-pub told_by : (d : Design) (K : Known) (b : Stmt) (u : Values Bit) → Agrees d K u → AllInside K (execution d b u).visits → IsTold d K b
-told_by d K b u au a v av = subst (AllInside K) (execution_same d u v b (inside_outer d K u v au av _ a)).visits a
+pub within_by : (d : Design) (K : PartialMap) (b : Stmt) (u : Values Bit) → Agrees d K u → AllInside K (execution d b u).visits → ReadsWithin d K b
+within_by d K b u au a v av = subst (AllInside K) (execution_same d u v b (inside_outer d K u v au av _ a)).visits a
 
 -- and what it then writes
-pub told_blocking : (d : Design) (K : Known) (b : Stmt) (u v : Values Bit) → Agrees d K u → Agrees d K v → AllInside K (execution d b u).visits → (execution d b u).blocking ≡ (execution d b v).blocking
-told_blocking d K b u v au av a = (execution_same d u v b (inside_outer d K u v au av _ a)).blocking
+pub within_blocking : (d : Design) (K : PartialMap) (b : Stmt) (u v : Values Bit) → Agrees d K u → Agrees d K v → AllInside K (execution d b u).visits → (execution d b u).blocking ≡ (execution d b v).blocking
+within_blocking d K b u v au av a = (execution_same d u v b (inside_outer d K u v au av _ a)).blocking
 
-pub told_nonblocking : (d : Design) (K : Known) (b : Stmt) (u v : Values Bit) → Agrees d K u → Agrees d K v → AllInside K (execution d b u).visits → (execution d b u).nonblocking ≡ (execution d b v).nonblocking
-told_nonblocking d K b u v au av a = (execution_same d u v b (inside_outer d K u v au av _ a)).nonblocking
+pub within_nonblocking : (d : Design) (K : PartialMap) (b : Stmt) (u v : Values Bit) → Agrees d K u → Agrees d K v → AllInside K (execution d b u).visits → (execution d b u).nonblocking ≡ (execution d b v).nonblocking
+within_nonblocking d K b u v au av a = (execution_same d u v b (inside_outer d K u v au av _ a)).nonblocking

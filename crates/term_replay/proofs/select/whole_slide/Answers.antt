@@ -7,7 +7,7 @@ use Rattle.term_replay.specs.Stands.{slid}
 use Rattle.term_replay.proofs.Joining.{blank_fits, fits_same}
 use Rattle.term_replay.proofs.Offsets.{near_slide}
 use Rattle.term_replay.proofs.Selecting.{no_selected}
-use Rattle.term_replay.proofs.select.told_slide.Goals as goal
+use Rattle.term_replay.proofs.select.whole_slide.Goals as goal
 
 pub returns-then-count-eq0 : goal.returns-then-count-eq0
 returns-then-count-eq0 c =

@@ -1,6 +1,6 @@
 use Rattle.std.proofs.Common.{sym}
 use Rattle.known_state.proofs.Masked.{are_sure-sure_bits}
-use Rattle.known_state.proofs.known.Known.is_told.Goals as goal
+use Rattle.known_state.proofs.known.Known.is_whole.Goals as goal
 
 pub returns : goal.returns
 returns c =
