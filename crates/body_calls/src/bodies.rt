@@ -1,5 +1,5 @@
 ghost use Rattle.std.specs.Prelude.{◌≡◌, ◌≤◌, ◌++◌, ◌∷◌, ℕ, List, None, length, true};
-ghost use Rattle.known_state.specs.Partly.{is_told};
+ghost use Rattle.known_state.specs.Partly.{is_whole};
 ghost use Rattle.body_replay.specs.Store.{KnownWrite};
 ghost use Rattle.term_replay.specs.Stands.{Scene};
 ghost use Rattle.body_calls.specs.Lvalues.{Like, Takes, if_certain, lvalue_writes, written, written_thing};
@@ -28,7 +28,7 @@ pub trait Bodies: Reads {
     /// sure; of a value that is wholly sure there is none. The sign flag of the part is free.
     fn write(&mut self, to: &Lvalue, part: &Known, blame: Option<u32>)
         requires place { Takes (Self.scene self.old).design to.now (length part.now.bits) }
-        requires sure { blame ≡ None → is_told part.now ≡ true }
+        requires sure { blame ≡ None → is_whole part.now ≡ true }
         requires room { takes_in (around self.old) (rooms self.old) (written_thing to.now) ≤ (rooms self.old).log }
         ensures scene { Like (written to.now part.now.bits blame (Self.scene self.old)) (Self.scene self.new) }
         ensures queued { queued self.new ≡ queued self.old }
