@@ -1,6 +1,6 @@
 -- Scenes that are alike, and what terms give on them.
 use Rattle.std.proofs.Common.{Bool, List, Option, ap, ap₂, false, length, map, nat_lt, refl, subst, sym, ℕ, ◌&&◌, ◌∙◌, ◌≡◌}
-use Rattle.known_state.specs.Partly.{Partly, is_told}
+use Rattle.known_state.specs.Partly.{Partly, is_whole}
 use Rattle.design_model.specs.Design.{Design, signal_cells}
 use Rattle.design_model.specs.Tree.{Term}
 use Rattle.body_replay.specs.KnownBits.{all_sure}

@@ -20,11 +20,11 @@ use Rattle.design_model.specs.declared.design.Memory.{Memory}
 use Rattle.design_model.specs.Design.{Design, cell, memory_at, no_memory, signal_cells, word_cells}
 use Rattle.design_model.specs.Tree.{Head, Term, Terms, a_term, binary, bit, choice, concat, no_terms, number, part, repeat, sign, signal, slide, unary, word}
 use Rattle.design_model.specs.Value.{head, named_word, offset_option, part_width, range_of, slide_offset}
-use Rattle.body_replay.specs.KnownBits.{KnownBits, all_sure, both, copies_partly, extend_partly, known_truth, on_told, select_option, sure, told, unknown}
+use Rattle.body_replay.specs.KnownBits.{KnownBits, all_sure, both, copies_partly, extend_partly, known_truth, on_whole, select_option, sure, whole_bits, unknown}
 use Rattle.body_replay.specs.Store.{Kept, choice_of, choice_partly, join_words, known_joined, known_value, may_name, option_kept, read_word, words}
 use Rattle.body_replay.specs.Replay.{Blames, Mark, Spot, ask, blame_of, blame_of_all, case_mark, case_marks, choice_blame, doubted, first_of, first_read, first_reads, four_known, named_mark, node_marks, note, one_case, perhaps_marks, term_marks, terms_marks, two_known, undecided, word_blame, word_marks, word_read}
 use Rattle.body_replay.proofs.BlamedTerms.{cases_sure}
-use Rattle.body_replay.proofs.Unsure.{all_sure_sure, append_unsure, ask_none, binary_unsure, choice_unsure, copies_unsure, extend_unsure, false_unsure, known_truth_none, not_unsure, select_unsure, told_none, told_unsure, true_unsure, unary_unsure}
+use Rattle.body_replay.proofs.Unsure.{all_sure_sure, append_unsure, ask_none, binary_unsure, choice_unsure, copies_unsure, extend_unsure, false_unsure, known_truth_none, not_unsure, select_unsure, whole_none, whole_unsure, true_unsure, unary_unsure}
 
 pub ap₃ : {A B C D : Type 0} (f : A → B → C → D) {a a' : A} {b b' : B} {c c' : C} → a ≡ a' → b ≡ b' → c ≡ c' → f a b c ≡ f a' b' c'
 ap₃ f {a' = a'} {b = b} {c = c} p q r = ap (λ x. f x b c) p ∙ ap₂ (f a') q r
@@ -51,9 +51,9 @@ module _ (d : Design) (k : Kept) (m : ℕ) (none : (memory_at d m).width ≡ zer
       go false h = h
 
   sure_read : (signed : Bool) (ps : KnownBits) → all_sure (read_word d k m signed ps) ≡ true
-  sure_read signed ps = go (told ps)
+  sure_read signed ps = go (whole_bits ps)
     where
-      go : (o : Option (List Bit)) → all_sure (on_told o (λ is. option_kept d k m (named_word (memory_at d m) (index signed is))) (join_words d k m (may_name (memory_at d m) signed ps) (words (memory_at d m)))) ≡ true
+      go : (o : Option (List Bit)) → all_sure (on_whole o (λ is. option_kept d k m (named_word (memory_at d m) (index signed is))) (join_words d k m (may_name (memory_at d m) signed ps) (words (memory_at d m)))) ≡ true
       go None = sure_words (may_name (memory_at d m) signed ps) (words (memory_at d m))
       go (Some is) = sure_option (named_word (memory_at d m) (index signed is))
 
@@ -116,10 +116,10 @@ module _ (ps qs : KnownBits) (l l' r r' : ℕ) (gl : all_sure ps ≡ false → l
       go _ = four
 
 pub words_like : (d : Design) (at : ℕ → Spot) (m : ℕ) (signed : Bool) (ps : KnownBits) (l l' : ℕ) → (all_sure ps ≡ false → l' ≡ l) → word_marks d at m signed ps l' ≡ word_marks d at m signed ps l
-words_like d at m signed ps l l' g = go (told ps) refl
+words_like d at m signed ps l l' g = go (whole_bits ps) refl
   where
-    go : (o : Option (List Bit)) → told ps ≡ o → on_told o (λ is. named_mark at (named_word (memory_at d m) (index signed is))) (perhaps_marks at (may_name (memory_at d m) signed ps) (words (memory_at d m)) l') ≡ on_told o (λ is. named_mark at (named_word (memory_at d m) (index signed is))) (perhaps_marks at (may_name (memory_at d m) signed ps) (words (memory_at d m)) l)
-    go None e = ap (λ z. perhaps_marks at (may_name (memory_at d m) signed ps) (words (memory_at d m)) z) (g (told_none ps e))
+    go : (o : Option (List Bit)) → whole_bits ps ≡ o → on_whole o (λ is. named_mark at (named_word (memory_at d m) (index signed is))) (perhaps_marks at (may_name (memory_at d m) signed ps) (words (memory_at d m)) l') ≡ on_whole o (λ is. named_mark at (named_word (memory_at d m) (index signed is))) (perhaps_marks at (may_name (memory_at d m) signed ps) (words (memory_at d m)) l)
+    go None e = ap (λ z. perhaps_marks at (may_name (memory_at d m) signed ps) (words (memory_at d m)) z) (g (whole_none ps e))
     go (Some is) e = refl
 
 if_like : (t : Bool) (x x' y y' : ℕ) → (t ≡ true → x' ≡ x) → (t ≡ false → y' ≡ y) → (if t then x' else y') ≡ (if t then x else y)
@@ -206,7 +206,7 @@ module _ (d : Design) (k : Kept) (e e' : Blames) (like : LikeBlames d k e e') wh
     term_like (bit h t i) f f' q =
         let g = term_like i f f' q in
         let g2 = term_like t (first_read d k e f i) (first_read d k e' f' i) g.first in
-        let others : all_sure (known_value d k (bit h t i)) ≡ false → all_sure (known_value d k i) ≡ true → all_sure (known_value d k t) ≡ false = λ u z. let r = told_unsure (known_value d k i) (λ is. extend_partly h.width h.signed (select_option (known_value d k t) (offset_option (range_of d t) (index (head i).signed is)) 1)) (unknown h.width) u z in select_unsure h (known_value d k t) (offset_option (range_of d t) (index (head i).signed r.0)) 1 r.2 in
+        let others : all_sure (known_value d k (bit h t i)) ≡ false → all_sure (known_value d k i) ≡ true → all_sure (known_value d k t) ≡ false = λ u z. let r = whole_unsure (known_value d k i) (λ is. extend_partly h.width h.signed (select_option (known_value d k t) (offset_option (range_of d t) (index (head i).signed is)) 1)) (unknown h.width) u z in select_unsure h (known_value d k t) (offset_option (range_of d t) (index (head i).signed r.0)) 1 r.2 in
         let of : all_sure (known_value d k (bit h t i)) ≡ false → blame_of d k e' f' (bit h t i) ≡ blame_of d k e f (bit h t i) = λ u. if_like (all_sure (known_value d k i)) _ _ _ _ (λ z. g2.blame (others u z)) g.blame in
         record { first = g2.first; blame = of; marks = ap₃ (λ x y z. x ++ y ++ z) g.marks g2.marks (own_like h.node (known_value d k (bit h t i)) _ _ of) }
     term_like (part h t i j) f f' q =
@@ -215,7 +215,7 @@ module _ (d : Design) (k : Kept) (e e' : Blames) (like : LikeBlames d k e e') wh
         let g2 = term_like t (first_read d k e (first_read d k e f i) j) (first_read d k e' (first_read d k e' f' i) j) g1.first in
         let inner : List Bit → List Bit → KnownBits = λ is js. extend_partly h.width h.signed (select_option (known_value d k t) (offset_option (range_of d t) (index (head j).signed js)) (part_width is js)) in
         let others : all_sure (known_value d k (part h t i j)) ≡ false → all_sure (known_value d k i) ≡ true → all_sure (known_value d k j) ≡ true → all_sure (known_value d k t) ≡ false =
-        λ u z y. let r = told_unsure (known_value d k i) (λ is. on_told (told (known_value d k j)) (inner is) (unknown h.width)) (unknown h.width) u z in let p = told_unsure (known_value d k j) (inner r.0) (unknown h.width) r.2 y in select_unsure h (known_value d k t) (offset_option (range_of d t) (index (head j).signed p.0)) (part_width r.0 p.0) p.2 in
+        λ u z y. let r = whole_unsure (known_value d k i) (λ is. on_whole (whole_bits (known_value d k j)) (inner is) (unknown h.width)) (unknown h.width) u z in let p = whole_unsure (known_value d k j) (inner r.0) (unknown h.width) r.2 y in select_unsure h (known_value d k t) (offset_option (range_of d t) (index (head j).signed p.0)) (part_width r.0 p.0) p.2 in
         let of : all_sure (known_value d k (part h t i j)) ≡ false → blame_of d k e' f' (part h t i j) ≡ blame_of d k e f (part h t i j) =
         λ u. if_like (all_sure (known_value d k i)) _ _ _ _ (λ z. if_like (all_sure (known_value d k j)) _ _ _ _ (λ y. g2.blame (others u z y)) g1.blame) g.blame in
         record { first = g2.first; blame = of; marks = ap₄ (λ x y z w. x ++ y ++ z ++ w) g.marks g1.marks g2.marks (own_like h.node (known_value d k (part h t i j)) _ _ of) }
@@ -225,7 +225,7 @@ module _ (d : Design) (k : Kept) (e e' : Blames) (like : LikeBlames d k e e') wh
         let g2 = term_like t (first_read d k e (first_read d k e f i) j) (first_read d k e' (first_read d k e' f' i) j) g1.first in
         let inner : List Bit → List Bit → KnownBits = λ is js. extend_partly h.width h.signed (select_option (known_value d k t) (slide_offset (range_of d t) up (natural js) (index (head i).signed is)) (natural js)) in
         let others : all_sure (known_value d k (slide h t i j up)) ≡ false → all_sure (known_value d k i) ≡ true → all_sure (known_value d k j) ≡ true → all_sure (known_value d k t) ≡ false =
-        λ u z y. let r = told_unsure (known_value d k i) (λ is. on_told (told (known_value d k j)) (inner is) (unknown h.width)) (unknown h.width) u z in let p = told_unsure (known_value d k j) (inner r.0) (unknown h.width) r.2 y in select_unsure h (known_value d k t) (slide_offset (range_of d t) up (natural p.0) (index (head i).signed r.0)) (natural p.0) p.2 in
+        λ u z y. let r = whole_unsure (known_value d k i) (λ is. on_whole (whole_bits (known_value d k j)) (inner is) (unknown h.width)) (unknown h.width) u z in let p = whole_unsure (known_value d k j) (inner r.0) (unknown h.width) r.2 y in select_unsure h (known_value d k t) (slide_offset (range_of d t) up (natural p.0) (index (head i).signed r.0)) (natural p.0) p.2 in
         let of : all_sure (known_value d k (slide h t i j up)) ≡ false → blame_of d k e' f' (slide h t i j up) ≡ blame_of d k e f (slide h t i j up) =
         λ u. if_like (all_sure (known_value d k i)) _ _ _ _ (λ z. if_like (all_sure (known_value d k j)) _ _ _ _ (λ y. g2.blame (others u z y)) g1.blame) g.blame in
         record { first = g2.first; blame = of; marks = ap₄ (λ x y z w. x ++ y ++ z ++ w) g.marks g1.marks g2.marks (own_like h.node (known_value d k (slide h t i j up)) _ _ of) }
@@ -254,7 +254,7 @@ module _ (d : Design) (k : Kept) (e e' : Blames) (like : LikeBlames d k e e') wh
     term_like (repeat h n ts) f f' q =
         let g = term_like n f f' q in
         let g2 = terms_like ts (first_read d k e f n) (first_read d k e' f' n) g.first in
-        let others : all_sure (known_value d k (repeat h n ts)) ≡ false → all_sure (known_value d k n) ≡ true → all_sure (known_joined d k ts) ≡ false = λ u z. let r = told_unsure (known_value d k n) (λ ns. extend_partly h.width h.signed (copies_partly (natural ns) (known_joined d k ts))) (unknown h.width) u z in copies_unsure (natural r.0) (known_joined d k ts) (extend_unsure h.width h.signed (copies_partly (natural r.0) (known_joined d k ts)) r.2) in
+        let others : all_sure (known_value d k (repeat h n ts)) ≡ false → all_sure (known_value d k n) ≡ true → all_sure (known_joined d k ts) ≡ false = λ u z. let r = whole_unsure (known_value d k n) (λ ns. extend_partly h.width h.signed (copies_partly (natural ns) (known_joined d k ts))) (unknown h.width) u z in copies_unsure (natural r.0) (known_joined d k ts) (extend_unsure h.width h.signed (copies_partly (natural r.0) (known_joined d k ts)) r.2) in
         let of : all_sure (known_value d k (repeat h n ts)) ≡ false → blame_of d k e' f' (repeat h n ts) ≡ blame_of d k e f (repeat h n ts) = λ u. if_like (all_sure (known_value d k n)) _ _ _ _ (λ z. g2.blame (others u z)) g.blame in
         record { first = g2.first; blame = of; marks = ap₃ (λ x y z. x ++ y ++ z) g.marks g2.marks (own_like h.node (known_value d k (repeat h n ts)) _ _ of) }
     term_like (sign h s t) f f' q =
