@@ -1,11 +1,14 @@
 //! What a body reads and writes while it is replayed: what is known of the signals and memories of a design.
 #![tactic(auto)]
 
+mod bodies;
 mod memory;
 mod reads;
 mod store;
 mod unknown;
+mod update;
 mod write;
 
 pub use memory::StoredMemory;
-pub use store::Store;
+pub use store::{Store, StoreRoom};
+pub use update::Update;

@@ -34,23 +34,33 @@ impl<'a> Store<'a> {
     ghost use Rattle.design_model.specs.View.{design_view};
     ghost use Rattle.body_calls.specs.Lvalues.{Like, Takes, written};
     ghost use Rattle.body_calls.specs.declared.lvalue.Lvalue.TheVariants.{Part, Signal, Word};
+    ghost use Rattle.body_calls.specs.Rooms.{Leaves, takes_in};
     ghost use Rattle.body_store.specs.Scenes.{scene_of};
+    ghost use Rattle.body_store.specs.Bodies.{around_of, rooms_of};
 
     /// Bodies read this value of a signal from now on.
     fn assign(&mut self, signal: u32, value: Known)
         requires place { signal < length self.old.design.now.signals }
         requires shape { HasShape (shape_at self.old.signals signal) value }
+        requires room { takes_in (around_of self.old) (rooms_of self.old) signal ≤ (rooms_of self.old).log }
         ensures design { self.new.design ≡ self.old.design }
         ensures memories { self.new.memories ≡ self.old.memories }
+        ensures updates { self.new.updates ≡ self.old.updates }
+        ensures around { around_of self.new ≡ around_of self.old }
+        ensures rooms { Leaves (takes_in (around_of self.old) (rooms_of self.old) signal) 0 (rooms_of self.old) (rooms_of self.new) }
         ensures reads { (x : ℕ) → read_at self.new.signals x ≡ (if signal == x then value else read_at self.old.signals x) }
     {
-        self.signals.assign(signal, value);
+        self.log.assign(&mut self.signals, signal, value);
     }
 
     /// A blocking assignment writes a whole signal.
     pub(crate) fn write_whole(&mut self, signal: u32, part: &Known, blame: Option<u32>)
-        requires { Takes (design_view self.old.design.now) (Signal signal) (length part.now.bits) }
+        requires place { Takes (design_view self.old.design.now) (Signal signal) (length part.now.bits) }
+        requires room { takes_in (around_of self.old) (rooms_of self.old) signal ≤ (rooms_of self.old).log }
         ensures design { self.new.design ≡ self.old.design }
+        ensures updates { self.new.updates ≡ self.old.updates }
+        ensures around { around_of self.new ≡ around_of self.old }
+        ensures rooms { Leaves (takes_in (around_of self.old) (rooms_of self.old) signal) 0 (rooms_of self.old) (rooms_of self.new) }
         ensures scene { Like (written (Signal signal) part.now.bits blame (scene_of self.old)) (scene_of self.new) }
     {
         let old = self.signals.read(signal);
@@ -60,8 +70,12 @@ impl<'a> Store<'a> {
 
     /// A blocking assignment writes a part of a signal.
     pub(crate) fn write_part(&mut self, signal: u32, low: &Known, part: &Known, blame: Option<u32>)
-        requires { Takes (design_view self.old.design.now) (Part signal low.now) (length part.now.bits) }
+        requires place { Takes (design_view self.old.design.now) (Part signal low.now) (length part.now.bits) }
+        requires room { takes_in (around_of self.old) (rooms_of self.old) signal ≤ (rooms_of self.old).log }
         ensures design { self.new.design ≡ self.old.design }
+        ensures updates { self.new.updates ≡ self.old.updates }
+        ensures around { around_of self.new ≡ around_of self.old }
+        ensures rooms { Leaves (takes_in (around_of self.old) (rooms_of self.old) signal) 0 (rooms_of self.old) (rooms_of self.new) }
         ensures scene { Like (written (Part signal low.now) part.now.bits blame (scene_of self.old)) (scene_of self.new) }
     {
         let old = self.signals.read(signal);
@@ -70,10 +84,14 @@ impl<'a> Store<'a> {
         self.assign(signal, value);
     }
 
-    /// A blocking assignment writes a word of a memory.
+    /// A blocking assignment writes a word of a memory. There is no room for that inside of undecided tests.
     pub(crate) fn write_word(&mut self, memory: u32, index: &Known, part: &Known)
-        requires { Takes (design_view self.old.design.now) (Word memory index.now) (length part.now.bits) }
+        requires place { Takes (design_view self.old.design.now) (Word memory index.now) (length part.now.bits) }
+        requires room { takes_in (around_of self.old) (rooms_of self.old) memory ≤ (rooms_of self.old).log }
         ensures design { self.new.design ≡ self.old.design }
+        ensures updates { self.new.updates ≡ self.old.updates }
+        ensures around { around_of self.new ≡ around_of self.old }
+        ensures rooms { Leaves (takes_in (around_of self.old) (rooms_of self.old) memory) 0 (rooms_of self.old) (rooms_of self.new) }
         ensures scene { Like (written (Word memory index.now) part.now.bits None (scene_of self.old)) (scene_of self.new) }
     {
         let place = memory as usize - self.signals.len();

@@ -22,6 +22,6 @@ returns-clause-scene c =
     let low = c.args.low.now in
     let fits = ap (λ q. length q.bits) (sym c.read-old.ensures.value) ∙ c.read-old.ensures.shape.0 in
     let thing = c.part_blame.ensures ∙ ap (λ b. if is_whole low then unwrap_or c.args.blame b else low.blame) (c.blame.ensures.value ∙ ap (λ q. q.blame) c.read-old.ensures.value) in
-    let like = part_like x.design.now x.memories.items x.signals y.signals c.args.signal c.join-value.result x.fits.shapes c.requires.0 fits c.assign.ensures.reads low c.args.part.now c.with_part-new.result c.part_blame.result c.args.blame c.requires.1 c.with_part-new.ensures.value c.with_part-new.ensures.shape.0 c.join-value.ensures.value thing in
+    let like = part_like x.design.now x.memories.items x.signals y.signals c.args.signal c.join-value.result x.fits.shapes c.requires.place.0 fits c.assign.ensures.reads low c.args.part.now c.with_part-new.result c.part_blame.result c.args.blame c.requires.place.1 c.with_part-new.ensures.value c.with_part-new.ensures.shape.0 c.join-value.ensures.value thing in
     subst (λ d. Like (written (Part c.args.signal low) c.args.part.now.bits c.args.blame (scene_of x)) (scene_with d.now y.memories.items (read_at y.signals))) (sym c.assign.ensures.design)
     (subst (λ rs. Like (written (Part c.args.signal low) c.args.part.now.bits c.args.blame (scene_of x)) (scene_with x.design.now rs.items (read_at y.signals))) (sym c.assign.ensures.memories) like)
