@@ -40,7 +40,7 @@ one_filled n i xs rs ss a b is pushed made size f =
 
 -- ---- signals of which nothing is known
 
-length-unknown : (n : ℕ) (xs : List Shape) → length (unknown_from n xs) ≡ length xs
+pub length-unknown : (n : ℕ) (xs : List Shape) → length (unknown_from n xs) ≡ length xs
 length-unknown n [] = refl
 length-unknown n (x ∷ xs) = ap suc (length-unknown (n + 1) xs)
 
@@ -87,7 +87,6 @@ unknown_is d i =
     let is : x ≡ memory_at d (length d.signals + i) = sym (memory_is d i) in
     record {
       words = unwritten_stands d nothing (length d.signals + i) (m.shape_of x (length d.signals + i)) (ap (λ y. y.first) is) (ap (λ y. y.last) is) (ap (λ y. y.width) is) (λ c e. refl);
-      range = ap m.bits_range is;
       blame = refl;
       wrote = refl;
     }

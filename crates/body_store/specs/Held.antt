@@ -1,6 +1,6 @@
 -- When what a store holds is what is known of the cells of a design, as it is kept and as bodies read it.
-use Rattle.std.specs.Prelude.{◌≡◌, ◌+◌, ◌<◌, ℕ, List, length, map, slice_index_or}
-use Rattle.design_model.specs.Design.{Design, memory_at, no_memory}
+use Rattle.std.specs.Prelude.{◌≡◌, ◌+◌, ◌<◌, ℕ, List, length, map}
+use Rattle.design_model.specs.Design.{Design}
 use Rattle.body_replay.specs.Store.{Kept}
 use Rattle.body_replay.specs.Replay.{Blames}
 use Rattle.memory_rebuild.specs.Words.{StandsFor}
@@ -8,16 +8,11 @@ use Rattle.value_store.specs.Signals.{Signals, read_at, shape_of}
 use Rattle.value_store.specs.Held.{HoldsSignals, IsSignal}
 use Rattle.body_store.specs.declared.memory.StoredMemory.{StoredMemory}
 use Rattle.body_store.specs.declared.store.Store.{Store}
-use Rattle.body_store.specs.Made.{bits_range, unknown_memory}
-
--- what is held of the memory with this place in the list of memories
-abbrev pub memory_in : List StoredMemory → ℕ → StoredMemory
-memory_in rs i = slice_index_or rs i (unknown_memory no_memory 0)
+use Rattle.body_store.specs.Fitting.{memory_in}
 
 -- the words are those of memory m, as they are known, with its blame and whether the run has written it
 pub record IsMemory (d : Design) (k : Kept) (e : Blames) (m : ℕ) (r : StoredMemory) : Type 0 where
   pub words : StandsFor d k m r.words
-  pub range : r.range ≡ bits_range (memory_at d m)
   pub blame : r.words.shape.blame ≡ e.blame m
   pub wrote : r.written ≡ e.wrote m
 

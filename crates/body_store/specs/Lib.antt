@@ -1,2 +1,6 @@
+pub mod Bodies
+pub mod Fitting
 pub mod Held
 pub mod Made
+pub mod Scenes
+pub mod Updates

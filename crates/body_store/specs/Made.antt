@@ -1,7 +1,6 @@
 -- What a store holds before anything is known.
 use Rattle.std.specs.Prelude.{◌≡◌, ℕ, ◌+◌, ◌<◌, ◌≤◌, false, List, length, slice_index_or, None}
 use Rattle.design_model.specs.declared.design.Memory.{Memory}
-use Rattle.design_model.specs.declared.design.Range.{Range}
 use Rattle.body_replay.specs.Store.{Kept}
 use Rattle.body_replay.specs.Replay.{Blames}
 use Rattle.memory_rebuild.specs.declared.shape.Shape.{Shape}
@@ -12,13 +11,9 @@ use Rattle.body_store.specs.declared.memory.StoredMemory.{StoredMemory}
 abbrev pub shape_of : Memory → ℕ → Shape
 shape_of x m = record { first = x.first; last = x.last; width = x.width; signed = x.signed; blame = m }
 
--- the declared range of the bits of a word
-abbrev pub bits_range : Memory → Range
-bits_range x = record { high = x.high; low = x.low }
-
 -- the memory with this number, none of whose words is known, and which no run has written
 abbrev pub unknown_memory : Memory → ℕ → StoredMemory
-unknown_memory x m = record { words = unwritten (shape_of x m); range = bits_range x; written = false }
+unknown_memory x m = record { words = unwritten (shape_of x m); written = false }
 
 -- nothing is known of any cell
 abbrev pub nothing : Kept

@@ -5,9 +5,14 @@
 //! relations to the cells of a design: what the store keeps, and what bodies read of it (`specs/Held.antt`).
 #![tactic(auto)]
 
+mod bodies;
 mod memory;
+mod reads;
 mod store;
 mod unknown;
+mod update;
+mod write;
 
 pub use memory::StoredMemory;
-pub use store::Store;
+pub use store::{Store, StoreRoom};
+pub use update::Update;

@@ -1,7 +1,7 @@
 ghost use Rattle.std.specs.Prelude.{◌≡◌, ◌≤◌, IfOk};
 
 use cov_host::NoMemory;
-use design_model::{Memory, Range};
+use design_model::Memory;
 use memory_rebuild::Rebuilt;
 use std::alloc::Global;
 
@@ -10,8 +10,6 @@ use std::alloc::Global;
 pub struct StoredMemory {
     /// What is known of its words.
     pub words: Rebuilt,
-    /// The declared range of the bits of a word.
-    pub range: Range,
     /// Whether the run of a body has written it by a blocking assignment.
     pub written: bool,
 }
@@ -34,10 +32,6 @@ impl StoredMemory {
                 memory.signed,
                 number,
             )?,
-            range: Range {
-                high: memory.high,
-                low: memory.low,
-            },
             written: false,
         })
     }

@@ -7,3 +7,4 @@ pub mod Missed
 pub mod Left
 pub mod Held
 pub mod Counted
+pub mod Fitted

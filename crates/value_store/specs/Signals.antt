@@ -1,5 +1,5 @@
 -- What a store has of the signals of a design: lists by the number of a signal.
-use Rattle.std.specs.Prelude.{◌≡◌, ◌+◌, ◌≤◌, ℕ, Bool, false, List, [], ◌∷◌, length, map, replicate, slice_index_or, Option, None}
+use Rattle.std.specs.Prelude.{◌≡◌, ◌+◌, ◌≤◌, ℕ, Bool, true, false, if◌then◌else◌, List, [], ◌∷◌, is_some, length, map, replicate, slice_index_or, slice_set, Option, Some, None}
 use Rattle.std.specs.Option.{unwrap_or}
 use Rattle.known_state.specs.Partly.{Partly}
 use Rattle.design_model.specs.declared.design.Range.{Range}
@@ -40,6 +40,17 @@ hidden_at v s = slice_index_or v.hidden s None
 -- what bodies read of the signal with this number
 abbrev pub read_at : Signals → ℕ → Partly
 read_at v s = unwrap_or (hidden_at v s) (kept_at v s)
+
+-- the signals after a body assigned a value to one: it is what bodies then read
+abbrev pub assigned : Signals → ℕ → Partly → Signals
+assigned v s q = if is_some (hidden_at v s) then record v { hidden = slice_set v.hidden s (Some q) } else record v { kept = slice_set v.kept s q }
+
+-- the same signals, of which the same ones are shown or veiled, with the same values kept under those
+pub record SameUnder (v w : Signals) : Type 0 where
+  pub shapes : w.shapes ≡ v.shapes
+  pub count : length w.kept ≡ length v.kept
+  pub hides : (x : ℕ) → is_some (hidden_at w x) ≡ is_some (hidden_at v x)
+  pub under : (x : ℕ) → is_some (hidden_at v x) ≡ true → kept_at w x ≡ kept_at v x
 
 -- the vector has this width and sign
 abbrev pub HasShape : Shape → Partly → Type 0

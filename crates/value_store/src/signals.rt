@@ -1,7 +1,7 @@
-ghost use Rattle.std.specs.Prelude.{◌≡◌, ◌<◌, ◌≤◌, ◌↔◌, IfOk, IsTrue, None, Some, length, map, slice_set};
+ghost use Rattle.std.specs.Prelude.{◌≡◌, ◌<◌, ◌==◌, ◌≤◌, ◌↔◌, ℕ, IfOk, IsTrue, None, Some, if◌then◌else◌, length, map, slice_set};
 ghost use Rattle.std.specs.List.{All};
 ghost use Rattle.known_state.specs.Partly.{with_blame};
-ghost use Rattle.value_store.specs.Signals.{HasShape, HasWidth, hidden_at, kept_at, read_at, shape_at, shape_of, unknown_from, unknown_of, unknown_signals};
+ghost use Rattle.value_store.specs.Signals.{HasShape, HasWidth, SameUnder, assigned, hidden_at, kept_at, read_at, shape_at, shape_of, unknown_from, unknown_of, unknown_signals};
 ghost use Rattle.value_store.specs.Parts.{part_written, updated};
 
 use crate::part::{blamed, with_part, with_update};
@@ -103,6 +103,40 @@ impl Signals {
     {
         let slot = &mut self.slots[signal as usize];
         slot.kept = value;
+    }
+
+    /// A body assigns a value to a signal by a blocking assignment: bodies then read it. What is kept under a value that is
+    /// shown or veiled stays.
+    pub fn assign(&mut self, signal: u32, value: Known)
+        requires place { signal < length self.old.kept }
+        requires shape { HasShape (shape_at self.old signal) value }
+        ensures value { self.new ≡ assigned self.old signal value }
+        ensures reads { (x : ℕ) → read_at self.new x ≡ (if signal == x then value else read_at self.old x) }
+        ensures under { SameUnder self.old self.new }
+    {
+        let slot = &self.slots[signal as usize];
+        if slot.epoch == self.epoch {
+            self.show(signal, value);
+        } else {
+            self.set(signal, value);
+        }
+    }
+
+    /// What is kept of each signal, and what bodies read of it, has the width and sign of the signal. It does nothing.
+    pub fn fitting(&self)
+        ensures kept { (x : ℕ) → x < length self.now.kept → HasShape (shape_at self.now x) (kept_at self.now x) }
+        ensures read { (x : ℕ) → x < length self.now.kept → HasShape (shape_at self.now x) (read_at self.now x) }
+    {
+        let _slots = self.slots.as_slice();
+    }
+
+    /// What a write of a part leaves of what bodies read of a signal, from the bit with this index up.
+    pub fn with_part(&self, signal: u32, index: &Known, part: &Known) -> Known
+        requires { signal < length self.now.kept }
+        ensures value { result ≡ part_written (shape_at self.now signal).range index.now part.now (read_at self.now signal) }
+        ensures shape { HasShape (shape_at self.now signal) result }
+    {
+        with_part(&self.read(signal), self.range(signal), index, part)
     }
 
     /// Keeps the bits of a part of a signal, from the bit with this index up. The part is to blame where it is not whole;

@@ -1,11 +1,32 @@
+use Rattle.std.proofs.Common.{ap, map, subst, sym, ◌∙◌}
 use Rattle.design_model.specs.View.{design_view}
+use Rattle.value_store.specs.Signals.{shape_of, unknown_signals}
+use Rattle.body_store.specs.Made.{AreUnknown}
 use Rattle.body_store.proofs.Blank.{made_store}
+use Rattle.body_store.specs.Updates.{are_taken}
+use Rattle.body_store.proofs.Fit.{new_fits}
+use Rattle.body_store.proofs.Tests.{new_logged}
 use Rattle.body_store.proofs.store.Store.new.Goals as goal
+
+pub invariant_of-result : goal.invariant_of-result
+invariant_of-result c =
+    let ss = c.args.design.now.signals in
+    let ms = c.args.design.now.memories in
+    let v = c.in_ok-signals.signals in
+    let fits = new_fits ss ms v c.in_ok-memories.memories.items
+    (c.in_ok-signals.ensures ∙ ap (λ y. unknown_signals (map shape_of y)) c.as_slice.ensures)
+    (subst (λ n. AreUnknown n ms c.in_ok-memories.memories.items) c.len.ensures (subst (λ y. AreUnknown c.len.result y c.in_ok-memories.memories.items) c.as_slice-2.ensures c.in_ok-memories.ensures)) in
+    record {
+      fits = fits;
+      logged = new_logged v c.in_ok-log.log c.len-2.result c.args.room.log c.in_ok-log.ensures (c.len-2.ensures ∙ sym fits.signals);
+      sized = ap (λ l. l.depth) c.in_ok-log.ensures ∙ sym (ap (λ l. l.room) c.in_ok-log.ensures);
+      taken = ap (λ q. are_taken (design_view c.args.design.now) q.items) c.in_ok-updates.ensures;
+    }
 
 pub returns-clause-holds : goal.returns-clause-holds
 returns-clause-holds c =
-    (made_store (design_view c.args.design.now) c.len.result c.as_slice.result.now c.as_slice-2.result.now (record { signals = c.in_ok-signals.signals; memories = c.in_ok-memories.memories }) c.len.ensures c.as_slice.ensures c.as_slice-2.ensures c.in_ok-signals.ensures c.in_ok-memories.ensures).0
+    (made_store (design_view c.args.design.now) c.len.result c.as_slice.result.now c.as_slice-2.result.now _ c.len.ensures c.as_slice.ensures c.as_slice-2.ensures c.in_ok-signals.ensures c.in_ok-memories.ensures).0
 
 pub returns-clause-reads : goal.returns-clause-reads
 returns-clause-reads c =
-    (made_store (design_view c.args.design.now) c.len.result c.as_slice.result.now c.as_slice-2.result.now (record { signals = c.in_ok-signals.signals; memories = c.in_ok-memories.memories }) c.len.ensures c.as_slice.ensures c.as_slice-2.ensures c.in_ok-signals.ensures c.in_ok-memories.ensures).1
+    (made_store (design_view c.args.design.now) c.len.result c.as_slice.result.now c.as_slice-2.result.now _ c.len.ensures c.as_slice.ensures c.as_slice-2.ensures c.in_ok-signals.ensures c.in_ok-memories.ensures).1

@@ -1,0 +1,3 @@
+pub mod Lvalues
+pub mod Ways
+pub mod Rooms

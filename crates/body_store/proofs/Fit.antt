@@ -1,0 +1,84 @@
+-- What is read of a store that has the shapes of a design.
+use Rattle.std.proofs.Common.{◌≡◌, ℕ, zero, suc, ◌+◌, ◌-◌, ◌<◌, ◌≤◌, ◌&&◌, Bool, true, false, if◌then◌else◌, List, [], length, map, get_or, replicate, None, refl, sym, ap, ap₂, subst, ◌∙◌, arith}
+use Rattle.std.specs.Prelude.{nat_le, nat_lt}
+use Rattle.std.proofs.lemmas.Bool.{and_parts}
+use Rattle.std.proofs.lemmas.Bool.Decides.{nat_tests}
+use Rattle.std.proofs.lemmas.List.{get_or-map, length-map, length-replicate}
+use Rattle.known_state.specs.Partly.{Partly}
+use Rattle.design_model.specs.declared.design.Memory.{Memory}
+use Rattle.design_model.specs.declared.design.Signal.{Signal}
+use Rattle.design_model.specs.Design.{Design, is_memory, memory_at, no_memory, no_signal, signal_at, signal_cells}
+use Rattle.body_replay.specs.KnownBits.{KnownBits, unknown}
+use Rattle.memory_rebuild.specs.declared.shape.Shape.{Shape}
+use Rattle.memory_rebuild.specs.Words.{HaveWidth, IsIndex, KnownWords, StandsFor, count, least, unwritten, word_at}
+use Rattle.value_store.specs.Signals as s
+use Rattle.value_store.specs.Signals.{Signals, no_shape, shape_at, unknown_signals}
+use Rattle.body_store.specs.declared.memory.StoredMemory.{StoredMemory}
+use Rattle.body_store.specs.Made.{AreUnknown, shape_of, unknown_memory}
+use Rattle.body_store.specs.Fitting.{FitsDesign, FitsMemory, memory_in}
+use Rattle.body_store.specs.Scenes.{kept_by}
+use Rattle.body_store.proofs.Blank.{length-unknown}
+use Rattle.body_store.proofs.Rows.{signal_row, stands_here}
+
+-- ---- a new store
+
+same_past : (n k : ℕ) (x : KnownBits) → get_or (replicate n x) k x ≡ x
+same_past zero k x = refl
+same_past (suc n) zero x = refl
+same_past (suc n) (suc k) x = same_past n k x
+
+-- each word has the width of the memory's words
+abbrev AreWide : KnownWords → Type 0
+AreWide r = (i : ℕ) → IsIndex r.shape i → length (word_at r i) ≡ r.shape.width
+
+unwritten_widths : (x : Shape) → HaveWidth (unwritten x)
+unwritten_widths x i = ap length (same_past (count x) (i - least x) (unknown x.width)) ∙ length-replicate x.width None
+
+pub new_fits : (ss : List Signal) (ms : List Memory) (v : Signals) (rs : List StoredMemory) → v ≡ unknown_signals (map s.shape_of ss) → AreUnknown (length ss) ms rs → FitsDesign ss ms v rs
+new_fits ss ms v rs e a =
+    record {
+      shapes = ap (λ y. y.shapes) e;
+      signals = ap (λ y. length y.kept) e ∙ length-unknown 0 (map s.shape_of ss) ∙ length-map ss s.shape_of;
+      memories = a.count;
+      each = λ i l.
+          let is : memory_in rs i ≡ unknown_memory (get_or ms i no_memory) (length ss + i) = a.each i (unknown_memory no_memory 0) no_memory l in
+          record { shape = ap (λ r. r.words.shape) is; widths = subst AreWide (sym (ap (λ r. r.words) is)) (λ j inside. unwritten_widths (shape_of (get_or ms i no_memory) (length ss + i)) j) };
+    }
+
+-- ---- a signal
+
+pub shape_is : (d : Design) (v : Signals) (x : ℕ) → v.shapes ≡ map s.shape_of d.signals → x < length d.signals → shape_at v x ≡ s.shape_of (signal_at d x)
+shape_is d v x e l = ap (λ xs. get_or xs x no_shape) e ∙ get_or-map s.shape_of d.signals x no_signal no_shape l
+
+pub width_is : (d : Design) (v : Signals) (x : ℕ) (q : Partly) → v.shapes ≡ map s.shape_of d.signals → x < length d.signals → length q.bits ≡ (shape_at v x).width → length q.bits ≡ (signal_at d x).width
+width_is d v x q e l size = size ∙ ap (λ y. y.width) (shape_is d v x e l)
+
+pub reads_signal : (d : Design) (v : Signals) (at : ℕ → Partly) (words : ℕ → KnownWords) (x : ℕ) (q : Partly) → v.shapes ≡ map s.shape_of d.signals → x < length d.signals → q ≡ at x → length q.bits ≡ (shape_at v x).width → q.bits ≡ map (kept_by (length d.signals) at words) (signal_cells d x)
+reads_signal d v at words x q e l is size =
+    ap (λ y. y.bits) is ∙ signal_row (length d.signals) at words d x l (ap (λ y. length y.bits) (sym is) ∙ width_is d v x q e l size)
+
+-- ---- a memory
+
+pub from_memories : (d : Design) (m : ℕ) → is_memory d m ≡ true → length d.signals ≤ m
+from_memories d m h = let first = (and_parts (nat_le (length d.signals) m) (nat_lt m (length d.signals + length d.memories)) h).0 in grind (arith, nat_tests, first)
+
+pub among_memories : (d : Design) (m : ℕ) → is_memory d m ≡ true → m - length d.signals < length d.memories
+among_memories d m h =
+    let both = and_parts (nat_le (length d.signals) m) (nat_lt m (length d.signals + length d.memories)) h in
+    let first = both.0 in
+    let second = both.1 in
+    grind (arith, nat_tests, first, second)
+
+pub in_memories : (d : Design) (m : ℕ) → is_memory d m ≡ true → memory_at d m ≡ get_or d.memories (m - length d.signals) no_memory
+in_memories d m h = ap (λ t. if t then get_or d.memories (m - length d.signals) no_memory else no_memory) (and_parts (nat_le (length d.signals) m) (nat_lt m (length d.signals + length d.memories)) h).0
+
+pub memory_stands : (d : Design) (v : Signals) (rs : List StoredMemory) (at : ℕ → Partly) (m : ℕ) → FitsDesign d.signals d.memories v rs → is_memory d m ≡ true → StandsFor d (kept_by (length d.signals) at (λ i. (memory_in rs i).words)) m (memory_in rs (m - length d.signals)).words
+memory_stands d v rs at m f h =
+    let n = length d.signals in
+    let fit : FitsMemory (get_or d.memories (m - n) no_memory) (n + (m - n)) (memory_in rs (m - n)) = f.each (m - n) (among_memories d m h) in
+    let is : get_or d.memories (m - n) no_memory ≡ memory_at d m = sym (in_memories d m h) in
+    stands_here n at (λ i. (memory_in rs i).words) d m (memory_in rs (m - n)).words (from_memories d m h) refl
+    (ap (λ y. y.first) fit.shape ∙ ap (λ y. y.first) is) (ap (λ y. y.last) fit.shape ∙ ap (λ y. y.last) is) (ap (λ y. y.width) fit.shape ∙ ap (λ y. y.width) is) fit.widths
+
+pub flag_is : (d : Design) (m : ℕ) (b : Bool) → is_memory d m ≡ true → b ≡ (nat_le (length d.signals) m && b)
+flag_is d m b h = sym (ap (λ t. t && b) (and_parts (nat_le (length d.signals) m) (nat_lt m (length d.signals + length d.memories)) h).0)

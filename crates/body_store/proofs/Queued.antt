@@ -1,0 +1,31 @@
+-- The updates that a store has queued.
+use Rattle.std.proofs.Common.{◌≡◌, ℕ, ◌<◌, ◌≤◌, ◌==◌, ◌&&◌, Bool, true, List, [], ◌∷◌, ◌++◌, length, refl, sym, ap, ◌∙◌, arith, append_assoc, eq-eqb}
+use Rattle.std.specs.Prelude.{nat_le, nat_lt}
+use Rattle.std.proofs.lemmas.Bool.{and_parts}
+use Rattle.std.proofs.lemmas.Bool.Decides.{nat_tests}
+use Rattle.std.proofs.lemmas.List.{append-nil}
+use Rattle.known_state.proofs.Cases.{both_true}
+use Rattle.design_model.specs.Design.{Design, is_memory, memory_at, signal_at}
+use Rattle.body_calls.specs.Lvalues.{Takes}
+use Rattle.body_calls.specs.declared.lvalue.Lvalue.{Lvalue}
+use Rattle.body_calls.specs.declared.lvalue.Lvalue.TheVariants.{Part, Signal, Word}
+use Rattle.body_store.specs.declared.update.Update.{Update}
+use Rattle.body_store.specs.Updates.{are_taken, queued_writes, takes, update_writes}
+
+pub takes_yes : (d : Design) (to : Lvalue) (n : ℕ) → Takes d to n → takes d to n ≡ true
+takes_yes d (Signal s) n h = let l = h.0 in let first : nat_lt s (length d.signals) ≡ true = grind (arith, nat_tests, l) in both_true _ _ first (eq-eqb n (signal_at d s).width h.1)
+takes_yes d (Part s low) n h =
+    let l = h.0 in
+    let some = h.1 in
+    let first : nat_lt s (length d.signals) ≡ true = grind (arith, nat_tests, l) in
+    let second : nat_le 1 n ≡ true = grind (arith, nat_tests, some) in
+    both_true _ _ first second
+takes_yes d (Word m i) n h = both_true _ _ h.0 (eq-eqb n (memory_at d m).width h.1)
+
+pub taken_more : (d : Design) (us : List Update) (u : Update) → are_taken d us ≡ true → Takes d u.to (length u.value.bits) → are_taken d (us ++ u ∷ []) ≡ true
+taken_more d [] u h t = both_true _ _ (takes_yes d u.to (length u.value.bits) t) refl
+taken_more d (v ∷ vs) u h t = let both = and_parts (takes d v.to (length v.value.bits)) (are_taken d vs) h in both_true _ _ both.0 (taken_more d vs u both.1 t)
+
+pub queued_more : (d : Design) (us : List Update) (u : Update) → queued_writes d (us ++ u ∷ []) ≡ queued_writes d us ++ update_writes d u
+queued_more d [] u = append-nil (update_writes d u)
+queued_more d (v ∷ vs) u = ap (λ ws. update_writes d v ++ ws) (queued_more d vs u) ∙ sym (append_assoc (update_writes d v) (queued_writes d vs) (update_writes d u))

@@ -1,0 +1,3 @@
+pub mod LikeTerms
+pub mod LikeScenes
+pub mod BodyContexts

@@ -1,0 +1,9 @@
+use Rattle.scene_laws.proofs.LikeScenes.{terms_alike}
+use Rattle.scene_laws.proofs.BodyContexts.{in_contexts}
+use Rattle.scene_laws.proofs.terms_law.Goals as goal
+
+pub returns-clause-alike : goal.returns-clause-alike
+returns-clause-alike c = terms_alike
+
+pub returns-clause-contexts : goal.returns-clause-contexts
+returns-clause-contexts c = in_contexts

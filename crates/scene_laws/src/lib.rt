@@ -1,0 +1,12 @@
+//! Laws of the terms that the run of a body evaluates: what scenes have in common that bodies do not tell apart, and that each
+//! term is in its context.
+#![tactic(auto)]
+
+ghost use Rattle.scene_laws.specs.Laws.{InContexts, TermsAlike};
+
+/// The terms of a body do not tell scenes apart that differ only in the blames of signals of which all bits are sure, and each
+/// of them has the width and the sign that its context gives it (IEEE 1364-2001, clauses 4.4 and 4.5).
+pub fn terms_law()
+    ensures alike { TermsAlike }
+    ensures contexts { InContexts }
+{}

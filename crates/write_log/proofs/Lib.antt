@@ -1,0 +1,5 @@
+pub mod Firsts
+pub mod PutBack
+pub mod Joins
+pub mod Tests
+pub mod CommonHeld
