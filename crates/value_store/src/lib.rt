@@ -3,6 +3,7 @@
 #![tactic(auto)]
 
 mod laws;
+mod logged;
 mod offset;
 mod part;
 mod queue;
@@ -11,6 +12,7 @@ mod signals;
 mod slot;
 
 pub use laws::writes_law;
+pub use logged::log_room;
 pub use queue::Queue;
 pub use room::queue_room;
 pub use signals::Signals;
