@@ -1,5 +1,5 @@
--- How many updates the bodies of a design can queue between two flushes.
-use Rattle.std.specs.Prelude.{ℕ, ◌+◌, ◌-◌, ◌^◌, min, List, [], ◌∷◌, if◌then◌else◌}
+-- How many updates the bodies of a design can queue between two flushes, and how much a run of one can log.
+use Rattle.std.specs.Prelude.{ℕ, ◌+◌, ◌-◌, ◌^◌, min, max, Bool, true, false, ◌&&◌, List, [], ◌∷◌, if◌then◌else◌}
 use Rattle.cov_host.specs.declared.place.Place.{Place}
 use Rattle.design_model.specs.Tree as t
 use Rattle.design_model.specs.Tree.{Arms, Process, Stmt, Stmts, Target, Targets, a_stmt, a_target, all_of, arm, assign, bits_of, block, branch, clocked, comb, empty, no_arms, no_stmts, no_targets, select, set, several, turns, word_of}
@@ -41,6 +41,30 @@ abbrev mutual
 abbrev pub processes_queued : List Process → ℕ
 processes_queued [] = 0
 processes_queued (p ∷ ps) = queued_parts (body p) + processes_queued ps
+
+-- how much of the log of undecided tests a run of a statement takes, outside or inside of such tests: one place for each test, and
+-- one for each part of a blocking assignment inside of one
+abbrev mutual
+  pub logged : Bool → Stmt → ℕ
+  logged inside (block p ss) = all_logged inside ss
+  logged inside (branch p n t s other) = 1 + logged true s + all_logged true other
+  logged inside (select p n kind t arms) = arms_logged arms
+  logged inside (turns p n ss) = all_logged inside ss
+  logged inside (set p n blocking x t) = if blocking && inside then target_parts x else 0
+  logged inside (empty p) = 0
+
+  pub all_logged : Bool → Stmts → ℕ
+  all_logged inside no_stmts = 0
+  all_logged inside (a_stmt s ss) = logged inside s + all_logged inside ss
+
+  pub arms_logged : Arms → ℕ
+  arms_logged no_arms = 0
+  arms_logged (arm labels s arms) = 1 + logged true s + arms_logged arms
+
+-- what a run of any of these bodies takes at most
+abbrev pub most_logged : List Process → ℕ
+most_logged [] = 0
+most_logged (p ∷ ps) = max (logged false (body p)) (most_logged ps)
 
 -- a number as a `usize` has it: the greatest one stands for all that are greater
 abbrev pub as_usize : ℕ → ℕ

@@ -8,6 +8,7 @@
 #![tactic(auto)]
 
 mod laws;
+mod logged;
 mod offset;
 mod part;
 mod queue;
@@ -16,6 +17,7 @@ mod signals;
 mod slot;
 
 pub use laws::writes_law;
+pub use logged::log_room;
 pub use queue::Queue;
 pub use room::queue_room;
 pub use signals::Signals;
