@@ -1,0 +1,13 @@
+//! Assignments on values that are partly known (IEEE 1364-2001, clause 9.2): the indexes of a target, its value, the words that
+//! it writes, and the writes, which are made at once or queued. No memory is taken.
+#![tactic(auto)]
+
+mod assignment;
+mod parts;
+mod piece;
+mod target;
+
+pub use assignment::assign;
+pub use parts::{note_written, queue_pieces, write_pieces};
+pub use piece::Piece;
+pub use target::locate;

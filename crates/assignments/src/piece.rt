@@ -1,0 +1,10 @@
+use body_calls::Lvalue;
+
+/// A part of an assignment, with its index evaluated.
+#[derive(Clone, Copy)]
+pub struct Piece {
+    /// What it writes.
+    pub to: Lvalue,
+    /// Its number of bits.
+    pub width: u8,
+}
