@@ -1,5 +1,5 @@
 -- One insertion after another.
-use Rattle.std.proofs.Common.{◌≡◌, ◌⊎◌, inl, inr, ⊎_elim, ◌∙◌, ℕ, ◌+◌, ◌<◌, ◌≤◌, Bool, true, false, cond, List, [], ◌∷◌, ◌++◌, Option, None, length, get_or, take, refl, sym, ap, subst, arith, append_assoc, append-nil}
+use Rattle.std.proofs.Common.{◌≡◌, ◌⊎◌, ◌↔◌, inl, inr, ⊎_elim, ◌∙◌, ℕ, ◌+◌, ◌<◌, ◌≤◌, Bool, true, false, cond, List, [], ◌∷◌, ◌++◌, Option, None, length, get_or, take, refl, sym, ap, subst, arith, append_assoc, append-nil}
 use Rattle.std.specs.List.{Contains}
 use Rattle.std.proofs.lemmas.Bool.{both_ways, cases_lt}
 use Rattle.std.proofs.lemmas.List.{get_or_append_left, get_or_default, take_more}
@@ -142,3 +142,10 @@ where_taken condition n except xs ys is h = same_added (IsItem n except) (IsItem
 
 pub where_passed : (condition : Bool) (n : ℕ) (except : Option ℕ) (xs : List ℕ) → condition ≡ false → Adds (IsItemWhere condition n except) xs xs
 where_passed condition n except xs is = none_added (IsItemWhere condition n except) xs (λ x p. both_ways condition is p.0)
+
+-- a row alone is put in
+pub row_alone : (row ys : List ℕ) → Adds (IsRowItem true row None) [] ys → (x : ℕ) → Contains ys x ↔ Contains row x
+row_alone row ys h x = (
+  λ c. ⊎_elim (λ n. absurd (omega (arith, n.1))) (λ p. p.1.0) (h.only x c),
+  λ c. h.all x (refl, (c, refl)),
+)

@@ -4,3 +4,4 @@ pub mod Closing
 pub mod EarlyAdding
 pub mod EarlyFound
 pub mod EventRows
+pub mod Shared

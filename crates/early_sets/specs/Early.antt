@@ -39,6 +39,10 @@ IsFreeInput w h x = Contains w.noted x × (is_free w.tables h x ≡ true)
 abbrev pub IsOtherTarget : WakeState → ℕ → ℕ → ℕ → Type 0
 IsOtherTarget w block trigger x = (p : ℕ) × MayWakeBy w.tables w.edges trigger p × (is_apart (Some block) p ≡ true) × Contains (row_at w.tables.blocking p) x
 
+-- the process writes nothing by blocking assignments
+abbrev pub HasNoBlocking : WakeTables → ℕ → Type 0
+HasNoBlocking t p = row_at t.blocking p ≡ []
+
 -- what is early at first: an input that changes and is free, and a blocking target of another process that the trigger may wake; not the trigger
 abbrev pub IsEarlySeed : WakeState → Habit → ℕ → ℕ → ℕ → Type 0
 IsEarlySeed w h block trigger x = (IsFreeInput w h x ⊎ IsOtherTarget w block trigger x) × (is_apart (Some trigger) x ≡ true)

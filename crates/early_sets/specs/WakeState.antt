@@ -13,9 +13,10 @@ use Rattle.early_sets.specs.Reached.{edges_at}
 -- the tables and inputs of a design, the edges of a step and what is in the sets
 pub record WakeState : Type 0 where
   pub tables : WakeTables
-  pub inputs : List Bool  -- for each signal or memory whether it is an input
+  pub told : List Bool  -- for each signal or memory whether it is an input whose changes are told
+  pub untold : List ℕ  -- the other inputs
   pub edges : List Edges  -- for each the edges that its change may be
-  pub noted : List ℕ  -- the inputs that change
+  pub noted : List ℕ  -- the inputs that change, or may change
   pub moves : List ℕ  -- what may move
   pub woken : List ℕ  -- the processes that may be woken
   pub early : List ℕ  -- what is early for the block that was chosen
@@ -25,7 +26,8 @@ abbrev pub state_of : Wakes → WakeState
 state_of w =
     record {
       tables = w.tables;
-      inputs = w.inputs.items;
+      told = w.told.items;
+      untold = w.untold.items;
       edges = w.edges.items;
       noted = w.noted.items;
       moves = w.moves.items;
@@ -58,14 +60,14 @@ waker_of w p = first_signal (can_wake_by w) (row_at w.tables.events p)
 abbrev pub wakes_only_by : WakeState → ℕ → ℕ → Bool
 wakes_only_by w p s = list_all (λ e. not (not (e.1 == s) && can_wake_by w e)) (row_at w.tables.events p)
 
--- the signal is an input
-abbrev pub is_input : WakeState → ℕ → Bool
-is_input w s = slice_index_or w.inputs s false
+-- the signal is an input whose changes are told
+abbrev pub is_told : WakeState → ℕ → Bool
+is_told w s = slice_index_or w.told s false
 
 -- this signal, where it is the trigger
 abbrev pub trigger_by : WakeState → ℕ → Option ℕ → Option ℕ
 trigger_by w p None = None
-trigger_by w p (Some s) = if is_input w s && wakes_only_by w p s then Some s else None
+trigger_by w p (Some s) = if is_told w s && wakes_only_by w p s then Some s else None
 
 -- the trigger of a process, where it is clean
 abbrev pub trigger_of : WakeState → ℕ → Option ℕ

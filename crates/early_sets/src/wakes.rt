@@ -3,7 +3,7 @@ ghost use Rattle.std.specs.List.{Contains};
 ghost use Rattle.early_sets.specs.Adds.{Adds};
 ghost use Rattle.early_sets.specs.Sizes.{AreSizes};
 
-use crate::closure::{close, wake};
+use crate::closure::{close, insert_row, wake};
 use crate::early::{insert_inputs, insert_targets};
 use crate::{Edges, Habit, Rule};
 use cov_host::NoMemory;
@@ -17,31 +17,41 @@ use wake_tables::WakeTables;
 #[derive(Drop)]
 pub struct Wakes {
     tables: WakeTables,
-    /// For each signal or memory whether it is an input.
-    inputs: Vec<bool>,
+    /// For each signal or memory whether it is an input whose changes are told.
+    told: Vec<bool>,
+    /// The other inputs.
+    untold: Vec<u32>,
     /// For each signal or memory the edges that its change may be, where it may move.
     edges: Vec<Edges>,
-    /// The inputs that change.
+    /// The inputs that change, or may change.
     noted: IndexSet,
     moves: IndexSet,
     woken: IndexSet,
     early: IndexSet,
     /// The processes that what is early may wake.
     early_woken: IndexSet,
-    ghost sizes: { AreSizes tables inputs.items edges.items noted moves woken early early_woken },
+    ghost sizes: { AreSizes tables told.items untold.items edges.items noted moves woken early early_woken },
 }
 
 impl Wakes {
-    ghost use Rattle.early_sets.specs.Early.{IsEarlyBy};
+    ghost use Rattle.early_sets.specs.Early.{HasNoBlocking, IsEarlyBy};
     ghost use Rattle.early_sets.specs.Edges.{any_edges, edges_between};
     ghost use Rattle.early_sets.specs.Reached.{IsWoken, Reached};
-    ghost use Rattle.early_sets.specs.WakeState.{can_wake_by, nothing_left, state_of, trigger_of, waker_of, wakes_only_by};
+    ghost use Rattle.early_sets.specs.WakeState.{can_wake_by, is_told, nothing_left, state_of, trigger_of, waker_of, wakes_only_by};
 
-    /// The sets of a design with these tables and inputs, before a step.
-    pub fn new(alloc: Global, tables: WakeTables, inputs: Vec<bool>) -> Result<Self, NoMemory>
-        requires { length inputs.items ≡ tables.things }
+    /// The sets of a design with these tables, before the first step: for each signal or memory whether it is an input
+    /// whose changes are told, and the other inputs, each of which may change in any step.
+    pub fn new(
+        alloc: Global,
+        tables: WakeTables,
+        told: Vec<bool>,
+        untold: Vec<u32>,
+    ) -> Result<Self, NoMemory>
+        requires told { length told.items ≡ tables.things }
+        requires untold { (x : ℕ) → Contains untold.items x → x < tables.things }
         ensures tables { IfOk result (λ wakes. (state_of wakes).tables ≡ tables) }
-        ensures inputs { IfOk result (λ wakes. (state_of wakes).inputs ≡ inputs.items) }
+        ensures told { IfOk result (λ wakes. (state_of wakes).told ≡ told.items) }
+        ensures untold { IfOk result (λ wakes. (state_of wakes).untold ≡ untold.items) }
         ensures edges { IfOk result (λ wakes. (state_of wakes).edges ≡ replicate tables.things any_edges) }
         ensures noted { IfOk result (λ wakes. (state_of wakes).noted ≡ []) }
     {
@@ -56,7 +66,8 @@ impl Wakes {
         let early_woken = IndexSet::new(alloc, tables.processes)?;
         Ok(Wakes {
             tables,
-            inputs,
+            told,
+            untold,
             edges,
             noted,
             moves,
@@ -66,21 +77,48 @@ impl Wakes {
         })
     }
 
-    /// Begins a step, in which no input changes yet. It takes no memory, and the same time whatever the last step did.
+    /// How many signals and memories the design has.
+    pub fn things(&self) -> usize
+        ensures { result ≡ (state_of self.now).tables.things }
+    {
+        self.tables.things
+    }
+
+    /// How many processes the design has.
+    pub fn processes(&self) -> usize
+        ensures { result ≡ (state_of self.now).tables.processes }
+    {
+        self.tables.processes
+    }
+
+    /// Whether the number is that of an input whose changes are told.
+    pub fn is_told(&self, thing: u32) -> bool
+        ensures value { result ≡ is_told (state_of self.now) thing }
+        ensures below { IsTrue result → thing < (state_of self.now).tables.things }
+    {
+        let place = thing as usize;
+        place < self.told.len() && self.told[place]
+    }
+
+    /// Begins a step, in which no change is told yet. It takes no memory, and time for the inputs that are never told,
+    /// whatever the last step did.
     pub fn clear(&mut self)
-        ensures { state_of self.new ≡ record (state_of self.old) { noted = []; moves = []; woken = []; early = [] } }
+        ensures rest { state_of self.new ≡ record (state_of self.old) { noted = (state_of self.new).noted; moves = []; woken = []; early = [] } }
+        ensures noted { (x : ℕ) → Contains (state_of self.new).noted x ↔ Contains (state_of self.old).untold x }
     {
         self.noted.clear();
+        insert_row(true, self.untold.as_slice(), None, &mut self.noted);
         self.moves.clear();
         self.woken.clear();
         self.early.clear();
     }
 
-    /// An input changes in this step. `old` and `new` are its lowest bit before and after the step. It takes no memory.
+    /// An input whose changes are told changes in this step. `old` and `new` are its lowest bit before and after the step. It takes no memory.
     pub fn note(&mut self, input: u32, old: Bit, new: Bit)
         requires { input < (state_of self.old).tables.things }
         ensures tables { (state_of self.new).tables ≡ (state_of self.old).tables }
-        ensures inputs { (state_of self.new).inputs ≡ (state_of self.old).inputs }
+        ensures told { (state_of self.new).told ≡ (state_of self.old).told }
+        ensures untold { (state_of self.new).untold ≡ (state_of self.old).untold }
         ensures noted { Adds (λ x. input ≡ x) (state_of self.old).noted (state_of self.new).noted }
         ensures edges { (state_of self.new).edges ≡ slice_set (state_of self.old).edges input (edges_between old new) }
     {
@@ -93,7 +131,8 @@ impl Wakes {
     /// the processes that they may wake and what those may write.
     pub fn settle(&mut self)
         ensures tables { (state_of self.new).tables ≡ (state_of self.old).tables }
-        ensures inputs { (state_of self.new).inputs ≡ (state_of self.old).inputs }
+        ensures told { (state_of self.new).told ≡ (state_of self.old).told }
+        ensures untold { (state_of self.new).untold ≡ (state_of self.old).untold }
         ensures edges { (state_of self.new).edges ≡ (state_of self.old).edges }
         ensures noted { (state_of self.new).noted ≡ (state_of self.old).noted }
         ensures moves { (x : ℕ) → Contains (state_of self.new).moves x ↔ Reached (state_of self.old).tables (state_of self.old).edges nothing_left (Contains (state_of self.old).noted) x }
@@ -123,7 +162,7 @@ impl Wakes {
         self.moves.contains(thing as usize)
     }
 
-    /// What may move in the step: the inputs that change first, then in the order in which it was found.
+    /// What may move in the step: the inputs that change or may change first, then in the order in which it was found.
     pub fn moves(&self) -> &[usize]
         ensures { result.now ≡ (state_of self.now).moves }
     {
@@ -159,18 +198,28 @@ impl Wakes {
         None
     }
 
-    /// The trigger of a process, where it is clean: the one event signal by which it can wake, if that is an input.
+    /// The trigger of a process, where it is clean: the one event signal by which it can wake, if that is an input
+    /// whose changes are told.
     pub fn trigger(&self, process: u32) -> Option<u32>
         requires { process < (state_of self.now).tables.processes }
         ensures value { result ≡ trigger_of (state_of self.now) process }
         ensures below { IfSome result (λ signal. signal < (state_of self.now).tables.things) }
     {
         let signal = self.waker(process)?;
-        if self.inputs[signal as usize] && self.wakes_only_by(process, signal) {
+        if self.told[signal as usize] && self.wakes_only_by(process, signal) {
             Some(signal)
         } else {
             None
         }
+    }
+
+    /// Whether a block writes nothing by blocking assignments. What is early for such a block is early for each other such
+    /// block with the same trigger, so it need be found for one of them alone.
+    pub fn shares_early(&self, process: u32) -> bool
+        requires { process < (state_of self.now).tables.processes }
+        ensures { IsTrue result ↔ HasNoBlocking (state_of self.now).tables process }
+    {
+        self.tables.blocking.row(process as usize).is_empty()
     }
 
     /// Finds what is early for a clean block: what may change in the step before the block is evaluated. It takes no
@@ -180,6 +229,7 @@ impl Wakes {
         requires clean { IsSome (trigger_of (state_of self.old) process) }
         ensures rest { state_of self.new ≡ record (state_of self.old) { early = (state_of self.new).early } }
         ensures early { IfSome (trigger_of (state_of self.old) process) (λ trigger. (x : ℕ) → Contains (state_of self.new).early x ↔ IsEarlyBy (state_of self.old) habit process trigger x) }
+        ensures shared { HasNoBlocking (state_of self.old).tables process → (other : ℕ) → HasNoBlocking (state_of self.old).tables other → IfSome (trigger_of (state_of self.old) process) (λ trigger. (x : ℕ) → Contains (state_of self.new).early x ↔ IsEarlyBy (state_of self.old) habit other trigger x) }
     {
         match self.trigger(process) {
             Some(trigger) => self.find_early(habit, process as usize, trigger as usize),

@@ -1,5 +1,5 @@
 -- What the changed inputs reach, by tables, is what may move.
-use Rattle.std.proofs.Common.{◌≡◌, inl, inr, ⊎_elim, ◌∙◌, ℕ, ◌-◌, ◌<◌, ◌≤◌, true, false, ◌==◌, length, refl, sym, ap, subst, arith, lt-ltb}
+use Rattle.std.proofs.Common.{◌≡◌, inl, inr, ⊎_elim, ◌∙◌, ℕ, ◌-◌, ◌<◌, ◌≤◌, true, false, ◌==◌, ◌&&◌, length, refl, sym, ap, subst, arith, lt-ltb}
 use Rattle.std.specs.List.{Contains}
 use Rattle.std.proofs.lemmas.Bool.{and_from, and_parts, both_ways, cases_Bool, cases_lt, eqb-true, false≢true}
 use Rattle.std.proofs.lemmas.List.{get_or_past}
@@ -20,7 +20,7 @@ use Rattle.wake_laws.specs.OfDesign.{AreTablesOf}
 use Rattle.early_sets.specs.Edges.{edges_between}
 use Rattle.wake_laws.specs.Laws.{AreNotes, MovesLaw}
 use Rattle.early_sets.specs.Reached.{IsTargetBy, MayWakeBy, Reached, edges_at, of_seed, of_target}
-use Rattle.early_sets.specs.WakeState.{WakeState, nothing_left}
+use Rattle.early_sets.specs.WakeState.{WakeState, is_told, nothing_left}
 
 -- an edge that a process lists is of the lowest bit
 pub edge_place : (q : Process) (e : Edge) (c : Cell) → lists_edge q e c ≡ true → c.place ≡ 0
@@ -73,43 +73,56 @@ module _ (d : Design) (lawful : IsLawfulDesign d) (dump : BoundDump) (t : ℕ) (
   reached_below y (of_target x p _ m wakes target) =
       ⊎_elim (λ n. w.tables.nonblocking_within.below p y n) (λ b. w.tables.blocking_within.below p y b.1) target.0
 
-  -- an input that is reached changes
+  -- an input that is reached changes or may change
   pub reached_input : (x : ℕ) → R x → (signal_at d x).input ≡ true → Contains w.noted x
   reached_input x (of_seed _ c) h = c
   reached_input y (of_target x p _ m wakes target) h =
       let k = target_of p y target in
       absurd (both_ways _ (subst (λ z. (signal_at d z).input ≡ false) k.1 (no_input p k.0 k.2)) h)
 
-  -- a single cell of the round is an input
-  pub single_input : (x : ℕ) → IsSingleAt d dump t (cell x 0) → (signal_at d x).input ≡ true
-  single_input x s = let told : IsToldInput (machine d) (told_at dump t) (cell x 0) = subst (λ n. IsSingle (machine d) (told_at dump t) n (cell x 0)) notes.first_round s in input_of (cell x 0) told.0
+  -- a single cell of the round is an input of which changes are told
+  told_flags : (x : ℕ) → IsSingleAt d dump t (cell x 0) → ((signal_at d x).input && dump.bound x) ≡ true
+  told_flags x s =
+      let told : IsToldInput (machine d) (told_at dump t) (cell x 0) = subst (λ n. IsSingle (machine d) (told_at dump t) n (cell x 0)) notes.first_round s in
+      and_from (signal_at d x).input (dump.bound x) (input_of (cell x 0) told.0) told.1
 
-  pub input_single : (x : ℕ) → (signal_at d x).input ≡ true → IsSingleAt d dump t (cell x 0)
-  input_single x h = subst (λ n. IsSingle (machine d) (told_at dump t) n (cell x 0)) (sym notes.first_round) (input_cell x h, notes.all_bound (cell x 0) (input_cell x h))
+  pub single_input : (x : ℕ) → IsSingleAt d dump t (cell x 0) → (signal_at d x).input ≡ true
+  single_input x s = (and_parts (signal_at d x).input (dump.bound x) (told_flags x s)).0
+
+  pub single_told : (x : ℕ) → x < w.tables.things → IsSingleAt d dump t (cell x 0) → is_told w x ≡ true
+  single_told x l s = notes.told_are x l ∙ told_flags x s
+
+  flags_of : (x : ℕ) → x < w.tables.things → is_told w x ≡ true → ((signal_at d x).input ≡ true) × (dump.bound x ≡ true)
+  flags_of x l h = and_parts (signal_at d x).input (dump.bound x) (sym (notes.told_are x l) ∙ h)
+
+  pub told_single : (x : ℕ) → x < w.tables.things → is_told w x ≡ true → IsSingleAt d dump t (cell x 0)
+  told_single x l h =
+      let b = flags_of x l h in
+      subst (λ n. IsSingle (machine d) (told_at dump t) n (cell x 0)) (sym notes.first_round) (input_cell x b.0, b.1)
 
   -- the edges of what is reached
-  changed_edges : (x : ℕ) → R x → (signal_at d x).input ≡ true → edges_at w.edges x ≡ edges_between (dump.values (t - 1) (cell x 0)) (dump.values t (cell x 0))
-  changed_edges x m h = notes.changes x (reached_input x m h)
+  changed_edges : (x : ℕ) → R x → is_told w x ≡ true → edges_at w.edges x ≡ edges_between (dump.values (t - 1) (cell x 0)) (dump.values t (cell x 0))
+  changed_edges x m h = notes.changes x (reached_input x m (flags_of x (reached_below x m) h).0) h
 
   pub rise_is : (x : ℕ) → R x → (edges_at w.edges x).rise ≡ true → IsSingleAt d dump t (cell x 0) → (machine d).is_edge Posedge ((told_at dump t).old (cell x 0)) ((told_at dump t).new (cell x 0)) ≡ true
-  rise_is x m r s = sym (ap (λ e. e.rise) (changed_edges x m (single_input x s))) ∙ r
+  rise_is x m r s = sym (ap (λ e. e.rise) (changed_edges x m (single_told x (reached_below x m) s))) ∙ r
 
   pub fall_is : (x : ℕ) → R x → (edges_at w.edges x).fall ≡ true → IsSingleAt d dump t (cell x 0) → (machine d).is_edge Negedge ((told_at dump t).old (cell x 0)) ((told_at dump t).new (cell x 0)) ≡ true
-  fall_is x m r s = sym (ap (λ e. e.fall) (changed_edges x m (single_input x s))) ∙ r
+  fall_is x m r s = sym (ap (λ e. e.fall) (changed_edges x m (single_told x (reached_below x m) s))) ∙ r
 
   pub is_rise : (x : ℕ) → R x → (IsSingleAt d dump t (cell x 0) → (machine d).is_edge Posedge ((told_at dump t).old (cell x 0)) ((told_at dump t).new (cell x 0)) ≡ true) → (edges_at w.edges x).rise ≡ true
   is_rise x m f =
       ⊎_elim
-      (λ h. ap (λ e. e.rise) (changed_edges x m h) ∙ f (input_single x h))
+      (λ h. ap (λ e. e.rise) (changed_edges x m h) ∙ f (told_single x (reached_below x m) h))
       (λ h. ap (λ e. e.rise) (notes.others x (reached_below x m) h))
-      (cases_Bool (signal_at d x).input)
+      (cases_Bool (is_told w x))
 
   pub is_fall : (x : ℕ) → R x → (IsSingleAt d dump t (cell x 0) → (machine d).is_edge Negedge ((told_at dump t).old (cell x 0)) ((told_at dump t).new (cell x 0)) ≡ true) → (edges_at w.edges x).fall ≡ true
   is_fall x m f =
       ⊎_elim
-      (λ h. ap (λ e. e.fall) (changed_edges x m h) ∙ f (input_single x h))
+      (λ h. ap (λ e. e.fall) (changed_edges x m h) ∙ f (told_single x (reached_below x m) h))
       (λ h. ap (λ e. e.fall) (notes.others x (reached_below x m) h))
-      (cases_Bool (signal_at d x).input)
+      (cases_Bool (is_told w x))
 
   -- a change of what is reached may wake the same processes
   pub wake_of : (x p : ℕ) → R x → MayWakeBy w.tables w.edges x p → MayWake (machine d) (told_at dump t) (IsSingleAt d dump t) x p

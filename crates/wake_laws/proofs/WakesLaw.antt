@@ -16,10 +16,10 @@ use Rattle.wake_laws.specs.OfDesign.{AreTablesOf}
 use Rattle.early_sets.specs.Edges.{may_be}
 use Rattle.wake_laws.specs.Laws.{AreNotes, AreWakes, IsSettled, WakesLaw}
 use Rattle.early_sets.specs.Reached.{Reached, edges_at}
-use Rattle.early_sets.specs.WakeState.{WakeState, can_wake_by, first_signal, is_in, is_input, nothing_left, trigger_by, waker_of, wakes_only_by}
+use Rattle.early_sets.specs.WakeState.{WakeState, can_wake_by, first_signal, is_in, is_told, nothing_left, trigger_by, waker_of, wakes_only_by}
 use Rattle.early_sets.proofs.Membership.{is_in_from, is_in_gives}
 use Rattle.wake_laws.proofs.EdgeLists.{Listed, all_from, all_gives, first_gives, first_none, listed_by, listed_of, no_level}
-use Rattle.wake_laws.proofs.MovesLaw.{edge_place, input_single, is_fall, is_rise, fall_is, lowest, moves_by, moves_of, reached_below, rise_is, single_input}
+use Rattle.wake_laws.proofs.MovesLaw.{edge_place, is_fall, is_rise, fall_is, lowest, moves_by, moves_of, reached_below, rise_is, single_told, told_single}
 
 module _ (d : Design) (lawful : IsLawfulDesign d) (dump : BoundDump) (t : ℕ) (w : WakeState) (tables : AreTablesOf d w.tables) (notes : AreNotes d dump t w) (settled : IsSettled w) where
   abbrev R : ℕ → Type 0
@@ -107,13 +107,13 @@ module _ (d : Design) (lawful : IsLawfulDesign d) (dump : BoundDump) (t : ℕ) (
   level_none : (p s : ℕ) → CanWakeAt d dump t (cell s 0) p → (x : ℕ) → (machine d).level p x ≡ false
   level_none p s can x = let b = wakes_by p (cell s 0) can in no_level (process_at d p) b.listed b.is_listed x
 
-  clean_by : (p s : ℕ) → CanWakeAt d dump t (cell s 0) p → is_input w s ≡ true → list_all (is_other s) (Events p) ≡ true → IsCleanAt d dump t p (cell s 0)
-  clean_by p s can input only =
+  clean_by : (p s : ℕ) → CanWakeAt d dump t (cell s 0) p → is_told w s ≡ true → list_all (is_other s) (Events p) ≡ true → IsCleanAt d dump t p (cell s 0)
+  clean_by p s can told only =
       record {
         clocked = level_none p s can;
         can_wake = can;
         alone = only_by p s only;
-        is_single = input_single d lawful dump t w tables notes s (sym (notes.inputs_are s (waker_below p s can)) ∙ input);
+        is_single = told_single d lawful dump t w tables notes s (waker_below p s can) told;
       }
 
   row_of : (p : ℕ) → row_at w.tables.events p ≡ Events p
@@ -136,8 +136,8 @@ module _ (d : Design) (lawful : IsLawfulDesign d) (dump : BoundDump) (t : ℕ) (
   trigger_some : (p s : ℕ) (o : Option ℕ) → waker_of w p ≡ o → trigger_by w p o ≡ Some s → IsCleanAt d dump t p (cell s 0)
   trigger_some p s None is h = absurd (cc)
   trigger_some p s (Some x) is h =
-      let r = cond_some (is_input w x && wakes_only_by w p x) x s h in
-      let both = and_parts (is_input w x) (wakes_only_by w p x) r.0 in
+      let r = cond_some (is_told w x && wakes_only_by w p x) x s h in
+      let both = and_parts (is_told w x) (wakes_only_by w p x) r.0 in
       subst (λ y. IsCleanAt d dump t p (cell y 0)) r.1 (clean_by p x (waker_some p x (waker_is p (Some x) is)) both.0 (sym (only_is p x) ∙ both.1))
 
   trigger_none : (p : ℕ) (o : Option ℕ) → waker_of w p ≡ o → trigger_by w p o ≡ None → (c : Cell) → IsCleanAt d dump t p c → ⊥
@@ -146,9 +146,9 @@ module _ (d : Design) (lawful : IsLawfulDesign d) (dump : BoundDump) (t : ℕ) (
       let can = waker_some p x (waker_is p (Some x) is) in
       let same : cell x 0 ≡ c = clean.alone (cell x 0) can in
       let single : IsSingleAt d dump t (cell x 0) = subst (IsSingleAt d dump t) (sym same) clean.is_single in
-      let input : is_input w x ≡ true = notes.inputs_are x (waker_below p x can) ∙ single_input d lawful dump t w tables notes x single in
+      let told : is_told w x ≡ true = single_told d lawful dump t w tables notes x (waker_below p x can) single in
       let only : wakes_only_by w p x ≡ true = only_is p x ∙ by_only p x (λ e can'. clean.alone e can' ∙ sym same) in
-      both_ways _ (cond_none _ x h) (and_from (is_input w x) (wakes_only_by w p x) input only)
+      both_ways _ (cond_none _ x h) (and_from (is_told w x) (wakes_only_by w p x) told only)
 
   pub wakes_are : AreWakes d dump t w
   wakes_are =

@@ -1,5 +1,5 @@
 -- The sets of a step, by tables, are those of the design's definitions.
-use Rattle.std.specs.Prelude.{◌≡◌, ◌<◌, ◌-◌, ◌↔◌, ℕ, true, false, Some, None}
+use Rattle.std.specs.Prelude.{◌≡◌, ◌<◌, ◌-◌, ◌&&◌, ◌↔◌, ℕ, true, false, Some, None}
 use Rattle.std.specs.List.{Contains}
 use Rattle.event_machine.specs.Cell.{Cell}
 use Rattle.event_machine.specs.Told.{IsMovingInput}
@@ -15,20 +15,19 @@ use Rattle.early_sets.specs.declared.habit.Habit.TheVariants.{Free, Late}
 use Rattle.early_sets.specs.Early.{IsEarlyBy}
 use Rattle.early_sets.specs.Edges.{any_edges, edges_between}
 use Rattle.early_sets.specs.Reached.{Reached, edges_at}
-use Rattle.early_sets.specs.WakeState.{WakeState, is_input, nothing_left, trigger_of, waker_of}
+use Rattle.early_sets.specs.WakeState.{WakeState, is_told, nothing_left, trigger_of, waker_of}
 
--- signal x is an input that changes over the step at time t
+-- signal x is an input that changes over the step at time t, or of which nothing is told
 abbrev pub IsChangedInput : Design → BoundDump → ℕ → ℕ → Type 0
 IsChangedInput d dump t x = (c : Cell) × (c.thing ≡ x) × IsMovingInput (machine d) (told_at dump t) c
 
--- what was told of the step at time t is what the dump says: each input that changes, and from which bit to which
+-- what was told of the step at time t is what the dump says: each input that changes or may change, and of a bound one from which bit to which
 pub record AreNotes (d : Design) (dump : BoundDump) (t : ℕ) (w : WakeState) : Type 0 where
   pub first_round : dump.round t ≡ 0
-  pub all_bound : (c : Cell) → (machine d).is_input c ≡ true → dump.bound c.thing ≡ true
-  pub inputs_are : (x : ℕ) → x < w.tables.things → is_input w x ≡ (signal_at d x).input
+  pub told_are : (x : ℕ) → x < w.tables.things → is_told w x ≡ ((signal_at d x).input && dump.bound x)
   pub noted_are : (x : ℕ) → Contains w.noted x ↔ IsChangedInput d dump t x
-  pub changes : (x : ℕ) → Contains w.noted x → edges_at w.edges x ≡ edges_between (dump.values (t - 1) (cell x 0)) (dump.values t (cell x 0))
-  pub others : (x : ℕ) → x < w.tables.things → (signal_at d x).input ≡ false → edges_at w.edges x ≡ any_edges
+  pub changes : (x : ℕ) → Contains w.noted x → is_told w x ≡ true → edges_at w.edges x ≡ edges_between (dump.values (t - 1) (cell x 0)) (dump.values t (cell x 0))
+  pub others : (x : ℕ) → x < w.tables.things → is_told w x ≡ false → edges_at w.edges x ≡ any_edges
 
 -- what the changed inputs reach is what may move
 abbrev pub MovesLaw : Design → Type 0

@@ -1,0 +1,4 @@
+pub mod Constants
+pub mod Shapes
+pub mod Targets
+pub mod Lists
