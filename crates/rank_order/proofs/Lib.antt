@@ -1,0 +1,3 @@
+pub mod Orders
+pub mod Placing
+pub mod Progress

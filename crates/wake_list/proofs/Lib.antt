@@ -1,0 +1,5 @@
+pub mod TournamentLemmas
+pub mod MemberLemmas
+pub mod ChainLemmas
+pub mod PairLemmas
+pub mod QueueLemmas

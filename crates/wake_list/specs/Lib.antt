@@ -1,0 +1,4 @@
+pub mod Tournament
+pub mod Members
+pub mod Queues
+pub mod Waiting
