@@ -2,6 +2,9 @@
 #![tactic(auto)]
 
 mod bodies;
+mod flush;
+mod kept;
+mod laws;
 mod memory;
 mod reads;
 mod store;
@@ -9,6 +12,7 @@ mod unknown;
 mod update;
 mod write;
 
+pub use laws::premises_law;
 pub use memory::StoredMemory;
 pub use store::{Store, StoreRoom};
 pub use update::Update;
