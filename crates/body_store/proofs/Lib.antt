@@ -1,9 +1,11 @@
 pub mod Alike
+pub mod Between
 pub mod Blank
 pub mod Branches
 pub mod Changed
 pub mod Fit
 pub mod Inside
+pub mod Lawful
 pub mod Memories
 pub mod Queued
 pub mod Rooms

@@ -6,6 +6,9 @@
 #![tactic(auto)]
 
 mod bodies;
+mod flush;
+mod kept;
+mod laws;
 mod memory;
 mod reads;
 mod store;
@@ -13,6 +16,7 @@ mod unknown;
 mod update;
 mod write;
 
+pub use laws::premises_law;
 pub use memory::StoredMemory;
 pub use store::{Store, StoreRoom};
 pub use update::Update;

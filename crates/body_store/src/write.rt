@@ -9,7 +9,7 @@ use crate::Store;
 use known_state::Known;
 
 /// The same bits with this sign, and this thing to blame where not all of them are sure.
-fn signed_as(part: &Known, signed: bool, thing: u32) -> Known
+pub(crate) fn signed_as(part: &Known, signed: bool, thing: u32) -> Known
     ensures { result ≡ with_blame part.now.bits signed thing }
 {
     if part.is_signed() == signed {
