@@ -10,7 +10,7 @@ use Rattle.design_model.specs.declared.design.Signal.{Signal}
 use Rattle.design_model.specs.Design.{Design, is_memory, memory_at, no_memory, no_signal, signal_at, signal_cells}
 use Rattle.body_replay.specs.KnownBits.{KnownBits, unknown}
 use Rattle.memory_rebuild.specs.declared.shape.Shape.{Shape}
-use Rattle.memory_rebuild.specs.Words.{HaveWidth, KnownWords, StandsFor, count, least, unwritten}
+use Rattle.memory_rebuild.specs.Words.{HaveWidth, IsIndex, KnownWords, StandsFor, count, least, unwritten, word_at}
 use Rattle.value_store.specs.Signals as s
 use Rattle.value_store.specs.Signals.{Signals, no_shape, shape_at, unknown_signals}
 use Rattle.body_store.specs.declared.memory.StoredMemory.{StoredMemory}
@@ -27,6 +27,10 @@ same_past zero k x = refl
 same_past (suc n) zero x = refl
 same_past (suc n) (suc k) x = same_past n k x
 
+-- each word has the width of the memory's words
+abbrev AreWide : KnownWords → Type 0
+AreWide r = (i : ℕ) → IsIndex r.shape i → length (word_at r i) ≡ r.shape.width
+
 unwritten_widths : (x : Shape) → HaveWidth (unwritten x)
 unwritten_widths x i = ap length (same_past (count x) (i - least x) (unknown x.width)) ∙ length-replicate x.width None
 
@@ -38,7 +42,7 @@ new_fits ss ms v rs e a =
       memories = a.count;
       each = λ i l.
           let is : memory_in rs i ≡ unknown_memory (get_or ms i no_memory) (length ss + i) = a.each i (unknown_memory no_memory 0) no_memory l in
-          record { shape = ap (λ r. r.words.shape) is; widths = subst (λ r. HaveWidth r.words) (sym is) (unwritten_widths (shape_of (get_or ms i no_memory) (length ss + i))) };
+          record { shape = ap (λ r. r.words.shape) is; widths = subst AreWide (sym (ap (λ r. r.words) is)) (λ j inside. unwritten_widths (shape_of (get_or ms i no_memory) (length ss + i)) j) };
     }
 
 -- ---- a signal

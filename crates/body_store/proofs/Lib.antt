@@ -1,5 +1,16 @@
+pub mod Alike
+pub mod Between
 pub mod Blank
+pub mod Branches
 pub mod Changed
 pub mod Fit
 pub mod Inside
+pub mod Lawful
+pub mod Memories
+pub mod Queued
+pub mod Rooms
 pub mod Rows
+pub mod Signs
+pub mod Tests
+pub mod Words
+pub mod Writes

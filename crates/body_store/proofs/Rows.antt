@@ -12,7 +12,7 @@ use Rattle.known_state.specs.Partly.{Partly}
 use Rattle.design_model.specs.Design.{Design, cell, memory_at, signal_at, signal_cells, word_cells}
 use Rattle.body_replay.specs.KnownBits.{KnownBits}
 use Rattle.body_replay.specs.Store.{Kept, kept_word}
-use Rattle.memory_rebuild.specs.Words.{HaveWidth, IsIndex, KnownWords, StandsFor, word_at}
+use Rattle.memory_rebuild.specs.Words.{IsIndex, KnownWords, StandsFor, word_at}
 use Rattle.body_store.specs.Scenes.{bit_at, has_index, kept_by, word_bit}
 
 -- the bits are those of a row of cells
@@ -46,13 +46,13 @@ module _ (n : ℕ) (at : ℕ → Partly) (words : ℕ → KnownWords) where
 
   -- ---- the words of a memory
 
-  pub stands_here : (d : Design) (m : ℕ) (r : KnownWords) → n ≤ m → words (m - n) ≡ r → r.shape.first ≡ (memory_at d m).first → r.shape.last ≡ (memory_at d m).last → r.shape.width ≡ (memory_at d m).width → HaveWidth r → StandsFor d (kept_by n at words) m r
+  pub stands_here : (d : Design) (m : ℕ) (r : KnownWords) → n ≤ m → words (m - n) ≡ r → r.shape.first ≡ (memory_at d m).first → r.shape.last ≡ (memory_at d m).last → r.shape.width ≡ (memory_at d m).width → ((i : ℕ) → IsIndex r.shape i → length (word_at r i) ≡ r.shape.width) → StandsFor d (kept_by n at words) m r
   stands_here d m r l is first last width sizes =
       record {
         first = first;
         last = last;
         width = width;
-        words = λ i inside. row_is (kept_by n at words) (λ k. cell m (i * (memory_at d m).width + k)) 0 (memory_at d m).width (word_at r i) (sizes i ∙ width) (λ k b. bit_here i inside k b);
+        words = λ i inside. row_is (kept_by n at words) (λ k. cell m (i * (memory_at d m).width + k)) 0 (memory_at d m).width (word_at r i) (sizes i inside ∙ width) (λ k b. bit_here i inside k b);
       }
     where
       has : (i : ℕ) → IsIndex r.shape i → has_index r.shape i ≡ true

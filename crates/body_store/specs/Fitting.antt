@@ -3,7 +3,7 @@ use Rattle.std.specs.Prelude.{◌≡◌, ◌+◌, ◌<◌, ℕ, List, length, ma
 use Rattle.design_model.specs.declared.design.Memory.{Memory}
 use Rattle.design_model.specs.declared.design.Signal.{Signal}
 use Rattle.design_model.specs.Design.{no_memory}
-use Rattle.memory_rebuild.specs.Words.{HaveWidth}
+use Rattle.memory_rebuild.specs.Words.{IsIndex, word_at}
 use Rattle.value_store.specs.Signals as s
 use Rattle.value_store.specs.Signals.{Signals}
 use Rattle.body_store.specs.declared.memory.StoredMemory.{StoredMemory}
@@ -16,7 +16,7 @@ memory_in rs i = slice_index_or rs i (unknown_memory no_memory 0)
 -- the words have the shape of this memory, with this number
 pub record FitsMemory (x : Memory) (m : ℕ) (r : StoredMemory) : Type 0 where
   pub shape : r.words.shape ≡ shape_of x m
-  pub widths : HaveWidth r.words
+  pub widths : (i : ℕ) → IsIndex r.words.shape i → length (word_at r.words i) ≡ r.words.shape.width
 
 -- there are as many signals and memories as a design with these has, of their shapes
 pub record FitsDesign (ss : List Signal) (ms : List Memory) (v : Signals) (rs : List StoredMemory) : Type 0 where

@@ -1,4 +1,7 @@
+pub mod Bodies
 pub mod Fitting
 pub mod Held
 pub mod Made
+pub mod Premises
 pub mod Scenes
+pub mod Updates

@@ -1,5 +1,6 @@
 -- What bodies read of a store: what is known of each cell of the design, and what is to blame.
 use Rattle.std.specs.Prelude.{ℕ, ◌-◌, ◌/◌, ◌%◌, ◌&&◌, min, max, nat_le, nat_lt, Bool, if◌then◌else◌, List, length, slice_index_or, Option, None}
+use Rattle.design_model.specs.declared.design.Design as m
 use Rattle.design_model.specs.View.{design_view}
 use Rattle.known_state.specs.Partly.{Partly}
 use Rattle.body_replay.specs.KnownBits.{KnownBits}
@@ -10,6 +11,7 @@ use Rattle.memory_rebuild.specs.declared.shape.Shape.{Shape}
 use Rattle.memory_rebuild.specs.Words.{KnownWords, word_at}
 use Rattle.term_replay.specs.Stands.{Scene}
 use Rattle.value_store.specs.Signals.{read_at}
+use Rattle.body_store.specs.declared.memory.StoredMemory.{StoredMemory}
 use Rattle.body_store.specs.declared.store.Store.{Store}
 use Rattle.body_store.specs.Fitting.{memory_in}
 
@@ -37,11 +39,15 @@ blames_by n at wrote = record { blame = λ x. if nat_lt x n then (at x).blame el
 abbrev pub signal_count : Store → ℕ
 signal_count x = length x.design.now.signals
 
+-- what bodies read of a store over this design with these memories, where these are the values of the signals
+abbrev pub scene_with : m.Design → List StoredMemory → (ℕ → Partly) → Scene
+scene_with d rs at =
+    record {
+      design = design_view d;
+      kept = kept_by (length d.signals) at (λ i. (memory_in rs i).words);
+      blames = blames_by (length d.signals) at (λ i. (memory_in rs i).written);
+    }
+
 -- what bodies read
 abbrev pub scene_of : Store → Scene
-scene_of x =
-    record {
-      design = design_view x.design.now;
-      kept = kept_by (signal_count x) (read_at x.signals) (λ i. (memory_in x.memories.items i).words);
-      blames = blames_by (signal_count x) (read_at x.signals) (λ i. (memory_in x.memories.items i).written);
-    }
+scene_of x = scene_with x.design.now x.memories.items (read_at x.signals)

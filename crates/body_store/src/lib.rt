@@ -5,10 +5,18 @@
 //! relations to the cells of a design: what the store keeps, and what bodies read of it (`specs/Held.antt`).
 #![tactic(auto)]
 
+mod bodies;
+mod flush;
+mod kept;
+mod laws;
 mod memory;
 mod reads;
 mod store;
 mod unknown;
+mod update;
+mod write;
 
+pub use laws::premises_law;
 pub use memory::StoredMemory;
-pub use store::Store;
+pub use store::{Store, StoreRoom};
+pub use update::Update;

@@ -12,7 +12,7 @@ impl<'a> Store<'a> {
     ghost use Rattle.body_store.specs.Scenes.{scene_of};
 
     /// What is held of a memory.
-    fn memory(&self, memory: u32) -> &StoredMemory
+    pub(crate) fn memory(&self, memory: u32) -> &StoredMemory
         requires { is_memory (design_view self.now.design.now) memory ≡ true }
         ensures { result.now ≡ memory_in self.now.memories.items (memory - length self.now.design.now.signals) }
     {

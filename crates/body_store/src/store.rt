@@ -1,15 +1,27 @@
-ghost use Rattle.std.specs.Prelude.{◌≡◌, ◌+◌, ◌≤◌, IfOk, length};
+ghost use Rattle.std.specs.Prelude.{◌≡◌, ◌+◌, ◌≤◌, IfOk, length, true};
 ghost use Rattle.std.specs.List.{All};
 ghost use Rattle.design_model.specs.View.{design_view};
 ghost use Rattle.value_store.specs.Signals.{HasWidth};
+ghost use Rattle.write_log.specs.Logs.{IsLogOf};
 ghost use Rattle.body_store.specs.Fitting.{FitsDesign};
+ghost use Rattle.body_store.specs.Updates.{are_taken};
 
-use crate::StoredMemory;
 use crate::unknown::memories;
+use crate::{StoredMemory, Update};
 use cov_host::NoMemory;
 use design_model::Design;
 use std::alloc::Global;
-use value_store::Signals;
+use value_store::{Queue, Signals};
+use write_log::Log;
+
+/// How much the runs of bodies may log and queue.
+#[derive(Clone, Copy)]
+pub struct StoreRoom {
+    /// How many writes of signals a body may make inside of undecided tests, and how many such tests it may begin.
+    pub log: usize,
+    /// How many parts of nonblocking assignments may wait for the flush.
+    pub updates: usize,
+}
 
 /// What is known of the signals and memories of a design, between the runs of bodies and while one runs.
 #[derive(Drop)]
@@ -20,15 +32,23 @@ pub struct Store<'a> {
     pub(crate) signals: Signals,
     /// What is known of the memories, in the design's order.
     pub(crate) memories: Vec<StoredMemory>,
+    /// The undecided tests around, and what their branches have overwritten.
+    pub(crate) log: Log,
+    /// The updates that nonblocking assignments have queued, in order.
+    pub(crate) updates: Queue<Update>,
     ghost fits: { FitsDesign design.now.signals design.now.memories signals memories.items },
+    ghost logged: { IsLogOf signals log },
+    ghost sized: { log.depth ≡ log.room },
+    ghost taken: { are_taken (design_view design.now) updates.items ≡ true },
 }
 
 impl<'a> Store<'a> {
     ghost use Rattle.body_store.specs.Made.{HasWordWidth, nothing, unblamed};
     ghost use Rattle.body_store.specs.Held.{HoldsStore, ReadsStore};
 
-    /// Nothing is known of any signal or memory, each is to blame for itself, and no signal is shown or veiled.
-    pub fn new(alloc: Global, design: &'a Design) -> Result<Self, NoMemory>
+    /// Nothing is known of any signal or memory, each is to blame for itself, no signal is shown or veiled, and nothing is
+    /// queued. All memory that is ever needed is taken here.
+    pub fn new(alloc: Global, design: &'a Design, room: StoreRoom) -> Result<Self, NoMemory>
         requires widths { All HasWidth design.now.signals }
         requires word_widths { All HasWordWidth design.now.memories }
         requires few_signals { length design.now.signals ≤ 65536 }
@@ -42,10 +62,14 @@ impl<'a> Store<'a> {
             design.memories.as_slice(),
             design.signals.len() as u32,
         )?;
+        let log = Log::new(alloc, design.signals.len(), room.log, room.log)?;
+        let updates = Queue::new(alloc, room.updates)?;
         Ok(Store {
             design,
             signals,
             memories,
+            log,
+            updates,
         })
     }
 }

@@ -3,17 +3,24 @@ use Rattle.design_model.specs.View.{design_view}
 use Rattle.value_store.specs.Signals.{shape_of, unknown_signals}
 use Rattle.body_store.specs.Made.{AreUnknown}
 use Rattle.body_store.proofs.Blank.{made_store}
+use Rattle.body_store.specs.Updates.{are_taken}
 use Rattle.body_store.proofs.Fit.{new_fits}
+use Rattle.body_store.proofs.Tests.{new_logged}
 use Rattle.body_store.proofs.store.Store.new.Goals as goal
 
 pub invariant_of-result : goal.invariant_of-result
 invariant_of-result c =
     let ss = c.args.design.now.signals in
     let ms = c.args.design.now.memories in
+    let v = c.in_ok-signals.signals in
+    let fits = new_fits ss ms v c.in_ok-memories.memories.items
+    (c.in_ok-signals.ensures ∙ ap (λ y. unknown_signals (map shape_of y)) c.as_slice.ensures)
+    (subst (λ n. AreUnknown n ms c.in_ok-memories.memories.items) c.len.ensures (subst (λ y. AreUnknown c.len.result y c.in_ok-memories.memories.items) c.as_slice-2.ensures c.in_ok-memories.ensures)) in
     record {
-      fits = new_fits ss ms c.in_ok-signals.signals c.in_ok-memories.memories.items
-          (c.in_ok-signals.ensures ∙ ap (λ y. unknown_signals (map shape_of y)) c.as_slice.ensures)
-          (subst (λ n. AreUnknown n ms c.in_ok-memories.memories.items) c.len.ensures (subst (λ y. AreUnknown c.len.result y c.in_ok-memories.memories.items) c.as_slice-2.ensures c.in_ok-memories.ensures));
+      fits = fits;
+      logged = new_logged v c.in_ok-log.log c.len-2.result c.args.room.log c.in_ok-log.ensures (c.len-2.ensures ∙ sym fits.signals);
+      sized = ap (λ l. l.depth) c.in_ok-log.ensures ∙ sym (ap (λ l. l.room) c.in_ok-log.ensures);
+      taken = ap (λ q. are_taken (design_view c.args.design.now) q.items) c.in_ok-updates.ensures;
     }
 
 pub returns-clause-holds : goal.returns-clause-holds

@@ -1,0 +1,41 @@
+use Rattle.std.proofs.Common.{◌<◌, ◌≤◌, ap, get_or, length, subst, take, ◌∙◌, arith}
+use Rattle.std.proofs.lemmas.List.{take_all}
+use Rattle.design_model.specs.View.{design_view}
+use Rattle.body_replay.specs.Store.{Kept, keep_all}
+use Rattle.body_store.specs.Held.{HoldsStore}
+use Rattle.body_store.specs.Made.{unblamed}
+use Rattle.body_store.specs.Updates.{queued_writes, update_writes}
+use Rattle.body_store.proofs.Queued.{made_more, taken_at}
+use Rattle.body_store.proofs.store.Store.flush.Goals as goal
+
+pub make-requires : goal.make-requires
+make-requires c =
+    let l = c.loop-place in
+    let inside : l.place < length l.self.updates.items = (let size = ap (λ q. length q.items) l.invariant.updates in let end = ap length c.as_slice-place-end.ensures in omega (arith, size, end)) in
+    taken_at (design_view l.self.design.now) l.self.updates.items l.place c.index-as_slice-place.result l.self.taken inside (c.index-as_slice-place.is ∙ ap (λ us. get_or us l.place c.index-as_slice-place.result) c.as_slice.ensures)
+
+pub loop-place-preserved : goal.loop-place-preserved
+loop-place-preserved c =
+    let l = c.loop-place in
+    let x = c.args.self.now in
+    let d = design_view x.design.now in
+    let u = c.index-as_slice-place.result in
+    let inside : l.place < length x.updates.items = (let size = ap (λ q. length q.items) l.invariant.updates in let end = ap length c.as_slice-place-end.ensures in omega (arith, size, end)) in
+    let is = c.index-as_slice-place.is ∙ ap (λ us. get_or us l.place u) c.as_slice.ensures ∙ ap (λ q. get_or q.items l.place u) l.invariant.updates in
+    record {
+      design = c.make.ensures.design ∙ l.invariant.design;
+      updates = c.make.ensures.updates ∙ l.invariant.updates;
+      kept = λ k h.
+          let before = l.invariant.kept k h in
+          let made = subst (λ y. (b : Kept) → HoldsStore (design_view y.now) b unblamed l.self → HoldsStore (design_view y.now) (keep_all b (update_writes (design_view y.now) u)) unblamed c.make.new.self) l.invariant.design c.make.ensures.kept in
+          subst (λ b. HoldsStore d b unblamed c.make.new.self) (made_more d k x.updates.items l.place u inside is) (made (keep_all k (queued_writes d (take l.place x.updates.items))) before);
+    }
+
+pub returns-clause-kept : goal.returns-clause-kept
+returns-clause-kept c = λ k h.
+    let l = c.loop-place in
+    let x = c.args.self.now in
+    let d = design_view x.design.now in
+    let all : length x.updates.items ≤ l.place = (let size = ap (λ q. length q.items) l.invariant.updates in let end = ap length c.as_slice-place-end.ensures in omega (arith, size, end)) in
+    let before : HoldsStore d (keep_all k (queued_writes d x.updates.items)) unblamed l.self = subst (λ us. HoldsStore d (keep_all k (queued_writes d us)) unblamed l.self) (take_all l.place x.updates.items all) (l.invariant.kept k h) in
+    record { signals = before.signals; memories = before.memories }

@@ -1,0 +1,16 @@
+use Rattle.std.proofs.Common.{◌≡◌, take}
+use Rattle.design_model.specs.View.{design_view}
+use Rattle.body_replay.specs.Store.{Kept, keep_all}
+use Rattle.body_store.specs.Held.{HoldsStore}
+use Rattle.body_store.specs.Made.{unblamed}
+use Rattle.body_store.specs.Updates.{queued_writes}
+use Rattle.body_store.proofs.store.Store.flush.Given as goal
+
+-- the updates so far are made, in order
+abbrev pub invariant-loop-place : goal.invariant-loop-place
+invariant-loop-place l =
+    record {
+      design : l.self.design ≡ l.fn.self.design;
+      updates : l.self.updates ≡ l.fn.self.updates;
+      kept : (k : Kept) → HoldsStore (design_view l.fn.self.design.now) k unblamed l.fn.self → HoldsStore (design_view l.fn.self.design.now) (keep_all k (queued_writes (design_view l.fn.self.design.now) (take l.place l.fn.self.updates.items))) unblamed l.self;
+    }

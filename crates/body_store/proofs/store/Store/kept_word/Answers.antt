@@ -1,0 +1,11 @@
+use Rattle.std.proofs.Common.{subst, sym}
+use Rattle.design_model.specs.View.{design_view}
+use Rattle.memory_rebuild.specs.Words.{StandsFor}
+use Rattle.body_store.proofs.Between.{held_words}
+use Rattle.body_store.proofs.store.Store.kept_word.Goals as goal
+
+pub returns : goal.returns
+returns c = λ k e h.
+    let x = c.args.self.now in
+    let d = design_view x.design.now in
+    c.read.ensures.stands d k c.args.memory (subst (λ r. StandsFor d k c.args.memory r.words) (sym c.memory.ensures) (held_words d k e x.memories.items c.args.memory c.requires h.memories))

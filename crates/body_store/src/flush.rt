@@ -1,0 +1,48 @@
+//! The updates that wait are made (IEEE 1364-2001, clause 5.4).
+
+ghost use Rattle.std.specs.Prelude.{◌≡◌, [], length};
+ghost use Rattle.design_model.specs.View.{design_view};
+ghost use Rattle.body_replay.specs.Store.{Kept, keep_all};
+ghost use Rattle.body_calls.specs.Lvalues.{Takes};
+
+use crate::{Store, Update};
+use body_calls::Lvalue;
+
+impl<'a> Store<'a> {
+    ghost use Rattle.body_store.specs.Bodies.{queued_of};
+    ghost use Rattle.body_store.specs.Held.{HoldsStore};
+    ghost use Rattle.body_store.specs.Made.{unblamed};
+    ghost use Rattle.body_store.specs.Updates.{update_writes};
+
+    /// Makes an update.
+    fn make(&mut self, update: &Update)
+        requires { Takes (design_view self.old.design.now) update.now.to (length update.now.value.bits) }
+        ensures design { self.new.design ≡ self.old.design }
+        ensures updates { self.new.updates ≡ self.old.updates }
+        ensures kept { (k : Kept) → HoldsStore (design_view self.old.design.now) k unblamed self.old → HoldsStore (design_view self.old.design.now) (keep_all k (update_writes (design_view self.old.design.now) update.now)) unblamed self.new }
+    {
+        match update.to {
+            Lvalue::Signal(signal) => self.set(signal, &update.value, update.certain),
+            Lvalue::Part { signal, low } => {
+                self.set_part(signal, &low, &update.value, update.certain)
+            }
+            Lvalue::Word { memory, index } => {
+                self.set_word(memory, &index, &update.value, update.certain)
+            }
+        }
+    }
+
+    /// Makes the updates that nonblocking assignments have queued, in order, and leaves none. Each signal is to blame for
+    /// itself then.
+    pub fn flush(&mut self)
+        ensures design { self.new.design ≡ self.old.design }
+        ensures kept { (k : Kept) → HoldsStore (design_view self.old.design.now) k unblamed self.old → HoldsStore (design_view self.old.design.now) (keep_all k (queued_of self.old)) unblamed self.new }
+        ensures queued { queued_of self.new ≡ [] }
+    {
+        for place in 0..self.updates.as_slice().len() {
+            let update = self.updates.as_slice()[place];
+            self.make(&update);
+        }
+        self.updates.clear();
+    }
+}

@@ -1,0 +1,73 @@
+//! What is kept between the runs of bodies.
+
+ghost use Rattle.std.specs.Prelude.{◌≡◌, ◌<◌, ◌≤◌, length, true};
+ghost use Rattle.design_model.specs.Design.{is_memory, memory_at, signal_at, signal_cells};
+ghost use Rattle.design_model.specs.View.{design_view};
+ghost use Rattle.body_replay.specs.Replay.{Blames};
+ghost use Rattle.body_replay.specs.Store.{Kept, keep_all, read_word, write_bits, write_word, writes_of};
+ghost use Rattle.value_store.specs.Held.{IsSignal};
+ghost use Rattle.body_calls.specs.Lvalues.{if_certain};
+
+use crate::Store;
+use crate::write::signed_as;
+use known_state::Known;
+
+impl<'a> Store<'a> {
+    ghost use Rattle.body_store.specs.Held.{HoldsStore};
+    ghost use Rattle.body_store.specs.Made.{unblamed};
+
+    /// What is kept of a signal, which is not what bodies read where the signal is shown or veiled.
+    pub fn kept_signal(&self, signal: u32) -> Known
+        requires { signal < length self.now.design.now.signals }
+        ensures { (k : Kept) (e : Blames) → HoldsStore (design_view self.now.design.now) k e self.now → IsSignal (design_view self.now.design.now) k e.blame signal result }
+    {
+        self.signals.signal(signal)
+    }
+
+    /// What an index reads of what is kept of a memory. The sign flag and the blame are free.
+    pub fn kept_word(&self, memory: u32, index: &Known) -> Known
+        requires { is_memory (design_view self.now.design.now) memory ≡ true }
+        ensures { (k : Kept) (e : Blames) → HoldsStore (design_view self.now.design.now) k e self.now → result.bits ≡ read_word (design_view self.now.design.now) k memory index.now.signed index.now.bits }
+    {
+        self.memory(memory).words.read(index)
+    }
+
+    /// Keeps a value of a signal, or, where it is not certain, what it has in common with what is kept. The signal is to
+    /// blame for what is not sure of it.
+    pub fn set(&mut self, signal: u32, value: &Known, certain: bool)
+        requires place { signal < length self.old.design.now.signals }
+        requires width { length value.now.bits ≡ (signal_at (design_view self.old.design.now) signal).width }
+        ensures design { self.new.design ≡ self.old.design }
+        ensures updates { self.new.updates ≡ self.old.updates }
+        ensures kept { (k : Kept) → HoldsStore (design_view self.old.design.now) k unblamed self.old → HoldsStore (design_view self.old.design.now) (keep_all k (if_certain certain (writes_of (signal_cells (design_view self.old.design.now) signal) value.now.bits))) unblamed self.new }
+    {
+        let signed = self.signals.signal(signal).is_signed();
+        let value = signed_as(value, signed, signal);
+        self.signals.update(signal, &value, certain);
+    }
+
+    /// Keeps the bits of a part of a signal, from the bit with the index `low` up.
+    pub fn set_part(&mut self, signal: u32, low: &Known, part: &Known, certain: bool)
+        requires place { signal < length self.old.design.now.signals }
+        requires width { 1 ≤ length part.now.bits }
+        ensures design { self.new.design ≡ self.old.design }
+        ensures updates { self.new.updates ≡ self.old.updates }
+        ensures kept { (k : Kept) → HoldsStore (design_view self.old.design.now) k unblamed self.old → HoldsStore (design_view self.old.design.now) (keep_all k (if_certain certain (write_bits (design_view self.old.design.now) signal low.now.signed low.now.bits part.now.bits))) unblamed self.new }
+    {
+        self.signals.update_part(signal, low, part, certain);
+    }
+
+    /// Keeps a value of the word of a memory that an index names.
+    pub fn set_word(&mut self, memory: u32, index: &Known, value: &Known, certain: bool)
+        requires place { is_memory (design_view self.old.design.now) memory ≡ true }
+        requires width { length value.now.bits ≡ (memory_at (design_view self.old.design.now) memory).width }
+        ensures design { self.new.design ≡ self.old.design }
+        ensures updates { self.new.updates ≡ self.old.updates }
+        ensures kept { (k : Kept) → HoldsStore (design_view self.old.design.now) k unblamed self.old → HoldsStore (design_view self.old.design.now) (keep_all k (if_certain certain (write_word (design_view self.old.design.now) memory index.now.signed index.now.bits value.now.bits))) unblamed self.new }
+    {
+        let place = memory as usize - self.signals.len();
+        let stored = &mut self.memories[place];
+        let value = signed_as(value, stored.words.shape().signed, memory);
+        stored.words.write(index, &value, certain);
+    }
+}
