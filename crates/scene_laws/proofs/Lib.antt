@@ -1,3 +1,4 @@
 pub mod LikeTerms
 pub mod LikeScenes
 pub mod BodyContexts
+pub mod LikeWays
