@@ -1,5 +1,5 @@
 -- The points of machines that are found are those of the design.
-use Rattle.std.proofs.Common.{◌≡◌, ◌≢◌, ◌⊎◌, ◌↔◌, ◌<◌, ◌+◌, ◌++◌, ℕ, zero, suc, Bool, true, false, cond, nat_eq, inl, inr, List, [], ◌∷◌, length, map, get_or, refl, sym, ap, subst, ◌∙◌, arith, zero-add}
+use Rattle.std.proofs.Common.{◌≡◌, ◌≢◌, ◌⊎◌, ◌↔◌, ◌<◌, ◌+◌, ℕ, zero, suc, Bool, true, false, cond, inl, inr, List, [], ◌∷◌, length, map, get_or, refl, sym, ap, subst, ◌∙◌, arith, zero-add}
 use Rattle.std.specs.Prelude.{◌==◌}
 use Rattle.std.specs.declared.cmp.Ordering.TheVariants.{Equal}
 use Rattle.std.specs.List.{AllZip, dedup, range_with_len}
@@ -10,10 +10,10 @@ use Rattle.std.proofs.lemmas.Bool.Decides.{nat_tests}
 use Rattle.four_state.specs.Vector.{Vector, same_bits}
 use Rattle.four_state.specs.declared.bit.Bit.{Bit}
 use Rattle.four_state.specs.declared.bit.Bit.TheVariants.{One, X, Z, Zero}
-use Rattle.state_machines.specs.Same.{HasBefore, bits_at, no_value}
+use Rattle.state_machines.specs.Same.{bits_at, no_value}
 use Rattle.design_model.specs.Design.{Design, In, no_instance}
 use Rattle.design_model.specs.Lawful.{IsLawfulDesign}
-use Rattle.design_model.specs.Points.{IsInstanceOf, IsMachineAt, IsNameOf, IsPoint, IsStateValue, StateNames}
+use Rattle.design_model.specs.Points.{IsMachineAt, IsNameOf, IsPoint, IsStateValue, StateNames}
 use Rattle.design_model.specs.declared.point.Point.{Point}
 use Rattle.design_model.specs.declared.point.Point.TheVariants.{Line, Logic, Toggle, State as state_point, Arc as arc_point, Word}
 use Rattle.design_machines.specs.Machines.{AreApart, AreMachines, IsMachineOf, machine_at, no_machine}
