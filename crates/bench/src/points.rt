@@ -9,6 +9,7 @@ use cov_host::Bytes;
 use cover_marks::Marks;
 use cover_points::{PointFault, list};
 use design_model::Design;
+use state_machines::States;
 use std::fs;
 use std::rt::{Clock, Files};
 use std::time::Instant;
@@ -38,7 +39,8 @@ fn measure_points(rt: &(impl AllocGlobal + Clock + Print), design: &Design) -> R
     requires { IsLawfulDesign (design_view design.now) }
 {
     let start = Instant::now(rt)?;
-    match list(rt.alloc(), design) {
+    let states = States::new(rt.alloc());
+    match list(rt.alloc(), design, &states) {
         Ok(points) => {
             let listed = start.elapsed(rt)?.as_millis();
             let marks = Marks::new(rt.alloc(), &points)?;
@@ -54,8 +56,8 @@ fn measure_points(rt: &(impl AllocGlobal + Clock + Print), design: &Design) -> R
             println!(rt; "too many points")?;
             Ok(())
         }
-        Err(PointFault::NoMemory) => {
-            println!(rt; "no memory")?;
+        Err(_) => {
+            println!(rt; "no points")?;
             Ok(())
         }
     }

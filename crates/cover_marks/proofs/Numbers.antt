@@ -16,8 +16,8 @@ use Rattle.cover_points.specs.declared.points.IndexPoint.{IndexPoint}
 use Rattle.cover_points.specs.declared.visit.Visit.{Visit}
 use Rattle.cover_points.specs.declared.visit.Visit.TheVariants.{Line, Node, Toggle}
 use Rattle.cover_points.proofs.NodeMembers.{same_case}
-use Rattle.cover_points.proofs.Places.{Where, in_lines, in_nodes, in_toggles, in_words, length_is, line_place, lines_end, no_index, no_line, no_node, node_place, nodes_end, toggle_place, toggles_end, where_is, word_place}
-use Rattle.cover_points.proofs.Seen.{at_line, at_node, at_toggle, at_word, inner, kind, kind_by, line_visit, node_visit, one_word, part_is, toggle_visit, word_visit, word_visit_by, word_visit_is}
+use Rattle.cover_points.proofs.Places.{Where, in_lines, in_nodes, in_states, in_toggles, in_words, length_is, line_place, lines_end, no_index, no_line, no_node, no_state, node_place, nodes_end, state_place, states_end, toggle_place, toggles_end, where_is, word_place}
+use Rattle.cover_points.proofs.Seen.{at_line, at_node, at_toggle, at_word, inner, kind, kind_by, line_visit, node_visit, one_word, part_is, toggle_visit, unseen, word_visit, word_visit_by, word_visit_is}
 use Rattle.cover_marks.specs.Index.{FindsLines, FindsNodes, FindsToggles, FindsWords}
 use Rattle.cover_marks.specs.Slots.{index_slot, index_slots, line_slot, line_slots, node_slot, node_slots}
 
@@ -127,7 +127,7 @@ module _ (ps : Points) where
   pub sees_toggle : (j : ℕ) → j < length ps.toggles.items → IsVisitOf ps (nodes_end ps + j) (toggle_visit (get_or ps.toggles.items j no_index))
   sees_toggle j l = (omega (arith, length_is ps), ap visit_of (toggle_place ps j l))
 
-  pub sees_word : (j : ℕ) → j < length ps.words.items → IsVisitOf ps (toggles_end ps + j) (word_visit (get_or ps.words.items j no_index))
+  pub sees_word : (j : ℕ) → j < length ps.words.items → IsVisitOf ps (states_end ps + j) (word_visit (get_or ps.words.items j no_index))
   sees_word j l = (omega (arith, length_is ps), ap visit_of (word_place ps j l) ∙ word_visit_is (get_or ps.words.items j no_index))
 
 -- the slots of a table, with the numbers from the first on
@@ -153,7 +153,7 @@ module _ (ps : Points) (apart : AreApart ps) where
   toggle_slots_apart = slots_apart ps apart index_slot_of toggle_visit no_index ps.toggles.items (nodes_end ps) (sees_toggle ps) same_toggle
 
   pub word_slots_apart : SlotsApart (index_slots ps.words.items)
-  word_slots_apart = slots_apart ps apart index_slot_of word_visit no_index ps.words.items (toggles_end ps) (sees_word ps) same_word
+  word_slots_apart = slots_apart ps apart index_slot_of word_visit no_index ps.words.items (states_end ps) (sees_word ps) same_word
 
   -- the tables have the numbers of the points
   module _ (t : NumberTable) where
@@ -170,6 +170,7 @@ module _ (ps : Points) (apart : AreApart ps) where
             rw (process, line, same) at (numbered ps apart line_slot_of line_visit no_line ps.lines.items 0 (sees_line ps) same_line t h k l)
         by_part (in_nodes j e l) = let q : kind (Line p n) ≡ 1 = part_is ps (Line p n) k (in_nodes j e l) s.1 in absurd (omega arith)
         by_part (in_toggles j e l) = let q : kind (Line p n) ≡ 2 = part_is ps (Line p n) k (in_toggles j e l) s.1 in absurd (omega arith)
+        by_part (in_states j e l) = absurd (unseen ps (Line p n) k j e l s.1)
         by_part (in_words j e l) = let q : kind (Line p n) ≡ 3 = part_is ps (Line p n) k (in_words j e l) s.1 in absurd (omega arith)
 
     pub nodes_found : Numbers t (node_slots ps.nodes.items) (lines_end ps) → FindsNodes ps t
@@ -185,6 +186,7 @@ module _ (ps : Points) (apart : AreApart ps) where
             let case_is : x.case ≡ c = cc in
             rw (process, node, case_is, ← e) at (numbered ps apart node_slot_of node_visit no_node ps.nodes.items (lines_end ps) (sees_node ps) same_node t h j l)
         by_part (in_toggles j e l) = let q : kind (Node p n c) ≡ 2 = part_is ps (Node p n c) k (in_toggles j e l) s.1 in absurd (omega arith)
+        by_part (in_states j e l) = absurd (unseen ps (Node p n c) k j e l s.1)
         by_part (in_words j e l) = let q : kind (Node p n c) ≡ 3 = part_is ps (Node p n c) k (in_words j e l) s.1 in absurd (omega arith)
 
     pub toggles_found : Numbers t (index_slots ps.toggles.items) (nodes_end ps) → FindsToggles ps t
@@ -201,10 +203,11 @@ module _ (ps : Points) (apart : AreApart ps) where
             let way : not y.second ≡ rise = cc in
             let second : y.second ≡ not rise = sym (not_not y.second) ∙ ap not way in
             rw (thing, index, second, ← e) at (numbered ps apart index_slot_of toggle_visit no_index ps.toggles.items (nodes_end ps) (sees_toggle ps) same_toggle t h j l)
+        by_part (in_states j e l) = absurd (unseen ps (Toggle x i rise) k j e l s.1)
         by_part (in_words j e l) = let q : kind (Toggle x i rise) ≡ 3 = part_is ps (Toggle x i rise) k (in_words j e l) s.1 in absurd (omega arith)
 
     -- a word that is read, or written
-    word_found : Numbers t (index_slots ps.words.items) (toggles_end ps) → (k m i : ℕ) (write : Bool) → IsVisitOf ps k (word_visit_by write m i) → IsNumberOf t (index_slot m i write) k
+    word_found : Numbers t (index_slots ps.words.items) (states_end ps) → (k m i : ℕ) (write : Bool) → IsVisitOf ps k (word_visit_by write m i) → IsNumberOf t (index_slot m i write) k
     word_found h k m i write s = by_part (where_is ps k s.0)
       where
         three : kind (word_visit_by write m i) ≡ 3
@@ -214,11 +217,12 @@ module _ (ps : Points) (apart : AreApart ps) where
         by_part (in_lines l) = let q : kind (word_visit_by write m i) ≡ 0 = part_is ps (word_visit_by write m i) k (in_lines l) s.1 in absurd (omega (arith, three))
         by_part (in_nodes j e l) = let q : kind (word_visit_by write m i) ≡ 1 = part_is ps (word_visit_by write m i) k (in_nodes j e l) s.1 in absurd (omega (arith, three))
         by_part (in_toggles j e l) = let q : kind (word_visit_by write m i) ≡ 2 = part_is ps (word_visit_by write m i) k (in_toggles j e l) s.1 in absurd (omega (arith, three))
+        by_part (in_states j e l) = absurd (unseen ps (word_visit_by write m i) k j e l s.1)
         by_part (in_words j e l) =
             let y = get_or ps.words.items j no_index in
             let f : word_visit y ≡ word_visit_by write m i = inner (sym (word_visit_is y) ∙ at_word ps (word_visit_by write m i) k j e l s.1) in
             let same = one_word y.second write y.thing y.index m i f in
-            rw (same.0, same.1, same.2, ← e) at (numbered ps apart index_slot_of word_visit no_index ps.words.items (toggles_end ps) (sees_word ps) same_word t h j l)
+            rw (same.0, same.1, same.2, ← e) at (numbered ps apart index_slot_of word_visit no_index ps.words.items (states_end ps) (sees_word ps) same_word t h j l)
 
-    pub words_found : Numbers t (index_slots ps.words.items) (toggles_end ps) → FindsWords ps t
+    pub words_found : Numbers t (index_slots ps.words.items) (states_end ps) → FindsWords ps t
     words_found h k m i = (λ s. word_found h k m i false s, λ s. word_found h k m i true s)

@@ -1,12 +1,13 @@
 -- The tables that give the number of the point of a visit.
-use Rattle.std.specs.Prelude.{ℕ, Bool, true, false, not}
+use Rattle.std.specs.Prelude.{◌≡◌, ℕ, List, Bool, true, false, not}
 use Rattle.number_tables.specs.Tables.{IsNumberOf}
 use Rattle.number_tables.specs.declared.table.NumberTable.{NumberTable}
 use Rattle.design_model.specs.declared.point.NodeCase.{NodeCase}
-use Rattle.cover_points.specs.Visits.{IsVisitOf}
+use Rattle.cover_points.specs.Visits.{IsMachinePointAt, IsVisitOf}
+use Rattle.cover_points.specs.declared.machine_point.MachinePoint.{MachinePoint}
 use Rattle.cover_points.specs.declared.listing.Points.{Points}
 use Rattle.cover_points.specs.declared.visit.Visit.TheVariants.{Line, Node, Toggle, Read, Write}
-use Rattle.cover_marks.specs.Slots.{index_slot, line_slot, node_slot}
+use Rattle.cover_marks.specs.Slots.{index_slot, line_slot, machine_slot, node_slot, state_counts}
 use Rattle.cover_marks.specs.declared.index.PointIndex.{PointIndex}
 
 -- the table has the number of each line point
@@ -25,9 +26,15 @@ FindsToggles ps t = (k s i : ℕ) (rise : Bool) → IsVisitOf ps k (Toggle s i r
 abbrev pub FindsWords : Points → NumberTable → Type 0
 FindsWords ps t = (k m i : ℕ) → (IsVisitOf ps k (Read m i) → IsNumberOf t (index_slot m i false) k) × (IsVisitOf ps k (Write m i) → IsNumberOf t (index_slot m i true) k)
 
+-- of each state and arc, where the machines have these counts of states
+abbrev pub FindsStates : Points → List ℕ → NumberTable → Type 0
+FindsStates ps counts t = (k : ℕ) (p : MachinePoint) → IsMachinePointAt ps k p → IsNumberOf t (machine_slot counts p) k
+
 -- the tables are those of these points
 pub record IsIndexOf (ps : Points) (x : PointIndex) : Type 0 where
   pub lines : FindsLines ps x.lines
   pub nodes : FindsNodes ps x.nodes
   pub toggles : FindsToggles ps x.toggles
+  pub counts : x.counts.items ≡ state_counts ps.machines.items
+  pub states : FindsStates ps x.counts.items x.states
   pub words : FindsWords ps x.words

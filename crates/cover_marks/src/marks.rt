@@ -2,13 +2,13 @@ ghost use Rattle.std.specs.Prelude.{◌≡◌, ◌<◌, ◌≤◌, ◌++◌, ◌
 ghost use Rattle.point_marks.specs.Marking.{IsMarked, IsVerdict, Marking, doubt_of, hit_of};
 ghost use Rattle.point_marks.specs.declared.verdict.Doubt.{Doubt as TheDoubt};
 ghost use Rattle.cover_points.specs.Listed.{points_of};
-ghost use Rattle.cover_points.specs.Visits.{AreApart, IsVisitOf};
+ghost use Rattle.cover_points.specs.Visits.{AreApart, AreOnce, ArePlaced, IsMachinePointAt, IsVisitOf};
 ghost use Rattle.cover_points.specs.declared.listing.Points.{Points as ThePoints};
 ghost use Rattle.cover_marks.specs.Marks.{AreMarksOf};
 
 use crate::index::PointIndex;
 use cov_host::NoMemory;
-use cover_points::{MOST_POINTS, Points, Visit};
+use cover_points::{MOST_POINTS, MachinePoint, Points, Visit};
 use point_marks::{PointMarks, Verdict};
 use std::alloc::Global;
 
@@ -23,6 +23,8 @@ impl Marks {
     /// The marks of these points, none of which is marked yet.
     pub fn new(alloc: Global, points: &Points) -> Result<Self, NoMemory>
         requires apart { AreApart points.now }
+        requires once { AreOnce points.now }
+        requires placed { ArePlaced points.now }
         requires few { length (points_of points.now) ≤ MOST_POINTS }
         ensures points { IfOk result (AreMarksOf points.now) }
         ensures markings { IfOk result (λ marks. IsMarked [] marks.verdicts) }
@@ -38,6 +40,14 @@ impl Marks {
         ensures { (points : ThePoints) (k : ℕ) → AreMarksOf points self.now → IsVisitOf points k visit.now → result ≡ k }
     {
         self.index.number(*visit)
+    }
+
+    /// The number of the point of a state or an arc of a machine, and some number where no point is of it. It takes constant
+    /// time and no memory.
+    pub fn machine_point(&self, point: MachinePoint) -> u32
+        ensures { (points : ThePoints) (k : ℕ) → AreMarksOf points self.now → IsMachinePointAt points k point → result ≡ k }
+    {
+        self.index.machine_number(point)
     }
 
     /// The point was hit. It takes no memory.
@@ -74,6 +84,10 @@ fn count_of(points: &Points) -> u32
     requires { length (points_of points.now) ≤ MOST_POINTS }
     ensures { result ≡ length (points_of points.now) }
 {
-    let count = points.lines.len() + points.nodes.len() + points.toggles.len() + points.words.len();
+    let count = points.lines.len()
+        + points.nodes.len()
+        + points.toggles.len()
+        + points.states.len()
+        + points.words.len();
     count as u32
 }

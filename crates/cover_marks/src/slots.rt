@@ -1,11 +1,14 @@
 //! The slots of points and of visits in the tables of numbers.
 
-ghost use Rattle.std.specs.Prelude.{◌≡◌, IfOk, map};
+ghost use Rattle.std.specs.Prelude.{◌≡◌, ◌<◌, ◌^◌, IfOk, length, slice_index_or};
+ghost use Rattle.std.specs.List.{All};
 ghost use Rattle.cover_points.specs.Order.{second_rank};
-ghost use Rattle.cover_marks.specs.Slots.{index_slot, index_slots, line_slot, line_slots, node_slot, node_slots};
+ghost use Rattle.cover_marks.specs.Slots.{index_slot, index_slots, line_slot, line_slots, machine_slot, machine_slots, node_slot, node_slots, state_counts};
+ghost use Rattle.design_machines.specs.declared.machine.Machine.{Machine as TheMachine};
 
 use cov_host::NoMemory;
-use cover_points::{IndexPoint, case_rank};
+use cover_points::{IndexPoint, MachinePoint, case_rank};
+use design_machines::Machine;
 use design_model::NodeCase;
 use number_tables::Slot;
 use std::alloc::Global;
@@ -47,6 +50,33 @@ pub(crate) fn index_slots(alloc: Global, points: &[IndexPoint]) -> Result<Vec<Sl
     Ok(slots)
 }
 
+/// The slots of the states and arcs of machines with these counts of states.
+pub(crate) fn machine_slots(
+    alloc: Global,
+    counts: &[u32],
+    points: &[MachinePoint],
+) -> Result<Vec<Slot>, NoMemory>
+    ensures { IfOk result (λ slots. slots.items ≡ machine_slots counts.now points.now) }
+{
+    let mut slots = Vec::with_capacity(alloc, points.len())?;
+    for point in points {
+        slots.push(machine_slot(counts, *point))?;
+    }
+    Ok(slots)
+}
+
+/// How many states each machine has.
+pub(crate) fn state_counts(alloc: Global, machines: &[Machine]) -> Result<Vec<u32>, NoMemory>
+    requires { All (λ (x : TheMachine). length x.names < 2 ^ 32) machines.now }
+    ensures { IfOk result (λ counts. counts.items ≡ state_counts machines.now) }
+{
+    let mut counts = Vec::with_capacity(alloc, machines.len())?;
+    for machine in machines {
+        counts.push(machine.names.len() as u32)?;
+    }
+    Ok(counts)
+}
+
 /// The slot of a statement: a row for each process, and a column for each number.
 pub(crate) fn line_slot(process: u32, line: u32) -> Slot
     ensures { result ≡ line_slot process line }
@@ -74,6 +104,33 @@ pub(crate) fn index_slot(thing: u32, index: u32, second: bool) -> Slot
     Slot {
         row: thing,
         column: index as usize * 2 + side_of(second),
+    }
+}
+
+/// The slot of a state or an arc: a row for each machine, and a column for each state, and then one for each pair of states.
+pub(crate) fn machine_slot(counts: &[u32], point: MachinePoint) -> Slot
+    ensures { result ≡ machine_slot counts.now point }
+{
+    match point {
+        MachinePoint::State { machine, state } => Slot {
+            row: machine,
+            column: state as usize,
+        },
+        MachinePoint::Arc { machine, from, to } => Slot {
+            row: machine,
+            column: (from as usize + 1) * count_of(counts, machine) + to as usize,
+        },
+    }
+}
+
+/// How many states a machine has.
+fn count_of(counts: &[u32], machine: u32) -> usize
+    ensures of { result ≡ slice_index_or counts.now machine 0 }
+    ensures small { result < 2 ^ 32 }
+{
+    match counts.get(machine as usize) {
+        Some(count) => *count as usize,
+        None => 0,
     }
 }
 

@@ -5,26 +5,34 @@ use Rattle.std.specs.declared.cmp.Ordering.TheVariants.{Equal}
 use Rattle.std.specs.Cmp.{IsTotalOrder}
 use Rattle.std.specs.List.Sorted.{IsStrictlySortedBy}
 use Rattle.std.proofs.lemmas.Bool.{cases_order}
-use Rattle.std.proofs.lemmas.Cmp.{tied_itself}
+use Rattle.std.proofs.lemmas.Cmp.{nat_list_cmp_total, tied_itself}
 use Rattle.std.proofs.lemmas.Map.Keys.{Less-from_sorted}
 use Rattle.design_model.specs.Design.{Design, process_at}
 use Rattle.design_model.specs.Lawful.{instance_of}
 use Rattle.design_model.specs.declared.point.NodeCase.{NodeCase}
 use Rattle.text_points.specs.declared.points.LinePoint.{LinePoint}
 use Rattle.text_points.specs.declared.points.NodePoint.{NodePoint}
-use Rattle.cover_points.specs.Listed.{IsPointList}
-use Rattle.cover_points.specs.Order.{index_cmp, line_cmp, node_cmp}
+use Rattle.cover_points.specs.Listed.{IsPointList, points_of}
+use Rattle.cover_points.specs.Order.{bytes_cmp, index_cmp, line_cmp, node_cmp, path_at}
 use Rattle.cover_points.specs.Texts.{IsOwner, node_view}
 use Rattle.cover_points.specs.Things.{word_view}
-use Rattle.cover_points.specs.Visits.{AreApart, point_at, visit_of}
+use Rattle.cover_points.specs.MachinePoints.{first_name, machine_cmp, machine_path, machine_rank, machine_variable, machine_view, second_name, state_name}
+use Rattle.cover_points.specs.Visits.{AreApart, AreOnce, point_at, visit_of}
+use Rattle.cover_points.specs.declared.machine_point.MachinePoint.{MachinePoint}
+use Rattle.cover_points.specs.declared.machine_point.MachinePoint.TheVariants.{Arc, State}
+use Rattle.design_machines.specs.Machines.{machine_at}
+use Rattle.design_machines.specs.declared.machine.Machine.{Machine}
+use Rattle.design_model.specs.Points.{StateNames}
+use Rattle.design_model.specs.declared.design.Instance.{Instance}
+use Rattle.std.specs.Ordering.{nat_cmp, ordering_then}
 use Rattle.cover_points.specs.declared.listing.Points.{Points}
 use Rattle.cover_points.specs.declared.points.IndexPoint.{IndexPoint}
 use Rattle.cover_points.specs.declared.visit.Visit.{Visit}
 use Rattle.cover_points.specs.declared.visit.Visit.TheVariants.{Line, Node, Toggle}
 use Rattle.cover_points.proofs.Members.{in_at}
-use Rattle.cover_points.proofs.Orders.{index_total, line_total, node_total}
-use Rattle.cover_points.proofs.Places.{Where, in_lines, in_nodes, in_toggles, in_words, lines_end, no_index, no_line, no_node, nodes_end, toggles_end, where_is}
-use Rattle.cover_points.proofs.Seen.{Sees, at_line, at_node, at_toggle, at_word, inner, one_word, part, part_is, toggle_visit, word_visit_is}
+use Rattle.cover_points.proofs.Orders.{index_total, line_total, machine_total, node_total}
+use Rattle.cover_points.proofs.Places.{Where, in_lines, in_nodes, in_states, in_toggles, in_words, lines_end, no_index, no_line, no_node, no_state, nodes_end, state_place, states_end, toggles_end, where_is}
+use Rattle.cover_points.proofs.Seen.{Sees, at_line, at_node, at_toggle, at_word, inner, one_word, part, part_is, toggle_visit, unseen, Kind, visit_or_state, word_visit_is}
 
 -- what is equal in the order of a strictly sorted list is at one place
 one_place : {X : Type 0} {R : X → X → Ordering} (o : IsTotalOrder R) (xs : List X) (d : X) → IsStrictlySortedBy R xs → (j k : ℕ) → j < length xs → k < length xs → R (get_or xs j d) (get_or xs k d) ≡ Equal → R (get_or xs k d) (get_or xs j d) ≡ Equal → j ≡ k
@@ -73,7 +81,7 @@ same_word x y v a b =
     let both = one_word x.second y.second x.thing x.index y.thing y.index (inner (sym (word_visit_is x) ∙ a ∙ sym b ∙ word_visit_is y)) in
     same_index x y both.0 both.1 both.2
 
-module _ (d : Design) (ps : Points) (h : IsPointList d ps) (v : Visit) where
+module _ (d : Design) (ms : List StateNames) (ps : Points) (h : IsPointList d ms ps) (v : Visit) where
   one_line : (j k : ℕ) → j < length ps.lines.items → k < length ps.lines.items → visit_of (point_at ps j) ≡ Some v → visit_of (point_at ps k) ≡ Some v → j ≡ k
   one_line j k l m a b =
       let x = get_or ps.lines.items j no_line in
@@ -112,7 +120,12 @@ module _ (d : Design) (ps : Points) (h : IsPointList d ps) (v : Visit) where
   one_point j k (in_words i e l) (in_words n f m) same a b =
       let x = get_or ps.words.items i no_index in
       let y = get_or ps.words.items n no_index in
-      e ∙ ap (λ i. toggles_end ps + i) (one_index ps.words.items h.words i n l m (same_word x y v (at_word ps v j i e l a) (at_word ps v k n f m b))) ∙ sym f
+      e ∙ ap (λ i. states_end ps + i) (one_index ps.words.items h.words i n l m (same_word x y v (at_word ps v j i e l a) (at_word ps v k n f m b))) ∙ sym f
+  one_point j k (in_states i e l) q same a b = absurd (unseen ps v j i e l a)
+  one_point j k (in_lines l) (in_states n f m) same a b = absurd (unseen ps v k n f m b)
+  one_point j k (in_nodes i e l) (in_states n f m) same a b = absurd (unseen ps v k n f m b)
+  one_point j k (in_toggles i e l) (in_states n f m) same a b = absurd (unseen ps v k n f m b)
+  one_point j k (in_words i e l) (in_states n f m) same a b = absurd (unseen ps v k n f m b)
   one_point j k (in_lines l) (in_nodes n f m) same a b = absurd (omega (arith, same))
   one_point j k (in_lines l) (in_toggles n f m) same a b = absurd (omega (arith, same))
   one_point j k (in_lines l) (in_words n f m) same a b = absurd (omega (arith, same))
@@ -126,8 +139,53 @@ module _ (d : Design) (ps : Points) (h : IsPointList d ps) (v : Visit) where
   one_point j k (in_words i e l) (in_nodes n f m) same a b = absurd (omega (arith, same))
   one_point j k (in_words i e l) (in_toggles n f m) same a b = absurd (omega (arith, same))
 
-pub points_apart : (d : Design) (ps : Points) → IsPointList d ps → AreApart ps
-points_apart d ps h j k v a b =
+pub points_apart : (d : Design) (ms : List StateNames) (ps : Points) → IsPointList d ms ps → AreApart ps
+points_apart d ms ps h j k v a b =
     let p = where_is ps j a.0 in
     let q = where_is ps k b.0 in
-    one_point d ps h v j k p q (sym (part_is ps v j p a.1) ∙ part_is ps v k q b.1) a.1 b.1
+    one_point d ms ps h v j k p q (sym (part_is ps v j p a.1) ∙ part_is ps v k q b.1) a.1 b.1
+
+-- orders one after the other that are all equal
+then_same : (p q : Ordering) → p ≡ Equal → q ≡ Equal → ordering_then p q ≡ Equal
+then_same p q e f = rw (e, f) refl
+
+same_names : (a b : List ℕ) → a ≡ b → bytes_cmp a b ≡ Equal
+same_names a b e = ap (bytes_cmp a) (sym e) ∙ tied_itself nat_list_cmp_total a
+
+all_same : (is : List Instance) (xs : List Machine) (p q : MachinePoint) → machine_path is xs p ≡ machine_path is xs q → machine_variable xs p ≡ machine_variable xs q → nat_cmp (machine_rank p) (machine_rank q) ≡ Equal → first_name xs p ≡ first_name xs q → second_name xs p ≡ second_name xs q → machine_cmp is xs p q ≡ Equal
+all_same is xs p q a b c e f =
+    then_same _ _ (then_same _ _ (then_same _ _ (then_same _ _ (same_names _ _ a) (same_names _ _ b)) c) (same_names _ _ e)) (same_names _ _ f)
+
+-- machine points that are one point are equal in the order
+tied_states : (is : List Instance) (xs : List Machine) (p q : MachinePoint) → machine_view xs p ≡ machine_view xs q → machine_cmp is xs p q ≡ Equal
+tied_states is xs (State k s) (State l t) e =
+    let i : (machine_at xs k).instance ≡ (machine_at xs l).instance = cc in
+    let v : (machine_at xs k).variable ≡ (machine_at xs l).variable = cc in
+    let n : state_name xs k s ≡ state_name xs l t = cc in
+    all_same is xs (State k s) (State l t) (ap (path_at is) i) v refl n refl
+tied_states is xs (Arc k i j) (Arc l m n) e =
+    let at : (machine_at xs k).instance ≡ (machine_at xs l).instance = cc in
+    let v : (machine_at xs k).variable ≡ (machine_at xs l).variable = cc in
+    let from : state_name xs k i ≡ state_name xs l m = cc in
+    let to : state_name xs k j ≡ state_name xs l n = cc in
+    all_same is xs (Arc k i j) (Arc l m n) (ap (path_at is) at) v refl from to
+tied_states is xs (State k s) (Arc l m n) e = absurd (cc)
+tied_states is xs (Arc k i j) (State l t) e = absurd (cc)
+
+-- no point is listed twice
+pub points_once : (d : Design) (ms : List StateNames) (ps : Points) → IsPointList d ms ps → AreOnce ps
+points_once d ms ps h j k l m e = by_kind (visit_or_state ps j (where_is ps j l)) (visit_or_state ps k (where_is ps k m))
+  where
+    seen_once : (i n : ℕ) (v : Visit) → i < length (points_of ps) → n < length (points_of ps) → visit_of (point_at ps i) ≡ Some v → point_at ps i ≡ point_at ps n → i ≡ n
+    seen_once i n v a b s f = points_apart d ms ps h i n v (a, s) (b, ap visit_of (sym f) ∙ s)
+
+    by_kind : Kind ps j → Kind ps k → j ≡ k
+    by_kind (inl a) b = seen_once j k a.0 l m a.1 e
+    by_kind (inr a) (inl b) = sym (seen_once k j b.0 m l b.1 (sym e))
+    by_kind (inr a) (inr b) =
+        let x = get_or ps.states.items a.0 no_state in
+        let y = get_or ps.states.items b.0 no_state in
+        let view : machine_view ps.machines.items x ≡ machine_view ps.machines.items y =
+        sym (state_place ps a.0 a.2) ∙ ap (point_at ps) (sym a.1) ∙ e ∙ ap (point_at ps) b.1 ∙ state_place ps b.0 b.2 in
+        let same = one_place (machine_total d.instances ps.machines.items) ps.states.items no_state h.states a.0 b.0 a.2 b.2 (tied_states d.instances ps.machines.items x y view) (tied_states d.instances ps.machines.items y x (sym view)) in
+        a.1 ∙ ap (λ i. toggles_end ps + i) same ∙ sym b.1

@@ -5,7 +5,10 @@ pub mod Ranges
 pub mod LineMembers
 pub mod NodeMembers
 pub mod ThingMembers
+pub mod NamedOnce
+pub mod MachineMembers
 pub mod Assembly
 pub mod Places
 pub mod Seen
 pub mod Apart
+pub mod PointFaults

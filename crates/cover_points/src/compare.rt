@@ -2,9 +2,14 @@
 
 ghost use Rattle.std.specs.Prelude.{◌≡◌};
 ghost use Rattle.cover_points.specs.Order.{case_rank, index_cmp, line_cmp, node_cmp, path_at, second_rank, thing_instance, thing_name};
+ghost use Rattle.cover_points.specs.MachinePoints.{first_name, machine_cmp, machine_path, machine_rank, machine_variable, second_name, state_name};
+ghost use Rattle.design_machines.specs.Machines.{name_at};
 ghost use Rattle.design_model.specs.View.{design_view};
 
+use crate::machine_point::MachinePoint;
 use crate::points::IndexPoint;
+use cov_host::Name;
+use design_machines::Machine;
 use design_model::{Design, Instance, NodeCase};
 use std::cmp::Ordering;
 use text_points::{LinePoint, NodePoint};
@@ -99,4 +104,97 @@ fn second_rank(second: bool) -> u8
     ensures { result ≡ second_rank second }
 {
     if second { 1 } else { 0 }
+}
+
+/// By the path of the instance, then by variable, then states before arcs, and then by the names of the states.
+pub(crate) fn compare_machines(
+    instances: &[Instance],
+    machines: &[Machine],
+    a: &MachinePoint,
+    b: &MachinePoint,
+) -> Ordering
+    ensures { result ≡ machine_cmp instances.now machines.now a.now b.now }
+{
+    machine_path(instances, machines, *a)
+        .cmp(machine_path(instances, machines, *b))
+        .then(machine_variable(machines, *a).cmp(machine_variable(machines, *b)))
+        .then(machine_rank(*a).cmp(&machine_rank(*b)))
+        .then(first_name(machines, *a).cmp(first_name(machines, *b)))
+        .then(second_name(machines, *a).cmp(second_name(machines, *b)))
+}
+
+/// The path of the instance of a point.
+fn machine_path<'a>(
+    instances: &'a [Instance],
+    machines: &[Machine],
+    point: MachinePoint,
+) -> &'a [u8]
+    ensures { result.now ≡ machine_path instances.now machines.now point }
+{
+    let (MachinePoint::State { machine, .. } | MachinePoint::Arc { machine, .. }) = point;
+    match machines.get(machine as usize) {
+        Some(machine) => path_at(instances, machine.instance),
+        None => path_at(instances, 0),
+    }
+}
+
+/// The variable of the machine of a point.
+fn machine_variable(machines: &[Machine], point: MachinePoint) -> &[u8]
+    ensures { result.now ≡ machine_variable machines.now point }
+{
+    let (MachinePoint::State { machine, .. } | MachinePoint::Arc { machine, .. }) = point;
+    match machines.get(machine as usize) {
+        Some(machine) => machine.variable.as_slice(),
+        None => &[],
+    }
+}
+
+/// The place of states before arcs.
+fn machine_rank(point: MachinePoint) -> u8
+    ensures { result ≡ machine_rank point }
+{
+    match point {
+        MachinePoint::State { .. } => 0,
+        MachinePoint::Arc { .. } => 1,
+    }
+}
+
+/// The name of the state, or of the one that the arc leaves.
+fn first_name(machines: &[Machine], point: MachinePoint) -> &[u8]
+    ensures { result.now ≡ first_name machines.now point }
+{
+    match point {
+        MachinePoint::State { machine, state } => state_name(machines, machine, state),
+        MachinePoint::Arc { machine, from, .. } => state_name(machines, machine, from),
+    }
+}
+
+/// The name of the state that the arc enters.
+fn second_name(machines: &[Machine], point: MachinePoint) -> &[u8]
+    ensures { result.now ≡ second_name machines.now point }
+{
+    match point {
+        MachinePoint::State { .. } => &[],
+        MachinePoint::Arc { machine, to, .. } => state_name(machines, machine, to),
+    }
+}
+
+/// The name of a state of a machine.
+fn state_name(machines: &[Machine], machine: u32, state: u32) -> &[u8]
+    ensures { result.now ≡ state_name machines.now machine state }
+{
+    match machines.get(machine as usize) {
+        Some(machine) => name_at(machine.names.as_slice(), state),
+        None => &[],
+    }
+}
+
+/// The name at a place.
+fn name_at(names: &[Name], place: u32) -> &[u8]
+    ensures { result.now ≡ name_at names.now place }
+{
+    match names.get(place as usize) {
+        Some(name) => name.as_slice(),
+        None => &[],
+    }
 }

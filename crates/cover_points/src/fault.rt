@@ -1,20 +1,41 @@
 ghost use Rattle.std.specs.Prelude.{◌≡◌};
-ghost use Rattle.cover_points.specs.declared.fault.PointFault.TheVariants as point_fault;
+ghost use Rattle.cover_points.specs.Faults.{point_fault};
+ghost use Rattle.cover_points.specs.declared.fault.PointFault.TheVariants as point_fault_of;
 
-use cov_host::NoMemory;
+use cov_host::{Name, NoMemory};
+use design_machines::StateFault;
 
 /// Why the points of a design are not listed.
-#[derive(Clone, Copy, Debug, PartialEq, Eq)]
+#[derive(Drop)]
 pub enum PointFault {
     NoMemory,
+    /// The module, the variable or the parameter of this name is unknown.
+    NoState(Name),
+    /// The state of this name has the value of a state before it.
+    SameState(Name),
     /// There are more points than `MOST_POINTS`.
     TooManyPoints,
+    /// The machine of the variable of this name has fewer than two states, or more than `design_machines::MOST_STATES`.
+    TooManyStates(Name),
 }
 
 impl From<NoMemory> for PointFault {
-    ghost from_gives = { λ _ fault. fault ≡ point_fault.NoMemory };
+    ghost from_gives = { λ _ fault. fault ≡ point_fault_of.NoMemory };
 
     fn from(_: NoMemory) -> Self {
         PointFault::NoMemory
+    }
+}
+
+impl From<StateFault> for PointFault {
+    ghost from_gives = { λ machines fault. fault ≡ point_fault machines };
+
+    fn from(fault: StateFault) -> Self {
+        match fault {
+            StateFault::NoMemory => PointFault::NoMemory,
+            StateFault::NoState(name) => PointFault::NoState(name),
+            StateFault::SameState(name) => PointFault::SameState(name),
+            StateFault::TooManyStates(name) => PointFault::TooManyStates(name),
+        }
     }
 }

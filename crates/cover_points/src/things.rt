@@ -76,7 +76,7 @@ fn memory_indexes(
 }
 
 /// The number of a thing at a place after `base`. One past 32 bits is want of memory.
-fn number_of(base: usize, place: usize) -> Result<u32, NoMemory>
+pub(crate) fn number_of(base: usize, place: usize) -> Result<u32, NoMemory>
     ensures { IfOk result (λ number. number ≡ base + place) }
 {
     let Some(number) = base.checked_add(place) else {

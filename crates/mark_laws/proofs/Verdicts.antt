@@ -5,11 +5,9 @@ use Rattle.std.proofs.lemmas.List.Elements.{All-head, All-tail}
 use Rattle.body_replay.specs.Contract.{Doubted}
 use Rattle.body_replay.specs.Replay.{Spot, line, node, word_read, word_write}
 use Rattle.cover_points.specs.Listed.{points_of}
-use Rattle.cover_points.specs.Visits.{AreApart, point_at, visit_of}
+use Rattle.cover_points.specs.Visits.{AreApart, AreOnce, point_at, visit_of}
 use Rattle.cover_points.specs.declared.listing.Points.{Points}
 use Rattle.cover_points.specs.declared.visit.Visit.TheVariants.{Line, Node}
-use Rattle.cover_points.proofs.Places.{where_is}
-use Rattle.cover_points.proofs.Seen.{some_visit}
 use Rattle.design_model.specs.Design.{Design}
 use Rattle.design_model.specs.declared.point.Point.{Point}
 use Rattle.design_model.specs.declared.point.Point.TheVariants as point
@@ -33,13 +31,11 @@ visit_of_key d (point.Arc i name s from to x y) p spot (e, b) = absurd b
 visit_of_key d (point.Word m i true) p spot (e, b) = visit_of_some (point.Word m i true) p spot (word_write m i) refl e
 visit_of_key d (point.Word m i false) p spot (e, b) = visit_of_some (point.Word m i false) p spot (word_read m i) refl e
 
-module _ (d : Design) (ps : Points) (apart : AreApart ps) where
+module _ (d : Design) (ps : Points) (apart : AreApart ps) (once : AreOnce ps) where
   -- a key is one of one point
   one_key : (key : replay.Key) (j k : ℕ) → j < length (points_of ps) → k < length (points_of ps) → replay.IsKeyOf d (point_at ps j) key → replay.IsKeyOf d (point_at ps k) key → j ≡ k
   one_key (replay.of_process p spot) j k l m a b = apart j k (visit_at p spot) (l, visit_of_key d (point_at ps j) p spot a) (m, visit_of_key d (point_at ps k) p spot b)
-  one_key (replay.of_point y) j k l m a b =
-      let v = some_visit ps j (where_is ps j l) in
-      apart j k v.0 (l, v.1) (m, ap visit_of (sym b ∙ a) ∙ v.1)
+  one_key (replay.of_point y) j k l m a b = once j k l m (sym a ∙ b)
 
   module _ (k : ℕ) (l : k < length (points_of ps)) where
     abbrev x : Point

@@ -8,7 +8,7 @@
 ghost use Rattle.std.specs.Prelude.{◌≡◌, ◌<◌, ℕ, List, Some, length};
 ghost use Rattle.body_replay.specs.Replay.{Spot};
 ghost use Rattle.cover_points.specs.Listed.{points_of};
-ghost use Rattle.cover_points.specs.Visits.{AreApart, point_at, visit_of};
+ghost use Rattle.cover_points.specs.Visits.{AreApart, AreOnce, point_at, visit_of};
 ghost use Rattle.cover_points.specs.declared.listing.Points.{Points};
 ghost use Rattle.design_model.specs.Design.{Design};
 ghost use Rattle.design_model.specs.declared.point.Point.{Point};
@@ -20,7 +20,7 @@ ghost use Rattle.replay_model.specs.Marks.{IsKeyOf, IsVerdict as IsReplayVerdict
 /// Where each thing that a replay reports is a marking of the number of a point of which it is a key, the verdict by number is
 /// the verdict of the point.
 pub fn verdict_law()
-    ensures { (d : Design) (ps : Points) (ns : List Reported) (ms : List Marking) (k : ℕ) (v : Verdict) → AreApart ps → AreNumbered d ps ns ms
+    ensures { (d : Design) (ps : Points) (ns : List Reported) (ms : List Marking) (k : ℕ) (v : Verdict) → AreApart ps → AreOnce ps → AreNumbered d ps ns ms
         → k < length (points_of ps) → IsVerdict ms k v → IsReplayVerdict d (point_at ps k) ns (verdict_view v) }
 {}
 

@@ -1,7 +1,8 @@
 //! The addresses of points, a line each, as a database writes them.
 use crate::operators::{case_text, operator_text, word_text};
 use cov_host::{NoMemory, Place};
-use cover_points::{IndexPoint, Points};
+use cover_points::{IndexPoint, MachinePoint, Points};
+use design_machines::Machine;
 use design_model::Design;
 use std::alloc::Global;
 use text_points::{LinePoint, NodePoint};
@@ -65,6 +66,9 @@ pub(crate) fn addresses(
     for point in points.toggles.as_slice() {
         add_toggle(design, point, &mut lines)?;
     }
+    for point in points.states.as_slice() {
+        add_machine_point(design, points.machines.as_slice(), *point, &mut lines)?;
+    }
     for point in points.words.as_slice() {
         add_word(design, point, &mut lines)?;
     }
@@ -112,6 +116,36 @@ fn add_toggle(design: &Design, point: &IndexPoint, lines: &mut Lines) -> Result<
     }
     lines.field(if point.second { b"10" } else { b"01" })?;
     lines.end()
+}
+
+fn add_machine_point(
+    design: &Design,
+    machines: &[Machine],
+    point: MachinePoint,
+    lines: &mut Lines,
+) -> Result<(), NoMemory> {
+    let (MachinePoint::State { machine, .. } | MachinePoint::Arc { machine, .. }) = point;
+    let Some(machine) = machines.get(machine as usize) else {
+        return Ok(());
+    };
+    lines.begin(b'f')?;
+    lines.field(path_of(design, machine.instance))?;
+    lines.field(machine.variable.as_slice())?;
+    match point {
+        MachinePoint::State { state, .. } => lines.field(state_name(machine, state))?,
+        MachinePoint::Arc { from, to, .. } => {
+            lines.field(state_name(machine, from))?;
+            lines.field(state_name(machine, to))?;
+        }
+    }
+    lines.end()
+}
+
+fn state_name(machine: &Machine, state: u32) -> &[u8] {
+    match machine.names.get(state as usize) {
+        Some(name) => name.as_slice(),
+        None => b"?",
+    }
 }
 
 fn add_word(design: &Design, point: &IndexPoint, lines: &mut Lines) -> Result<(), NoMemory> {

@@ -4,13 +4,35 @@ ghost use Rattle.std.specs.Prelude.{IfSome};
 ghost use Rattle.design_model.specs.Lawful.{IsLawfulDesign};
 ghost use Rattle.design_model.specs.View.{design_view};
 
-use cov_host::{Bytes, NoMemory};
+use cov_host::{Bytes, NoMemory, Words};
 use design_model::Design;
+use state_machines::States;
 use std::alloc::Global;
 use verilog_lexer::Sources;
 
 /// A source: its name and its text.
 pub(crate) type Source = (&'static str, &'static str);
+
+/// A state machine: a module, a variable, and the names of its states.
+pub(crate) type Machine = (&'static str, &'static str, &'static [&'static str]);
+
+/// The machines as they are named.
+pub(crate) fn states_of(alloc: Global, machines: &[Machine]) -> Result<States, NoMemory> {
+    let mut states = States::new(alloc);
+    for (module_name, variable, names) in machines {
+        let names = words_of(alloc, names)?;
+        states.add(module_name, variable, &names)?;
+    }
+    Ok(states)
+}
+
+fn words_of(alloc: Global, names: &[&'static str]) -> Result<Words, NoMemory> {
+    let mut words = Words::new(alloc);
+    for name in names {
+        words.push(name)?;
+    }
+    Ok(words)
+}
 
 /// The design that sources stand for under a top.
 pub(crate) fn design_of(alloc: Global, texts: &[Source], top: &str) -> Option<Design>

@@ -8,6 +8,8 @@ mod cases;
 #[cfg(test)]
 mod designs;
 #[cfg(test)]
+mod machine_cases;
+#[cfg(test)]
 mod operators;
 #[cfg(test)]
 mod tests;

@@ -3,8 +3,11 @@ use cov_host::NoMemory;
 use cover_points::{IndexPoint, Points, Visit};
 use std::alloc::Global;
 
-/// The visit of each point.
-pub(crate) fn visits_of(alloc: Global, points: &Points) -> Result<Vec<Visit>, NoMemory> {
+/// The visit of each point that is no state and no arc, up to the first of those, and from the last of them on.
+pub(crate) fn visits_of(
+    alloc: Global,
+    points: &Points,
+) -> Result<(Vec<Visit>, Vec<Visit>), NoMemory> {
     let mut visits = Vec::new(alloc);
     for point in points.lines.as_slice() {
         visits.push(Visit::Line {
@@ -20,8 +23,9 @@ pub(crate) fn visits_of(alloc: Global, points: &Points) -> Result<Vec<Visit>, No
         })?;
     }
     add_toggles(points.toggles.as_slice(), &mut visits)?;
-    add_words(points.words.as_slice(), &mut visits)?;
-    Ok(visits)
+    let mut words = Vec::new(alloc);
+    add_words(points.words.as_slice(), &mut words)?;
+    Ok((visits, words))
 }
 
 fn add_toggles(points: &[IndexPoint], visits: &mut Vec<Visit>) -> Result<(), NoMemory> {

@@ -1,0 +1,295 @@
+-- The points of machines that are found are those of the design.
+use Rattle.std.proofs.Common.{◌≡◌, ◌≢◌, ◌⊎◌, ◌↔◌, ◌<◌, ◌+◌, ℕ, zero, suc, Bool, true, false, cond, inl, inr, List, [], ◌∷◌, length, map, get_or, refl, sym, ap, subst, ◌∙◌, arith, zero-add}
+use Rattle.std.specs.Prelude.{◌==◌}
+use Rattle.std.specs.declared.cmp.Ordering.TheVariants.{Equal}
+use Rattle.std.specs.List.{AllZip, dedup, range_with_len}
+use Rattle.std.specs.List.Sorted.{IsPermutation}
+use Rattle.std.specs.Ordering.{eq_by_cmp, nat_cmp, ordering_then}
+use Rattle.std.proofs.lemmas.Bool.{cases_order}
+use Rattle.std.proofs.lemmas.Bool.Decides.{nat_tests}
+use Rattle.four_state.specs.Vector.{Vector, same_bits}
+use Rattle.four_state.specs.declared.bit.Bit.{Bit}
+use Rattle.four_state.specs.declared.bit.Bit.TheVariants.{One, X, Z, Zero}
+use Rattle.state_machines.specs.Same.{bits_at, no_value}
+use Rattle.design_model.specs.Design.{Design, In, no_instance}
+use Rattle.design_model.specs.Lawful.{IsLawfulDesign}
+use Rattle.design_model.specs.Points.{IsMachineAt, IsNameOf, IsPoint, IsStateValue, StateNames}
+use Rattle.design_model.specs.declared.point.Point.{Point}
+use Rattle.design_model.specs.declared.point.Point.TheVariants.{Line, Logic, Toggle, State as state_point, Arc as arc_point, Word}
+use Rattle.design_machines.specs.Machines.{AreApart, AreMachines, IsMachineOf, machine_at, no_machine}
+use Rattle.design_machines.specs.declared.machine.Machine.{Machine}
+use Rattle.cover_points.specs.MachinePoints.{IsOfMachine, arc_to, arcs_from, arcs_of, first_name, machine_cmp, machine_path, machine_rank, machine_variable, machine_view, points_of_machine, second_name, state_name, state_value, states_of}
+use Rattle.cover_points.specs.Listed.{IsPlaced}
+use Rattle.cover_points.specs.Order.{bytes_cmp, path_at}
+use Rattle.cover_points.specs.Texts.{each_from}
+use Rattle.cover_points.specs.declared.machine_point.MachinePoint.{MachinePoint}
+use Rattle.cover_points.specs.declared.machine_point.MachinePoint.TheVariants.{State, Arc}
+use Rattle.cover_points.proofs.Members.{both_equal, in_append, in_at, in_flat_map, in_flat_map_back, in_left, in_map, in_right, once_from, once_keeps, same_bytes, same_number, same_place}
+use Rattle.cover_points.proofs.NamedOnce.{one_signal, one_value}
+use Rattle.cover_points.proofs.Orders.{machine_total}
+use Rattle.cover_points.proofs.Pieces.{parts_of, whole_of}
+use Rattle.cover_points.proofs.ThingMembers.{in_range, range_in}
+
+-- what stands in the lists of one machine
+of_states : (xs : List Machine) (k : ℕ) (p : MachinePoint) → k < length xs → In p (states_of k (length (machine_at xs k).names)) → IsPlaced xs p
+of_states xs k p l h =
+    let n = length (machine_at xs k).names in
+    let s = in_flat_map (λ s. State k s ∷ []) p (range_with_len 0 n) h in
+    by_one s.0 (in_range s.0 0 n s.1).1 s.2
+  where
+    by_one : (s : ℕ) → s < 0 + length (machine_at xs k).names → In p (State k s ∷ []) → IsPlaced xs p
+    by_one s m (inl e) = let there : s < length (machine_at xs k).names = omega (arith, m) in subst (IsPlaced xs) e (l, there)
+    by_one s m (inr e) = absurd e
+
+of_arc : (k i j : ℕ) (p : MachinePoint) → In p (arc_to k i j) → (i ≢ j) × (Arc k i j ≡ p)
+of_arc k i j p h = by_test (i == j) refl h
+  where
+    by_test : (b : Bool) → i == j ≡ b → In p (cond b [] (Arc k i j ∷ [])) → (i ≢ j) × (Arc k i j ≡ p)
+    by_test true e g = absurd g
+    by_test false e (inl g) = (grind (arith, nat_tests), g)
+    by_test false e (inr g) = absurd g
+
+of_arcs : (xs : List Machine) (k : ℕ) (p : MachinePoint) → k < length xs → In p (arcs_of k (length (machine_at xs k).names)) → IsPlaced xs p
+of_arcs xs k p l h =
+    let n = length (machine_at xs k).names in
+    let i = in_flat_map (arcs_from k n) p (range_with_len 0 n) h in
+    let j = in_flat_map (arc_to k i.0) p (range_with_len 0 n) i.2 in
+    let a = of_arc k i.0 j.0 p j.2 in
+    let from : i.0 < n = omega (arith, (in_range i.0 0 n i.1).1) in
+    let to : j.0 < n = omega (arith, (in_range j.0 0 n j.1).1) in
+    subst (IsPlaced xs) a.1 (l, from, to, a.0)
+
+pub from_found : (xs : List Machine) (p : MachinePoint) → In p (each_from points_of_machine 0 xs) → IsPlaced xs p
+from_found xs p h =
+    let r = parts_of points_of_machine p no_machine 0 xs h in
+    let here : In p (points_of_machine r.0 (machine_at xs r.0)) = subst (λ k. In p (points_of_machine k (machine_at xs r.0))) (zero-add r.0) r.2 in
+    let n = length (machine_at xs r.0).names in
+    by_part r.0 r.1 (in_append p (states_of r.0 n) (arcs_of r.0 n) here)
+  where
+    by_part : (k : ℕ) → k < length xs → In p (states_of k (length (machine_at xs k).names)) ⊎ In p (arcs_of k (length (machine_at xs k).names)) → IsPlaced xs p
+    by_part k l (inl a) = of_states xs k p l a
+    by_part k l (inr a) = of_arcs xs k p l a
+
+arc_there : (k i j : ℕ) → i ≢ j → In (Arc k i j) (arc_to k i j)
+arc_there k i j ne = by_test (i == j) refl
+  where
+    by_test : (b : Bool) → i == j ≡ b → In (Arc k i j) (cond b [] (Arc k i j ∷ []))
+    by_test true e = absurd (ne (grind (arith, nat_tests)))
+    by_test false e = inl refl
+
+pub to_found : (xs : List Machine) (p : MachinePoint) → IsPlaced xs p → In p (each_from points_of_machine 0 xs)
+to_found xs (State k s) h =
+    let n = length (machine_at xs k).names in
+    let state : In (State k s) (states_of k n) = in_flat_map_back (λ s. State k s ∷ []) s (range_with_len 0 n) (State k s) (range_in s 0 n (omega arith) (omega (arith, h.1))) (inl refl) in
+    let here : In (State k s) (points_of_machine k (machine_at xs k)) = in_left (State k s) (states_of k n) (arcs_of k n) state in
+    whole_of points_of_machine (State k s) no_machine 0 xs k h.0 (subst (λ m. In (State k s) (points_of_machine m (machine_at xs k))) (sym (zero-add k)) here)
+to_found xs (Arc k i j) h =
+    let n = length (machine_at xs k).names in
+    let p = Arc k i j in
+    let inner : In p (arcs_from k n i) = in_flat_map_back (arc_to k i) j (range_with_len 0 n) p (range_in j 0 n (omega arith) (omega (arith, h.2))) (arc_there k i j h.3) in
+    let arc : In p (arcs_of k n) = in_flat_map_back (arcs_from k n) i (range_with_len 0 n) p (range_in i 0 n (omega arith) (omega (arith, h.1))) inner in
+    let here : In p (points_of_machine k (machine_at xs k)) = in_right p (states_of k n) (arcs_of k n) arc in
+    whole_of points_of_machine p no_machine 0 xs k h.0 (subst (λ m. In p (points_of_machine m (machine_at xs k))) (sym (zero-add k)) here)
+
+-- two lists have as many elements, and those at a place go together
+zip_at : {A B : Type 0} (R : A → B → Type 0) (xs : List A) (ys : List B) (k : ℕ) (a : A) (b : B) → AllZip R xs ys → k < length xs → R (get_or xs k a) (get_or ys k b)
+zip_at R [] ys k a b h l = absurd (omega arith)
+zip_at R (x ∷ xs) [] k a b h l = absurd h
+zip_at R (x ∷ xs) (y ∷ ys) zero a b h l = h.0
+zip_at R (x ∷ xs) (y ∷ ys) (suc k) a b h l = zip_at R xs ys k a b h.1 (omega arith)
+
+zip_length : {A B : Type 0} (R : A → B → Type 0) (xs : List A) (ys : List B) → AllZip R xs ys → length xs ≡ length ys
+zip_length R [] [] h = refl
+zip_length R [] (y ∷ ys) h = absurd h
+zip_length R (x ∷ xs) [] h = absurd h
+zip_length R (x ∷ xs) (y ∷ ys) h = ap suc (zip_length R xs ys h.1)
+
+place_of : {A : Type 0} (x : A) (xs : List A) (d : A) → In x xs → (j : ℕ) × (j < length xs) × (get_or xs j d ≡ x)
+place_of x [] d h = absurd h
+place_of x (y ∷ xs) d (inl e) = (0, omega arith, e)
+place_of x (y ∷ xs) d (inr h) = let r = place_of x xs d h in (suc r.0, omega (arith, r.1), r.2)
+
+same_bits_itself : (bs : List Bit) → same_bits bs bs ≡ true
+same_bits_itself [] = refl
+same_bits_itself (Zero ∷ bs) = same_bits_itself bs
+same_bits_itself (One ∷ bs) = same_bits_itself bs
+same_bits_itself (X ∷ bs) = same_bits_itself bs
+same_bits_itself (Z ∷ bs) = same_bits_itself bs
+
+-- values that differ are at different places
+one_of_apart : (vs : List Vector) (i j : ℕ) → AreApart vs → i < length vs → j < length vs → get_or vs i no_value ≡ get_or vs j no_value → i ≡ j
+one_of_apart vs i j h l m e = elim (cases_order i j) [
+  | inl same ↦ same
+  | inr (inl less) ↦ absurd (h j m (i, less, ap (λ (v : Vector). same_bits v.bits (bits_at vs j)) e ∙ same_bits_itself (bits_at vs j)))
+  | inr (inr more) ↦ absurd (h i l (j, more, ap (λ (v : Vector). same_bits v.bits (bits_at vs i)) (sym e) ∙ same_bits_itself (bits_at vs i)))
+]
+
+module _ (d : Design) (lawful : IsLawfulDesign d) (ms : List StateNames) (xs : List Machine) (h : AreMachines d ms xs) where
+  -- the machine at a place is one of those that are named
+  abbrev Named : ℕ → Type 0
+  Named k = (m : StateNames) × In m ms × IsMachineOf d m (machine_at xs k)
+
+  named : (k : ℕ) → k < length xs → Named k
+  named k l = h.each (machine_at xs k) (in_at xs k no_machine l)
+
+  -- a state has its value, and its name is one of the machine's
+  value_is : (k s : ℕ) → k < length xs → s < length (machine_at xs k).names → IsStateValue d (machine_at xs k).instance (machine_at xs k).signal (state_name xs k s) (state_value xs k s)
+  value_is k s l g =
+      let n = named k l in
+      let values = subst (λ (ns : List (List ℕ)). AllZip (IsStateValue d (machine_at xs k).instance (machine_at xs k).signal) ns (machine_at xs k).values) (sym n.2.names) n.2.values in
+      zip_at (IsStateValue d (machine_at xs k).instance (machine_at xs k).signal) (machine_at xs k).names (machine_at xs k).values s [] no_value values g
+
+  name_in : (k s : ℕ) (m : StateNames) → (machine_at xs k).names ≡ m.names → s < length (machine_at xs k).names → In (state_name xs k s) m.names
+  name_in k s m e g = subst (λ (ns : List (List ℕ)). In (state_name xs k s) ns) e (in_at (machine_at xs k).names s [] g)
+
+  signal_is : (k : ℕ) → k < length xs → IsNameOf d (machine_at xs k).instance (machine_at xs k).variable (machine_at xs k).signal
+  signal_is k l = let n = named k l in subst (λ (v : List ℕ). IsNameOf d (machine_at xs k).instance v (machine_at xs k).signal) (sym n.2.variable) n.2.signal.1
+
+  at_machine : (k : ℕ) (l : k < length xs) → IsMachineAt d (named k l).0 (machine_at xs k).instance (machine_at xs k).variable (machine_at xs k).signal
+  at_machine k l = let n = named k l in (n.2.instance, n.2.variable, signal_is k l)
+
+  -- different states have different names
+  names_differ : (k i j : ℕ) → k < length xs → i < length (machine_at xs k).names → j < length (machine_at xs k).names → i ≢ j → state_name xs k i ≢ state_name xs k j
+  names_differ k i j l a b ne e =
+      let n = named k l in
+      let x = machine_at xs k in
+      let long : length x.names ≡ length x.values = ap length n.2.names ∙ zip_length (IsStateValue d x.instance x.signal) n.0.names x.values n.2.values in
+      let other = subst (λ (n : List ℕ). IsStateValue d x.instance x.signal n (state_value xs k i)) e (value_is k i l a) in
+      let same : state_value xs k i ≡ state_value xs k j = one_value d lawful x.instance x.signal (state_name xs k j) (state_value xs k i) (state_value xs k j) other (value_is k j l b) in
+      ne (one_of_apart x.values i j n.2.apart (omega (arith, long)) (omega (arith, long)) same)
+
+  pub listed_is : (p : MachinePoint) → IsPlaced xs p → IsPoint d ms (machine_view xs p)
+  listed_is (State k s) l = let n = named k l.0 in (n.0, n.1, at_machine k l.0, name_in k s n.0 n.2.names l.1, value_is k s l.0 l.1)
+  listed_is (Arc k i j) l =
+      let n = named k l.0 in
+      (n.0, n.1, at_machine k l.0, name_in k i n.0 n.2.names l.1, name_in k j n.0 n.2.names l.2, names_differ k i j l.0 l.1 l.2 l.3, value_is k i l.0 l.1, value_is k j l.0 l.2)
+
+  -- what two points of one address have alike
+  same_signal : (i j s t : ℕ) (a b : List ℕ) → i ≡ j → a ≡ b → IsNameOf d i a s → IsNameOf d j b t → s ≡ t
+  same_signal i j s t a b e f g k =
+      let moved : IsNameOf d j b s = subst (λ (n : List ℕ). IsNameOf d j n s) f (subst (λ (n : ℕ). IsNameOf d n a s) e g) in
+      one_signal d lawful j s t b moved k
+
+  same_value : (i j s t : ℕ) (a b : List ℕ) (x y : Vector) → i ≡ j → s ≡ t → a ≡ b → IsStateValue d i s a x → IsStateValue d j t b y → x ≡ y
+  same_value i j s t a b x y e f g k l =
+      let moved : IsStateValue d j t b x = subst (λ (n : List ℕ). IsStateValue d j t n x) g (subst (λ (n : ℕ). IsStateValue d j n a x) f (subst (λ (n : ℕ). IsStateValue d n s a x) e k)) in
+      one_value d lawful j t b x y moved l
+
+  one_state : (i j s t : ℕ) (a b m n : List ℕ) (x y : Vector) → i ≡ j → a ≡ b → s ≡ t → m ≡ n → x ≡ y → state_point i a s m x ≡ state_point j b t n y
+  one_state i j s t a b m n x y e f g k l = cc
+
+  one_arc : (i j s t : ℕ) (a b m n p q : List ℕ) (x y u v : Vector) → i ≡ j → a ≡ b → s ≡ t → m ≡ n → p ≡ q → x ≡ y → u ≡ v → arc_point i a s m p x u ≡ arc_point j b t n q y v
+  one_arc i j s t a b m n p q x y u v e f g k l r w = cc
+
+  -- the machine of the point, and the place of a state in it
+  record Found (m : StateNames) (i s : ℕ) : Type 0 where
+    place : ℕ
+    listed : place < length xs
+    is : IsMachineOf d m (machine_at xs place)
+    instance : (machine_at xs place).instance ≡ i
+    variable : (machine_at xs place).variable ≡ m.variable
+    signal : (machine_at xs place).signal ≡ s
+
+  found : (m : StateNames) (i s : ℕ) (name : List ℕ) → In m ms → IsMachineAt d m i name s → Found m i s
+  found m i s name g at =
+      let x = h.all m i g at.0 in
+      let k = place_of x.0 xs no_machine x.1 in
+      let is : IsMachineOf d m (machine_at xs k.0) = subst (IsMachineOf d m) (sym k.2) x.2 in
+      let instance : (machine_at xs k.0).instance ≡ i = ap (λ (y : Machine). y.instance) k.2 ∙ x.3 in
+      record {
+        place = k.0;
+        listed = k.1;
+        is = is;
+        instance = instance;
+        variable = is.variable;
+        signal = same_signal (machine_at xs k.0).instance i (machine_at xs k.0).signal s m.variable name instance (sym at.1) is.signal.1 at.2;
+      }
+
+  state_place : (m : StateNames) (k : ℕ) (name : List ℕ) → IsMachineOf d m (machine_at xs k) → In name m.names → (s : ℕ) × (s < length (machine_at xs k).names) × (state_name xs k s ≡ name)
+  state_place m k name is g = place_of name (machine_at xs k).names [] (subst (λ (ns : List (List ℕ)). In name ns) (sym is.names) g)
+
+  pub point_listed : (x : Point) → IsOfMachine x → IsPoint d ms x → (p : MachinePoint) × IsPlaced xs p × (machine_view xs p ≡ x)
+  point_listed (state_point i name s state v) o (m, g, at, there, value) =
+      let f = found m i s name g at in
+      let k = f.place in
+      let t = state_place m k state f.is there in
+      let variable : (machine_at xs k).variable ≡ name = f.variable ∙ sym at.1 in
+      let same = same_value (machine_at xs k).instance i (machine_at xs k).signal s (state_name xs k t.0) state (state_value xs k t.0) v f.instance f.signal t.2 (value_is k t.0 f.listed t.1) value in
+      (State k t.0, (f.listed, t.1), one_state (machine_at xs k).instance i (machine_at xs k).signal s (machine_at xs k).variable name (state_name xs k t.0) state (state_value xs k t.0) v f.instance variable f.signal t.2 same)
+  point_listed (arc_point i name s from to v w) o (m, g, at, leaves, enters, differ, old, new) =
+      let f = found m i s name g at in
+      let k = f.place in
+      let a = state_place m k from f.is leaves in
+      let b = state_place m k to f.is enters in
+      let variable : (machine_at xs k).variable ≡ name = f.variable ∙ sym at.1 in
+      let first = same_value (machine_at xs k).instance i (machine_at xs k).signal s (state_name xs k a.0) from (state_value xs k a.0) v f.instance f.signal a.2 (value_is k a.0 f.listed a.1) old in
+      let second = same_value (machine_at xs k).instance i (machine_at xs k).signal s (state_name xs k b.0) to (state_value xs k b.0) w f.instance f.signal b.2 (value_is k b.0 f.listed b.1) new in
+      let apart : a.0 ≢ b.0 = λ e. differ (sym a.2 ∙ ap (state_name xs k) e ∙ b.2) in
+      (Arc k a.0 b.0, (f.listed, a.1, b.1, apart), one_arc (machine_at xs k).instance i (machine_at xs k).signal s (machine_at xs k).variable name (state_name xs k a.0) from (state_name xs k b.0) to (state_value xs k a.0) v (state_value xs k b.0) w f.instance variable f.signal a.2 b.2 first second)
+  point_listed (Line p n at w) o g = absurd o
+  point_listed (Logic p n at op c) o g = absurd o
+  point_listed (Toggle s i rise) o g = absurd o
+  point_listed (Word m i write) o g = absurd o
+
+  -- the parts of a tie
+  record Tie (p q : MachinePoint) : Type 0 where
+    paths : machine_path d.instances xs p ≡ machine_path d.instances xs q
+    variables : machine_variable xs p ≡ machine_variable xs q
+    ranks : machine_rank p ≡ machine_rank q
+    firsts : first_name xs p ≡ first_name xs q
+    seconds : second_name xs p ≡ second_name xs q
+
+  tie : (p q : MachinePoint) → machine_cmp d.instances xs p q ≡ Equal → Tie p q
+  tie p q tied =
+      let paths = bytes_cmp (machine_path d.instances xs p) (machine_path d.instances xs q) in
+      let variables = bytes_cmp (machine_variable xs p) (machine_variable xs q) in
+      let ranks = nat_cmp (machine_rank p) (machine_rank q) in
+      let firsts = bytes_cmp (first_name xs p) (first_name xs q) in
+      let four = both_equal (ordering_then (ordering_then (ordering_then paths variables) ranks) firsts) (bytes_cmp (second_name xs p) (second_name xs q)) tied in
+      let three = both_equal (ordering_then (ordering_then paths variables) ranks) firsts four.0 in
+      let two = both_equal (ordering_then paths variables) ranks three.0 in
+      let one = both_equal paths variables two.0 in
+      record { paths = same_bytes _ _ one.0; variables = same_bytes _ _ one.1; ranks = same_number _ _ two.1; firsts = same_bytes _ _ three.1; seconds = same_bytes _ _ four.1 }
+
+  same_instance : (k l : ℕ) → k < length xs → l < length xs → path_at d.instances (machine_at xs k).instance ≡ path_at d.instances (machine_at xs l).instance → (machine_at xs k).instance ≡ (machine_at xs l).instance
+  same_instance k l a b e =
+      let m = named k a in
+      let n = named l b in
+      same_place (λ i. i.path) d.instances (machine_at xs k).instance (machine_at xs l).instance no_instance lawful.instance_paths m.2.instance.0 n.2.instance.0 e
+
+  pub one_point : (p q : MachinePoint) → IsPlaced xs p → IsPlaced xs q → machine_cmp d.instances xs p q ≡ Equal → machine_view xs p ≡ machine_view xs q
+  one_point (State k s) (State l t) a b tied =
+      let e = tie (State k s) (State l t) tied in
+      let instance = same_instance k l a.0 b.0 e.paths in
+      let signal = same_signal (machine_at xs k).instance (machine_at xs l).instance (machine_at xs k).signal (machine_at xs l).signal (machine_at xs k).variable (machine_at xs l).variable instance e.variables (signal_is k a.0) (signal_is l b.0) in
+      let value = same_value (machine_at xs k).instance (machine_at xs l).instance (machine_at xs k).signal (machine_at xs l).signal (state_name xs k s) (state_name xs l t) (state_value xs k s) (state_value xs l t) instance signal e.firsts (value_is k s a.0 a.1) (value_is l t b.0 b.1) in
+      one_state (machine_at xs k).instance (machine_at xs l).instance (machine_at xs k).signal (machine_at xs l).signal (machine_at xs k).variable (machine_at xs l).variable (state_name xs k s) (state_name xs l t) (state_value xs k s) (state_value xs l t) instance e.variables signal e.firsts value
+  one_point (Arc k i j) (Arc l m n) a b tied =
+      let e = tie (Arc k i j) (Arc l m n) tied in
+      let instance = same_instance k l a.0 b.0 e.paths in
+      let signal = same_signal (machine_at xs k).instance (machine_at xs l).instance (machine_at xs k).signal (machine_at xs l).signal (machine_at xs k).variable (machine_at xs l).variable instance e.variables (signal_is k a.0) (signal_is l b.0) in
+      let old = same_value (machine_at xs k).instance (machine_at xs l).instance (machine_at xs k).signal (machine_at xs l).signal (state_name xs k i) (state_name xs l m) (state_value xs k i) (state_value xs l m) instance signal e.firsts (value_is k i a.0 a.1) (value_is l m b.0 b.1) in
+      let new = same_value (machine_at xs k).instance (machine_at xs l).instance (machine_at xs k).signal (machine_at xs l).signal (state_name xs k j) (state_name xs l n) (state_value xs k j) (state_value xs l n) instance signal e.seconds (value_is k j a.0 a.2) (value_is l n b.0 b.2) in
+      one_arc (machine_at xs k).instance (machine_at xs l).instance (machine_at xs k).signal (machine_at xs l).signal (machine_at xs k).variable (machine_at xs l).variable (state_name xs k i) (state_name xs l m) (state_name xs k j) (state_name xs l n) (state_value xs k i) (state_value xs l m) (state_value xs k j) (state_value xs l n) instance e.variables signal e.firsts e.seconds old new
+  one_point (State k s) (Arc l m n) a b tied = let e = tie (State k s) (Arc l m n) tied in absurd (omega (arith, e.ranks))
+  one_point (Arc k i j) (State l t) a b tied = let e = tie (Arc k i j) (State l t) tied in absurd (omega (arith, e.ranks))
+
+  pub machines_are : (found sorted kept : List MachinePoint) → found ≡ each_from points_of_machine 0 xs → IsPermutation found sorted → kept ≡ dedup (eq_by_cmp (machine_cmp d.instances xs)) sorted → (x : Point) → IsOfMachine x → In x (map (machine_view xs) kept) ↔ IsPoint d ms x
+  machines_are found sorted kept is moved kept_is x o = (there, back)
+    where
+      listed : (p : MachinePoint) → In p found → IsPlaced xs p
+      listed p g = from_found xs p (subst (In p) is g)
+
+      there : In x (map (machine_view xs) kept) → IsPoint d ms x
+      there g =
+          let y = in_map (machine_view xs) x kept g in
+          let was = once_from (machine_total d.instances xs) found sorted moved y.0 (subst (In y.0) kept_is y.1) in
+          subst (IsPoint d ms) y.2 (listed_is y.0 (listed y.0 was))
+
+      back : IsPoint d ms x → In x (map (machine_view xs) kept)
+      back g =
+          let p = point_listed x o g in
+          let was : In p.0 found = subst (In p.0) (sym is) (to_found xs p.0 p.1) in
+          let same : (a b : MachinePoint) → In a found → In b found → machine_cmp d.instances xs a b ≡ Equal → machine_view xs a ≡ machine_view xs b = λ a b m n e. one_point a b (listed a m) (listed b n) e in
+          let seen = once_keeps (machine_total d.instances xs) found sorted moved (machine_view xs) same p.0 was in
+          subst (λ y. In y (map (machine_view xs) kept)) p.2 (subst (λ ks. In (machine_view xs p.0) (map (machine_view xs) ks)) (sym kept_is) seen)

@@ -1,0 +1,93 @@
+-- In one instance of a lawful design a name is that of one signal, and of one parameter.
+use Rattle.std.proofs.Common.{◌≡◌, ◌<◌, ◌++◌, ℕ, inl, inr, List, [], ◌∷◌, length, map, sym, ap, subst, ◌∙◌}
+use Rattle.four_state.specs.Parts.{extended_vector}
+use Rattle.four_state.specs.Vector.{Vector}
+use Rattle.design_model.specs.Design.{AreDistinct, Design, In, Named, no_signal, signal_at}
+use Rattle.design_model.specs.declared.design.Alias.{Alias}
+use Rattle.design_model.specs.declared.design.Constant.{Constant}
+use Rattle.design_model.specs.declared.design.Memory.{Memory}
+use Rattle.design_model.specs.declared.design.Signal.{Signal}
+use Rattle.design_model.specs.Lawful.{IsLawfulDesign}
+use Rattle.design_model.specs.Points.{IsNameOf, IsStateValue}
+use Rattle.cover_points.proofs.Members.{in_at, in_left, in_map_back, same_place}
+
+left_distinct : {A : Type 0} (xs ys : List A) → AreDistinct (xs ++ ys) → AreDistinct xs
+left_distinct [] ys h = tt
+left_distinct (x ∷ xs) ys h = ((λ i. h.0 (in_left x xs ys i)), left_distinct xs ys h.1)
+
+right_distinct : {A : Type 0} (xs ys : List A) → AreDistinct (xs ++ ys) → AreDistinct ys
+right_distinct [] ys h = h
+right_distinct (x ∷ xs) ys h = right_distinct xs ys h.1
+
+-- what is in the left part is not in the right one
+in_right_too : {A : Type 0} (x : A) (xs ys : List A) → In x ys → In x (xs ++ ys)
+in_right_too x [] ys h = h
+in_right_too x (y ∷ xs) ys h = inr (in_right_too x xs ys h)
+
+not_both : {A : Type 0} (xs ys : List A) (x : A) → AreDistinct (xs ++ ys) → In x xs → In x ys → ⊥
+not_both [] ys x h a b = absurd a
+not_both (y ∷ xs) ys x h (inl e) b = h.0 (subst (λ z. In z (xs ++ ys)) (sym e) (in_right_too x xs ys b))
+not_both (y ∷ xs) ys x h (inr a) b = not_both xs ys x h.1 a b
+
+-- what has one key is one
+same_by_key : {A K : Type 0} (key : A → K) (xs : List A) → AreDistinct (map key xs) → (x y : A) → In x xs → In y xs → key x ≡ key y → x ≡ y
+same_by_key key [] h x y k l e = absurd k
+same_by_key key (z ∷ zs) h x y (inl a) (inl b) e = sym a ∙ b
+same_by_key key (z ∷ zs) h x y (inl a) (inr b) e = absurd (h.0 (subst (λ w. In w (map key zs)) (sym (ap key a ∙ e)) (in_map_back key y zs b)))
+same_by_key key (z ∷ zs) h x y (inr a) (inl b) e = absurd (h.0 (subst (λ w. In w (map key zs)) (e ∙ sym (ap key b)) (in_map_back key x zs a)))
+same_by_key key (z ∷ zs) h x y (inr a) (inr b) e = same_by_key key zs h.1 x y a b e
+
+module _ (d : Design) (lawful : IsLawfulDesign d) where
+  abbrev named : ℕ → List ℕ → Named
+  named i n = (i, n)
+
+  abbrev ss : List Named
+  ss = map (λ (s : Signal). (s.instance, s.name)) d.signals
+
+  abbrev ms : List Named
+  ms = map (λ (m : Memory). (m.instance, m.name)) d.memories
+
+  abbrev cs : List Named
+  cs = map (λ (c : Constant). (c.instance, c.name)) d.constants
+
+  abbrev xs : List Named
+  xs = map (λ (a : Alias). (a.instance, a.name)) d.aliases
+
+  three : AreDistinct (ss ++ ms ++ cs)
+  three = left_distinct (ss ++ ms ++ cs) xs lawful.names
+
+  signals_once : AreDistinct ss
+  signals_once = left_distinct ss ms (left_distinct (ss ++ ms) cs three)
+
+  constants_once : AreDistinct cs
+  constants_once = right_distinct (ss ++ ms) cs three
+
+  aliases_once : AreDistinct xs
+  aliases_once = right_distinct (ss ++ ms ++ cs) xs lawful.names
+
+  pair : (i j : ℕ) (a b : List ℕ) → i ≡ j → a ≡ b → named i a ≡ named j b
+  pair i j a b e f = ap (λ k. named k a) e ∙ ap (named j) f
+
+  no_alias_too : (i s : ℕ) (name : List ℕ) (a : Alias) → s < length d.signals → (signal_at d s).instance ≡ i → (signal_at d s).name ≡ name → In a d.aliases → a.instance ≡ i → a.name ≡ name → ⊥
+  no_alias_too i s name a l e f h g k =
+      let x = signal_at d s in
+      let left : In (x.instance, x.name) ss = in_map_back (λ (s : Signal). (s.instance, s.name)) x d.signals (in_at d.signals s no_signal l) in
+      let right : In (a.instance, a.name) xs = in_map_back (λ (a : Alias). (a.instance, a.name)) a d.aliases h in
+      let same : named a.instance a.name ≡ named x.instance x.name = pair a.instance x.instance a.name x.name (g ∙ sym e) (k ∙ sym f) in
+      not_both (ss ++ ms ++ cs) xs (x.instance, x.name) lawful.names (in_left (x.instance, x.name) (ss ++ ms) cs (in_left (x.instance, x.name) ss ms left)) (subst (λ (n : Named). In n xs) same right)
+
+  -- a name is that of one signal
+  pub one_signal : (i s t : ℕ) (name : List ℕ) → IsNameOf d i name s → IsNameOf d i name t → s ≡ t
+  one_signal i s t name (inl a) (inl b) =
+      same_place (λ (s : Signal). (s.instance, s.name)) d.signals s t no_signal signals_once a.0 b.0 (pair (signal_at d s).instance (signal_at d t).instance (signal_at d s).name (signal_at d t).name (a.1 ∙ sym b.1) (a.2 ∙ sym b.2))
+  one_signal i s t name (inl a) (inr b) = absurd (no_alias_too i s name b.0 a.0 a.1 a.2 b.1 b.2 b.3)
+  one_signal i s t name (inr a) (inl b) = absurd (no_alias_too i t name a.0 b.0 b.1 b.2 a.1 a.2 a.3)
+  one_signal i s t name (inr a) (inr b) =
+      let same : a.0 ≡ b.0 = same_by_key (λ (a : Alias). (a.instance, a.name)) d.aliases aliases_once a.0 b.0 a.1 b.1 (pair a.0.instance b.0.instance a.0.name b.0.name (a.2 ∙ sym b.2) (a.3 ∙ sym b.3)) in
+      sym a.4 ∙ ap (λ (x : Alias). x.signal) same ∙ b.4
+
+  -- and a parameter has one value
+  pub one_value : (i s : ℕ) (name : List ℕ) (x y : Vector) → IsStateValue d i s name x → IsStateValue d i s name y → x ≡ y
+  one_value i s name x y a b =
+      let same : a.0 ≡ b.0 = same_by_key (λ (c : Constant). (c.instance, c.name)) d.constants constants_once a.0 b.0 a.1 b.1 (pair a.0.instance b.0.instance a.0.name b.0.name (a.2 ∙ sym b.2) (a.3 ∙ sym b.3)) in
+      a.4 ∙ ap (λ (c : Constant). extended_vector (signal_at d s).width (signal_at d s).signed c.value) same ∙ sym b.4
