@@ -71,7 +71,7 @@ row_before rows row p l = get_or_append_left rows (row ∷ []) [] p l
 pub row_last : (rows : List (List ℕ)) (row : List ℕ) (p : ℕ) → length rows ≡ p → row_at (rows ++ row ∷ []) p ≡ row
 row_last rows row p e = get_or_push rows row [] p e
 
--- so many rows have the same numbers as others
+-- so many rows contain the same numbers as others
 pub record AreSame (once lists : List (List ℕ)) (n : ℕ) : Type 0 where
   pub count : length once ≡ n
   pub same : (p x : ℕ) → p < n → Contains (row_at once p) x ↔ Contains (row_at lists p) x
@@ -134,7 +134,7 @@ both_step found after list marks i b l h e is =
 pub both_all : (found list marks : List ℕ) (i : ℕ) → length list ≤ i → HasBoth found (take i list) marks → HasBoth found list marks
 both_all found list marks i l h = subst (λ ys. HasBoth found ys marks) (take_all i list l) h
 
--- so many rows have what two others share
+-- so many rows contain what two others share
 pub record AreShared (shared watched driven : List (List ℕ)) (n : ℕ) : Type 0 where
   pub count : length shared ≡ n
   pub both : (p x : ℕ) → p < n → Contains (row_at shared p) x ↔ (Contains (row_at watched p) x × Contains (row_at driven p) x)
