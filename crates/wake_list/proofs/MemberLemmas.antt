@@ -7,7 +7,7 @@ use Rattle.std.proofs.lemmas.List.Folds.{list_any-append}
 use Rattle.std.proofs.lemmas.Map.Steps.{length-le_from_distinct_below}
 use Rattle.wake_list.specs.Members.{IsOnce, has}
 
--- what is in two lists, one behind the other
+-- what is in two lists, one after the other
 pub has_left : (p : ℕ) (xs ys : List ℕ) → has p xs ≡ true → has p (xs ++ ys) ≡ true
 has_left p xs ys h = list_any-append (eqb p) xs ys ∙ or_left (has p xs) (has p ys) h
 

@@ -10,7 +10,7 @@ use Rattle.wake_list.proofs.MemberLemmas.{has_either, has_left, has_right, once_
 abbrev pub ranked : ℕ → List ℕ → List (ℕ × ℕ)
 ranked r ps = map (λ p. (p, r)) ps
 
--- behind those of no greater rank
+-- after those of no greater rank
 past_ranked : (p r b : ℕ) (ps : List ℕ) (xs : List (ℕ × ℕ)) → b ≤ r → with_process p r (ranked b ps ++ xs) ≡ ranked b ps ++ with_process p r xs
 past_ranked p r b [] xs l = refl
 past_ranked p r b (q ∷ qs) xs l =
@@ -23,7 +23,7 @@ before_ranked p r b ([] ∷ lists) l = before_ranked p r (b + 1) lists (omega ar
 before_ranked p r b ((q ∷ qs) ∷ lists) l =
     ap (λ t. cond t ((q, b) ∷ with_process p r (ranked b qs ++ pairs_from (b + 1) lists)) ((p, r) ∷ (q, b) ∷ (ranked b qs ++ pairs_from (b + 1) lists))) (lt-leb b r l)
 
--- a process put behind those of its rank
+-- a process put after those of its rank
 pub pairs_more : (b k p : ℕ) (lists : List (List ℕ)) → k < length lists → pairs_from b (set lists k (get_or lists k [] ++ p ∷ [])) ≡ with_process p (b + k) (pairs_from b lists)
 pairs_more b k p [] l = absurd (omega arith)
 pairs_more b zero p (ps ∷ lists) l =

@@ -31,7 +31,7 @@ pub record IsQueue (links : List ℕ) (ranks : List (Option ℕ)) (rank : ℕ) (
   pub ends : EndsAt q.last (processes_of links q)
   pub ranked : (p : ℕ) → has p (processes_of links q) ≡ true → slice_index_or ranks p None ≡ Some rank
 
--- the queues of all ranks, the rank of each process that is in one of them, and which ranks have a process
+-- the queues of all ranks, the rank of each process that is in one of them, and which ranks are used
 pub record AreQueues (links : List ℕ) (ranks : List (Option ℕ)) (used : List Bool) (queues : List Queue) : Type 0 where
   pub small : length links < 2 ^ 32
   pub ranks_size : length ranks ≡ length links

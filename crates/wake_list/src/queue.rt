@@ -10,7 +10,7 @@ ghost use Rattle.wake_list.specs.Queues.{EndsAt, chain};
 pub(crate) struct Queue {
     pub(crate) first: u32,
     pub(crate) last: u32,
-    /// How many there are. Where there is none, `first` and `last` say nothing.
+    /// How many there are. Where it is 0, `first` and `last` say nothing.
     pub(crate) count: u32,
 }
 
@@ -22,7 +22,7 @@ impl Queue {
         count: 0,
     };
 
-    /// The queue with a process behind the others, which is linked to the last of them.
+    /// The queue with a process after the others, to which the last of them is linked.
     pub(crate) fn with(self, process: u32, links: &mut [u32]) -> Queue
         requires last { 0 < self.count → self.last < length links.old }
         requires ends { EndsAt self.last (chain links.old self.first self.count) }

@@ -12,7 +12,7 @@ use std::marker::Model;
 /// no memory.
 #[derive(Drop)]
 pub struct WakeList {
-    /// For each rank the processes that have it.
+    /// For each rank the processes with it.
     queues: Vec<Queue>,
     /// For each process the one after it in its queue.
     links: Vec<u32>,
@@ -61,7 +61,7 @@ impl WakeList {
         self.used.least().is_none()
     }
 
-    /// Puts a process with this rank on the list, behind those of the same rank, and says whether it was not yet there. A
+    /// Puts a process with this rank on the list, after those of the same rank, and says whether it was not yet there. A
     /// process that is on the list stays where it is, with the rank that it has.
     pub fn put(&mut self, process: u32, rank: u32) -> bool
         requires process { process < self.old.count }

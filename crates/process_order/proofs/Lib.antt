@@ -1,0 +1,9 @@
+pub mod RowLemmas
+pub mod RunOrder
+pub mod Driven
+pub mod Distinct
+pub mod Numbers
+pub mod Past
+pub mod Adding
+pub mod Picking
+pub mod Alone

@@ -1,0 +1,6 @@
+pub mod Names
+pub mod Owners
+pub mod Needs
+pub mod Order
+pub mod Parts
+pub mod Tables
