@@ -24,7 +24,7 @@ lists_grow f g lists ws i found w l e is so =
     map-append f lists (found ∷ []) ∙ ap (λ ls. ls ++ f found ∷ []) so ∙ ap (λ r. map g (take i ws) ++ r ∷ []) is ∙ sym (map-append g (take i ws) (w ∷ [])) ∙ ap (λ y. map g (take i ws ++ y ∷ [])) e ∙ ap (map g) (sym (take_more ws i w l))
 
 -- the names of the process with a number
-names_row : (names : Process → List ℕ) (ps : List CodeProcess) (p : ℕ) → names no_process ≡ [] → row_at (map (λ q. names (process_view q)) ps) p ≡ names (get_or (map process_view ps) p no_process)
+pub names_row : {T : Type 0} (names : Process → List T) (ps : List CodeProcess) (p : ℕ) → names no_process ≡ [] → row_at (map (λ q. names (process_view q)) ps) p ≡ names (get_or (map process_view ps) p no_process)
 names_row names ps p none =
     ap (λ ls. get_or ls p []) (sym (map-map names process_view ps)) ∙ ap (λ d. get_or (map names (map process_view ps)) p d) (sym none) ∙ get_or-map names (map process_view ps) p no_process
 
