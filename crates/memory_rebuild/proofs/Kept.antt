@@ -331,3 +331,17 @@ pub weakened_words : (s : Shape) (epoch room : ℕ) (ws vs : List Word) (written
 weakened_words s epoch room ws vs written r index value k is size wide same listed =
     subst (λ y. (q : ℕ) → q < count y.shape → word_at (words_of s epoch vs) (least y.shape + q) ≡ (if may_be y.shape index (least y.shape + q) then joined (word_at y (least y.shape + q)) value else word_at y (least y.shape + q))) is
     (λ q l. weakened_word s epoch room ws vs written (may_be s index) value k size (wide ∙ sym (ap (λ y. y.shape.width) is)) same listed q (let e : length ws ≡ count s = k.size in omega (arith, l, e)))
+
+-- a word that is not listed is unknown
+pub not_listed : (s : Shape) (epoch room : ℕ) (ws : List Word) (written : List ℕ) (r : KnownWords) → AreKept s epoch ws written room → words_of s epoch ws ≡ r → (q : ℕ) → q < count r.shape → (Contains written q → ⊥) → word_at r (least r.shape + q) ≡ unknown r.shape.width
+not_listed s epoch room ws written r k is q l none =
+    let size : length ws ≡ count s = k.size in
+    let shape : count r.shape ≡ count s = ap (λ (x : KnownWords). count x.shape) (sym is) in
+    let inside : q < length ws = omega (arith, l, size, shape) in
+    let w : Word = get_or ws q no_word in
+    let other : is_of epoch w ≡ false = go (is_of epoch w) refl inside in
+    subst (λ (x : KnownWords). word_at x (least x.shape + q) ≡ unknown x.shape.width) is (word_in s epoch ws q no_word inside ∙ ap (λ t. if t then w.value.bits else unknown s.width) other)
+  where
+    go : (t : Bool) → is_of epoch (get_or ws q no_word) ≡ t → q < length ws → t ≡ false
+    go false e m = refl
+    go true e m = absurd (none (k.listed q no_word m e))

@@ -1,8 +1,8 @@
-ghost use Rattle.std.specs.Prelude.{◌≡◌, ◌+◌, ◌<◌, ◌≤◌, ℕ, List, IfOk, None, Some, false, if◌then◌else◌, length};
+ghost use Rattle.std.specs.Prelude.{◌≡◌, ◌+◌, ◌<◌, ◌==◌, ◌≤◌, ℕ, List, All, Contains, IfOk, MatchOption, None, Some, false, true, if◌then◌else◌, length};
 ghost use Rattle.four_state.specs.declared.bit.Bit.{Bit};
 ghost use Rattle.known_state.specs.Partly.{is_whole as is_whole_value, with_blame};
 ghost use Rattle.design_model.specs.Design.{Design, memory_at};
-ghost use Rattle.body_replay.specs.KnownBits.{AllAllow, whole_bits};
+ghost use Rattle.body_replay.specs.KnownBits.{AllAllow, unknown, whole_bits};
 ghost use Rattle.body_replay.specs.Store.{Kept, keep_all, read_word};
 ghost use Rattle.memory_rebuild.specs.Words.{AllowsWords, HaveWidth, IsForgotten, IsIndex, StandsFor, bits_left, cell_writes, least, count, may_be, named_by, option_word, read_of, true_word, true_words, unwritten, word_after, word_at};
 
@@ -135,6 +135,42 @@ impl Rebuilt {
         self.written.clear();
     }
 
+    /// The place of the word that an index names, counted from the least one.
+    pub fn place_of(&self, index: &Known) -> Option<usize>
+        requires { is_whole_value index.now ≡ true }
+        ensures { (bits : List Bit) → whole_bits index.now.bits ≡ Some bits → MatchOption result (named_by self.now.shape index.now.signed bits ≡ None) (λ place. (place < count self.now.shape) × (named_by self.now.shape index.now.signed bits ≡ Some (least self.now.shape + place))) }
+    {
+        self.shape.place_named(&index.value())
+    }
+
+    /// Whether some value that an index may have names the word at a place.
+    pub fn may_name(&self, index: &Known, place: usize) -> bool
+        requires { place < count self.now.shape }
+        ensures { result ≡ may_be self.now.shape index.now (least self.now.shape + place) }
+    {
+        self.shape.may_name(index, place)
+    }
+
+    /// The places of the words that were written since the last `smudge`. All others are unknown, so a write by an index
+    /// that is not sure leaves them.
+    pub fn written_places(&self) -> &[usize]
+        ensures inside { All (λ place. place < count self.now.shape) result.now }
+        ensures others { (place : ℕ) → place < count self.now.shape → (Contains result.now place → ⊥) → word_at self.now (least self.now.shape + place) ≡ unknown self.now.shape.width }
+    {
+        self.written.as_slice()
+    }
+
+    /// Puts a value of the words' width and sign into the word at a place. It takes no memory.
+    pub fn set_word(&mut self, place: usize, value: &Known)
+        requires place { place < count self.old.shape }
+        requires width { length value.now.bits ≡ self.old.shape.width }
+        requires sign { value.now.signed ≡ self.old.shape.signed }
+        ensures shape { self.new.shape ≡ self.old.shape }
+        ensures words { (q : ℕ) → q < count self.old.shape → word_at self.new (least self.old.shape + q) ≡ (if place == q then value.now.bits else word_at self.old (least self.old.shape + q)) }
+    {
+        self.put_at(place, value, true);
+    }
+
     /// What an index reads.
     fn looked_up(&self, index: &Known) -> Known
         ensures value { result ≡ read_of self.now index.now }
@@ -167,7 +203,7 @@ impl Rebuilt {
     }
 
     /// The word at a place.
-    fn word(&self, place: usize) -> Known
+    pub fn word(&self, place: usize) -> Known
         requires { place < count self.now.shape }
         ensures value { result ≡ with_blame (word_at self.now (least self.now.shape + place)) self.now.shape.signed self.now.shape.blame }
         ensures width { length result.bits ≡ self.now.shape.width }
