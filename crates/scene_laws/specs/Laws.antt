@@ -4,9 +4,12 @@ use Rattle.known_state.specs.Partly.{Partly}
 use Rattle.design_model.specs.Design.{Design, In}
 use Rattle.design_model.specs.Tree.{Arms, Stmt, Stmts, Target, Targets, Term, Terms, a_stmt, a_target, a_term, all_of, arm, bits_of, block, branch, empty, no_arms, no_stmts, no_targets, no_terms, select, set, several, turns, word_of}
 use Rattle.design_model.specs.Shape.{is_body}
+use Rattle.body_replay.specs.Replay.{State, joined_states}
 use Rattle.term_replay.specs.Noted.{marks_of}
 use Rattle.term_replay.specs.Stands.{IsInContext, Scene, Stands, first_after}
 use Rattle.body_calls.specs.Lvalues.{Like}
+use Rattle.body_calls.specs.Ways.{joined_scene}
+use Rattle.scene_laws.specs.At.{scene_of}
 
 -- a term gives the same on both scenes
 pub record SameTerm (v w : Scene) (before : Option ℕ) (t : Term) : Type 0 where
@@ -56,3 +59,9 @@ abbrev mutual
 -- *contexts*: each term that the run of a body evaluates has the width and sign of its context
 abbrev pub InContexts : Type 0
 InContexts = (d : Design) (s : Stmt) → is_body d s ≡ true → (t : Term) → In t (run_terms s) → IsInContext d t
+
+-- *joins*: what is read after an undecided test is what the definition joins of the states that its branches leave
+abbrev pub JoinsAlike : Type 0
+JoinsAlike =
+    (d : Design) (test : ℕ) (left right : State) (v w : Scene) → Like (scene_of d left) v → Like (scene_of d right) w
+    → Like (scene_of d (joined_states d test left right)) (joined_scene test v w)

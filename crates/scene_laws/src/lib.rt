@@ -2,11 +2,13 @@
 //! term is in its context.
 #![tactic(auto)]
 
-ghost use Rattle.scene_laws.specs.Laws.{InContexts, TermsAlike};
+ghost use Rattle.scene_laws.specs.Laws.{InContexts, JoinsAlike, TermsAlike};
 
 /// The terms of a body do not tell scenes apart that differ only in the blames of signals of which all bits are sure, and each
-/// of them has the width and the sign that its context gives it (IEEE 1364-2001, clauses 4.4 and 4.5).
+/// of them has the width and the sign that its context gives it (IEEE 1364-2001, clauses 4.4 and 4.5). The two branches of
+/// an undecided test are joined as the definition of a run joins them.
 pub fn terms_law()
     ensures alike { TermsAlike }
     ensures contexts { InContexts }
+    ensures joins { JoinsAlike }
 {}
