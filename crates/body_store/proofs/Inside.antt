@@ -1,5 +1,5 @@
 -- The writes of an evaluated target are to cells of one signal, or of one memory.
-use Rattle.std.proofs.Common.{◌≡◌, ℕ, zero, suc, ◌+◌, ◌<◌, ◌≤◌, ◌⊎◌, ◌&&◌, ◌==◌, Bool, true, false, if◌then◌else◌, List, [], ◌∷◌, ◌++◌, map, Option, Some, None, ℤ, pos, negsuc, ◌+ℤ◌, refl, sym, ap, ap₂, ◌∙◌, arith, inl, inr, ⊎_elim}
+use Rattle.std.proofs.Common.{◌≡◌, ℕ, zero, suc, ◌+◌, ◌<◌, ◌≤◌, ◌⊎◌, ◌&&◌, ◌==◌, Bool, true, false, if◌then◌else◌, List, [], ◌∷◌, ◌++◌, map, Option, Some, None, ℤ, pos, negsuc, ◌+ℤ◌, refl, sym, ap, ◌∙◌, arith, inl, inr}
 use Rattle.std.specs.Prelude.{⊤, nat_lt}
 use Rattle.std.specs.List.{range_with_len}
 use Rattle.std.proofs.lemmas.Bool.{eqb-true, false≢true}
@@ -11,7 +11,7 @@ use Rattle.design_model.specs.Design.{Design, cell, signal_at, signal_cells}
 use Rattle.design_model.specs.Value.{offset_option}
 use Rattle.design_model.specs.Assignment.{option_cell, signal_range}
 use Rattle.body_replay.specs.KnownBits.{KnownBits, on_whole, whole_bits}
-use Rattle.body_replay.specs.Store.{Kept, KnownWrite, keep_all, known_bit_option, known_bit_writes, perhaps_cell, perhaps_cells, weaken, write_bits, writes_of}
+use Rattle.body_replay.specs.Store.{KnownWrite, known_bit_option, known_bit_writes, perhaps_cell, perhaps_cells, weaken, write_bits, writes_of}
 use Rattle.body_replay.proofs.Frames.{Misses}
 
 -- each write is to a cell of this thing, at a place that passes the test

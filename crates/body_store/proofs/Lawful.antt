@@ -1,5 +1,5 @@
 -- A lawful design meets what a store asks.
-use Rattle.std.proofs.Common.{◌≡◌, ℕ, ◌+◌, ◌≤◌, ◌&&◌, ◌||◌, ◌==◌, Bool, true, List, [], ◌∷◌, length, ap, ◌∙◌, arith}
+use Rattle.std.proofs.Common.{◌≡◌, ◌+◌, ◌≤◌, ◌&&◌, ◌==◌, Bool, true, List, [], ◌∷◌, length, arith}
 use Rattle.std.specs.Prelude.{nat_le, nat_lt, sum_by}
 use Rattle.std.specs.List.{All, list_all}
 use Rattle.std.proofs.lemmas.Bool.{and_parts}
@@ -9,7 +9,7 @@ use Rattle.std.proofs.lemmas.List.Sums.{sum_by-cons}
 use Rattle.design_model.specs.declared.design.Memory.{Memory}
 use Rattle.design_model.specs.declared.design.Signal.{Signal}
 use Rattle.design_model.specs.Design.{Design}
-use Rattle.design_model.specs.Lawful.{IsLawfulDesign, is_memory_of, is_signal, span}
+use Rattle.design_model.specs.Lawful.{is_memory_of, is_signal, span}
 use Rattle.value_store.specs.Signals.{HasWidth}
 use Rattle.body_store.specs.Made.{HasWordWidth}
 use Rattle.body_store.specs.Premises.{PremisesLaw}

@@ -3,6 +3,7 @@ pub mod Between
 pub mod Blank
 pub mod Branches
 pub mod Changed
+pub mod Ending
 pub mod Fit
 pub mod Inside
 pub mod Lawful

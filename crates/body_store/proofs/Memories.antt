@@ -1,5 +1,5 @@
 -- A store after a blocking write to a word of a memory.
-use Rattle.std.proofs.Common.{◌≡◌, ℕ, ◌+◌, ◌-◌, ◌<◌, ◌≤◌, ◌==◌, ◌&&◌, ◌||◌, ◌⊎◌, Bool, true, false, if◌then◌else◌, List, length, map, get_or, set, Option, None, refl, sym, ap, subst, ◌∙◌, arith, eq-eqb, get_or-set_same, get_or-set_other, length-set, ⊎_elim}
+use Rattle.std.proofs.Common.{◌≡◌, ℕ, ◌+◌, ◌-◌, ◌<◌, ◌≤◌, ◌==◌, ◌&&◌, ◌||◌, Bool, true, false, List, length, map, get_or, set, None, refl, sym, ap, subst, ◌∙◌, arith, eq-eqb, get_or-set_same, get_or-set_other, length-set, ⊎_elim}
 use Rattle.std.specs.Prelude.{◌*◌, nat_le}
 use Rattle.std.specs.List.{range_with_len}
 use Rattle.event_machine.specs.Cell.{Cell}
@@ -19,9 +19,9 @@ use Rattle.body_calls.specs.Lvalues.{Like, written}
 use Rattle.body_calls.specs.declared.lvalue.Lvalue.TheVariants.{Word}
 use Rattle.body_store.specs.declared.memory.StoredMemory.{StoredMemory}
 use Rattle.body_store.specs.Fitting.{FitsDesign, FitsMemory, memory_in}
-use Rattle.body_store.specs.Made.{shape_of, unknown_memory}
-use Rattle.body_store.specs.Scenes.{blames_by, kept_by, scene_with}
-use Rattle.body_store.proofs.Fit.{among_memories, from_memories, in_memories, memory_stands}
+use Rattle.body_store.specs.Made.{unknown_memory}
+use Rattle.body_store.specs.Scenes.{kept_by, scene_with}
+use Rattle.body_store.proofs.Fit.{among_memories, from_memories, memory_stands}
 use Rattle.body_store.proofs.Words.{word_changed}
 
 abbrev pub no_stored : StoredMemory

@@ -9,7 +9,7 @@ use Rattle.value_store.specs.Signals.{Signals, read_at}
 use Rattle.write_log.specs.Logs.{LogState, Readings, around, is_inside, kept_log}
 use Rattle.write_log.specs.declared.entry.Overwritten.{Overwritten}
 use Rattle.write_log.specs.declared.entry.Test.{Test}
-use Rattle.body_calls.specs.Rooms.{Leaves, Rooms, takes_in}
+use Rattle.body_calls.specs.Rooms.{Rooms, takes_in}
 use Rattle.body_store.specs.Bodies.{log_room, tests_by}
 
 -- the log with the entry

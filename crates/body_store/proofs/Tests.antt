@@ -1,12 +1,11 @@
 -- The innermost undecided test around a store.
-use Rattle.std.proofs.Common.{◌≡◌, ℕ, suc, ◌<◌, ◌==◌, Bool, true, false, not, if◌then◌else◌, List, [], ◌∷◌, length, map, drop, take, get_or, Option, Some, None, refl, sym, ap, subst, ◌∙◌, arith}
+use Rattle.std.proofs.Common.{◌≡◌, ℕ, suc, ◌<◌, ◌==◌, Bool, true, false, not, if◌then◌else◌, List, [], ◌∷◌, length, drop, get_or, Some, None, refl, sym, ap, subst, arith}
 use Rattle.std.specs.List.{All}
 use Rattle.std.specs.Option.{unwrap_or}
 use Rattle.std.proofs.lemmas.Bool.{eqb-true, false≢true}
 use Rattle.std.proofs.lemmas.List.Elements.{All-drop, All-head, All-nil, All-tail}
-use Rattle.known_state.specs.Partly.{Partly}
 use Rattle.term_replay.specs.Stands.{Scene}
-use Rattle.value_store.specs.Signals.{HasShape, Signals, no_value, read_at, shape_at}
+use Rattle.value_store.specs.Signals.{HasShape, Signals, no_value, shape_at}
 use Rattle.write_log.specs.Entries.{Fits, first_value}
 use Rattle.write_log.specs.Logs as l
 use Rattle.write_log.specs.Logs.{IsLogOf, LogState, Readings, around, innermost, is_first, is_second, left_of, reads_of, tests_of, undo}

@@ -1,24 +1,23 @@
 -- What bodies read after a blocking write to a word of a memory.
-use Rattle.std.proofs.Common.{◌≡◌, ◌≢◌, ℕ, zero, suc, ◌+◌, ◌-◌, ◌*◌, ◌/◌, ◌%◌, ◌<◌, ◌≤◌, ◌==◌, ◌&&◌, ◌||◌, Bool, true, false, if◌then◌else◌, List, [], ◌∷◌, ◌++◌, length, map, get_or, set, min, max, ℤ, pos, negsuc, Option, Some, None, refl, sym, ap, ap₂, subst, ◌∙◌, arith, eq-eqb, get_or-set_same, get_or-set_other, inl, inr}
+use Rattle.std.proofs.Common.{◌≡◌, ℕ, zero, suc, ◌+◌, ◌-◌, ◌*◌, ◌/◌, ◌%◌, ◌<◌, ◌≤◌, ◌==◌, ◌&&◌, Bool, true, false, if◌then◌else◌, List, ◌++◌, min, max, ℤ, pos, negsuc, Option, Some, None, refl, sym, ap, ap₂, subst, ◌∙◌, arith, inl, inr}
 use Rattle.std.specs.Prelude.{nat_le, nat_lt}
 use Rattle.std.specs.List.{range_with_len}
 use Rattle.std.proofs.Math.Path.{fun_ext}
 use Rattle.std.proofs.Math.Nat.{le-max_left, min-le_left, mod-lt, mod-add-div'}
-use Rattle.std.proofs.lemmas.Bool.{and_parts, eqb-true, eqb-false}
+use Rattle.std.proofs.lemmas.Bool.{and_parts, eqb-true}
 use Rattle.std.proofs.lemmas.Bool.Decides.{nat_tests}
 use Rattle.std.proofs.lemmas.Nat.{div-mul-add}
-use Rattle.event_machine.specs.Cell.{Cell}
 use Rattle.four_state.specs.declared.bit.Bit.{Bit}
 use Rattle.four_state.specs.Parts.{index}
 use Rattle.known_state.specs.Partly.{Partly}
 use Rattle.design_model.specs.declared.design.Memory.{Memory}
-use Rattle.design_model.specs.Design.{Design, cell, is_memory, memory_at, word_cells}
+use Rattle.design_model.specs.Design.{Design, cell, memory_at, word_cells}
 use Rattle.design_model.specs.Value.{named_word}
 use Rattle.body_replay.specs.KnownBits.{KnownBits, on_whole, whole_bits}
 use Rattle.body_replay.specs.Store.{Kept, KnownWrite, keep_all, known_word_writes, may_name, perhaps_words, weaken, words, write_word, writes_of}
 use Rattle.body_replay.proofs.Frames.{missed}
 use Rattle.memory_rebuild.specs.Words.{IsIndex, KnownWords, StandsFor, word_at}
-use Rattle.body_store.specs.Scenes.{bit_at, has_index, kept_by, word_bit}
+use Rattle.body_store.specs.Scenes.{bit_at, kept_by, word_bit}
 use Rattle.body_store.proofs.Inside.{Inside, inside_append, inside_misses, inside_row, inside_weaken}
 use Rattle.body_store.proofs.Rows.{memory_bit, row_at}
 

@@ -4,7 +4,7 @@ use Rattle.std.specs.Prelude.{nat_lt}
 use Rattle.std.specs.Option.{unwrap_or}
 use Rattle.std.proofs.lemmas.Bool.Decides.{nat_tests}
 use Rattle.known_state.specs.Join.{joined}
-use Rattle.known_state.specs.Partly.{Partly, are_sure, is_whole, with_blame}
+use Rattle.known_state.specs.Partly.{Partly, is_whole, with_blame}
 use Rattle.design_model.specs.declared.design.Design as m
 use Rattle.design_model.specs.declared.design.Range.{Range}
 use Rattle.design_model.specs.Assignment.{signal_range}

@@ -1,4 +1,5 @@
 pub mod Bodies
+pub mod Ended
 pub mod Fitting
 pub mod Held
 pub mod Made

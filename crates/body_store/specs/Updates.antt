@@ -1,7 +1,5 @@
 -- The updates that nonblocking assignments have queued.
 use Rattle.std.specs.Prelude.{ℕ, ◌==◌, ◌&&◌, nat_le, nat_lt, Bool, true, List, [], ◌∷◌, ◌++◌, length}
-use Rattle.design_model.specs.declared.design.Memory.{Memory}
-use Rattle.design_model.specs.declared.design.Signal.{Signal}
 use Rattle.design_model.specs.Design.{Design, is_memory, memory_at, signal_at}
 use Rattle.body_replay.specs.Store.{KnownWrite}
 use Rattle.body_calls.specs.Lvalues.{if_certain, lvalue_writes}

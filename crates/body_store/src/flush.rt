@@ -32,8 +32,8 @@ impl<'a> Store<'a> {
         }
     }
 
-    /// Makes the updates that nonblocking assignments have queued, in order, and leaves none. Each signal is to blame for
-    /// itself then.
+    /// Makes the updates that nonblocking assignments have queued, in order, and leaves none. Where each signal is to blame for
+    /// itself before, it is so after.
     pub fn flush(&mut self)
         ensures design { self.new.design ≡ self.old.design }
         ensures kept { (k : Kept) → HoldsStore (design_view self.old.design.now) k unblamed self.old → HoldsStore (design_view self.old.design.now) (keep_all k (queued_of self.old)) unblamed self.new }

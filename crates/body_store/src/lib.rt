@@ -3,9 +3,13 @@
 //!
 //! In a new store nothing is known, and each signal and memory is to blame for itself. [`Store::new`] says so by two
 //! relations to the cells of a design: what the store keeps, and what bodies read of it (`specs/Held.antt`).
+//!
+//! While a body runs it calls the store by two traits: [`term_replay::Reads`] and [`body_calls::Bodies`]. After a run
+//! [`Store::end_run`] makes each signal to blame for itself again, and [`Store::flush`] makes what the run has queued.
 #![tactic(auto)]
 
 mod bodies;
+mod end;
 mod flush;
 mod kept;
 mod laws;

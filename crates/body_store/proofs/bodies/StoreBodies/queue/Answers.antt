@@ -1,4 +1,4 @@
-use Rattle.std.proofs.Common.{ap, true, ◌∙◌, ◌≡◌}
+use Rattle.std.proofs.Common.{ap, ◌∙◌}
 use Rattle.design_model.specs.View.{design_view}
 use Rattle.body_store.specs.declared.update.Update.{Update}
 use Rattle.body_store.specs.Updates.{are_taken, queued_writes}

@@ -1,4 +1,4 @@
-use Rattle.std.proofs.Common.{length, subst, sym}
+use Rattle.std.proofs.Common.{subst, sym}
 use Rattle.design_model.specs.View.{design_view}
 use Rattle.body_replay.specs.Store.{keep_all}
 use Rattle.body_calls.specs.Lvalues.{if_certain, lvalue_writes}

@@ -1,9 +1,8 @@
-use Rattle.std.proofs.Common.{ap, length, refl, set, subst, sym, ◌∙◌}
+use Rattle.std.proofs.Common.{ap, length, set, subst, sym, ◌∙◌}
 use Rattle.known_state.specs.Partly.{Partly}
 use Rattle.design_model.specs.Design.{memory_at}
 use Rattle.design_model.specs.View.{design_view}
-use Rattle.body_replay.specs.KnownBits.{KnownBits}
-use Rattle.body_replay.specs.Store.{KnownWrite, keep_all, write_word}
+use Rattle.body_replay.specs.Store.{keep_all, write_word}
 use Rattle.memory_rebuild.specs.Words.{StandsFor}
 use Rattle.value_store.specs.Signals.{read_at}
 use Rattle.body_calls.specs.Lvalues.{if_certain}

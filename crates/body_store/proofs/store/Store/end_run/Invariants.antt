@@ -1,0 +1,16 @@
+use Rattle.std.proofs.Common.{◌≡◌, take}
+use Rattle.design_model.specs.View.{design_view}
+use Rattle.body_replay.specs.Replay.{Blames}
+use Rattle.body_replay.specs.Store.{Kept}
+use Rattle.body_store.specs.Ended.{ended}
+use Rattle.body_store.specs.Held.{HoldsStore}
+use Rattle.body_store.proofs.store.Store.end_run.Given as goal
+
+-- those so far are to blame for themselves
+abbrev pub invariant-loop-thing : goal.invariant-loop-thing
+invariant-loop-thing l =
+    record {
+      design : l.self.design ≡ l.fn.self.design;
+      updates : l.self.updates ≡ l.fn.self.updates;
+      kept : (k : Kept) (e : Blames) → HoldsStore (design_view l.fn.self.design.now) k e l.fn.self → HoldsStore (design_view l.fn.self.design.now) k (ended (take l.thing-index l.written) e) l.self;
+    }
