@@ -1,5 +1,5 @@
 -- What is found by an instance and a name.
-use Rattle.std.proofs.Common.{◌≡◌, ◌<◌, ℕ, true, inl, inr, List, [], ◌∷◌, ◌++◌, Option, Some, None, length, get_or, refl, sym, ap, subst, ◌∙◌, arith}
+use Rattle.std.proofs.Common.{◌≡◌, ◌<◌, ◌≤◌, ◌+◌, ℕ, zero, suc, true, take, inl, inr, List, [], ◌∷◌, ◌++◌, Option, Some, None, length, get_or, refl, sym, ap, subst, ◌∙◌, arith}
 use Rattle.std.specs.Prelude.{IfNone}
 use Rattle.std.specs.List.{AllZip}
 use Rattle.std.proofs.lemmas.Bool.Decides.{nat_tests}
@@ -17,7 +17,7 @@ use Rattle.design_model.specs.declared.design.Alias.{Alias}
 use Rattle.design_model.specs.declared.design.Constant.{Constant}
 use Rattle.design_model.specs.declared.design.Signal.{Signal}
 use Rattle.state_machines.specs.Lookups.{IsAliasAt, IsConstantAt, IsSignalAt, no_alias, no_constant}
-use Rattle.state_machines.specs.Values.{IsNamedSignal, IsNoParameter}
+use Rattle.state_machines.specs.Values.{IsNamedSignal, IsNoParameter, IsParameter}
 use Rattle.state_machines.proofs.Members.{in_at, place_of, test_at}
 
 alias_signal : (d : Design) (a : Alias) → is_alias d a ≡ true → a.signal < length d.signals
@@ -69,3 +69,11 @@ zip_push R (a ∷ xs) (b ∷ ys) x y h r = (h.0, zip_push R xs ys x y h.1 r)
 pub alike : (vs : List Vector) (j k : ℕ) (x y : Vector) → j < length vs → k < length vs → x ≡ get_or vs j x → y ≡ get_or vs k y → matches Exact x.bits y.bits ≡ same_bits (bits_at vs j) (bits_at vs k)
 alike vs j k x y l m p q =
     exact_law x.bits y.bits ∙ ap (λ (v : Vector). same_bits v.bits y.bits) (get_or_read vs j x l p no_value) ∙ ap (λ (v : Vector). same_bits (bits_at vs j) v.bits) (get_or_read vs k y m q no_value)
+
+-- the names before a place that have values are parameters
+pub parameters : (d : Design) (i s : ℕ) (names : List (List ℕ)) (vs : List Vector) (k j : ℕ) → AllZip (IsStateValue d i s) (take k names) vs → k ≤ length names → j < k → IsParameter d i (get_or names j [])
+parameters d i s names vs zero j h l m = absurd (omega arith)
+parameters d i s [] vs (suc k) j h l m = absurd (omega arith)
+parameters d i s (n ∷ names) [] (suc k) j h l m = absurd h
+parameters d i s (n ∷ names) (v ∷ vs) (suc k) zero h l m = (h.0.0, h.0.1, h.0.2, h.0.3)
+parameters d i s (n ∷ names) (v ∷ vs) (suc k) (suc j) h l m = parameters d i s names vs k j h.1 (omega arith) (omega arith)

@@ -1,4 +1,5 @@
 pub mod Machines
+pub mod Seen
 pub mod Entries
 pub mod Lookups
 pub mod Values

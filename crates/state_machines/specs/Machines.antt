@@ -6,6 +6,10 @@ use Rattle.design_model.specs.Points.{StateNames}
 abbrev pub machine_of : List ℕ → List ℕ → List (List ℕ) → StateNames
 machine_of m v names = record { of_module = m; variable = v; names = names }
 
+-- what a list gives past its end
+abbrev pub no_machine : StateNames
+no_machine = machine_of [] [] []
+
 -- two machines are of one variable of a module
 abbrev pub is_same_variable : StateNames → StateNames → Bool
 is_same_variable m n = bytes_eq m.of_module n.of_module && bytes_eq m.variable n.variable

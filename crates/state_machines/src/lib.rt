@@ -16,4 +16,4 @@ pub use machine::{
     InstanceMachine, MachineFault, machine_in, signal_named, state_value, state_values,
 };
 pub use same::first_same;
-pub use states::States;
+pub use states::{NamedMachine, States};

@@ -1,10 +1,10 @@
-ghost use Rattle.std.specs.Prelude.{◌≡◌, ◌<◌, ◌++◌, ◌∷◌, [], ℕ, Err, IfNone, IfOk, IfSome, OnOk, length, slice_index_or};
+ghost use Rattle.std.specs.Prelude.{◌≡◌, ◌<◌, ◌++◌, ◌∷◌, [], ℕ, Err, IfNone, IfOk, IfSome, OnOk, length};
 ghost use Rattle.std.specs.List.{AllZip};
 ghost use Rattle.design_model.specs.Lawful.{IsLawfulDesign};
 ghost use Rattle.design_model.specs.Points.{IsNameOf, IsStateValue};
 ghost use Rattle.design_model.specs.View.{design_view};
 ghost use Rattle.state_machines.specs.Lookups.{IsAliasAt};
-ghost use Rattle.state_machines.specs.Values.{IsNamedSignal, IsNoParameter};
+ghost use Rattle.state_machines.specs.Values.{IsFirstNoParameter, IsNamedSignal, IsNoParameter};
 ghost use Rattle.state_machines.specs.declared.machine.MachineFault.TheVariants as machine_fault;
 
 use crate::lookups::{alias_place, constant_place, signal_place};
@@ -93,7 +93,7 @@ pub fn state_values(
     requires lawful { IsLawfulDesign (design_view design.now) }
     requires listed { signal < length design.now.signals }
     ensures values { IfOk result (λ values. AllZip (IsStateValue (design_view design.now) instance signal) names.now values.items) }
-    ensures no_parameter { (place : ℕ) → result ≡ Err (MachineFault.NoParameter place) → IsNoParameter (design_view design.now) instance (slice_index_or names.now place []) }
+    ensures no_parameter { (place : ℕ) → result ≡ Err (MachineFault.NoParameter place) → IsFirstNoParameter (design_view design.now) instance names.now place }
     ensures variable { result ≡ Err MachineFault.NoVariable → ⊥ }
 {
     let mut values = Vec::new(alloc);
@@ -126,7 +126,8 @@ pub fn machine_in(
     ensures signal { IfOk result (λ machine. IsNamedSignal (design_view design.now) instance variable.now machine.signal) }
     ensures values { IfOk result (λ machine. AllZip (IsStateValue (design_view design.now) instance machine.signal) names.now machine.values.items) }
     ensures no_variable { result ≡ Err MachineFault.NoVariable → (s : ℕ) → IsNameOf (design_view design.now) instance variable.now s → ⊥ }
-    ensures no_parameter { (place : ℕ) → result ≡ Err (MachineFault.NoParameter place) → IsNoParameter (design_view design.now) instance (slice_index_or names.now place []) }
+    ensures no_parameter { (place : ℕ) → result ≡ Err (MachineFault.NoParameter place) → IsFirstNoParameter (design_view design.now) instance names.now place }
+    ensures named { (place : ℕ) → result ≡ Err (MachineFault.NoParameter place) → (s : ℕ) × IsNamedSignal (design_view design.now) instance variable.now s }
 {
     let Some(signal) = signal_named(design, instance, variable) else {
         return Err(MachineFault::NoVariable);

@@ -1,5 +1,6 @@
-ghost use Rattle.std.specs.Prelude.{◌≡◌, [], IfOk, OnErr, OnOk};
-ghost use Rattle.state_machines.specs.Machines.{machine_of, with_machine};
+ghost use Rattle.std.specs.Prelude.{◌≡◌, ◌↔◌, ◌<◌, [], IfOk, IfSome, IsSome, OnErr, OnOk, length, slice_index_or};
+ghost use Rattle.state_machines.specs.Machines.{machine_of, no_machine, with_machine};
+ghost use Rattle.state_machines.specs.Seen.{machine_seen};
 
 use crate::names::names_of;
 use cov_host::{Name, NoMemory, Words};
@@ -12,6 +13,15 @@ use std::marker::Model;
 struct Variable {
     module: Vec<u8>,
     name: Vec<u8>,
+}
+
+/// A machine that is named by words.
+#[derive(Clone, Copy)]
+pub struct NamedMachine<'a> {
+    pub module: &'a [u8],
+    pub variable: &'a [u8],
+    /// The parameters that are its states.
+    pub names: &'a [Name],
 }
 
 /// State machines, in the order in which their variables were first named.
@@ -53,6 +63,28 @@ impl States {
         let names = names_of(self.alloc, names)?;
         let _ = self.machines.insert(variable, names)?;
         Ok(())
+    }
+
+    /// How many machines there are.
+    pub fn len(&self) -> usize
+        ensures { result ≡ length self.now }
+    {
+        self.machines.len()
+    }
+
+    /// The machine at a place, counted from 0.
+    pub fn get(&self, place: usize) -> Option<NamedMachine<'_>>
+        ensures there { IsSome result ↔ (place < length self.now) }
+        ensures machine { IfSome result (λ machine. machine_seen machine ≡ slice_index_or self.now place no_machine) }
+    {
+        match self.machines.get_index(place) {
+            Some((variable, names)) => Some(NamedMachine {
+                module: variable.module.as_slice(),
+                variable: variable.name.as_slice(),
+                names: names.as_slice(),
+            }),
+            None => None,
+        }
     }
 }
 

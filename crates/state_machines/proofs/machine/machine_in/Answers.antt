@@ -6,3 +6,6 @@ pub returns-in-Err-clause-no_parameter : goal.returns-in-Err-clause-no_parameter
 returns-in-Err-clause-no_parameter c = λ place e.
     let same : c.in-Err.fault ≡ machine_fault.NoParameter place = cc in
     c.in-Err.ensures.no_parameter place (ap Err same)
+
+pub returns-in-Err-clause-named : goal.returns-in-Err-clause-named
+returns-in-Err-clause-named c = λ place e. (c.in-Some.signal, c.in-Some.ensures.some)
