@@ -1,0 +1,12 @@
+//! The state machines in the instances of a design, or the first fault in those that are named.
+#![tactic(auto)]
+
+mod fault;
+mod found;
+mod machine;
+mod table;
+
+pub use fault::StateFault;
+pub use found::MOST_STATES;
+pub use machine::Machine;
+pub use table::design_machines;

@@ -1,0 +1,35 @@
+ghost use Rattle.std.specs.Prelude.{◌≡◌, ◌⊎◌, Err, IfOk};
+ghost use Rattle.design_model.specs.Lawful.{IsLawfulDesign};
+ghost use Rattle.design_model.specs.View.{design_view};
+ghost use Rattle.design_machines.specs.Faults.{IsStateFault};
+ghost use Rattle.design_machines.specs.Machines.{AreMachines};
+ghost use Rattle.design_machines.specs.declared.fault.StateFault.{StateFault as TheFault};
+ghost use Rattle.design_machines.specs.declared.fault.StateFault.TheVariants as state_fault;
+
+use crate::found::push_machines;
+use crate::{Machine, StateFault};
+use design_model::Design;
+use state_machines::States;
+use std::alloc::Global;
+
+/// The machines in the instances of a design, in the order in which they were named and then in that of the instances.
+/// The first machine with a fault is refused: for the count of its states, then for its module, then for what is unknown or
+/// twice in an instance.
+pub fn design_machines(
+    alloc: Global,
+    design: &Design,
+    states: &States,
+) -> Result<Vec<Machine>, StateFault>
+    requires { IsLawfulDesign (design_view design.now) }
+    ensures machines { IfOk result (λ machines. AreMachines (design_view design.now) states.now machines.items) }
+    ensures fault { (fault : TheFault) → result ≡ Err fault → (fault ≡ state_fault.NoMemory) ⊎ IsStateFault (design_view design.now) states.now fault }
+{
+    let mut found = Vec::new(alloc);
+    for place in 0..states.len() {
+        match states.get(place) {
+            Some(named) => push_machines(alloc, design, &named, &mut found)?,
+            None => unreachable!(),
+        }
+    }
+    Ok(found)
+}
