@@ -1,12 +1,12 @@
 -- A node is put into the order, or waits.
-use Rattle.std.proofs.Common.{◌≡◌, ◌⊎◌, inl, inr, ⊎_elim, ◌∙◌, ℕ, zero, suc, ◌+◌, ◌<◌, ◌≤◌, ◌↔◌, Bool, true, false, cond, List, [], ◌∷◌, ◌++◌, length, get_or, set, take, drop, refl, sym, ap, subst, arith}
+use Rattle.std.proofs.Common.{◌≡◌, ◌⊎◌, inl, inr, ⊎_elim, ◌∙◌, ℕ, ◌<◌, ◌≤◌, ◌↔◌, Bool, false, cond, List, [], ◌∷◌, ◌++◌, length, get_or, set, take, refl, sym, ap, subst, arith}
 use Rattle.std.specs.List.{Contains}
 use Rattle.std.proofs.lemmas.Bool.{both_ways, cases_Bool, cases_eq, cond-false, cond-true}
-use Rattle.std.proofs.lemmas.List.{append-nil, get_or_default, get_or-set_other, get_or-set_same, length-append, length-map, length-set, take_all, take_at, take-take}
+use Rattle.std.proofs.lemmas.List.{append-nil, get_or_default, get_or-set_other, get_or-set_same, length-append, length-map, length-set, take_all, take_at}
 use Rattle.std.proofs.lemmas.List.Elements.{Contains-append_left, Contains-push, Contains-push_cases}
 use Rattle.index_sets.specs.Rows.{row_at}
 use Rattle.rank_order.specs.Order.{AreNodes, ComesBefore, IsOnce, lists_of}
-use Rattle.rank_order.specs.Sorting.{IsSorting, Places, Waits, waiting_for}
+use Rattle.rank_order.specs.Sorting.{IsSorting, Places}
 use Rattle.rank_order.specs.declared.sorting.Sorting.{Sorting}
 use Rattle.rank_order.proofs.Orders.{before_last, before_more, only_one, once_more}
 

@@ -1,12 +1,12 @@
 -- One node after the other is placed.
-use Rattle.std.proofs.Common.{◌≡◌, ◌⊎◌, inl, inr, ⊎_elim, ◌∙◌, ℕ, ◌+◌, ◌<◌, ◌≤◌, List, [], ◌∷◌, ◌++◌, length, get_or, set, take, refl, sym, ap, subst, arith}
+use Rattle.std.proofs.Common.{◌≡◌, inl, inr, ⊎_elim, ◌∙◌, ℕ, ◌+◌, ◌<◌, ◌≤◌, List, [], ◌∷◌, ◌++◌, length, get_or, set, take, refl, sym, ap, subst, arith}
 use Rattle.std.specs.List.{Contains}
 use Rattle.std.proofs.lemmas.Bool.{cases_eq, cases_lt}
 use Rattle.std.proofs.lemmas.List.{get_or-set_other, get_or-set_same, length-map, length-set, set_past, take_all, take_more, take-take}
 use Rattle.std.proofs.lemmas.List.Elements.{Contains-push_cases}
 use Rattle.index_sets.specs.Rows.{row_at}
 use Rattle.rank_order.specs.Order.{IsOrderAfter, lists_of}
-use Rattle.rank_order.specs.Sorting.{AllPlaced, IsSorting, Places, Waits, waiting_for}
+use Rattle.rank_order.specs.Sorting.{AllPlaced, IsSorting, Places, waiting_for}
 use Rattle.rank_order.specs.declared.sorting.Sorting.{Sorting}
 use Rattle.rank_order.proofs.Orders.{contains_none, contains_take}
 

@@ -1,6 +1,6 @@
 -- What a written link does to the processes of a queue.
-use Rattle.std.proofs.Common.{◌≡◌, ⊎_elim, ◌∙◌, ℕ, zero, suc, ◌+◌, ◌-◌, ◌<◌, ◌≤◌, Bool, true, false, ◌||◌, eqb, List, [], ◌∷◌, ◌++◌, length, get_or, set, refl, sym, ap, subst, arith}
-use Rattle.std.proofs.lemmas.Bool.{both_ways, eq-eqb, eqb-false, or_left, or_parts, or_right}
+use Rattle.std.proofs.Common.{◌≡◌, ◌∙◌, ℕ, zero, suc, ◌+◌, ◌-◌, ◌<◌, true, false, eqb, List, [], ◌∷◌, ◌++◌, length, get_or, set, refl, sym, ap, subst, arith}
+use Rattle.std.proofs.lemmas.Bool.{both_ways, eqb-false, or_parts, or_right}
 use Rattle.std.proofs.lemmas.List.{get_or-set_other, get_or-set_same}
 use Rattle.wake_list.specs.Members.{IsOnce, has}
 use Rattle.wake_list.specs.Queues.{chain, last_of}

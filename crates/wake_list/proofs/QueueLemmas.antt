@@ -1,11 +1,11 @@
 -- The queues of all ranks, with a process put in and with one taken out.
-use Rattle.std.proofs.Common.{◌≡◌, ◌⊎◌, inl, inr, ⊎_elim, ◌∙◌, ℕ, zero, suc, ◌+◌, ◌-◌, ◌^◌, ◌<◌, ◌≤◌, Bool, true, false, ltb, Option, None, Some, not, is_some, ◌↔◌, List, [], ◌∷◌, ◌++◌, map, length, get_or, set, replicate, refl, sym, ap, subst, arith}
+use Rattle.std.proofs.Common.{◌≡◌, ⊎_elim, ◌∙◌, ℕ, zero, suc, ◌+◌, ◌-◌, ◌^◌, ◌<◌, ◌≤◌, Bool, true, false, ltb, Option, None, Some, not, is_some, ◌↔◌, List, [], ◌∷◌, ◌++◌, map, length, get_or, set, replicate, refl, sym, ap, subst, arith}
 use Rattle.std.proofs.Math.ListN.{get_or-map}
-use Rattle.std.proofs.lemmas.Bool.{both_ways, cases_Bool, cases_eq, cases_lt, false_from_ne_true, le-ltb, lt-ltb, ltb-false, ltb-true, not-false, not-true, true≢false}
+use Rattle.std.proofs.lemmas.Bool.{both_ways, cases_eq, cases_lt, false_from_ne_true, le-ltb, lt-ltb, ltb-false, ltb-true, not-false, not-true, true≢false}
 use Rattle.std.proofs.lemmas.List.{ext_get_or, get_or_past, get_or-set_other, get_or-set_same, length-map, length-replicate, length-set, length_push, map-set}
 use Rattle.std.specs.Option.{MatchOption}
 use Rattle.wake_list.specs.Members.{IsOnce, has}
-use Rattle.wake_list.specs.Queues.{AreQueues, EndsAt, IsQueue, chain, last_of, no_queue, processes_of}
+use Rattle.wake_list.specs.Queues.{AreQueues, IsQueue, chain, last_of, no_queue, processes_of}
 use Rattle.wake_list.specs.Tournament.{IsLeast, NoneIsMember}
 use Rattle.wake_list.specs.Waiting.{AreOnce, is_waiting, pairs_from, with_process}
 use Rattle.wake_list.specs.declared.queue.Queue.{Queue}

@@ -1,5 +1,5 @@
 -- A binary tree in a list, in which each node holds the lesser of what its two children hold.
-use Rattle.std.specs.Prelude.{◌≡◌, ◌<◌, ◌≤◌, ◌+◌, ◌*◌, if◌then◌else◌, ℕ, Bool, false, true, List, drop, length, map, min, nat_lt, slice_index_or}
+use Rattle.std.specs.Prelude.{◌≡◌, ◌<◌, ◌+◌, ◌*◌, if◌then◌else◌, ℕ, Bool, false, true, List, drop, length, map, min, nat_lt, slice_index_or}
 
 -- each node from place 1 on that has two children holds the lesser of what they hold
 abbrev pub IsTree : List ℕ → Type 0

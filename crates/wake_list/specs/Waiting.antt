@@ -1,5 +1,5 @@
 -- The processes that are to run, each with its rank, in the order in which they are taken.
-use Rattle.std.specs.Prelude.{◌≡◌, ◌+◌, ◌++◌, if◌then◌else◌, ℕ, Bool, List, [], ◌∷◌, map, nat_le}
+use Rattle.std.specs.Prelude.{◌+◌, ◌++◌, if◌then◌else◌, ℕ, Bool, List, [], ◌∷◌, map, nat_le}
 use Rattle.wake_list.specs.Members.{IsOnce, has}
 
 -- a number that all processes and ranks are below, and the processes with their ranks

@@ -1,4 +1,4 @@
-use Rattle.std.proofs.Common.{◌≡◌, ◌∙◌, ◌<◌, ◌++◌, ◌∷◌, [], length, set, sym, ap, arith}
+use Rattle.std.proofs.Common.{◌∙◌, ◌++◌, ◌∷◌, [], set, sym, ap}
 use Rattle.rank_order.specs.Order.{lists_of}
 use Rattle.rank_order.proofs.Orders.{list_row, lists_set}
 use Rattle.rank_order.proofs.lists.add_to.Goals as goal

@@ -1,5 +1,4 @@
-use Rattle.std.proofs.Common.{◌≡◌, ◌<◌, get_or, subst, sym, arith}
-use Rattle.std.specs.List.{Contains}
+use Rattle.std.proofs.Common.{get_or, arith}
 use Rattle.std.proofs.lemmas.List.Elements.{Contains-get_or}
 use Rattle.rank_order.proofs.Orders.{met_more}
 use Rattle.rank_order.proofs.sorting.first_missing.Goals as goal

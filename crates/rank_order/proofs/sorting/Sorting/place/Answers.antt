@@ -1,4 +1,4 @@
-use Rattle.std.proofs.Common.{◌≡◌, ◌∙◌, ℕ, ◌<◌, ◌≤◌, List, [], ◌∷◌, ◌++◌, length, get_or, set, refl, sym, ap, subst, arith}
+use Rattle.std.proofs.Common.{◌≡◌, ◌∙◌, ℕ, ◌<◌, ◌≤◌, [], ◌∷◌, ◌++◌, length, get_or, set, refl, sym, ap, subst, arith}
 use Rattle.std.specs.List.{Contains}
 use Rattle.std.specs.Vec.{with_item}
 use Rattle.std.proofs.lemmas.List.{get_or_read, length-map}
@@ -6,7 +6,6 @@ use Rattle.std.proofs.lemmas.List.Elements.{Contains-get_or}
 use Rattle.std.proofs.lemmas.Result.{on_ok_weaker}
 use Rattle.index_sets.specs.Rows.{row_at}
 use Rattle.rank_order.specs.Order.{lists_of}
-use Rattle.rank_order.specs.Sorting.{IsSorting, Places}
 use Rattle.rank_order.proofs.Orders.{list_row}
 use Rattle.rank_order.proofs.Placing.{put_in_places, put_in_sorting, wait_places, wait_sorting}
 use Rattle.rank_order.proofs.sorting.Sorting.place.Goals as goal

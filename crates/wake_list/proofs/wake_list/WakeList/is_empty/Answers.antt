@@ -1,4 +1,4 @@
-use Rattle.std.proofs.Common.{◌≡◌, ◌∙◌, sym, ap}
+use Rattle.std.proofs.Common.{◌∙◌, sym, ap}
 use Rattle.wake_list.proofs.QueueLemmas.{empty_if}
 use Rattle.wake_list.proofs.wake_list.WakeList.is_empty.Goals as goal
 

@@ -1,4 +1,4 @@
-use Rattle.std.proofs.Common.{◌≡◌, ◌∙◌, map, length, replicate, ap, arith}
+use Rattle.std.proofs.Common.{◌∙◌, map, length, ap}
 use Rattle.std.proofs.lemmas.List.{length-replicate}
 use Rattle.wake_list.specs.Queues.{processes_of}
 use Rattle.wake_list.specs.Waiting.{pairs_from}

@@ -1,4 +1,4 @@
-use Rattle.std.proofs.Common.{◌≡◌, ◌∙◌, ◌<◌, ◌+◌, Bool, not, Option, None, Some, List, length, map, get_or, set, refl, sym, ap, subst, arith}
+use Rattle.std.proofs.Common.{◌≡◌, ◌∙◌, ◌<◌, ◌+◌, not, None, Some, length, map, get_or, set, sym, ap, subst, arith}
 use Rattle.std.proofs.lemmas.List.{get_or_read, with_items_is}
 use Rattle.std.specs.Vec.{with_items}
 use Rattle.wake_list.specs.Queues.{AreQueues, no_queue, processes_of}

@@ -1,4 +1,4 @@
-use Rattle.std.proofs.Common.{◌≡◌, ◌∙◌, ◌<◌, ◌-◌, ltb, Bool, Option, None, Some, List, ◌∷◌, length, map, get_or, set, refl, sym, ap, subst, arith}
+use Rattle.std.proofs.Common.{◌≡◌, ◌∙◌, ◌<◌, ◌-◌, ltb, None, ◌∷◌, length, map, get_or, set, sym, ap, subst, arith}
 use Rattle.std.proofs.lemmas.List.{get_or_read}
 use Rattle.std.specs.Option.{MatchOption}
 use Rattle.wake_list.specs.Queues.{AreQueues, no_queue, processes_of}
