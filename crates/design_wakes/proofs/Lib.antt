@@ -1,2 +1,2 @@
 mod Adding
-mod Tables
+pub mod Tables
