@@ -1,5 +1,7 @@
-//! Measures a part of the program that has no command of its own: `bench operators ROUNDS`, `bench points FILE TOP` or
-//! `bench ranking TABLES POINTS`.
+//! Measures parts of the program that have no command of their own: `bench operators ROUNDS`, `bench points FILE TOP`
+//! or `bench ranking TABLES POINTS`.
+//!
+//! Nothing is proved of it except that it is safe and ends. `bench/README.md` has the commands and the figures.
 #![tactic(auto)]
 
 mod operators;

@@ -1,4 +1,4 @@
-//! Times the operators: a line for each operator and width, with the nanoseconds that so many operations took.
+//! Times the operators: a line for each operator and width, with the nanoseconds of all rounds.
 ghost use Rattle.std.specs.Prelude.{◌≡◌, ◌≤◌, false, length};
 
 use anyhow::Result;
@@ -31,7 +31,7 @@ fn vector(width: u8, number: u128) -> Four
     Four::make(width, false, number & (u128::MAX >> (128 - width)), 0)
 }
 
-/// The sum of what an operator gives of so many pairs of numbers, each made from the one before.
+/// The sum of what an operator gives of `rounds` pairs of numbers, each made from the one before.
 fn sum_of(op: Binary, width: u8, rounds: u64) -> u128
     requires at_least { 1 ≤ width }
     requires at_most { width ≤ 128 }
@@ -49,7 +49,7 @@ fn sum_of(op: Binary, width: u8, rounds: u64) -> u128
     sum
 }
 
-/// Times so many rounds of each operator, and prints nothing for none.
+/// Times this number of rounds of each operator, and prints nothing for 0.
 pub(crate) fn measure(rt: &(impl Clock + Print), rounds: u64) -> Result<()> {
     if rounds == 0 {
         return Ok(());

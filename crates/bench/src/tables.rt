@@ -17,7 +17,7 @@ pub(crate) enum Pattern {
     Rising,
 }
 
-/// The sets of hit points of so many tables.
+/// The sets of hit points of `tables` tables.
 pub(crate) fn make_tables(
     alloc: Global,
     pattern: Pattern,
@@ -36,7 +36,7 @@ pub(crate) fn make_tables(
     Ok(sets)
 }
 
-/// A table with so many points.
+/// A table with `count` points.
 fn make_table(
     alloc: Global,
     pattern: Pattern,

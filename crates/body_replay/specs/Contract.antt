@@ -243,7 +243,8 @@ sure_in d b x bits = map b (cells d x) ≡ sure bits
 -- *writes sound*: what an execution on an agreeing state writes is allowed after the flush, and what it does not write stays allowed as it was kept
 abbrev pub WritesSound : Type 0
 WritesSound =
-    (d : Design) (s : Stmt) (st : Store) (how : Certainty) → IsStrong how → (v k : Values Bit) → AllowsState (read_of st) v → AllowsState st.kept k → (c : Cell) → st.hidden c.thing ≡ false → Allows (flushed (outcome d s st how) c) (left_by d s v k c)
+    (d : Design) (s : Stmt) (st : Store) (how : Certainty) → IsStrong how → (v k : Values Bit) → AllowsState (read_of st) v → AllowsState st.kept k
+    → (c : Cell) → st.hidden c.thing ≡ false → Allows (flushed (outcome d s st how) c) (left_by d s v k c)
 
 -- *hits sound*: what is newly hit is visited on every agreeing state
 abbrev pub HitsSound : Type 0
@@ -263,7 +264,8 @@ PrefixHit =
 -- *no doubt added*: where every read is wholly sure, no doubt is noted
 abbrev pub NoDoubtAdded : Type 0
 NoDoubtAdded =
-    (d : Design) (s : Stmt) (st : Store) (time : ℕ) (v : Values Bit) → Agrees d (sure_in d (read_of st)) v → ReadsWithin d (sure_in d (read_of st)) s → (x : Spot) (thing : ℕ) → HasDoubt x thing (outcome d s st (clean time)).notes → ⊥
+    (d : Design) (s : Stmt) (st : Store) (time : ℕ) (v : Values Bit) → Agrees d (sure_in d (read_of st)) v → ReadsWithin d (sure_in d (read_of st)) s
+    → (x : Spot) (thing : ℕ) → HasDoubt x thing (outcome d s st (clean time)).notes → ⊥
 
 -- all that an execution writes, the updates last
 abbrev pub all_written : Design → Stmt → Values Bit → List (Write Bit)
@@ -272,17 +274,21 @@ all_written d s v = (execution d s v).blocking ++ join (execution d s v).nonbloc
 -- *sure writes*: where every read is wholly sure, each bit that is written is sure after the flush, and no other bit that is kept changes
 abbrev pub SureWrites : Type 0
 SureWrites =
-    (d : Design) (s : Stmt) (st : Store) (how : Certainty) → IsStrong how → (v : Values Bit) → Agrees d (sure_in d (read_of st)) v → ReadsWithin d (sure_in d (read_of st)) s → (c : Cell) → st.hidden c.thing ≡ false → ((has_cell (all_written d s v) c ≡ true → (flushed (outcome d s st how) c) ≡ Some (left_by d s v v c)) × (has_cell (all_written d s v) c ≡ false → (flushed (outcome d s st how) c) ≡ st.kept c))
+    (d : Design) (s : Stmt) (st : Store) (how : Certainty) → IsStrong how → (v : Values Bit) → Agrees d (sure_in d (read_of st)) v
+    → ReadsWithin d (sure_in d (read_of st)) s → (c : Cell) → st.hidden c.thing ≡ false
+    → ((has_cell (all_written d s v) c ≡ true → (flushed (outcome d s st how) c) ≡ Some (left_by d s v v c)) × (has_cell (all_written d s v) c ≡ false → (flushed (outcome d s st how) c) ≡ st.kept c))
 
 -- *frame*: what no target of the body names stays as it was, at the run and at the flush
 abbrev pub Frame : Type 0
 Frame =
-    (d : Design) (s : Stmt) (st : Store) (how : Certainty) (c : Cell) → body_assigns c.thing s ≡ false → ((outcome d s st how).kept c ≡ st.kept c) × ((b : Kept) → flush b (outcome d s st how).queue c ≡ b c)
+    (d : Design) (s : Stmt) (st : Store) (how : Certainty) (c : Cell) → body_assigns c.thing s ≡ false
+    → ((outcome d s st how).kept c ≡ st.kept c) × ((b : Kept) → flush b (outcome d s st how).queue c ≡ b c)
 
 -- *other words*: a write of a memory leaves each word that its index cannot name
 abbrev pub OtherWordsKept : Type 0
 OtherWordsKept =
-    (d : Design) (b : Kept) (m : ℕ) (signed : Bool) (is ps : KnownBits) (i : ℕ) → may_name (memory_at d m) signed is i ≡ false → (c : Cell) → In c (word_cells d m i) → keep_all b (write_word d m signed is ps) c ≡ b c
+    (d : Design) (b : Kept) (m : ℕ) (signed : Bool) (is ps : KnownBits) (i : ℕ) → may_name (memory_at d m) signed is i ≡ false → (c : Cell)
+    → In c (word_cells d m i) → keep_all b (write_word d m signed is ps) c ≡ b c
 
 -- *quiet*: nothing is noted
 abbrev pub QuietMarks : Type 0
@@ -302,7 +308,8 @@ DoubtAsTold = (d : Design) (s : Stmt) (st : Store) (how : Certainty) (n : Note) 
 -- *perhaps*: nothing is hit, and what is visited on an agreeing state is in doubt by the thing
 abbrev pub PerhapsMarks : Type 0
 PerhapsMarks =
-    (d : Design) (s : Stmt) (st : Store) (time thing : ℕ) (x : Spot) → (HasHitNote x (outcome d s st (perhaps time thing)).notes → ⊥) × ((v : Values Bit) → AllowsState (read_of st) v → Visited x (execution d s v).visits → HasDoubt x thing (outcome d s st (perhaps time thing)).notes)
+    (d : Design) (s : Stmt) (st : Store) (time thing : ℕ) (x : Spot)
+    → (HasHitNote x (outcome d s st (perhaps time thing)).notes → ⊥) × ((v : Values Bit) → AllowsState (read_of st) v → Visited x (execution d s v).visits → HasDoubt x thing (outcome d s st (perhaps time thing)).notes)
 
 -- what arises from k by any number of executions of the body, each on any values of what it reads: blocking writes at once, updates at any time after, each at most once for each execution
 pub data Arises (d : Design) (s : Stmt) (k : Values Bit) : Values Bit → Type 0 where
@@ -318,7 +325,8 @@ WeakSound =
 -- *weak marks*: with weak nothing is hit, and what is visited on any state is in doubt by the thing
 abbrev pub WeakMarks : Type 0
 WeakMarks =
-    (d : Design) (s : Stmt) (st : Store) (time thing : ℕ) (x : Spot) → (HasHitNote x (outcome d s st (weak time thing)).notes → ⊥) × ((v : Values Bit) → Visited x (execution d s v).visits → HasDoubt x thing (outcome d s st (weak time thing)).notes)
+    (d : Design) (s : Stmt) (st : Store) (time thing : ℕ) (x : Spot)
+    → (HasHitNote x (outcome d s st (weak time thing)).notes → ⊥) × ((v : Values Bit) → Visited x (execution d s v).visits → HasDoubt x thing (outcome d s st (weak time thing)).notes)
 
 -- not all bits of the signal or memory are sure
 abbrev pub IsUnsure : Design → Kept → ℕ → Type 0
@@ -327,7 +335,8 @@ IsUnsure d b y = (x : Thing) × (owner x ≡ y) × IsThing d x × ((c : Cell) ×
 -- *blame*: the thing of each doubt is the blame of a signal or memory that is not wholly sure as bodies read it, and that some path reads. The numbers in the body name things of the design.
 abbrev pub BlameSound : Type 0
 BlameSound =
-    (d : Design) (s : Stmt) (st : Store) (time : ℕ) → is_body d s ≡ true → (x : Spot) (thing : ℕ) → HasDoubt x thing (outcome d s st (clean time)).notes → (y : ℕ) × (st.blame y ≡ thing) × IsUnsure d (read_of st) y × ReadsUnwritten d s y
+    (d : Design) (s : Stmt) (st : Store) (time : ℕ) → is_body d s ≡ true → (x : Spot) (thing : ℕ)
+    → HasDoubt x thing (outcome d s st (clean time)).notes → (y : ℕ) × (st.blame y ≡ thing) × IsUnsure d (read_of st) y × ReadsUnwritten d s y
 
 -- the spot of a line, logic or memory point
 abbrev pub spot_at : Point → Option Spot

@@ -30,11 +30,11 @@ values_in (given ∷ others) option = if is_same given.option option then given.
 abbrev pub is_absent : List GivenOption → ScoreOption → Bool
 is_absent given option = length (values_in given option) == 0
 
--- the option may stand behind these
+-- the option may follow these
 abbrev pub may_follow : List GivenOption → ScoreOption → Bool
 may_follow given option = repeats option || is_absent given option
 
--- each value has its option's form, and an option that does not repeat stands once at most
+-- each value has its option's form, and an option that does not repeat occurs at most once
 pub record AreGiven (given : List GivenOption) : Type 0 where
   pub forms : AllByRecursion (λ one. IsTrue (accepts one.option one.value)) given
   pub once : (option : ScoreOption) → repeats option ≡ false → length (values_in given option) ≤ 1

@@ -9,7 +9,7 @@ use Rattle.command_line.specs.declared.usage_fault.UsageFault.TheVariants.{NoCom
 use Rattle.command_line.specs.DatabaseOption.{accepts, has_room, is_database_name, takes_value, IsOptionOf, IsNoOptionOf}
 use Rattle.command_line.specs.DatabaseWords.{Item, files_in, value_in, IsUpTo}
 
--- the word cannot be a database behind these items
+-- the word cannot be a database that follows these items
 abbrev pub IsNoDatabase : DatabaseCommand → List Item → List ℕ → Type 0
 IsNoDatabase command items word = (is_database_name word ≡ false) ⊎ (has_room command (length (files_in items) == 0) ≡ false)
 

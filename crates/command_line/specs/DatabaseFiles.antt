@@ -5,7 +5,7 @@ use Rattle.command_line.specs.declared.database_option.DatabaseOption.{DatabaseO
 use Rattle.command_line.specs.DatabaseOption.{option_named, takes_value}
 use Rattle.command_line.specs.WordsLeft.{left_words}
 
--- a word that is no option is a database; behind an option its value, if it takes one, is left out
+-- a word that is no option is a database; after an option its value, if it takes one, is left out
 abbrev pub file_or_option : List ℕ → Option DatabaseOption → List (List ℕ) → List (List ℕ) → List (List ℕ)
 file_or_option word None others behind = word ∷ others
 file_or_option word (Some option) others behind = if takes_value option then behind else others

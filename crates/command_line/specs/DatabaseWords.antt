@@ -44,12 +44,12 @@ value_in [] option = None
 value_in (file name ∷ items) option = value_in items option
 value_in (given other value ∷ items) option = if is_same other option then Some value else value_in items option
 
--- the item may stand behind these: a database where there is room, or an option of the command, once, with a value of its form
+-- the item may follow these: a database where there is room, or an option of the command, once, with a value of its form
 abbrev pub MayFollow : DatabaseCommand → List Item → Item → Type 0
 MayFollow command before (file name) = IsTrue (is_database_name name) × IsTrue (has_room command (length (files_in before) == 0))
 MayFollow command before (given option value) = IsTrue (has_option command option) × (value_in before option ≡ None) × IsTrue (accepts option value)
 
--- each of the items may stand behind those before it
+-- each of the items may follow those before it
 abbrev pub AreItems : DatabaseCommand → List Item → List Item → Type 0
 AreItems command before [] = Unit {0}
 AreItems command before (item ∷ items) = MayFollow command before item × AreItems command (before ++ item ∷ []) items

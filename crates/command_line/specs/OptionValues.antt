@@ -1,4 +1,4 @@
--- The values of an option that may stand more than once.
+-- The values of an option that may be repeated.
 use Rattle.std.specs.Prelude.{ℕ, if◌then◌else◌, List, [], ◌∷◌, map}
 use Rattle.std.specs.Str.{bytes_eq}
 use Rattle.command_line.specs.declared.given_defines.GivenDefines.{GivenDefines}

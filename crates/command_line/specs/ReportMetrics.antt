@@ -13,7 +13,7 @@ has_letter word letter = list_any (λ byte. byte == letter) word
 abbrev pub stands_once : List ℕ → ℕ → Bool
 stands_once word letter = nat_le (count_by (λ byte. byte == letter) word) 1
 
--- each letter of a metric stands at most once
+-- each letter of a metric occurs at most once
 abbrev pub stand_once : List ℕ → Bool
 stand_once word = stands_once word 108 && stands_once word 99 && stands_once word 116 && stands_once word 102 && stands_once word 109
 
@@ -21,7 +21,7 @@ stand_once word = stands_once word 108 && stands_once word 99 && stands_once wor
 abbrev pub is_letters : List ℕ → Bool
 is_letters word = not (length word == 0) && list_all is_letter word && stand_once word
 
--- the metrics whose letters stand in the word
+-- the metrics whose letters are in the word
 abbrev pub metrics_named : List ℕ → ReportMetrics
 metrics_named word = record { line = has_letter word 108; logic = has_letter word 99; toggle = has_letter word 116; fsm = has_letter word 102; memory = has_letter word 109 }
 

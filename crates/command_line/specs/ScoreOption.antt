@@ -11,7 +11,7 @@ use Rattle.command_line.specs.ValueForm.{is_instance_path, is_file_name}
 abbrev pub required : List ScoreOption
 required = Top ∷ Instance ∷ Source ∷ Dump ∷ Output ∷ []
 
--- the option may stand more than once
+-- the option may be repeated
 abbrev pub repeats : ScoreOption → Bool
 repeats Source = true
 repeats Define = true

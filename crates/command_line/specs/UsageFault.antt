@@ -9,7 +9,7 @@ use Rattle.command_line.specs.DatabaseFault.{HasDatabaseFault}
 use Rattle.command_line.specs.ScoreOption.{required, option_text, accepts}
 use Rattle.command_line.specs.CommandWords.{GivenOption, is_absent, may_follow, IsScoreUpTo}
 
--- the fault as it is told
+-- the text of the fault
 abbrev pub usage_text : UsageFault → List ℕ
 usage_text NoCommand = codes "no command"
 usage_text (UnknownCommand word) = codes "unknown command " ++ word.now
@@ -31,15 +31,15 @@ BeginsWith word words = (rest : List (List ℕ)) × (words ≡ word ∷ rest)
 abbrev pub IsNoOption : List ℕ → Type 0
 IsNoOption word = (option : ScoreOption) → word ≢ option_text option
 
--- the word is an option that may not stand behind these
+-- the word is an option that may not follow these
 abbrev pub IsGivenTwice : List GivenOption → List ℕ → Type 0
 IsGivenTwice given word = (option : ScoreOption) × (word ≡ option_text option) × (may_follow given option ≡ false)
 
--- the word is an option that may stand behind these
+-- the word is an option that may follow these
 abbrev pub MayFollow : List GivenOption → List ℕ → Type 0
 MayFollow given word = (option : ScoreOption) × (word ≡ option_text option) × IsTrue (may_follow given option)
 
--- the words are an option that may stand there, a value that is not of its form, and any others
+-- the words are an option that may come next, a value that is not of its form, and any others
 abbrev pub BeginsWithBadValue : List GivenOption → List ℕ → List (List ℕ) → Type 0
 BeginsWithBadValue given value words = (option : ScoreOption) × (rest : List (List ℕ)) × (words ≡ option_text option ∷ value ∷ rest) × IsTrue (may_follow given option) × (accepts option value ≡ false)
 

@@ -76,7 +76,7 @@ impl<'a> GivenWords<'a> {
         }
     }
 
-    /// Takes a database, behind which these words are left.
+    /// Takes a database, and leaves these words.
     pub(crate) fn add_file(&mut self, file: &'a str, left: WordsLeft<'a>)
         ensures values { (option : Named) → value_of self.new option ≡ value_of self.old option }
         ensures files { files_from self.new ≡ (if is_none (files_from self.old) then Some (file.now ∷ files_among (left_words left.entry)) else files_from self.old) }

@@ -1,4 +1,5 @@
-//! What the words of a command line can be: at most one command, whose values have their forms, or else one first fault.
+//! What the words of a command line can be: at most one command, whose values have their forms, or else one first
+//! fault.
 ghost use Rattle.std.specs.Prelude.{◌≡◌, ℕ, List};
 ghost use Rattle.command_line.specs.declared.usage_fault.UsageFault.{UsageFault};
 ghost use Rattle.command_line.specs.Command.{AreWordsOf, CommandValues};
@@ -15,7 +16,7 @@ pub fn words_are_one_command()
     ensures { (words : List (List ℕ)) (a b : CommandValues) → AreWordsOf a words → AreWordsOf b words → a ≡ b }
 {}
 
-/// Words have one fault at most, and it is told in one way.
+/// Words have one fault at most, and it has one text.
 pub fn words_have_one_fault()
     ensures { (words : List (List ℕ)) (a b : UsageFault) → HasUsageFault words a → HasUsageFault words b → usage_text a ≡ usage_text b }
 {}

@@ -1,8 +1,10 @@
 //! The words of the command line, read into a command with its values or into the first fault of usage.
 //!
-//! A command is its name, its options with their values and the databases that it reads, in any order. Words are
-//! one command at most, or they have one first fault from the left. Nothing here takes memory: values and faults
-//! borrow from the words.
+//! [`read_command`] gives exactly the command of the words, or their first fault from the left
+//! (`specs/CommandWords.antt`, `specs/UsageFault.antt`). A command is its name, its options with their values and the
+//! databases that it reads, in any order. The functions of `laws` state that words are one command at most, that they
+//! never are a command and a fault, and that the values of `score` have their forms. Nothing here takes memory:
+//! values and faults borrow from the words.
 #![tactic(auto)]
 
 mod command;

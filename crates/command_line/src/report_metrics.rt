@@ -18,7 +18,7 @@ pub struct ReportMetrics {
 }
 
 impl ReportMetrics {
-    /// The metrics whose letters stand in the word: `l`, `t`, `c`, `f`, `m` for line, toggle, logic, fsm, memory.
+    /// The metrics whose letters are in the word: `l`, `t`, `c`, `f`, `m` for line, toggle, logic, fsm, memory.
     pub fn named(word: &str) -> Self
         ensures { result ≡ metrics_named word.now }
     {
@@ -49,7 +49,7 @@ impl ReportMetrics {
     }
 }
 
-/// Whether the letter stands among the letters.
+/// Whether the letter is among the letters.
 fn has_letter(letters: &[u8], letter: u8) -> bool
     ensures { result ≡ has_letter letters.now letter }
 {
@@ -78,7 +78,7 @@ fn is_letter(byte: u8) -> bool
     matches!(byte, b'l' | b'c' | b't' | b'f' | b'm')
 }
 
-/// Whether each letter of a metric stands at most once.
+/// Whether each letter of a metric occurs at most once.
 fn stand_once(letters: &[u8]) -> bool
     ensures { result ≡ stand_once letters.now }
 {
@@ -89,7 +89,7 @@ fn stand_once(letters: &[u8]) -> bool
         && stands_once(letters, b'm')
 }
 
-/// Whether the letter stands at most once among the letters.
+/// Whether the letter occurs at most once among the letters.
 fn stands_once(letters: &[u8], letter: u8) -> bool
     ensures { result ≡ stands_once letters.now letter }
 {

@@ -10,9 +10,9 @@ pub enum ScoreOption {
     Top,
     /// The path of the top module's instance in the dump.
     Instance,
-    /// A file of the design. It may stand more than once.
+    /// A file of the design. It may be repeated.
     Source,
-    /// A name that is defined, with its text. It may stand more than once.
+    /// A name that is defined, with its text. It may be repeated.
     Define,
     /// The folder in which included files lie.
     Folder,
@@ -55,7 +55,7 @@ impl ScoreOption {
         }
     }
 
-    /// Whether the option may stand more than once.
+    /// Whether the option may be repeated.
     pub fn repeats(self) -> bool
         ensures { result ≡ repeats self }
     {

@@ -31,7 +31,7 @@ pub enum UsageFault<'a> {
 }
 
 impl<'a> UsageFault<'a> {
-    /// The fault as it is told, in pieces one after the other, so that it can be written without memory.
+    /// The text of the fault, in pieces one after the other, so that it can be written without memory.
     pub fn pieces(&self) -> [&'a str; 3]
         ensures { flat_map (λ piece. piece.now) result ≡ usage_text self.now }
     {

@@ -1,4 +1,4 @@
--- What the host of the system tells of the outside.
+-- What is known of the outside of the host of the system.
 use Rattle.std.specs.Prelude.{is_some}
 use Rattle.cov_host.specs.Outside.{Outside, untold_outside}
 use Rattle.cov_host.specs.declared.file_host.FileHost.{FileHost}

@@ -1,4 +1,5 @@
 -- Identifiers of Verilog.
+-- Bytes are written as numbers: 95 underscore.
 use Rattle.std.specs.Prelude.{ℕ, nat_le, Bool, false, not, ◌&&◌, ◌||◌, ◌==◌, List, [], ◌∷◌, length}
 use Rattle.std.specs.List.{list_all, list_any}
 use Rattle.std.specs.Str.{bytes_eq}

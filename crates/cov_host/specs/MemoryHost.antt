@@ -1,4 +1,4 @@
--- What a host in memory with planned faults tells of the outside, and what is planned.
+-- What is known of the outside of a host in memory with planned faults, and what is planned.
 use Rattle.std.specs.Prelude.{ℕ, Bool, List}
 use Rattle.cov_host.specs.Outside.{Outside}
 use Rattle.cov_host.specs.SureHost.{sure_outside}

@@ -5,7 +5,7 @@ use Rattle.std.specs.Prelude.{◌≡◌, ◌≢◌, ◌⊎◌, ◌<◌, ◌≤�
 abbrev pub Files : Type 0
 Files = List ℕ → Option (List ℕ)
 
--- what a host tells of the outside; none stands for what it does not tell
+-- what is known of the outside of a host; none means that it is not known
 pub record Outside : Type 0 where
   pub files : Option Files
   pub rest : Option (List ℕ)  -- the bytes left of the file that is being read
@@ -18,7 +18,7 @@ pub record Outside : Type 0 where
   pub absences : ℕ  -- how often a file to be read was absent
   pub mute : ℕ  -- how often a warning was refused
 
--- all is told, and there is nothing
+-- all is known, and there is nothing
 abbrev pub empty_outside : Outside
 empty_outside = record {
   files = Some (λ _. None);
@@ -33,7 +33,7 @@ empty_outside = record {
   mute = 0;
 }
 
--- no content is told, and nothing is being read or written
+-- no content is known, and nothing is being read or written
 abbrev pub untold_outside : Outside
 untold_outside = record {
   files = None;
@@ -48,7 +48,7 @@ untold_outside = record {
   mute = 0;
 }
 
--- it is told before and after, and the two stand in this relation; or it is told neither before nor after
+-- it is known before and after, and the two are in this relation; or it is known neither before nor after
 abbrev pub Told : {A : Type 0} → (A → A → Type 0) → Option A → Option A → Type 0
 Told R None None = Unit {0}
 Told R None (Some after) = ⊥
@@ -69,19 +69,19 @@ abbrev pub AppendsTo : Option (List ℕ) → List ℕ → Files → Files → Ty
 AppendsTo target piece before after =
     IfSome target (λ name. IsSomeAnd (before name) (λ bytes. HasFile name (bytes ++ piece) before after))
 
--- these bytes stand at the end
+-- these bytes are at the end
 abbrev pub Appends : List ℕ → List ℕ → List ℕ → Type 0
 Appends piece before after = after ≡ before ++ piece
 
--- some first bytes of the piece stand at the end
+-- some first bytes of the piece are at the end
 abbrev pub AppendsPrefix : List ℕ → List ℕ → List ℕ → Type 0
 AppendsPrefix piece before after = (count : ℕ) × Appends (take count piece) before after
 
--- the count rose, or stands at the greatest value that it can have
+-- the count rose, or is at the greatest value that it can have
 abbrev pub IsCounted : ℕ → ℕ → Type 0
 IsCounted before after = (before < after) ⊎ (after ≡ 2 ^ 64 - 1)
 
--- every file is as before, where the files are told
+-- every file is as before, where the files are known
 abbrev pub KeepsFiles : Outside → Outside → Type 0
 KeepsFiles before after = Told SameFiles before.files after.files
 
@@ -124,16 +124,16 @@ pub record CountsMute (before after : Outside) : Type 0 where
   pub absences : after.absences ≡ before.absences
   pub mute : before.mute ≤ after.mute
 
--- the file stands at its first byte; where the files are told, it is one of them
+-- the file is at its first byte; where the files are known, it is one of them
 pub record IsOpened (name : List ℕ) (before after : Outside) : Type 0 where
   pub reading : after.reading ≡ true
   pub rest : IfSome before.files (λ files. IsSomeAnd (files name) (λ bytes. after.rest ≡ Some bytes))
 
--- where the files are told, the name is not one of theirs
+-- where the files are known, the name is not one of theirs
 abbrev pub IsAbsent : List ℕ → Outside → Type 0
 IsAbsent name before = IfSome before.files (λ files. files name ≡ None)
 
--- so many first bytes of the piece are the next ones of the file, and none only at its end
+-- this number of first bytes of the piece are the next ones of the file, and 0 only at its end
 pub record IsRead (count : ℕ) (piece : List ℕ) (before after : Outside) : Type 0 where
   pub within : count ≤ length piece
   pub bytes : Told (λ rest left. rest ≡ take count piece ++ left) before.rest after.rest
@@ -150,12 +150,12 @@ pub record IsNotCreated (name : List ℕ) (before after : Outside) : Type 0 wher
   pub writing : after.writing ≡ false
   pub files : Told (λ old new. SameFiles old new ⊎ HasFile name [] old new) before.files after.files
 
--- so many first bytes of the piece were appended, at least one of a piece that is not empty
+-- this number of first bytes of the piece was appended, at least one of a piece that is not empty
 pub record IsWritten (count : ℕ) (piece : List ℕ) (before after : Outside) : Type 0 where
   pub within : count ≤ length piece
   pub some : piece ≢ [] → 0 < count
   pub files : Told (AppendsTo before.target (take count piece)) before.files after.files
 
--- some first bytes of the piece were appended, where the files are told
+-- some first bytes of the piece were appended, where the files are known
 abbrev pub IsPartlyWritten : List ℕ → Outside → Outside → Type 0
 IsPartlyWritten piece before after = (count : ℕ) × Told (AppendsTo before.target (take count piece)) before.files after.files

@@ -1,4 +1,4 @@
--- What a host in memory without faults tells of the outside.
+-- What is known of the outside of a host in memory without faults.
 use Rattle.std.specs.Prelude.{Some, [], is_some, unwrap_or, string_bytes}
 use Rattle.std.specs.Option.{option_map}
 use Rattle.std.specs.BTreeMap.{get_by_text}

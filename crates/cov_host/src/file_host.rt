@@ -11,8 +11,8 @@ use std::io::{Eprint, ErrorKind, Read, Write};
 use std::rt::{Files, Runtime};
 use std::{fs, io};
 
-/// The files, the standard output and the standard error of the system. It tells no content. What the system does
-/// is not proved.
+/// The files, the standard output and the standard error of the system. Its contents are not known to contracts. What
+/// the system does is not proved.
 #[derive(Drop)]
 pub struct FileHost<R: Runtime> {
     system: (R, Global),
@@ -105,7 +105,7 @@ impl<R: Runtime> Host for FileHost<R> {
     }
 }
 
-/// Which refusal an error of the system is. A fault is counted, and want of memory is none.
+/// Which refusal an error of the system is. A fault is counted, and want of memory is not.
 fn refusal(faults: &mut u64, error: &io::Error) -> HostFault
     ensures memory { (result ≡ HostFault.NoMemory) ↔ (error_kind error.now ≡ ErrorKind.OutOfMemory) }
     ensures counted { result ≡ HostFault.Failed → IsCounted faults.old faults.new }
@@ -139,7 +139,7 @@ fn open_file<R: Files>(system: &R, name: &str) -> io::Result<R::File> {
     Ok(file)
 }
 
-/// Writes to the standard error, which takes text: it is an error at a byte that is none.
+/// Writes to the standard error, which takes text: a byte that is no text is an error.
 fn eprint_bytes(system: &impl Eprint, piece: &[u8]) -> io::Result<()> {
     for chunk in piece.utf8_chunks() {
         system.eprint(chunk.valid())?;

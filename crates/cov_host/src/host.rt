@@ -5,10 +5,10 @@ use crate::{Failed, HostFault, OpenFault};
 
 /// The outside of the program. One file is read and one is written at a time.
 ///
-/// `Failed` is answered only where the count of faults rose or stands at its greatest value, so a host cannot
+/// `Failed` is answered only where the count of faults rose or is at its greatest value, so a host cannot
 /// give up without a cause. Want of memory has no such count, except for `warn`.
 pub trait Host {
-    /// What the host tells of the outside.
+    /// What is known of the outside.
     ghost outside: { Self → Outside };
 
     /// Opens a file for reading at its first byte, and closes the one read before.

@@ -22,7 +22,7 @@ impl Model for Input {
 }
 
 impl Input {
-    /// A copy that stands at its first byte.
+    /// A copy, to be read from its first byte.
     pub(crate) fn open(alloc: Global, bytes: &[u8]) -> Result<Self, NoMemory>
         ensures { IfOk result (λ input. input ≡ bytes.now) }
     {

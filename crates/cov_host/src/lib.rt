@@ -1,5 +1,13 @@
-//! The outside of the program: files, standard output and the warning output behind the trait `Host`, three
-//! hosts, and the small types that every crate shares.
+//! The outside of the program as a trait, and the small types that all crates share.
+//!
+//! [`Host`] is the outside: files that are read and written one at a time, the standard output and the warning
+//! output. Its clauses say what a call may change, and that a call answers `Failed` only where a count of failures
+//! rose or is at its greatest value. [`FileHost`] is the system; that its calls do what their names say is not
+//! proved. [`SureHost`] and [`MemoryHost`] keep files in memory and are proved to be hosts whose files are known;
+//! only tests show that the calls of a `MemoryHost` that are planned to fail do fail.
+//!
+//! [`Sequence`] is a list of items, [`Name`], [`Text`] and [`Words`] are texts, and [`Place`] is a place in a source.
+//! [`read_decimal`] and the tests of identifiers are exact.
 #![tactic(auto)]
 
 mod count;

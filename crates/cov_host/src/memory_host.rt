@@ -7,8 +7,8 @@ use crate::planned_faults::PlannedFaults;
 use crate::{Calls, Failed, Host, HostFault, NoMemory, OpenFault, SureHost};
 use std::alloc::Global;
 
-/// A host in memory with planned faults, which tells all of the outside. It refuses the calls that were planned to
-/// fail, absent files, and where memory runs out.
+/// A host in memory with planned faults, of which all of the outside is known. It refuses the calls that were planned
+/// to fail, absent files, and where memory runs out.
 #[derive(Drop)]
 pub struct MemoryHost {
     sure: SureHost,

@@ -6,7 +6,7 @@ use crate::Calls;
 use crate::count::raise;
 
 /// The calls that are to fail, by their numbers from 1, with how many calls there were and how many of them failed.
-/// Both counts stand still at their greatest value.
+/// Both counts stay at their greatest value.
 #[derive(Drop)]
 pub(crate) struct PlannedFaults {
     failing: Calls,

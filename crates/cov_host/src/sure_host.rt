@@ -9,7 +9,7 @@ use crate::{Bytes, Failed, Host, HostFault, NoMemory, OpenFault};
 use std::alloc::Global;
 use std::collections::BTreeMap;
 
-/// A host in memory without faults, which tells all of the outside. It refuses only absent files, and where
+/// A host in memory without faults, of which all of the outside is known. It refuses only absent files, and where
 /// memory runs out.
 #[derive(Drop)]
 pub struct SureHost {

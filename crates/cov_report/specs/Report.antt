@@ -17,11 +17,11 @@ use Rattle.cov_report.specs.Points.{ReportPoint, blocks, report_points, points_i
 
 -- ---- columns
 
--- at the left of so many places; a longer text pushes what follows
+-- at the left of this number of places; a longer text moves what follows
 abbrev pub at_left : ℕ → List ℕ → List ℕ
 at_left places text = text ++ replicate (places - length text) 32
 
--- at the right of so many places; a longer text pushes what follows
+-- at the right of this number of places; a longer text moves what follows
 abbrev pub at_right : ℕ → List ℕ → List ℕ
 at_right places text = replicate (places - length text) 32 ++ text
 

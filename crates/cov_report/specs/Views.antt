@@ -14,7 +14,7 @@ use Rattle.cov_report.specs.Points.{ReportPoint}
 abbrev pub counted_cmp : Counted → Counted → Ordering
 counted_cmp a b = ordering_then (bytes_cmp a.name.now b.name.now) (subject_cmp a.subject.now b.subject.now)
 
--- the first point with the verdict that stands
+-- the first point with the joined verdict
 abbrev pub joined_counted : Counted → Counted → Counted
 joined_counted a b = record a { verdict = if yields_to a.verdict.now b.verdict.now then b.verdict else a.verdict }
 

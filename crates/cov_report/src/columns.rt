@@ -45,7 +45,7 @@ fn push_percentage(text: &mut Text, hit: usize, all: usize) -> Result<(), NoMemo
     push_right(text, 5, Buffer::new().format(hit * 100 / all).as_bytes())
 }
 
-/// Appends a word at the left of so many places, at most 8.
+/// Appends a word at the left of this number of places, at most 8.
 fn push_left(text: &mut Text, places: usize, word: &[u8]) -> Result<(), NoMemory>
     requires { places ≤ 8 }
     ensures { OnOk result (text.new ≡ text.old ++ at_left places word.now) }
@@ -54,7 +54,7 @@ fn push_left(text: &mut Text, places: usize, word: &[u8]) -> Result<(), NoMemory
     push_spaces(text, places.saturating_sub(word.len()))
 }
 
-/// Appends a word at the right of so many places, at most 8.
+/// Appends a word at the right of this number of places, at most 8.
 fn push_right(text: &mut Text, places: usize, word: &[u8]) -> Result<(), NoMemory>
     requires { places ≤ 8 }
     ensures { OnOk result (text.new ≡ text.old ++ at_right places word.now) }
@@ -63,7 +63,7 @@ fn push_right(text: &mut Text, places: usize, word: &[u8]) -> Result<(), NoMemor
     text.extend_from_slice(word)
 }
 
-/// Appends so many spaces, at most 8.
+/// Appends this number of spaces, at most 8.
 fn push_spaces(text: &mut Text, count: usize) -> Result<(), NoMemory>
     requires { count ≤ 8 }
     ensures { OnOk result (text.new ≡ text.old ++ replicate count 32) }

@@ -10,7 +10,7 @@ use cov_host::NoMemory;
 use std::alloc::Global;
 use std::cmp::Ordering;
 
-/// What stands in an order, and is joined with what the order does not tell apart from it.
+/// What has an order, and is joined with what is equal in that order.
 pub(crate) trait Ranked: Copy + Drop {
     ghost cmp: { Self → Self → SpecOrdering };
 
@@ -20,7 +20,7 @@ pub(crate) trait Ranked: Copy + Drop {
     fn compare(&self, other: &Self) -> Ordering
         ensures { result ≡ cmp self.now other.now };
 
-    /// Both as one, which stands where this one does.
+    /// Both as one, which is equal to this one in the order.
     fn joined(&self, other: &Self) -> Self
         ensures { result ≡ join self.now other.now };
 
@@ -29,7 +29,7 @@ pub(crate) trait Ranked: Copy + Drop {
     ghost stays: { (a b c : Self) → cmp (join a b) c ≡ cmp a c };
 }
 
-/// All items in their order, those that it does not tell apart joined.
+/// All items in their order, those that are equal in it joined.
 pub(crate) fn gather<T: Ranked>(alloc: Global, items: Vec<T>) -> Result<Vec<T>, NoMemory>
     ensures gathered { IfOk result (λ joined. joined.items ≡ gathered T.cmp T.join items.items) }
     ensures rising { IfOk result (λ joined. Rises T.cmp joined.items) }
@@ -40,7 +40,7 @@ pub(crate) fn gather<T: Ranked>(alloc: Global, items: Vec<T>) -> Result<Vec<T>, 
     join_neighbours(alloc, &items)
 }
 
-/// Sorted items, those that the order does not tell apart joined.
+/// Sorted items, those that are equal in the order joined.
 fn join_neighbours<T: Ranked>(alloc: Global, items: &[T]) -> Result<Vec<T>, NoMemory>
     requires { IsSorted T.cmp items.now }
     ensures { IfOk result (λ joined. joined.items ≡ gathered T.cmp T.join items.now) }

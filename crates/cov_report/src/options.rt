@@ -3,7 +3,9 @@ ghost use Rattle.std.specs.Prelude.{◌≡◌, true, false};
 /// What a report shows.
 #[derive(Clone, Copy, PartialEq, Eq)]
 pub struct Options {
+    /// How much is shown of each block.
     pub level: Level,
+    /// The metrics that are shown.
     pub letters: Letters,
     /// A block for each instance, and else one for each module.
     pub by_instance: bool,
@@ -25,11 +27,15 @@ pub enum Level {
 /// The metrics that a report counts.
 #[derive(Clone, Copy, PartialEq, Eq)]
 pub struct Letters {
+    /// Statements.
     pub line: bool,
+    /// Cases of operators and conditions.
     pub logic: bool,
+    /// Changes of bits.
     pub toggle: bool,
     /// States and arcs of state machines.
     pub fsm: bool,
+    /// Reads and writes of the words of memories.
     pub memory: bool,
 }
 

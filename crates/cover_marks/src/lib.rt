@@ -1,4 +1,8 @@
 //! The marks of a design's coverage points: the number of the point of a visit, and what is known of each point.
+//!
+//! [`Marks::point`] gives the number of the point of a visit in constant time, [`Marks::hit`] and [`Marks::doubt`]
+//! mark a point, and [`Marks::verdict`] is proved to say how it came out: hit where it was marked so, else
+//! undetermined by its first doubt, else missed. Only [`Marks::new`] takes memory.
 #![tactic(auto)]
 
 mod index;

@@ -25,13 +25,17 @@ pub const MOST_POINTS: usize = 1_048_576;
 /// The points of a design, in their order: those of lines, of nodes, of toggles, of state machines and of words.
 #[derive(Drop)]
 pub struct Points {
+    /// The line points, in their order.
     pub lines: Vec<LinePoint>,
+    /// The cases of counted nodes, in their order.
     pub nodes: Vec<NodePoint>,
+    /// The toggle points, in their order.
     pub toggles: Vec<IndexPoint>,
     /// The state machines in the instances of the design.
     pub machines: Vec<Machine>,
-    /// The states and arcs of these machines.
+    /// The states and arcs of these machines, in their order.
     pub states: Vec<MachinePoint>,
+    /// The points of words, in their order.
     pub words: Vec<IndexPoint>,
 }
 

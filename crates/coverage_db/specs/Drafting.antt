@@ -1,4 +1,5 @@
 -- Reading a table line by line: what is read of it after one more line, or the fault of that line.
+-- Bytes are written as numbers: 32 space.
 use Rattle.std.specs.Prelude.{◌≡◌, ◌==◌, ◌<◌, ◌^◌, ℕ, ◌+◌, ◌-◌, Bool, true, ◌&&◌, bytes_eq, if◌then◌else◌, List, [], ◌∷◌, ◌++◌, length, codes, decimal, slice_get, Option, Some, None, Result, Ok, Err}
 use Rattle.std.specs.declared.cmp.Ordering.{Ordering}
 use Rattle.std.specs.Global.{Global}
@@ -63,7 +64,7 @@ count_of line = do
   digits ← behind (codes "points ") line
   if is_plain digits then Some digits else None
 
--- an item may stand behind these
+-- an item may follow these
 abbrev pub after_last : {X : Type 0} → (X → X → Ordering) → Option X → X → Bool
 after_last cmp None item = true
 after_last cmp (Some last) item = is_lt (cmp last item)
@@ -96,12 +97,12 @@ next_version number draft line =
 unfoldable pub next_top : ℕ → Draft → List ℕ → Result Draft DbFault
 next_top number draft line = or_else (top_of line) (λ top. Ok (record draft { stage = stage.Sources; db = record draft.db { top = top } })) (bad number)
 
--- an instance whose path stands behind those so far
+-- the next instance, whose path comes after those so far
 unfoldable pub next_instance : ℕ → Draft → List ℕ → Result Draft DbFault
 next_instance number draft line =
     or_else (instance_at line >>= λ i. if follows (λ a b. bytes_cmp a.path b.path) draft.db.instances i then Some i else None) (λ i. Ok (with_instance draft i)) (bad number)
 
--- the next source, or the first instance behind some source
+-- the next source, or, after at least one source, the first instance
 unfoldable pub next_source : ℕ → Draft → List ℕ → Result Draft DbFault
 next_source number draft line =
     or_else (source_of (length draft.db.sources + 1) line) (λ name. Ok (with_source draft name)) (if length draft.db.sources == 0 then bad number else next_instance number draft line)
@@ -116,7 +117,7 @@ next_end number draft line =
     if bytes_eq draft.count (decimal (length draft.db.points)) then (if bytes_eq line (codes "end") then Ok (record draft { stage = stage.End }) else bad number)
     else Err (At WrongCount (Some (3 + length draft.db.sources + length draft.db.instances)))
 
--- a point that stands behind those so far
+-- the next point, which comes after those so far
 unfoldable pub next_point : ℕ → Draft → List ℕ → Result Draft DbFault
 next_point number draft line =
     if begins_point line then or_else (point_of (length draft.db.sources) draft.db.instances line >>= λ p. if follows (λ a b. address_cmp a.address b.address) draft.db.points p then Some p else None) (λ p. Ok (with_point draft p)) (bad number)
@@ -135,7 +136,7 @@ next number draft line = next_at draft.stage number draft line
 
 -- ---- all lines
 
--- the table, where the text ended behind its last line
+-- the table, where the text ends after its last line
 abbrev pub finish_at : Stage → ℕ → Draft → List ℕ → Result Db DbFault
 finish_at stage.End number draft [] = Ok draft.db
 finish_at _ number draft rest = bad number

@@ -1,4 +1,5 @@
 -- The fields of a line, read from left to right: what is read, and the fields that are left.
+-- Bytes are written as numbers: 32 space, 48 0.
 use Rattle.std.specs.Prelude.{◌≡◌, ◌==◌, ℕ, nat_le, Bool, false, not, ◌&&◌, ◌||◌, bytes_eq, if◌then◌else◌, List, [], ◌∷◌, length, codes, Option, Some, None, option_map, Result, Ok, Err}
 use Rattle.std.specs.List.{slice_split, list_all}
 use Rattle.std.specs.Char.{is_ascii_digit}
@@ -23,12 +24,12 @@ Gives view (Ok x) read = read ≡ Some (view x)
 Gives view (Err line_fault.NoMemory) read = Unit {0}
 Gives view (Err line_fault.Misfit) read = read ≡ None
 
--- what stands before the first byte of this value, and what stands behind it
+-- what is before the first byte of this value, and what is after it
 abbrev pub split_first : ℕ → List ℕ → Option (List ℕ × List ℕ)
 split_first value [] = None
 split_first value (byte ∷ bytes) = if byte == value then Some ([], bytes) else option_map (λ parts. (byte ∷ parts.0, parts.1)) (split_first value bytes)
 
--- what stands before the last byte of this value, and what stands behind it
+-- what is before the last byte of this value, and what is after it
 abbrev pub or_here : ℕ → ℕ → List ℕ → Option (List ℕ × List ℕ) → Option (List ℕ × List ℕ)
 or_here value byte bytes None = if byte == value then Some ([], bytes) else None
 or_here value byte bytes (Some parts) = Some (byte ∷ parts.0, parts.1)
@@ -37,7 +38,7 @@ abbrev pub split_last : ℕ → List ℕ → Option (List ℕ × List ℕ)
 split_last value [] = None
 split_last value (byte ∷ bytes) = or_here value byte bytes (split_last value bytes)
 
--- what stands behind this front
+-- the rest after these first bytes
 abbrev pub behind : List ℕ → List ℕ → Option (List ℕ)
 behind [] text = Some text
 behind (byte ∷ front) [] = None

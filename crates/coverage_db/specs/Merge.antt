@@ -16,7 +16,7 @@ use Rattle.coverage_db.specs.Text.{top_line, source_lines, instance_line, count_
 abbrev pub doubt_cmp : ℕ → List ℕ → ℕ → List ℕ → Ordering
 doubt_cmp time path other_time other_path = ordering_then (nat_cmp time other_time) (bytes_cmp path other_path)
 
--- the other verdict of a point stands where both are joined
+-- the other verdict of a point is the one of both when they are joined
 abbrev pub yields_to : DbVerdict → DbVerdict → Bool
 yields_to Hit v = false
 yields_to Missed v = true
@@ -65,7 +65,7 @@ lines_from_sources db = source_lines 1 db.sources ++ lines_from_instances db
 abbrev pub bare_lines : Db → List (List ℕ)
 bare_lines db = codes "covered-db 1" ∷ top_line db.top ∷ lines_from_sources db
 
--- the line at a place, the last one behind all
+-- the line at a place, and `end` for a place after the last one
 abbrev pub line_at : List (List ℕ) → ℕ → List ℕ
 line_at lines place = unwrap_or (slice_get lines place) (codes "end")
 
@@ -110,7 +110,7 @@ abbrev pub if_other : Option ℕ → ℕ → Option ℕ → Option ℕ
 if_other None before otherwise = otherwise
 if_other (Some place) before otherwise = Some (before + place)
 
--- how many lines stand before the first that differs, by the parts of the tables
+-- the number of lines before the first that differs, by the parts of the tables
 abbrev pub difference_of : Db → Db → Option ℕ
 difference_of left right =
     if bytes_eq left.top right.top then

@@ -1,4 +1,5 @@
 -- Reading a point from the fields of its line, from left to right.
+-- Bytes are written as numbers: 46 dot, 58 colon.
 use Rattle.std.specs.Prelude.{ℕ, ◌+◌, Bool, true, false, not, ◌&&◌, bytes_eq, if◌then◌else◌, List, [], ◌∷◌, codes, Option, Some, None, option_map}
 use Rattle.std.specs.Option.{is_some}
 use Rattle.cov_host.specs.Identifier.{is_identifier}
@@ -13,7 +14,7 @@ use Rattle.coverage_db.specs.Fields.{◌>>=◌, split_first, split_last, fields_
 use Rattle.coverage_db.specs.Table.{is_state}
 use Rattle.coverage_db.specs.Words.{line_word_of, operator_of, node_case_of, can_have}
 
--- a source and its line, where there are so many sources
+-- a source and its line, where there are this number of sources
 unfoldable pub place_of : ℕ → List ℕ → Option SourceLine
 place_of sources word = do
   parts ← split_first 58 word
@@ -131,7 +132,7 @@ verdict_at instances fields = do
   word ← field_at fields
   verdict_by instances word.0 word.1
 
--- the point of a line, where there are so many sources and these instances
+-- the point of a line, where there are this number of sources and these instances
 unfoldable pub point_of : ℕ → List DbInstance → List ℕ → Option DbPoint
 point_of sources instances line = do
   letter ← field_at (fields_of line)

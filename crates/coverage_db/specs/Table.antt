@@ -1,4 +1,5 @@
 -- The tables that have a text.
+-- Bytes are written as numbers: 46 dot; those below 32 are in no name of a file.
 use Rattle.std.specs.Prelude.{◌≡◌, ◌≢◌, ℕ, ◌+◌, ◌<◌, ◌≤◌, ◌^◌, Bool, ◌&&◌, ◌||◌, nat_le, ◌==◌, IfSome, IsTrue, List, [], ◌∷◌, ◌++◌, length, All, Contains}
 use Rattle.std.specs.declared.cmp.Ordering.{Ordering}
 use Rattle.std.specs.declared.cmp.Ordering.TheVariants.{Less}
@@ -16,7 +17,7 @@ use Rattle.coverage_db.specs.declared.verdict.DbVerdict.TheVariants.{Hit, Missed
 use Rattle.coverage_db.specs.Order.{bytes_cmp, address_cmp}
 use Rattle.coverage_db.specs.Words.{can_have}
 
--- each item stands before the next one
+-- each item comes before the next one
 abbrev pub Rises : {T : Type 0} → (T → T → Ordering) → List T → Type 0
 Rises cmp [] = Unit {0}
 Rises cmp (x ∷ []) = Unit {0}
@@ -47,12 +48,12 @@ pub record IsInstance (instance : DbInstance) : Type 0 where
 abbrev pub IsNumber : ℕ → Type 0
 IsNumber number = (1 ≤ number) × (number < 2 ^ 32)
 
--- the line is of one of so many sources
+-- the line is of one of this number of sources
 pub record IsSourceLine (sources : ℕ) (at : SourceLine) : Type 0 where
   pub source : (1 ≤ at.source) × (at.source ≤ sources)
   pub line : IsNumber at.line
 
--- what a point of a table with so many sources may count
+-- what a point of a table with this number of sources may count
 abbrev pub IsSubject : ℕ → Subject → Type 0
 IsSubject sources (Line number at word) = IsNumber number × IsSourceLine sources at
 IsSubject sources (Logic number at operator case) = IsNumber number × IsSourceLine sources at × IsTrue (can_have operator case)
@@ -71,7 +72,7 @@ IsVerdict instances Hit = Unit {0}
 IsVerdict instances Missed = Unit {0}
 IsVerdict instances (Undetermined time path) = (time < 2 ^ 63) × IsThingIn instances path
 
--- a point of a table with so many sources and these instances
+-- a point of a table with this number of sources and these instances
 pub record IsPoint (sources : ℕ) (instances : List DbInstance) (point : DbPoint) : Type 0 where
   pub instance : point.address.instance < length instances
   pub subject : IsSubject sources point.address.subject

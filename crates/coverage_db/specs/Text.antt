@@ -1,4 +1,5 @@
 -- The text of a table.
+-- Bytes are written as numbers: 10 line feed, 32 space, 58 colon.
 use Rattle.std.specs.Prelude.{ℕ, ◌+◌, List, [], ◌∷◌, ◌++◌, length, map, codes, decimal, Bool, true, false, ◌&&◌, ◌||◌, ◌==◌, Option, Some, None, unwrap_or, slice_get}
 use Rattle.std.specs.List.{flat_map, slice_split}
 use Rattle.std.specs.Option.{option_map}
@@ -116,6 +117,6 @@ text_of_lines lines = flat_map ended lines
 abbrev pub text_of : Db → List ℕ
 text_of db = text_of_lines (lines_with_count (decimal (length db.points)) db)
 
--- what stands between the line feeds of a text: its lines, and at last what stands behind the last line feed
+-- what is between the line feeds of a text: its lines, and at last what is after the last line feed
 abbrev pub lines_of : List ℕ → List (List ℕ)
 lines_of text = slice_split (λ byte. byte == 10) text

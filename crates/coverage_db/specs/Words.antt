@@ -98,7 +98,7 @@ operators =
 unfoldable pub operator_of : List ℕ → Option Operator
 operator_of text = find (λ op. bytes_eq (operator_text op) text) operators
 
--- the operator can stand before one operand, or is the value of a condition
+-- the operator takes one operand, or is the value of a condition
 abbrev pub is_unary : Operator → Bool
 is_unary operator.Value = true
 is_unary operator.LogicalNot = true
@@ -126,7 +126,7 @@ is_or operator.Or = true
 is_or operator.LogicalOr = true
 is_or _ = false
 
--- the operator can stand between two operands, and neither of them decides it alone
+-- the operator takes two operands, and neither of them decides it alone
 abbrev pub is_plain : Operator → Bool
 is_plain operator.Value = false
 is_plain operator.LogicalNot = false

@@ -6,11 +6,12 @@ use crate::{LineWord, NodeCase, Operator};
 use cov_host::Name;
 use std::cmp::Ordering;
 
-/// Where a point stands: its instance, and what of the instance it counts.
+/// Which point it is: its instance, and what of the instance it counts.
 #[derive(Drop)]
 pub struct Address {
     /// The place of the instance in the database, from 0.
     pub instance: u32,
+    /// What of the instance it counts.
     pub subject: Subject,
 }
 
@@ -21,19 +22,25 @@ pub enum Subject {
     Line {
         /// The number of the statement among those of its module, from 1 in order of the text.
         number: u32,
+        /// The line on which the statement begins.
         at: SourceLine,
+        /// The kind of the statement.
         word: LineWord,
     },
     /// A node is evaluated with these truths.
     Logic {
         /// The number of the node among those of its module, from 1 in order of the text.
         number: u32,
+        /// The line on which the node begins.
         at: SourceLine,
+        /// The operator of the node.
         operator: Operator,
+        /// The truths of its operands, or its own.
         case: NodeCase,
     },
     /// A bit of a signal changes.
     Toggle {
+        /// The name of the signal.
         name: Name,
         /// The index of the bit as declared. None for a signal without a range.
         index: Option<u32>,
@@ -42,19 +49,27 @@ pub enum Subject {
     },
     /// The signal of a machine has the value of a state.
     State {
+        /// The name of the signal.
         name: Name,
+        /// The name of the state.
         state: Name,
     },
     /// The signal of a machine goes from one state to another.
     Arc {
+        /// The name of the signal.
         name: Name,
+        /// The name of the state before.
         from: Name,
+        /// The name of the state after it.
         to: Name,
     },
     /// A word of a memory is written, or is read.
     Word {
+        /// The name of the memory.
         name: Name,
+        /// The index of the word, as declared.
         index: u32,
+        /// Whether the word is written, and else it is read.
         write: bool,
     },
 }

@@ -7,7 +7,7 @@ use crate::write::{push_address, push_count, push_instance, push_source};
 use cov_host::{Name, NoMemory, Text};
 use std::alloc::Global;
 
-/// The line behind so many others, of a point without its verdict.
+/// The line at this place, from 0, where the line of a point is without its verdict.
 pub(crate) fn bare_line(alloc: Global, db: &Db, place: usize) -> Result<Name, NoMemory>
     requires { IsTable db.now }
     ensures { IfOk result (λ line. line ≡ line_at (bare_lines db.now) place) }

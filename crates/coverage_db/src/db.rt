@@ -19,12 +19,15 @@ pub struct Db {
 pub struct DbInstance {
     /// The names from the top module's down to its own, joined by dots.
     pub path: Name,
+    /// The name of its module.
     pub module: Name,
 }
 
 /// A point with its verdict.
 #[derive(Drop)]
 pub struct DbPoint {
+    /// Which point it is.
     pub address: Address,
+    /// How it came out.
     pub verdict: DbVerdict,
 }

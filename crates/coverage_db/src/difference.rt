@@ -59,7 +59,7 @@ fn first_other<T: Compared>(left: &[T], right: &[T]) -> Option<usize>
     }
 }
 
-/// How many lines stand before the first that differs, where each point is without its verdict.
+/// The number of lines before the first that differs, where each point is without its verdict.
 pub(crate) fn first_difference(left: &Db, right: &Db) -> Option<usize>
     requires left { IsTable left.now }
     requires right { IsTable right.now }

@@ -74,7 +74,7 @@ impl Draft {
         }
     }
 
-    /// The table, where the text ended behind its last line.
+    /// The table, where the text ends after its last line.
     pub(crate) fn finish(self, number: u32, rest: &[u8]) -> Result<Db, DbFault>
         ensures { Returns result (finish_at self.stage number self rest.now) }
     {
@@ -114,7 +114,7 @@ impl Draft {
         Ok(())
     }
 
-    /// The next source, or the first instance behind some source.
+    /// The next source, or, after at least one source, the first instance.
     #[tactic(auto, unfolding(crate::specs::Drafting::next_source))]
     fn take_source(&mut self, number: u32, line: &[u8]) -> Result<(), DbFault>
         requires { IsDraft self.old }
@@ -144,7 +144,7 @@ impl Draft {
         Ok(())
     }
 
-    /// An instance whose path stands behind those so far.
+    /// The next instance, whose path comes after those so far.
     #[tactic(auto, unfolding(crate::specs::Drafting::next_instance))]
     fn take_instance(&mut self, number: u32, line: &[u8]) -> Result<(), DbFault>
         ensures { StepsTo result self.new (next_instance number self.old line.now) }
@@ -164,7 +164,7 @@ impl Draft {
         Ok(())
     }
 
-    /// A point that stands behind those so far, or the end.
+    /// The next point, which comes after those so far, or the end.
     #[tactic(auto, unfolding(crate::specs::Drafting::next_point))]
     fn take_point(&mut self, number: u32, line: &[u8]) -> Result<(), DbFault>
         requires { IsDraft self.old }
@@ -223,7 +223,7 @@ fn bad_line(number: u32) -> DbFault
     }
 }
 
-/// Whether the instance may stand behind these.
+/// Whether the instance may follow these.
 fn instance_follows(instances: &[DbInstance], instance: &DbInstance) -> bool
     ensures { result ≡ follows (λ a b. bytes_cmp a.path b.path) instances.now instance.now }
 {
@@ -233,7 +233,7 @@ fn instance_follows(instances: &[DbInstance], instance: &DbInstance) -> bool
     }
 }
 
-/// Whether the point may stand behind these.
+/// Whether the point may follow these.
 fn point_follows(points: &[DbPoint], point: &DbPoint) -> bool
     ensures { result ≡ follows (λ a b. address_cmp a.address b.address) points.now point.now }
 {

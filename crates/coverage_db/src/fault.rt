@@ -25,6 +25,7 @@ pub enum DbFault {
     NoMemory,
     #[error("the text is no database")]
     At {
+        /// What is wrong.
         kind: DbKind,
         /// The number of the line, from 1. None where the text is too long.
         line: Option<u32>,
@@ -44,12 +45,15 @@ impl From<NoMemory> for DbFault {
 pub enum MergeFault {
     #[error("memory ran out")]
     NoMemory,
-    /// The databases are of different designs. Of the lines of their texts, each up to its verdict, this is the first that differs.
+    /// The databases are of different designs. Of the lines of their texts, each up to its verdict, this is the first
+    /// that differs.
     #[error("the designs differ")]
     DesignsDiffer {
         /// The number of the line, from 1.
         line: u32,
+        /// The line of the left database.
         left: Name,
+        /// The line of the right database.
         right: Name,
     },
 }

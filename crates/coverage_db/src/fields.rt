@@ -10,7 +10,7 @@ use std::marker::Model;
 /// The fields of a line that are left, which contracts see as a list of texts.
 #[derive(Drop)]
 pub(crate) struct Fields<'a> {
-    /// What is left of the line. None behind its last field.
+    /// What is left of the line. None after its last field.
     rest: Option<&'a [u8]>,
 }
 

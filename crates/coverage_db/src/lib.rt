@@ -1,4 +1,17 @@
-//! The coverage database: the points of a design with their verdicts, its text, and the merge of two.
+//! The coverage database: the points of a design with their verdicts, its text, and the merge of two databases.
+//!
+//! [`Db`] is a table of points in their order, each hit, missed or undetermined. [`write_db`] gives exactly its text;
+//! [`read_db`] accepts exactly the texts of tables up to 2^31 bytes, and names the first line that does not fit;
+//! [`merge`] joins two tables of one design, or names the first line that differs. The functions of `laws` state that
+//! no two tables have one text, that a merge is commutative, associative and idempotent, and that a merge has a point
+//! hit exactly where one of the tables has.
+//!
+//! ```text
+//! let left = read_db(alloc, one)?;          // the bytes of two databases of one design
+//! let right = read_db(alloc, other)?;
+//! let both = merge(alloc, left, &right)?;   // hit where one of them is hit
+//! let text = write_db(alloc, &both)?;       // `covered-db 1`, the top, the sources, the instances, the points
+//! ```
 #![tactic(auto)]
 
 mod address;

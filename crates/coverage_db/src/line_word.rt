@@ -1,7 +1,7 @@
 ghost use Rattle.std.specs.Prelude.{◌≡◌};
 ghost use Rattle.coverage_db.specs.Words.{line_word_text, line_word_of};
 
-/// What stands at a line point: the kind of its statement (IEEE 1364-2001 clause 9).
+/// The kind of the statement of a line point (IEEE 1364-2001 clause 9).
 #[derive(Clone, Copy, PartialEq, Eq)]
 pub enum LineWord {
     If,

@@ -144,7 +144,7 @@ impl Operator {
         }
     }
 
-    /// Whether it can stand before one operand, or is the value of a condition.
+    /// Whether it takes one operand, or is the value of a condition.
     fn is_unary(self) -> bool
         ensures { result ≡ is_unary self }
     {
@@ -179,7 +179,7 @@ impl Operator {
         matches!(self, Operator::Or | Operator::LogicalOr)
     }
 
-    /// Whether it can stand between two operands, neither of which decides it alone.
+    /// Whether it takes two operands, neither of which decides it alone.
     fn is_plain(self) -> bool
         ensures { result ≡ is_plain self }
     {

@@ -14,7 +14,7 @@ use std::alloc::Global;
 /// The latest time.
 const LATEST: u64 = i64::MAX as u64;
 
-/// The point of a line, where there are so many sources and these instances.
+/// The point of a line, where there are this number of sources and these instances.
 #[tactic(auto, unfolding(crate::specs::Reading::point_of))]
 pub(crate) fn read_point(
     alloc: Global,

@@ -15,7 +15,7 @@ use std::alloc::Global;
 /// The greatest number of a statement, of a node and of a line, and the greatest index.
 const GREATEST: u64 = u32::MAX as u64;
 
-/// What a point with this letter counts, where there are so many sources.
+/// What a point with this letter counts, where there are this number of sources.
 #[tactic(auto, unfolding(crate::specs::Reading::subject_at))]
 pub(crate) fn read_subject(
     alloc: Global,

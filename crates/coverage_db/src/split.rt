@@ -2,7 +2,7 @@ ghost use Rattle.std.specs.Prelude.{◌≡◌, ◌≤◌, ◌==◌, not, length,
 ghost use Rattle.std.specs.List.{prefix_len};
 ghost use Rattle.coverage_db.specs.Fields.{split_first, split_last, behind};
 
-/// What stands before the first byte of this value, and what stands behind it. None where there is no such byte.
+/// What is before the first byte of this value, and what is after it. None where there is no such byte.
 pub(crate) fn split_first(bytes: &[u8], value: u8) -> Option<(&[u8], &[u8])>
     ensures { option_map (λ parts. (parts.0.now, parts.1.now)) result ≡ split_first value bytes.now }
 {
@@ -14,7 +14,7 @@ pub(crate) fn split_first(bytes: &[u8], value: u8) -> Option<(&[u8], &[u8])>
     Some((front, back))
 }
 
-/// How many bytes stand before the first of this value.
+/// The number of bytes before the first of this value.
 fn len_before(bytes: &[u8], value: u8) -> usize
     ensures length { result ≡ prefix_len (λ byte. not (byte == value)) bytes.now }
     ensures within { result ≤ length bytes.now }
@@ -22,7 +22,7 @@ fn len_before(bytes: &[u8], value: u8) -> usize
     bytes.iter().take_while(|byte| **byte != value).count()
 }
 
-/// What stands before the last byte of this value, and what stands behind it. None where there is no such byte.
+/// What is before the last byte of this value, and what is after it. None where there is no such byte.
 pub(crate) fn split_last(bytes: &[u8], value: u8) -> Option<(&[u8], &[u8])>
     ensures { option_map (λ parts. (parts.0.now, parts.1.now)) result ≡ split_last value bytes.now }
 {
@@ -37,7 +37,7 @@ pub(crate) fn split_last(bytes: &[u8], value: u8) -> Option<(&[u8], &[u8])>
     parts
 }
 
-/// What stands behind a front. None where the bytes do not begin with it.
+/// The rest after these first bytes. None where the bytes do not begin with it.
 pub(crate) fn behind<'a>(bytes: &'a [u8], front: &[u8]) -> Option<&'a [u8]>
     ensures { option_map (λ back. back.now) result ≡ behind front.now bytes.now }
 {

@@ -19,7 +19,7 @@ impl DbVerdict {
         Ok(())
     }
 
-    /// Whether the other verdict of the same point stands where both are joined.
+    /// Whether the other verdict of the same point is the one of both when they are joined.
     pub fn yields_to(&self, other: &DbVerdict) -> bool
         ensures { result ≡ yields_to self.now other.now }
     {

@@ -1,4 +1,7 @@
 //! `covered`: verified code coverage for Verilog from value change dumps.
+//!
+//! The program passes the words of its command line and the system to [`covered_cli::covered`], whose clauses say
+//! what it does, and ends with the status that this gives.
 #![tactic(auto)]
 
 use cov_host::{FileHost, Words};

@@ -19,17 +19,17 @@ use Rattle.covered_cli.specs.declared.dump_refusal.DumpRefusal.TheVariants as re
 use Rattle.covered_cli.specs.declared.status.Status.{Status}
 use Rattle.covered_cli.specs.declared.status.Status.TheVariants.{Dump, Memory}
 
--- the host tells the files, and this one has this text
+-- the files of the host are known, and this one has this text
 abbrev pub HasText : Outside → List ℕ → List ℕ → Type 0
 HasText outside name text = IsSomeAnd outside.files (λ files. files name ≡ Some text)
 
--- the sources of the command are told, and stand for the design, and its dump has the text
+-- the sources of the command are known and have the design, and its dump has the text
 pub record HaveTexts (score : ScoreValues) (before : Outside) (design : Design) (text : List ℕ) : Type 0 where
   pub sources : List SourceText
   pub has_design : HasDesign score before sources design
   pub dump_is : HasText before score.dump text
 
--- the sources stand for a design, and the dump has the instance, and each of its inputs with a first value
+-- the sources have a design, and the dump has the instance, and each of its inputs with a first value
 pub record IsGoodScore (score : ScoreValues) (before : Outside) : Type 0 where
   pub text : List ℕ
   pub design : Design
@@ -38,21 +38,21 @@ pub record IsGoodScore (score : ScoreValues) (before : Outside) : Type 0 where
   pub is_dump : IsDump text dump
   pub bound : IsBound design dump score.instance
 
--- the sources are told, with all that they include, and stand for no design, whatever the dump is
+-- the sources are known, with all that they include, and have no design, whatever the dump is
 pub record HasBadSource (score : ScoreValues) (before : Outside) : Type 0 where
   pub sources : List SourceText
   pub told : IsSome before.files
   pub gathered : HasSources (sources_in score) before sources
   pub refused : (design : Design) → StandFor sources (sources_in score).defines score.top design → ⊥
 
--- the sources stand for a design, and the text of the dump is none that has the instance, and each input with a first value
+-- the sources have a design, and the text of the dump is none that has the instance, and each input with a first value
 pub record HasBadDump (score : ScoreValues) (before : Outside) : Type 0 where
   pub text : List ℕ
   pub design : Design
   pub texts : HaveTexts score before design text
   pub refused : HasNoScore design score.instance text
 
--- the sources stand for a design, and the header of the dump is read, but the design is not bound to its variables
+-- the sources have a design, and the header of the dump is read, but the design is not bound to its variables
 pub record HasUnboundDump (score : ScoreValues) (before : Outside) : Type 0 where
   pub text : List ℕ
   pub design : Design

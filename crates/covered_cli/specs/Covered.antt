@@ -73,7 +73,7 @@ HasEarlyStatus other = ⊥
 abbrev pub IsIncluded : List (List ℕ) → Outside → List ℕ → Type 0
 IsIncluded words before path = (values : ScoreValues) × IsScore words values × LacksAt (sources_in values) before path
 
--- A file that the words name for reading, or that their sources include, is not among those that the host tells; where it tells none, an absence was counted.
+-- A file that the words name for reading, or that their sources include, is not among the known files of the host; where they are not known, an absence was counted.
 abbrev pub MissesFile : List (List ℕ) → Outside → Outside → Type 0
 MissesFile words before after = MatchOption before.files (IsCounted before.absences after.absences) (λ files. (name : List ℕ) × (IsInput words name ⊎ IsIncluded words before name) × (files name ≡ None))
 
@@ -103,6 +103,6 @@ HasGoodDatabases words before =
     ⊎ ((values : ReportValues) × IsReport words values × IsGoodReport values before)
     ⊎ ((values : LcovValues) × IsLcov words values × IsGoodLcov values before)
 
--- a fault of this status stands, and its line was warned
+-- there is a fault of this status, and its line was warned
 abbrev pub WarnsFault : List (List ℕ) → Status → Outside → Outside → Type 0
 WarnsFault words status before after = (fault : Fault) × (status_of fault ≡ status) × Stands words before after fault × WarnsLine (line_of fault) before after

@@ -58,8 +58,8 @@ abbrev pub IsRefused : Call → List ℕ → Outside → Outside → Type 0
 IsRefused OpenRead file before after = IsCounted before.faults after.faults ⊎ IsMissing file before after
 IsRefused call file before after = IsCounted before.faults after.faults
 
--- the fault stands in the work of this command between two outsides; one of the dump or of the output only where the sources
--- stand for a design
+-- this command has the fault between two outsides; one of the dump or of the output only where the sources
+-- have a design
 abbrev pub StandsIn : ScoreValues → Outside → Outside → Fault → Type 0
 StandsIn score before after (fault.Usage usage) = ⊥
 StandsIn score before after (fault.Source f) = IsSourceFault (sources_in score) before after f
@@ -87,21 +87,21 @@ abbrev pub IsDatabaseFault : (CommandFault → Type 0) → Fault → Type 0
 IsDatabaseFault P (fault.Databases f) = P f
 IsDatabaseFault P other = ⊥
 
--- the fault stands in the work of this command
+-- this command has the fault
 abbrev pub StandsInWork : Command → Outside → Outside → Fault → Type 0
 StandsInWork (Score score) before after fault = StandsIn (score_values score) before after fault
 StandsInWork (Merge merge) before after fault = IsDatabaseFault (IsMergeFault (merge_values merge) before after) fault
 StandsInWork (Report report) before after fault = IsDatabaseFault (IsReportFault (report_values report) before after) fault
 StandsInWork (Lcov lcov) before after fault = IsDatabaseFault (IsLcovFault (lcov_values lcov) before after) fault
 
--- the fault stands in a command over databases that the words are
+-- the words are a command over databases that has the fault
 abbrev pub StandsInDatabases : List (List ℕ) → Outside → Outside → CommandFault → Type 0
 StandsInDatabases words before after f =
     ((merge : MergeValues) × IsMerge words merge × IsMergeFault merge before after f)
     ⊎ ((report : ReportValues) × IsReport words report × IsReportFault report before after f)
     ⊎ ((lcov : LcovValues) × IsLcov words lcov × IsLcovFault lcov before after f)
 
--- the fault stands in a call of the program with these words between two outsides
+-- a call of the program with these words has the fault between two outsides
 abbrev pub Stands : List (List ℕ) → Outside → Outside → Fault → Type 0
 Stands words before after (fault.Usage usage) = HasUsageFault words usage
 Stands words before after (fault.Databases f) = StandsInDatabases words before after f

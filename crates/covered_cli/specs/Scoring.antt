@@ -29,12 +29,12 @@ use Rattle.covered_cli.specs.ScoreSources.{sources_in}
 use Rattle.covered_cli.specs.declared.dump_refusal.DumpRefusal.{DumpRefusal}
 use Rattle.covered_cli.specs.declared.dump_refusal.DumpRefusal.TheVariants as refusal
 
--- the sources of the command stand for the design
+-- the sources of the command have the design
 pub record HasDesign (score : ScoreValues) (before : Outside) (sources : List SourceText) (design : Design) : Type 0 where
   pub gathered : HasSources (sources_in score) before sources
   pub stands : StandFor sources (sources_in score).defines score.top design
 
--- the sources of the command stand for some design
+-- the sources of the command have some design
 abbrev pub HasSomeDesign : ScoreValues → Outside → Type 0
 HasSomeDesign score before = (sources : List SourceText) × (design : Design) × HasDesign score before sources design
 
@@ -69,7 +69,7 @@ pub record IsScoreText (design : Design) (names : List (List ℕ)) (dump_text in
 abbrev pub IsNamed : Design → ℕ → List ℕ → Type 0
 IsNamed design signal name = name ≡ (slice_index_or design.signals signal no_signal).name
 
--- why the text is refused as the dump of a design: its first fault, which is one of its header or stands where the design is
+-- why the text is refused as the dump of a design: its first fault, which is one of its header or is where the design is
 -- bound, an instance that is not there, or a signal of the top module
 abbrev pub IsDumpRefusal : Design → List ℕ → List ℕ → List ℕ → DumpRefusal → Type 0
 IsDumpRefusal design top instance text (refusal.At kind byte) = IsDumpFault design instance text (At kind byte)
@@ -79,7 +79,7 @@ IsDumpRefusal design top instance text (refusal.InputNotDumped outer name) =
 IsDumpRefusal design top instance text (refusal.NoBaseline outer name) =
     (outer.now ≡ top) × ((signal : ℕ) × IsNamed design signal name × SaysSome text (λ b. HasNoBaseline design b.vars instance design.signals b.items signal))
 
--- the sources stand for a design, and the dump is refused for it
+-- the sources have a design, and the dump is refused for it
 pub record IsRefusedDump (score : ScoreValues) (before : Outside) (refusal : DumpRefusal) : Type 0 where
   pub sources : List SourceText
   pub text : List ℕ

@@ -14,7 +14,7 @@ use vcd_reader::DumpKind;
 pub(crate) enum DumpRefusal<'a> {
     /// The first fault of the dump, and its byte.
     At { kind: DumpKind, byte: u64 },
-    /// No variable stands in the scope of the path or below it.
+    /// No variable is in the scope of the path or below it.
     NoInstance { path: &'a str },
     /// This input of the top module has no variable of its width under any of its names.
     InputNotDumped { top: &'a str, name: Name },

@@ -34,7 +34,7 @@ pub(crate) fn warn_of<H: Host>(host: &mut H, fault: &Fault<'_>)
     }
 }
 
-/// The pieces of a fault's line in order, but for one of sources, of a dump or of a command over databases.
+/// The pieces of a fault's line in order, except one of sources, of a dump or of a command over databases.
 fn pieces_of<'a>(fault: &Fault<'a>) -> [&'a str; 5]
     ensures { IsPlain fault.now → flat_map (λ piece. piece.now) result ≡ line_of fault.now }
 {

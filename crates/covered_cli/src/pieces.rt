@@ -22,7 +22,7 @@ pub(crate) fn warn_pieces<H: Host>(host: &mut H, pieces: &[&[u8]])
     }
 }
 
-/// The same for pieces that are texts.
+/// Warns of texts, one after the other, in one line.
 pub(crate) fn warn_texts<H: Host>(host: &mut H, texts: &[&str])
     ensures line { WarnsLine (flat_map (λ text. text.now) texts.now) (H.outside host.old) (H.outside host.new) }
     ensures printed { (H.outside host.new).printed ≡ (H.outside host.old).printed }

@@ -51,7 +51,7 @@ pub(crate) fn run_score<'a, H: Host>(
     write(host, words.output, &text)
 }
 
-/// The design that the command's sources stand for, and the names of the sources.
+/// The design of the command's sources, and the names of the sources.
 fn design_of<'a, H: Host>(
     alloc: Global,
     host: &mut H,

@@ -159,7 +159,7 @@ fn text_of(kind: SourceKind) -> &'static str
     }
 }
 
-/// The number and the name of a fault of the lexer, behind its stage.
+/// The number and the name of a fault of the lexer, after its stage.
 fn lex_text(kind: LexKind) -> &'static str
     ensures { result.now ≡ lex_text kind }
 {
@@ -178,7 +178,7 @@ fn lex_text(kind: LexKind) -> &'static str
     }
 }
 
-/// The number and the name of a fault of the parser, behind its stage.
+/// The number and the name of a fault of the parser, after its stage.
 fn parse_text(kind: ParseKind) -> &'static str
     ensures { result.now ≡ parse_text kind }
 {
@@ -190,7 +190,7 @@ fn parse_text(kind: ParseKind) -> &'static str
     }
 }
 
-/// The number and the name of a fault of a constant, behind its stage.
+/// The number and the name of a fault of a constant, after its stage.
 fn const_text(kind: ConstKind) -> &'static str
     ensures { result.now ≡ const_text kind }
 {
@@ -203,7 +203,7 @@ fn const_text(kind: ConstKind) -> &'static str
     }
 }
 
-/// The number and the name of a fault of elaboration, behind its stage.
+/// The number and the name of a fault of elaboration, after its stage.
 fn elab_text(kind: ElabKind) -> &'static str
     ensures { result.now ≡ elab_text kind }
 {

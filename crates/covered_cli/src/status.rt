@@ -8,17 +8,17 @@ pub enum Status {
     Done,
     /// The words are no command.
     Usage,
-    /// A fault stands in the sources.
+    /// The sources have a fault.
     Source,
-    /// A fault stands in the dump, or the dump does not fit the design.
+    /// The dump has a fault, or it does not fit the design.
     Dump,
-    /// No run of the design shows the dump. Of a design of inputs there always is one, so no command ends so yet.
+    /// No run of the design shows the dump. A design made of inputs always has one, so no command ends so yet.
     Contradiction,
     /// A call on the host failed, or a file that is to be read is absent.
     Files,
     /// Memory ran out.
     Memory,
-    /// A fault stands in a database.
+    /// A database has a fault.
     Database,
 }
 

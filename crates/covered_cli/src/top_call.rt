@@ -19,7 +19,7 @@ use std::alloc::Global;
 /// Does all that the program does with the words that follow its name. A status above 0 is warned of in one line,
 /// and designs that differ in two more.
 pub fn covered<H: Host>(alloc: Global, words: &Words, host: &mut H) -> Status
-    // Nothing is printed but a report for which the words name no file, and no file changes but the one that the
+    // Nothing is printed except a report for which the words name no file, and no file changes except the one that the
     // words name for the output.
     ensures printed { (PrintsReport words.now → ⊥) → (H.outside host.new).printed ≡ (H.outside host.old).printed }
     ensures others { Told (KeepsUnnamed words.now) (H.outside host.old).files (H.outside host.new).files }
@@ -34,7 +34,7 @@ pub fn covered<H: Host>(alloc: Global, words: &Words, host: &mut H) -> Status
     // which was printed where no file is named; of `lcov` the tracefile of the table of the file.
     ensures done { result ≡ Status.Done → IsDone words.now (H.outside host.old) (H.outside host.new) }
 
-    // Where the files are told and no call of the host fails, their texts decide the status, want of memory aside. A
+    // Where the files are known and no call of the host fails, their texts decide the status, want of memory aside. A
     // design that the header of a dump does not bind is refused for that, whatever the dump's body holds.
     ensures complete { IsCommandWith IsGoodScore words.now (H.outside host.old) → NoFaults (H.outside host.old) (H.outside host.new) → EndsWith Status.Done result }
     ensures databases { HasGoodDatabases words.now (H.outside host.old) → NoFaults (H.outside host.old) (H.outside host.new) → EndsWith Status.Done result }

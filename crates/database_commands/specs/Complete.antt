@@ -7,7 +7,7 @@ use Rattle.coverage_db.specs.Table.{IsTable}
 use Rattle.coverage_db.specs.Text.{text_of}
 use Rattle.coverage_db.specs.declared.db.Db.{Db}
 
--- the host tells the files, and this one has the text of this table, which is no longer than 2,147,483,648 bytes
+-- the files of the host are known, and this one has the text of this table, which is no longer than 2,147,483,648 bytes
 pub record HasTable (before : Outside) (name : List ℕ) (db : Db) : Type 0 where
   pub table : IsTable db
   pub is : IsSomeAnd before.files (λ files. files name ≡ Some (text_of db))

@@ -6,7 +6,7 @@ use Rattle.coverage_db.specs.Table.{IsTable}
 use Rattle.coverage_db.specs.Text.{text_of}
 use Rattle.coverage_db.specs.declared.db.Db.{Db}
 
--- the file has this text, where the host tells the files
+-- the file has this text, where the files of the host are known
 abbrev pub IsFile : Outside → List ℕ → List ℕ → Type 0
 IsFile outside name text = IfSome outside.files (λ files. files name ≡ Some text)
 

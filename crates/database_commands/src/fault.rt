@@ -9,7 +9,9 @@ pub enum CommandFault<'a> {
     /// A call on the host gave nothing: it failed, or the file is absent.
     #[error("a call on a file failed")]
     Files {
+        /// The call.
         call: Call,
+        /// The name of the file.
         file: &'a str,
     },
     /// The standard output took no text.
@@ -20,7 +22,9 @@ pub enum CommandFault<'a> {
     /// The file is no database.
     #[error("the file is no database")]
     NoDatabase {
+        /// The name of the file.
         file: &'a str,
+        /// What is wrong with its text.
         kind: DbKind,
         /// The number of the line, from 1. None where the file is too long.
         line: Option<u32>,
@@ -29,6 +33,7 @@ pub enum CommandFault<'a> {
     /// up to its verdict, this is the first that differs.
     #[error("the designs differ")]
     DesignsDiffer {
+        /// The name of this file.
         file: &'a str,
         /// The number of the line, from 1.
         line: u32,

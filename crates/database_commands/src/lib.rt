@@ -1,5 +1,10 @@
-//! The commands over databases, over any host: joining databases of one design, and showing one
-//! as a report or as a tracefile of lcov.
+//! The commands that read databases, over any host: [`run_merge`] joins databases of one design, [`run_report`] shows
+//! one, and [`run_lcov`] writes one as a tracefile of lcov.
+//!
+//! With `Ok` exactly the text of the definition was written to the output or printed. Each fault has its cause, and
+//! one that comes before the output is opened leaves every file as it was. Good files without a failed call give `Ok`
+//! or want of memory. No file except the output changes. [`any_order`] states that the tables of one design have one
+//! merge, in whatever order.
 #![tactic(auto)]
 
 mod fault;

@@ -34,7 +34,8 @@ all_cells d x = if nat_lt x (length d.signals) then signal_cells d x else words_
 -- Visits of an Assign: what an Assign visits depends on its wake cells alone.
 abbrev pub AssignVisitsLaw : Design → Type 0
 AssignVisitsLaw d =
-    (p : ℕ) → is_assign (process_at d p) ≡ true → (u v : Values Bit) → ((c : Cell) → IsWakeCell (machine d) p c → u c ≡ v c) → (execution d (body_at d p) u).visits ≡ (execution d (body_at d p) v).visits
+    (p : ℕ) → is_assign (process_at d p) ≡ true → (u v : Values Bit) → ((c : Cell) → IsWakeCell (machine d) p c → u c ≡ v c)
+    → (execution d (body_at d p) u).visits ≡ (execution d (body_at d p) v).visits
 
 -- Lines of an Assign: it reaches no line but 0, which is the number of no line point.
 abbrev pub AssignLineLaw : Design → Type 0
@@ -74,20 +75,23 @@ PathMentionsLaw d = (p y : ℕ) → ReadsUnwritten d (body_at d p) y → body_me
 
 -- Reads of an Assign: it reads each signal that it mentions, and has not written it before.
 abbrev pub MentionReadLaw : Design → Type 0
-MentionReadLaw d = (p x : ℕ) → is_assign (process_at d p) ≡ true → body_mentions x (body_at d p) ≡ true → x < length d.signals → (v : Values Bit) → In (reads (a_signal x) false) (execution d (body_at d p) v).visits
+MentionReadLaw d =
+    (p x : ℕ) → is_assign (process_at d p) ≡ true → body_mentions x (body_at d p) ≡ true → x < length d.signals → (v : Values Bit)
+    → In (reads (a_signal x) false) (execution d (body_at d p) v).visits
 
 -- process p is an Assign that both drives and mentions signal y
 abbrev pub DrivesAndMentions : Design → ℕ → ℕ → Type 0
 DrivesAndMentions d p y = (is_assign (process_at d p) ≡ true) × (body_mentions y (body_at d p) ≡ true) × (body_assigns y (body_at d p) ≡ true)
 
--- what is clear at t by so many rounds
+-- what is clear at t by this number of rounds
 abbrev pub clear_round : Design → Habit → BoundDump → ℕ → ℕ → PartialMap
 clear_round d h dump t n = clear_in d h dump t (clear_start d h dump t) n
 
 -- Own signals: where some state agrees with a round, a signal that the dump lacks and an Assign drives and mentions is not clear in the next.
 abbrev pub OwnUnclearLaw : Design → Type 0
 OwnUnclearLaw d =
-    (h : Habit) (dump : BoundDump) (t p y n : ℕ) (v : Values Bit) → DrivesAndMentions d p y → dump.bound y ≡ false → Agrees d (clear_round d h dump t n) v → HasValue (clear_round d h dump t (suc n)) (a_signal y) → ⊥
+    (h : Habit) (dump : BoundDump) (t p y n : ℕ) (v : Values Bit) → DrivesAndMentions d p y → dump.bound y ≡ false
+    → Agrees d (clear_round d h dump t n) v → HasValue (clear_round d h dump t (suc n)) (a_signal y) → ⊥
 
 -- so where some state agrees with what is clear, it is not clear
 abbrev pub OwnNotClearLaw : Design → Type 0

@@ -105,7 +105,7 @@ pub data IsClearBy (d : Design) (h : Habit) (dump : BoundDump) (t : ℕ) (start 
   of_unwoken : (p : ℕ) (x : Thing) (bits : List Bit) → IsWindow dump t → IsUnbound dump x → IsClockedTarget d p x → (CanWakeSome d dump t p → ⊥) → start x bits → IsClearBy d h dump t start K x bits
   of_clean : (p : ℕ) (c : Cell) (x : Thing) (bits : List Bit) → IsWindow dump t → IsUnbound dump x → IsWrittenValue d h dump t start p c x bits → IsClearBy d h dump t start K x bits
 
--- what is clear at t by so many rounds of the rules
+-- what is clear at t by this number of rounds of the rules
 abbrev pub clear_in : Design → Habit → BoundDump → ℕ → PartialMap → ℕ → PartialMap
 clear_in d h dump t start zero = nothing_known
 clear_in d h dump t start (suc n) = IsClearBy d h dump t start (clear_in d h dump t start n)

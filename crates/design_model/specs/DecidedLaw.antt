@@ -11,7 +11,7 @@ use Rattle.design_model.specs.Open.{IsNotClocked}
 use Rattle.design_model.specs.Doubt.{IsInDoubt}
 
 -- at a window time at which nothing is in doubt for the point, it is not hit in one run that shows the dump and not hit in another.
--- 'Hit in both or in neither' would ask to decide what is clear and early; this says the same, as the proof needs it that a hit is told
+-- 'Hit in both or in neither' would ask to decide what is clear and early; this says the same, as the proof needs it that a hit is marked
 abbrev pub IsDecided : Design → Habit → Point → Type 0
 IsDecided d h x =
     (dump : BoundDump) (r q : Run) → IsDumpOf d dump → IsRun d h r → IsRun d h q → Shows d dump r → Shows d dump q

@@ -21,11 +21,11 @@ pub record Design : Type 0 where
   pub constants : List Constant
   pub aliases : List Alias
 
--- what stands for a signal that a design does not have
+-- in place of a signal that a design does not have
 abbrev pub no_signal : Signal
 no_signal = record { instance = 0; name = []; high = 0; low = 0; ranged = false; width = 0; signed = false; input = false }
 
--- what stands for a memory that a design does not have
+-- in place of a memory that a design does not have
 abbrev pub no_memory : Memory
 no_memory = record { instance = 0; name = []; first = 0; last = 0; high = 0; low = 0; ranged = false; width = 0; signed = false }
 
@@ -131,21 +131,21 @@ IsClocked (assign i x t counted) = ⊥
 IsClocked (comb i wakes s) = ⊥
 IsClocked (clocked i events s) = ⊤
 
--- x stands in the list
+-- x is in the list
 abbrev pub In : {A : Type 0} → A → List A → Type 0
 In x [] = ⊥
 In x (y ∷ ys) = (y ≡ x) ⊎ In x ys
 
--- no element stands in the list twice
+-- no element is in the list twice
 abbrev pub AreDistinct : {A : Type 0} → List A → Type 0
 AreDistinct [] = ⊤
 AreDistinct (x ∷ xs) = (In x xs → ⊥) × AreDistinct xs
 
--- what stands for an instance that a design does not have
+-- in place of an instance that a design does not have
 abbrev pub no_instance : Instance
 no_instance = record { path = []; «module» = [] }
 
--- the path of what stands in an instance: that of the instance, a dot and the name
+-- the path of a name in an instance: that of the instance, a dot and the name
 abbrev pub path_in : Design → ℕ → List ℕ → List ℕ
 path_in d i name = (slice_index_or d.instances i no_instance).path ++ 46 ∷ name
 

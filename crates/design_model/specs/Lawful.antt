@@ -93,7 +93,7 @@ size_of (assign i x t counted) = 0
 size_of (comb i wakes s) = size s
 size_of (clocked i events s) = size s
 
--- the instance that a process stands in
+-- the instance that a process is in
 abbrev pub instance_of : Process → ℕ
 instance_of (assign i x t counted) = i
 instance_of (comb i wakes s) = i
@@ -125,7 +125,7 @@ is_shallow path = nat_lt (count_by (λ b. b == 46) path) 64
 abbrev pub is_instance : Instance → Bool
 is_instance i = is_shallow i.path && nat_le (length i.path) 256
 
--- an alias stands in an instance and names a signal
+-- an alias is in an instance and names a signal
 abbrev pub is_alias : Design → Alias → Bool
 is_alias d a = nat_lt a.instance (length d.instances) && nat_lt a.signal (length d.signals)
 
@@ -148,10 +148,13 @@ pub record IsLawfulDesign (d : Design) : Type 0 where
   pub few_words : sum_by (λ m. span m.first m.last) d.memories ≤ 262144
   pub few_instances : length d.instances ≤ 65536
   pub few_statements : sum_by size_of d.processes ≤ 1048576
-  pub lines_once : (p q : ℕ) (x y : LineAt) → In x (lines_of (process_at d p)) → In y (lines_of (process_at d q)) → instance_of (process_at d p) ≡ instance_of (process_at d q) → x.line ≡ y.line → (p ≡ q) × (x ≡ y)
-  pub nodes_once : (p q : ℕ) (x y : NodeAt) → In x (nodes_of (process_at d p)) → In y (nodes_of (process_at d q)) → instance_of (process_at d p) ≡ instance_of (process_at d q) → x.node ≡ y.node → (p ≡ q) × (x ≡ y)
+  pub lines_once : (p q : ℕ) (x y : LineAt) → In x (lines_of (process_at d p)) → In y (lines_of (process_at d q))
+      → instance_of (process_at d p) ≡ instance_of (process_at d q) → x.line ≡ y.line → (p ≡ q) × (x ≡ y)
+  pub nodes_once : (p q : ℕ) (x y : NodeAt) → In x (nodes_of (process_at d p)) → In y (nodes_of (process_at d q))
+      → instance_of (process_at d p) ≡ instance_of (process_at d q) → x.node ≡ y.node → (p ≡ q) × (x ≡ y)
   pub one_writer : (p q x : ℕ) → (IsAssign (process_at d p) → ⊥) → (IsAssign (process_at d q) → ⊥) → body_assigns x (body_at d p) ≡ true → body_assigns x (body_at d q) ≡ true → p ≡ q
-  pub one_driver : (p q : ℕ) (c : Cell) → IsAssign (process_at d p) → IsAssign (process_at d q) → any_set (λ b x t. may_write d x c) (body_at d p) ≡ true → any_set (λ b x t. may_write d x c) (body_at d q) ≡ true → p ≡ q
+  pub one_driver : (p q : ℕ) (c : Cell) → IsAssign (process_at d p) → IsAssign (process_at d q)
+      → any_set (λ b x t. may_write d x c) (body_at d p) ≡ true → any_set (λ b x t. may_write d x c) (body_at d q) ≡ true → p ≡ q
   pub apart : (p q x : ℕ) → IsAssign (process_at d p) → body_assigns x (body_at d p) ≡ true → body_assigns x (body_at d q) ≡ true → IsAssign (process_at d q)
   pub no_input : (p s : ℕ) → body_assigns s (body_at d p) ≡ true → (signal_at d s).input ≡ false
   pub not_both : (p q x : ℕ) → body_blocks x (body_at d p) ≡ true → body_queues x (body_at d q) ≡ true → ⊥

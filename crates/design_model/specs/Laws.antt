@@ -40,7 +40,7 @@ abbrev pub ClearRoundsLaw : Design → Habit → Type 0
 ClearRoundsLaw d h =
     (dump : BoundDump) (t n : ℕ) (x : Thing) (bits : List Bit) → clear_in d h dump t (clear_start d h dump t) n x bits → clear_in d h dump t (clear_start d h dump t) (suc n) x bits
 
--- Least law: what is clear stands in each map that is closed under the rules.
+-- Least law: each map that is closed under the rules contains what is clear.
 abbrev pub ClearLeastLaw : Design → Habit → Type 0
 ClearLeastLaw d h =
     (dump : BoundDump) (t : ℕ) (has : Thing → List Bit → Bool)

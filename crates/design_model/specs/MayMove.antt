@@ -9,11 +9,11 @@ use Rattle.design_model.specs.Design.{Design}
 use Rattle.design_model.specs.Machine.{machine}
 use Rattle.design_model.specs.Shows.{BoundDump}
 
--- what the dump tells of the step at a time: the bound signals, before and after
+-- what the dump gives of the step at a time: the bound signals, before and after
 abbrev pub told_at : BoundDump → ℕ → Told Bit
 told_at dump t = record { is_told = dump.bound; old = dump.values (t - 1); new = dump.values t }
 
--- the cell is known to change at most once in the step, as the dump tells: it is single in the round of the step
+-- the cell is known to change at most once in the step, as the dump gives it: it is single in the round of the step
 abbrev pub IsSingleAt : Design → BoundDump → ℕ → Cell → Type 0
 IsSingleAt d dump t = IsSingle (machine d) (told_at dump t) (dump.round t)
 

@@ -29,7 +29,7 @@ abbrev pub toggle_cell : Design → ℕ → ℕ → Cell
 toggle_cell d s i =
     if (signal_at d s).ranged then indexed_cell s (within (signal_at d s).width (offset (signal_range d s) (pos i))) else cell s 0
 
--- the two values stand at the start and the end of the step
+-- the two values are those at the start and the end of the step
 abbrev pub StandAtEnds : Design → (r : Run) → StepOf r → Cell → Bit → Bit → Type 0
 StandAtEnds d r k c x y = ((start_of d r k).values c ≡ x) × ((end_of d r k).values c ≡ y)
 

@@ -107,7 +107,7 @@ abbrev mutual
   are_alone d no_terms = true
   are_alone d (a_term t ts) = is_shaped d (own_width d t) (own_sign d t) t && are_alone d ts
 
--- the term stands in a context of its own
+-- the term has a context of its own
 abbrev pub is_alone : Design → Term → Bool
 is_alone d t = is_shaped d (own_width d t) (own_sign d t) t
 

@@ -32,7 +32,7 @@ range_of d (signal h s) = record { high = (signal_at d s).high; low = (signal_at
 range_of d (word h m i) = record { high = (memory_at d m).high; low = (memory_at d m).low }
 range_of d t = record { high = (head t).width - 1; low = 0 }
 
--- how far above the lowest bit of the range the bit with this index stands
+-- how far the bit with this index is above the lowest bit of the range
 abbrev pub offset : Range → ℤ → ℤ
 offset r i = if nat_le r.low r.high then i -ℤ pos r.low else pos r.low -ℤ i
 
@@ -68,7 +68,7 @@ abbrev pub option_word : Design → Values Bit → ℕ → Option ℕ → List B
 option_word d v m None = fill (memory_at d m).width X
 option_word d v m (Some i) = word_bits d v m i
 
--- so many copies, one after the other
+-- this number of copies, one after the other
 abbrev pub copies : ℕ → List Bit → List Bit
 copies zero bs = []
 copies (suc n) bs = bs ++ copies n bs

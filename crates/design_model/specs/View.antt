@@ -1,4 +1,4 @@
--- The plain trees that the trees of the code stand for, and the design that a design of the code stands for.
+-- The plain trees of the trees of the code, and the plain design of a design of the code.
 use Rattle.std.specs.Prelude.{List, [], ◌∷◌, map, Option, Some, None}
 use Rattle.cov_host.specs.declared.place.Place.{Place}
 use Rattle.design_model.specs.Tree as t

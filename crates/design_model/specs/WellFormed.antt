@@ -23,7 +23,7 @@ may_be_node is_condition t = (is_operator t || is_condition) && not (is_constant
 abbrev pub is_counted_rightly : Bool → Term → Bool
 is_counted_rightly is_condition t = is_none (head t).node || may_be_node is_condition t
 
--- so many bits from an offset on are among n bits; where the offset is not known nothing is asked
+-- this number of bits from an offset on are among n bits; where the offset is not known nothing is asked
 abbrev pub are_among : ℕ → ℕ → Option ℤ → Bool
 are_among n w None = true
 are_among n w (Some (negsuc k)) = false

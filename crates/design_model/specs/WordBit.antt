@@ -29,5 +29,7 @@ word_bit_values clk i j q words c = slice_index_or (slice_index_or ((clk ∷ [])
 
 -- The index of the bit is read, then that of the word, then the word; an index with an x reads no word.
 pub record IsWordBitExample : Type 0 where
-  pub order : (clk q : Bit) (words : List Bit) → (execution word_bit (body_at word_bit 0) (word_bit_values clk (Zero ∷ One ∷ []) One q words)).visits ≡ at_line 1 ∷ reads (a_signal 2) false ∷ reads (a_signal 1) false ∷ reads (a_word 4 2) false ∷ []
-  pub no_word : (clk q : Bit) (words : List Bit) → (execution word_bit (body_at word_bit 0) (word_bit_values clk (X ∷ One ∷ []) One q words)).visits ≡ at_line 1 ∷ reads (a_signal 2) false ∷ reads (a_signal 1) false ∷ []
+  pub order : (clk q : Bit) (words : List Bit)
+      → (execution word_bit (body_at word_bit 0) (word_bit_values clk (Zero ∷ One ∷ []) One q words)).visits ≡ at_line 1 ∷ reads (a_signal 2) false ∷ reads (a_signal 1) false ∷ reads (a_word 4 2) false ∷ []
+  pub no_word : (clk q : Bit) (words : List Bit)
+      → (execution word_bit (body_at word_bit 0) (word_bit_values clk (X ∷ One ∷ []) One q words)).visits ≡ at_line 1 ∷ reads (a_signal 2) false ∷ reads (a_signal 1) false ∷ []

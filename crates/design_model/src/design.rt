@@ -42,7 +42,7 @@ impl Design {
         }
     }
 
-    /// Adds a process behind the others. After a refusal nothing has changed.
+    /// Adds a process after the others. After a refusal nothing has changed.
     pub fn add_process(&mut self, process: Process) -> Result<(), NoMemory>
         ensures ok { OnOk result (self.new ≡ record self.old { processes = self.old.processes ++ process ∷ [] }) }
         ensures err { OnErr result (self.new ≡ self.old) }
@@ -50,7 +50,7 @@ impl Design {
         self.processes.push(process)
     }
 
-    /// The path of what stands in an instance, by its name.
+    /// The path of a name in an instance.
     fn path_in(&self, alloc: Global, instance: u32, name: &Name) -> Result<Name, NoMemory>
         ensures { IfOk result (λ path. path ≡ path_in (design_view self.now) instance name.now) }
     {
@@ -76,13 +76,16 @@ fn joined(alloc: Global, path: &[u8], name: &[u8]) -> Result<Name, NoMemory>
 pub struct Instance {
     /// The names from the top module's down to its own, joined by dots.
     pub path: Name,
+    /// The name of its module.
     pub module: Name,
 }
 
 /// A declared range of bits or words, `[high:low]`, in either direction (IEEE 1364-2001, 3.3).
 #[derive(Clone, Copy, Debug, PartialEq, Eq)]
 pub struct Range {
+    /// The left bound.
     pub high: u32,
+    /// The right bound.
     pub low: u32,
 }
 
@@ -91,6 +94,7 @@ pub struct Range {
 pub struct Signal {
     /// The place of its instance in the design's list.
     pub instance: u32,
+    /// Its name in its module.
     pub name: Name,
     /// The left bound of its range as declared, 0 without one.
     pub high: u32,
@@ -100,6 +104,7 @@ pub struct Signal {
     pub ranged: bool,
     /// Its number of bits, from 1 to 128.
     pub width: u8,
+    /// Whether it is declared as signed.
     pub signed: bool,
     /// Whether it is an input of the top module.
     pub input: bool,
@@ -110,6 +115,7 @@ pub struct Signal {
 pub struct Memory {
     /// The place of its instance in the design's list.
     pub instance: u32,
+    /// Its name in its module.
     pub name: Name,
     /// The left bound of the range of its words as declared.
     pub first: u32,
@@ -123,6 +129,7 @@ pub struct Memory {
     pub ranged: bool,
     /// The number of bits of a word, from 1 to 128.
     pub width: u8,
+    /// Whether its words are signed.
     pub signed: bool,
 }
 
@@ -131,7 +138,9 @@ pub struct Memory {
 pub struct Constant {
     /// The place of its instance in the design's list.
     pub instance: u32,
+    /// Its name in its module.
     pub name: Name,
+    /// Its value.
     pub value: Four,
 }
 
@@ -140,6 +149,7 @@ pub struct Constant {
 pub struct Alias {
     /// The place of the port's instance in the design's list.
     pub instance: u32,
+    /// The name of the port.
     pub name: Name,
     /// The signal that it names.
     pub signal: u32,

@@ -1,4 +1,14 @@
-//! The elaborated design, and the definitions of its runs and of its coverage.
+//! The elaborated design, and the definitions of its runs and of its coverage with their theorems.
+//!
+//! [`Design`] is the flat list of instances, signals, memories, processes, constants and aliases that elaboration
+//! builds; [`Design::path`] gives the path of a signal or memory, and [`Design::add_process`] adds a process and
+//! nothing else. `specs/` has one module for each definition: the machine of a design, its runs, which runs show a
+//! dump, the coverage points and when a run hits one, and what a dump decides (clear, open, reached, in doubt).
+//!
+//! The functions of this file do no work: their contracts are the theorems of these definitions. What is clear has
+//! its settled value in every run that shows the dump ([`clear_law`]), what is reached is hit in each of them
+//! ([`reached_law`]), and where nothing is in doubt for a point, no two of them differ in whether it is hit
+//! ([`decided_law`]).
 #![tactic(auto)]
 
 ghost use Rattle.event_machine.specs.Habit.{Habit};
@@ -85,7 +95,7 @@ pub fn reached_law()
 {}
 
 /// Nothing is in doubt for the line and logic points of a block that is clean whenever it can wake, of which all that
-/// it mentions is bound, and of that nothing but the trigger is early; nor for the toggle, state and arc points of a
+/// it mentions is bound, and of that only the trigger is early; nor for the toggle, state and arc points of a
 /// signal that the dump has.
 pub fn definiteness_law()
     ensures blocks { (d : DesignTree) (h : Habit) → DefinitenessLaw d h }

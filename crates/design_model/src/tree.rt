@@ -9,9 +9,11 @@ pub struct Term {
     pub place: Place,
     /// From 1 to 128.
     pub width: u8,
+    /// Whether it is signed.
     pub signed: bool,
     /// Its number as a counted node, from 1.
     pub node: Option<u32>,
+    /// Its form, in a box.
     pub form: Box<Form>,
 }
 
@@ -62,9 +64,11 @@ pub enum Form {
 /// The left side of an assignment (IEEE 1364-2001, 6).
 #[derive(Drop)]
 pub enum Target {
+    /// All bits of a signal.
     Whole(u32),
-    /// So many bits of a signal, from the bit with the index `low` up.
+    /// `width` bits of a signal, from the bit with the index `low` up.
     Part { signal: u32, low: Term, width: u8 },
+    /// A word of a memory.
     Word { memory: u32, index: Term },
     /// A concatenation; the first target is the highest.
     Several(Vec<Target>),
@@ -76,6 +80,7 @@ pub enum Target {
 pub struct Stmt {
     /// Of its first token.
     pub place: Place,
+    /// Its form, in a box.
     pub form: Box<StmtForm>,
 }
 
@@ -114,7 +119,9 @@ pub enum StmtForm {
 #[derive(Drop)]
 #[cycle(statement)]
 pub struct CaseArm {
+    /// The labels, none for the `default`.
     pub labels: Vec<Term>,
+    /// The statement of the arm.
     pub body: Stmt,
 }
 
@@ -123,22 +130,31 @@ pub struct CaseArm {
 pub enum Process {
     /// A continuous assignment (IEEE 1364-2001, 6.1).
     Assign {
+        /// The number of its instance.
         instance: u32,
+        /// What is assigned.
         target: Target,
+        /// The value that it is assigned.
         value: Term,
         /// Whether it has coverage points.
         counted: bool,
     },
     /// An `always @*`, or an `always` with a list of names.
     Comb {
+        /// The number of its instance.
         instance: u32,
+        /// The numbers of the signals of its list of names; there are none for `@*`.
         wakes: Sequence<u32>,
+        /// Its statement.
         body: Stmt,
     },
     /// An `always` with a list of edges.
     Clocked {
+        /// The number of its instance.
         instance: u32,
+        /// The edges of its list, each with the number of its signal.
         events: Sequence<(Edge, u32)>,
+        /// Its statement.
         body: Stmt,
     },
 }

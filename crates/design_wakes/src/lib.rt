@@ -1,4 +1,9 @@
-//! What wakes each process of a design, by signal and memory.
+//! The rows of a table of wakes that say what wakes each process of a design.
+//!
+//! [`level_rows`] gives for each signal or memory the processes that each change of it wakes, [`edge_rows`] for each
+//! signal the processes that list an edge of it, and [`event_rows`] for each process its list of edges; [`transpose`]
+//! turns lists round. Each is proved to contain exactly what its definition says (`specs/Tables.antt`). The rows of
+//! what a process may write are not made yet.
 #![tactic(auto)]
 
 mod edges;

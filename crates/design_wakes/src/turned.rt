@@ -21,7 +21,7 @@ pub fn transpose(alloc: Global, lists: &[Vec<u32>], count: usize) -> Result<Rows
     Rows::from_lists(alloc, rows.as_slice())
 }
 
-/// So many empty lists.
+/// `count` empty lists.
 fn empty_lists(alloc: Global, count: usize) -> Result<Vec<Vec<u32>>, NoMemory>
     ensures { IfOk result (λ lists. map (λ list. list.items) lists.items ≡ replicate count []) }
 {

@@ -37,7 +37,7 @@ abbrev pub IsDumpFault : Design → List ℕ → List ℕ → DumpFault → Type
 IsDumpFault design instance text dump_fault.NoMemory = Unit {0}
 IsDumpFault design instance text (dump_fault.At kind byte) = IsFirstFault text (dump_fault.At kind byte) × (HasNoBody text ⊎ Binds design instance text)
 
--- the fault stands in the text of the dump of the design, of which the instance is the top
+-- the text of the dump of the design has the fault, of which the instance is the top
 abbrev pub IsTextFault : Design → List ℕ → List ℕ → ScoreFault → Type 0
 IsTextFault design instance text fault.NoMemory = Unit {0}
 IsTextFault design instance text (fault.Refused call) = ⊥
@@ -45,7 +45,7 @@ IsTextFault design instance text (fault.Dump f) = IsDumpFault design instance te
 IsTextFault design instance text (fault.Bind f) = SaysSome text (λ b. IsBindFault design b.vars instance design.signals f)
 IsTextFault design instance text (fault.Baseline f) = SaysSome text (λ b. HasNoBaseline design b.vars instance design.signals b.items f.signal)
 
--- the fault stands in the text of the file
+-- the text of the file has the fault
 abbrev pub IsFileFault : List ℕ → Outside → Design → List ℕ → ScoreFault → Type 0
 IsFileFault name before design instance f = (text : List ℕ) × IsFile before name text × IsTextFault design instance text f
 
@@ -55,19 +55,19 @@ IsScoreFault name before after design instance fault.NoMemory = Unit {0}
 IsScoreFault name before after design instance (fault.Refused call) = IsCallFault name before after (fault.Refused call)
 IsScoreFault name before after design instance other = IsFileFault name before design instance other
 
--- the fault stands in what was read, whatever comes behind it
+-- what was read has the fault, whatever comes after it
 abbrev pub IsFoundFault : Design → List ℕ → List ℕ → ScoreFault → Type 0
 IsFoundFault design instance text (fault.Dump f) = HasFault text f
 IsFoundFault design instance text (fault.Baseline f) = (b : Body) × BeginsAs text b × HasNoBaseline design b.vars instance design.signals b.items f.signal
 IsFoundFault design instance text other = ⊥
 
--- the fault stands at the end of the text
+-- the end of the text has the fault
 abbrev pub IsEndFault : Design → List ℕ → List ℕ → ScoreFault → Type 0
 IsEndFault design instance text (fault.Dump f) = EndsWithFault text f
 IsEndFault design instance text (fault.Baseline f) = (b : Body) × EndsAs text b × HasNoBaseline design b.vars instance design.signals b.items f.signal
 IsEndFault design instance text other = ⊥
 
--- the fault stands in these entries
+-- these entries have the fault
 abbrev pub IsSayingFault : List Var → List ℕ → Design → List Entry → ScoreFault → Type 0
 IsSayingFault vars instance design entries (fault.Baseline f) = HasNoBaseline design vars instance design.signals entries f.signal
 IsSayingFault vars instance design entries other = ⊥

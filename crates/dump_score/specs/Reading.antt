@@ -6,7 +6,7 @@ use Rattle.whole_files.specs.declared.call.Call.TheVariants.{OpenRead, Read}
 use Rattle.dump_score.specs.declared.fault.ScoreFault.{ScoreFault}
 use Rattle.dump_score.specs.declared.fault.ScoreFault.TheVariants as fault
 
--- the file has this text, where the host tells the files
+-- the file has this text, where the files of the host are known
 abbrev pub IsFile : Outside → List ℕ → List ℕ → Type 0
 IsFile outside name text = IfSome outside.files (λ files. files name ≡ Some text)
 

@@ -52,15 +52,15 @@ pub record HasScored (scorer : Scorer) (design : Design) (vars : List Var) (inst
   pub vars_are : b.vars ≡ vars
   pub scores : Scores scorer design vars instance b.items
 
--- the whole file was read, and the design was scored by what it says but for its last word
+-- the whole file was read, and the design was scored by what it says, without its last word
 abbrev pub ScoresOn : List ℕ → Outside → BodyRow → Scorer → Design → List Var → List ℕ → Type 0
 ScoresOn name before body scorer design vars instance = (text : List ℕ) × IsFile before name text × CanEnd body scorer design vars instance text
 
--- the bytes of a piece that were read and stand behind the header
+-- the bytes of a piece that were read and are after the header
 abbrev pub behind : Span → List ℕ → List ℕ
 behind span piece = slice_range piece span.used span.count
 
--- a header was read from a file, and what stands behind it in the last piece was not
+-- a header was read from a file, and what follows it in the last piece was not
 pub record HasOpened (name : List ℕ) (before now : Outside) (piece : List ℕ) (opened : Opened) : Type 0 where
   pub front : List ℕ
   pub used_within : opened.span.used ≤ opened.span.count

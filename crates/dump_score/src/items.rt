@@ -20,7 +20,7 @@ use vcd_reader::{Body, DumpFault, DumpKind, Item};
 /// The longest dump, in bytes.
 const LONGEST_DUMP: u64 = 1_099_511_627_776;
 
-/// Tells the scorer what the body says.
+/// Gives the scorer what the body says.
 pub(crate) fn say(scorer: &mut Scorer, item: Item) -> Result<(), ScoreFault>
     ensures ok { OnOk result ((design : SpecDesign) (vars : List SpecVar) (instance : List ℕ) (entries : List Entry) → Rises None (entries ++ entries_of item)
         → Scores scorer.old design vars instance entries → Scores scorer.new design vars instance (entries ++ entries_of item)) }
@@ -58,8 +58,8 @@ pub(crate) fn score_piece(
     Ok(())
 }
 
-/// Scores what comes behind the header, of which so many bytes of a piece with so many bytes are a part, but for the
-/// last word. Where the piece has none, the file is at its end.
+/// Scores what comes after the header, except the last word. Of the piece the bytes from `span.used` to `span.count`
+/// come after the header; where the piece has no bytes, the file is at its end.
 pub(crate) fn score_body<H: Host>(
     host: &mut H,
     piece: &mut [u8],
@@ -85,7 +85,7 @@ pub(crate) fn score_body<H: Host>(
     score_rest(host, piece, body, scorer, span.at)
 }
 
-/// Scores what comes behind the last piece, to the end of the file.
+/// Scores what comes after the last piece, to the end of the file.
 pub(crate) fn score_rest<H: Host>(
     host: &mut H,
     piece: &mut [u8],

@@ -46,7 +46,7 @@ pub fn score_dump<H: Host>(
     )
 }
 
-/// The same with room for a piece.
+/// The database of a design under the dump in a file, which is read into the piece.
 fn score_file<H: Host>(
     alloc: Global,
     host: &mut H,

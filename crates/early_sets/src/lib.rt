@@ -1,5 +1,10 @@
-//! Which signals and memories may move in a step of a dump, which processes that may wake, and what may change before a
-//! clean block is evaluated.
+//! The sets of one step of a dump: which signals and memories may move, which processes that may wake, and what may
+//! change before a clean block is evaluated.
+//!
+//! [`Wakes`] is made once for a design. In each step the inputs that change are noted, [`Wakes::settle`] finds what
+//! may move, and [`Wakes::choose`] what is early for a block. The sets are proved to be the least ones that the
+//! tables allow (`specs/Reached.antt`, `specs/Early.antt`). Only [`Wakes::new`] takes memory. `wake_laws` states what
+//! the sets are for a lawful design.
 #![tactic(auto)]
 
 mod closure;

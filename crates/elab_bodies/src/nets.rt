@@ -21,8 +21,8 @@ use flat_design::{Entry, SignalEntry};
 use std::alloc::Global;
 use verilog_tree::{Expr, Named};
 
-/// The assignment of a net's value in an instance: the net is assigned the value that it is declared with (IEEE 1364-2001,
-/// 6.1.1). Its counted nodes are numbered from `nodes` on.
+/// The assignment of a net's value in an instance: the net is assigned the value that it is declared with (IEEE
+/// 1364-2001, 6.1.1). Its counted nodes are numbered from `nodes` on.
 pub fn net_process(
     alloc: Global,
     base: u32,
@@ -49,7 +49,7 @@ pub fn net_process(
     })
 }
 
-/// The signal that a name stands for.
+/// The signal that a name means.
 fn net_of(scope: &Scope, name: &Named) -> SignalEntry
     requires { spec.is_signal_entry (look_up (binding_of scope.now) name.now.name) ≡ true }
     ensures entry { look_up (binding_of scope.now) name.now.name ≡ Some (Signal result) }

@@ -42,7 +42,7 @@ pub fn pass_lines(statement: &Statement, line: &mut u32) -> Result<(), NoMemory>
     }
 }
 
-/// The same of all parts of a block.
+/// Passes the numbers of the line points of all parts of a block.
 #[cycle(pass_lines)]
 fn pass_all_lines(parts: &[Statement], line: &mut u32) -> Result<(), NoMemory>
     ensures { OnOk result (line.new ≡ line.old + count.all_lines (statements_of (statements_view parts.now))) }
@@ -53,7 +53,7 @@ fn pass_all_lines(parts: &[Statement], line: &mut u32) -> Result<(), NoMemory>
     Ok(())
 }
 
-/// The same of all arms of a case.
+/// Passes the numbers of the line points of all arms of a case.
 #[cycle(pass_lines)]
 fn pass_arm_lines(arms: &[Arm], line: &mut u32) -> Result<(), NoMemory>
     ensures { OnOk result (line.new ≡ line.old + count.item_lines (arms_of (arms_view arms.now))) }
@@ -96,7 +96,7 @@ pub fn pass_statement_nodes(
     }
 }
 
-/// The same of all parts of a block.
+/// Passes the numbers of the counted nodes of all parts of a block.
 #[cycle(pass_statement_nodes)]
 fn pass_all_statement_nodes(
     scope: &Scope,
@@ -111,7 +111,7 @@ fn pass_all_statement_nodes(
     Ok(())
 }
 
-/// The same of all arms of a case, with their labels.
+/// Passes the numbers of the counted nodes of all arms of a case, with their labels.
 #[cycle(pass_statement_nodes)]
 fn pass_arm_nodes(scope: &Scope, arms: &[Arm], nodes: &mut u32) -> Result<(), NoMemory>
     ensures { OnOk result (nodes.new ≡ nodes.old + count.item_nodes (binding_of scope.now) (arms_of (arms_view arms.now))) }
@@ -123,7 +123,7 @@ fn pass_arm_nodes(scope: &Scope, arms: &[Arm], nodes: &mut u32) -> Result<(), No
     Ok(())
 }
 
-/// The same of the labels of an arm.
+/// Passes the numbers of the counted nodes of the labels of an arm.
 fn pass_label_nodes(scope: &Scope, labels: &[Expr], nodes: &mut u32) -> Result<(), NoMemory>
     ensures { OnOk result (nodes.new ≡ nodes.old + count.all_nodes (binding_of scope.now) (exprs_of (exprs_view labels.now))) }
 {

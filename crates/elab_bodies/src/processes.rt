@@ -1,4 +1,4 @@
-//! The processes that items and joined ports stand for (IEEE 1364-2001 clauses 6.1, 9.7 and 12.3).
+//! The processes of items and of joined ports (IEEE 1364-2001 clauses 6.1, 9.7 and 12.3).
 
 ghost use Rattle.std.specs.Prelude.{◌≡◌, ◌≤◌, ◌+◌, ℕ, None, IfOk, OnOk};
 ghost use Rattle.cov_host.specs.declared.place.Place.{Place};
@@ -53,8 +53,8 @@ pub fn continuous_process(
     })
 }
 
-/// `always @when body` in an instance (IEEE 1364-2001, 9.7). Its line points are numbered from `line` on, and its counted
-/// nodes from `nodes` on.
+/// `always @when body` in an instance (IEEE 1364-2001, 9.7). Its line points are numbered from `line` on, and its
+/// counted nodes from `nodes` on.
 pub fn always_process(
     alloc: Global,
     base: u32,
@@ -191,7 +191,7 @@ fn events(
     Ok(events)
 }
 
-/// The number of the signal that a name stands for.
+/// The number of the signal that a name means.
 fn signal_number(scope: &Scope, name: &Named) -> Option<u32>
     ensures { listed result ≡ spec.signal_numbers (look_up (binding_of scope.now) name.now.name) }
 {

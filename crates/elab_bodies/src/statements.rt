@@ -71,7 +71,7 @@ pub fn statement(
     }
 }
 
-/// The same of all parts of a block.
+/// The flat statements of all parts of a block.
 #[cycle(statement)]
 fn statements(
     alloc: Global,
@@ -96,7 +96,7 @@ fn statements(
     Ok(all)
 }
 
-/// The same of `if (test) yes`, with `else no` where there is one.
+/// The flat statement of `if (test) yes`, with `else no` where there is one.
 #[cycle(statement)]
 fn branch(
     alloc: Global,
@@ -124,7 +124,7 @@ fn branch(
     forms::branch(alloc, place, number, test, yes, no)
 }
 
-/// The same of an else statement, if there is one.
+/// The flat statement of an else statement, if there is one.
 #[cycle(statement)]
 fn otherwise(
     alloc: Global,
@@ -148,7 +148,7 @@ fn otherwise(
     }
 }
 
-/// The same of a case, whose labels are compared in the shape of the case (IEEE 1364-2001, 9.5).
+/// The flat statement of a case, whose labels are compared in the shape of the case (IEEE 1364-2001, 9.5).
 #[cycle(statement)]
 fn select(
     alloc: Global,
@@ -176,7 +176,7 @@ fn select(
     forms::select(alloc, place, number, kind, on, arms)
 }
 
-/// The same of all arms of a case of this shape.
+/// The flat arms of a case of this shape.
 #[cycle(statement)]
 fn case_arms(
     alloc: Global,
@@ -204,7 +204,7 @@ fn case_arms(
     Ok(all)
 }
 
-/// The same of a loop: its body once for each turn, each time with the same numbers (IEEE 1364-2001, 9.6).
+/// The flat statement of a loop: its body once for each turn, each time with the same numbers (IEEE 1364-2001, 9.6).
 #[cycle(statement)]
 fn for_loop(
     alloc: Global,
@@ -245,7 +245,7 @@ fn for_loop(
 }
 
 /// A statement for each value of a loop's variable, each with the numbers from `line` and from `nodes` on. The variable
-/// stands for the last value then.
+/// has the last value then.
 #[cycle(statement)]
 fn turn_statements(
     alloc: Global,
@@ -273,7 +273,7 @@ fn turn_statements(
     Ok(all)
 }
 
-/// The same of an assignment.
+/// The flat statement of an assignment.
 fn assignment(
     alloc: Global,
     base: u32,

@@ -10,7 +10,7 @@ use elab_build::Around;
 use elab_const::Shape;
 use std::alloc::Global;
 
-/// The same terms without counted nodes.
+/// Copies of the terms without counted nodes.
 #[cycle(uncounted)]
 fn all_uncounted(alloc: Global, terms: &[Term]) -> Result<Vec<Term>, NoMemory>
     ensures { IfOk result (λ copy. terms_of (map term_view copy.items) ≡ spec.all_uncounted (terms_of (map term_view terms.now))) }
@@ -22,7 +22,7 @@ fn all_uncounted(alloc: Global, terms: &[Term]) -> Result<Vec<Term>, NoMemory>
     Ok(all)
 }
 
-/// The same term without counted nodes.
+/// A copy of the term without counted nodes.
 #[cycle(uncounted)]
 pub(crate) fn uncounted(alloc: Global, term: &Term) -> Result<Term, NoMemory>
     ensures { IfOk result (λ copy. term_view copy ≡ spec.uncounted (term_view term.now)) }

@@ -18,7 +18,7 @@ abbrev pub AreSound : Scope → Exprs → Type 0
 AreSound g no_exprs = Unit {0}
 AreSound g (an_expr e es) = IsSound g e × AreSound g es
 
--- no name stands for something whose declaration has a fault
+-- no name has a meaning whose declaration has a fault
 abbrev pub IsClear : Scope → Type 0
 IsClear g = (x : List ℕ) → is_faulty_entry (look_up g x) ≡ false
 

@@ -53,7 +53,7 @@ pub fn pass_nodes(scope: &Scope, expr: &Expr, nodes: &mut u32) -> Result<(), NoM
     }
 }
 
-/// The same of three expressions.
+/// Passes the numbers of the counted nodes of three expressions.
 #[cycle(pass_nodes)]
 fn pass_three(scope: &Scope, a: &Expr, b: &Expr, c: &Expr, nodes: &mut u32) -> Result<(), NoMemory>
     ensures { OnOk result (nodes.new ≡ nodes.old + count.nodes (binding_of scope.now) (expr_view a.now) + count.nodes (binding_of scope.now) (expr_view b.now) + count.nodes (binding_of scope.now) (expr_view c.now)) }
@@ -63,7 +63,7 @@ fn pass_three(scope: &Scope, a: &Expr, b: &Expr, c: &Expr, nodes: &mut u32) -> R
     pass_nodes(scope, c, nodes)
 }
 
-/// The same of all parts of a concatenation.
+/// Passes the numbers of the counted nodes of all parts of a concatenation.
 #[cycle(pass_nodes)]
 fn pass_all_nodes(scope: &Scope, parts: &[Expr], nodes: &mut u32) -> Result<(), NoMemory>
     ensures { OnOk result (nodes.new ≡ nodes.old + count.all_nodes (binding_of scope.now) (exprs_of (exprs_view parts.now))) }
@@ -74,7 +74,8 @@ fn pass_all_nodes(scope: &Scope, parts: &[Expr], nodes: &mut u32) -> Result<(), 
     Ok(())
 }
 
-/// The same of the condition of an `if` or a choice: a counted node of its own where it is no operator.
+/// Passes the numbers of the counted nodes of the condition of an `if` or a choice: it is a counted node of its own
+/// where it is no operator.
 pub fn pass_condition_nodes(
     scope: &Scope,
     condition: &Expr,

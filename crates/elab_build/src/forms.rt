@@ -14,7 +14,9 @@ use std::alloc::Global;
 /// Where a term is written, and the width and sign that its context gives it: what all forms of terms have in common.
 #[derive(Clone, Copy)]
 pub struct Around {
+    /// Of the first token of the expression.
     pub place: Place,
+    /// The width and sign in its context.
     pub shape: Shape,
 }
 

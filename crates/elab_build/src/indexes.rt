@@ -35,7 +35,7 @@ pub(crate) fn number_term(alloc: Global, around: Around, number: u8) -> Result<T
     )
 }
 
-/// So many bits without a sign.
+/// The shape of `width` bits without a sign.
 fn unsigned(width: u8) -> Shape
     ensures { result ≡ shape_as width false }
 {
@@ -98,7 +98,7 @@ fn with_sign_bit(
     }
 }
 
-/// The number of an expression as a signed term of so many bits. What gives it has its own width, whatever stands
+/// The number of an expression as a signed term of `width` bits. The term in it has its own width, whatever is
 /// around it.
 #[tactic(auto, using(verilog_tree::proofs::ExprViews::place_is))]
 pub(crate) fn signed_term(
@@ -125,7 +125,7 @@ pub(crate) fn signed_term(
     around.sign(alloc, true, own)
 }
 
-/// The bits of an index that is moved: so many that it does not wrap.
+/// The number of bits of an index that is moved, such that it does not wrap.
 fn moved_width(index: Shape) -> u8
     requires { IsShape index }
     ensures value { result ≡ min 128 (max (index.width + 1) 8 + 1) }
@@ -249,7 +249,7 @@ fn moved_index(
     }
 }
 
-/// The base itself, where its bit is the lowest of so many bits of this range, and else the moved one.
+/// The base itself, where its bit is the lowest of `width` bits of this range, and else the moved one.
 pub(crate) fn lowest_index(
     alloc: Global,
     base: u32,

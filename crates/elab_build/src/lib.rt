@@ -1,4 +1,9 @@
-//! The terms and targets of the flat design, built where no fault stands (IEEE 1364-2001 clauses 4 and 9).
+//! The terms and targets of the flat design (IEEE 1364-2001 clauses 4 and 9). They are built where no fault was
+//! found, so only want of memory ends a call without an answer.
+//!
+//! [`term`] and [`alone`] build the term of an expression in and without a context, [`condition_term`] that of a
+//! condition, [`right_side`] that of the value of an assignment, and [`target`] a target. Each is proved to give
+//! exactly the term of the definition, with the numbers of its counted nodes.
 #![tactic(auto)]
 
 mod counted;

@@ -28,7 +28,7 @@ use four_state::Index;
 use std::alloc::Global;
 use verilog_tree::{Expr, ExprForm};
 
-/// So many bits of a signal, from the bit with the index `low` up.
+/// `width` bits of a signal, from the bit with the index `low` up.
 fn bits(signal: u32, low: Term, width: u8) -> Target
     ensures { target_view result ≡ t.bits_of signal (term_view low) width }
 {
@@ -114,8 +114,8 @@ fn slide_target(
     Ok(bits(signal, low, width))
 }
 
-/// The flat target. Memories are numbered from `base` on, and its counted nodes from `nodes` on. A name that is selected
-/// from has none, nor has a constant.
+/// The flat target. Memories are numbered from `base` on, and its counted nodes from `nodes` on. Neither a name that is
+/// selected from nor a constant has a counted node.
 #[cycle(target)]
 pub fn target(
     alloc: Global,

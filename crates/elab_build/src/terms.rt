@@ -1,4 +1,5 @@
-//! The term that an expression becomes: its form, and the width and sign that each context gives it (IEEE 1364-2001, 4.4 and 4.5).
+//! The term that an expression becomes: its form, and the width and sign that each context gives it (IEEE 1364-2001,
+//! 4.4 and 4.5).
 
 ghost use Rattle.std.specs.Prelude.{◌≡◌, ◌≤◌, ◌+◌, IfOk, OnOk, map};
 ghost use Rattle.design_model.specs.View.{term_view, terms_of};
@@ -77,7 +78,7 @@ pub fn term(
     }
 }
 
-/// The same of `of[index]`, where `around` has its place.
+/// The term of `of[index]`, where `around` has its place and shape.
 #[cycle(term)]
 fn bit_term(
     alloc: Global,
@@ -102,7 +103,7 @@ fn bit_term(
     around.bit(alloc, of, index)
 }
 
-/// The same of `of[high:low]`.
+/// The term of `of[high:low]`.
 #[cycle(term)]
 fn part_term(
     alloc: Global,
@@ -126,7 +127,7 @@ fn part_term(
     around.part(alloc, of, high, low)
 }
 
-/// The same of `of[from +: width]`, or where `up` is false `of[from -: width]`.
+/// The term of `of[from +: width]`, or where `up` is false `of[from -: width]`.
 #[cycle(term)]
 fn slide_term(
     alloc: Global,
@@ -151,7 +152,7 @@ fn slide_term(
     around.slide(alloc, of, from, width, up)
 }
 
-/// The same of an operator with one operand.
+/// The term of an operator with one operand.
 #[cycle(term)]
 fn unary_term(
     alloc: Global,
@@ -173,7 +174,7 @@ fn unary_term(
     around.unary(alloc, node, op, a)
 }
 
-/// The same of an operator with two operands.
+/// The term of an operator with two operands.
 #[cycle(term)]
 fn binary_term(
     alloc: Global,
@@ -197,7 +198,7 @@ fn binary_term(
     around.binary(alloc, node, op, a, b)
 }
 
-/// The same of `test ? yes : no`.
+/// The term of `test ? yes : no`.
 #[cycle(term)]
 fn choice_term(
     alloc: Global,
@@ -220,7 +221,7 @@ fn choice_term(
     around.choice(alloc, test, yes, no)
 }
 
-/// The same of a concatenation.
+/// The term of a concatenation.
 #[cycle(term)]
 fn concat_term(
     alloc: Global,
@@ -239,7 +240,7 @@ fn concat_term(
     around.concat(alloc, parts)
 }
 
-/// The same of a concatenation that is repeated.
+/// The term of a concatenation that is repeated.
 #[cycle(term)]
 fn repeat_term(
     alloc: Global,

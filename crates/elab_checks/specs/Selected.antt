@@ -10,7 +10,7 @@ use Rattle.elab_scope.specs.View.{name_view}
 use Rattle.elab_checks.specs.declared.selected.Selected.{Selected}
 use Rattle.elab_checks.specs.declared.selected.Selected.TheVariants.{Bits, NoBits, Unknown}
 
--- what it stands for
+-- its meaning
 abbrev pub selected_view : Selected → spec.Selected
 selected_view (Bits r x) = spec.Selected.bits_in r (name_view x)
 selected_view (NoBits x) = spec.Selected.no_bits (name_view x)

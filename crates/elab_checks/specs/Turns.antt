@@ -1,4 +1,4 @@
--- The faults of the header of a loop in parts, and the scope behind its turns.
+-- The faults of the header of a loop in parts, and the scope after its turns.
 use Rattle.std.specs.Prelude.{ℕ, Bool, not, ◌&&◌, ◌||◌, if◌then◌else◌, List, [], ◌++◌, Option, Some, None}
 use Rattle.verilog_tree.specs.Tree.{Expr, Header}
 use Rattle.flat_design.specs.Expressions.{faults}
@@ -32,7 +32,7 @@ inner_names_faulty g h = names_faulty g h.test || names_faulty g h.step
 abbrev pub is_sound : Scope → Header → Bool
 is_sound g h = (none (outer_faults g h) && not (outer_names_faulty g h)) && (none (inner_faults (in_some_turn h g) h) && not (inner_names_faulty (in_some_turn h g) h))
 
--- the scope where x stands for what it stood for before, if for anything
+-- the scope where x has the meaning that it had before, if it had one
 abbrev pub restored : List ℕ → Option Entry → Scope → Scope
 restored x None g = without_entry x g
 restored x (Some e) g = with_entry x e g

@@ -1,4 +1,4 @@
--- The widths of parts that stand side by side.
+-- The widths of parts that are side by side.
 use Rattle.std.specs.Prelude.{ℕ, if◌then◌else◌, List, [], Option, Some, None}
 use Rattle.cov_host.specs.declared.place.Place.{Place}
 use Rattle.verilog_tree.specs.Tree.{Exprs}
@@ -12,7 +12,7 @@ use Rattle.flat_design.specs.Targets.{have_shapes}
 abbrev pub known_width : Scope → Exprs → Option ℕ
 known_width g es = if have_shapes g es then Some (parts_of (names g) es).width else None
 
--- the fault of so many bits side by side, where that is known
+-- the fault of this number of bits side by side, where that is known
 abbrev pub joined_size_faults : Option ℕ → Place → List Fault
 joined_size_faults None p = []
 joined_size_faults (Some w) p = size_faults w p

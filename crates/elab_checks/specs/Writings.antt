@@ -11,7 +11,7 @@ use Rattle.flat_design.specs.Targets.{target_faults}
 use Rattle.flat_design.specs.declared.entry.Mode.{Mode}
 use Rattle.elab_checks.specs.declared.offsets.Bits.{Bits}
 
--- how far they stand above the lowest bit
+-- how far they are above the lowest bit
 abbrev pub bits_view : Bits → List ℕ
 bits_view b = range_with_len b.low b.count
 

@@ -25,7 +25,7 @@ use flat_design::{ElabKind, Entry};
 use four_state::Index;
 use verilog_tree::{Expr, ExprForm};
 
-/// Tells the faults of an expression (IEEE 1364-2001 clause 4). Whether it has none.
+/// Reports the faults of an expression (IEEE 1364-2001 clause 4), and says whether it has no fault.
 #[cycle(check)]
 pub fn check<'a>(scope: &Scope, expr: &'a Expr, tally: &mut Tally<'a>) -> bool
     ensures met { tally.new ≡ after_faults tally.old (faults (binding_of scope.now) (expr_view expr.now)) }
@@ -71,7 +71,7 @@ pub fn check<'a>(scope: &Scope, expr: &'a Expr, tally: &mut Tally<'a>) -> bool
     }
 }
 
-/// The same of all of them.
+/// Reports the faults of all expressions, and says whether none of them has a fault.
 #[cycle(check)]
 pub fn check_all<'a>(scope: &Scope, exprs: &'a [Expr], tally: &mut Tally<'a>) -> bool
     ensures met { tally.new ≡ after_faults tally.old (all_faults (binding_of scope.now) (exprs_of (exprs_view exprs.now))) }
@@ -143,7 +143,7 @@ fn check_slide<'a>(
     before & check_slid(scope, bits, base, width, up, tally)
 }
 
-/// Tells the faults of an expression that must be constant (4.1). Whether it has none.
+/// Reports the faults of an expression that must be constant (4.1), and says whether it has no fault.
 #[cycle(check)]
 pub fn check_constant<'a>(scope: &Scope, expr: &'a Expr, tally: &mut Tally<'a>) -> bool
     ensures met { tally.new ≡ after_faults tally.old (spec.constant_faults (binding_of scope.now) (expr_view expr.now) (faults (binding_of scope.now) (expr_view expr.now))) }
@@ -156,7 +156,7 @@ pub fn check_constant<'a>(scope: &Scope, expr: &'a Expr, tally: &mut Tally<'a>) 
     known & check(scope, expr, tally)
 }
 
-/// Tells the faults of an expression that must be a constant number. Whether it has none.
+/// Reports the faults of an expression that must be a constant number, and says whether it has no fault.
 #[cycle(check)]
 pub(crate) fn check_number<'a>(scope: &Scope, expr: &'a Expr, tally: &mut Tally<'a>) -> bool
     ensures met { tally.new ≡ after_faults tally.old (spec.number_faults (binding_of scope.now) (expr_view expr.now) (faults (binding_of scope.now) (expr_view expr.now))) }
@@ -169,7 +169,7 @@ pub(crate) fn check_number<'a>(scope: &Scope, expr: &'a Expr, tally: &mut Tally<
     check_known(expr.place, number(scope, expr), tally)
 }
 
-/// Tells the faults of a bound of a range or part with this bracket. Whether it has none.
+/// Reports the faults of a bound of a range or part with this bracket, and says whether it has no fault.
 #[cycle(check)]
 pub fn check_bound<'a>(scope: &Scope, bracket: Place, expr: &'a Expr, tally: &mut Tally<'a>) -> bool
     ensures met { tally.new ≡ after_faults tally.old (spec.bound_faults (binding_of scope.now) bracket (expr_view expr.now) (faults (binding_of scope.now) (expr_view expr.now))) }
@@ -182,7 +182,7 @@ pub fn check_bound<'a>(scope: &Scope, bracket: Place, expr: &'a Expr, tally: &mu
     check_bound_number(bracket, number(scope, expr), tally)
 }
 
-/// Tells the faults of the width of an indexed part with this bracket. Whether it has none.
+/// Reports the faults of the width of an indexed part with this bracket, and says whether it has no fault.
 #[cycle(check)]
 fn check_width<'a>(scope: &Scope, bracket: Place, expr: &'a Expr, tally: &mut Tally<'a>) -> bool
     ensures met { tally.new ≡ after_faults tally.old (spec.width_faults (binding_of scope.now) bracket (expr_view expr.now) (faults (binding_of scope.now) (expr_view expr.now))) }
@@ -195,7 +195,7 @@ fn check_width<'a>(scope: &Scope, bracket: Place, expr: &'a Expr, tally: &mut Ta
     check_width_number(bracket, number(scope, expr), tally)
 }
 
-/// Tells a name that is read as a value and has none. Whether it has one.
+/// Reports a name that is read as a value and has no value, and says whether it has one.
 fn check_use<'a>(entry: Option<&Entry>, name: NameAt<'a>, tally: &mut Tally<'a>) -> bool
     ensures met { tally.new ≡ after_faults tally.old (spec.use_faults (option_copied entry.entry) (name_view name.entry)) }
     ensures sound { result ≡ none (spec.use_faults (option_copied entry.entry) (name_view name.entry)) }
@@ -209,7 +209,7 @@ fn check_use<'a>(entry: Option<&Entry>, name: NameAt<'a>, tally: &mut Tally<'a>)
     false
 }
 
-/// Tells a name that is declared, and not as a constant. Whether there is none.
+/// Reports a name that is declared, and not as a constant, and says whether there is no such name.
 fn check_constancy(scope: &Scope, expr: &Expr, tally: &mut Tally) -> bool
     ensures met { tally.new ≡ after_faults tally.old (fault_if (spec.names_no_constant (binding_of scope.now) (expr_view expr.now)) (of_constant NotConstant (place_of (expr_view expr.now)))) }
     ensures sound { result ≡ none (fault_if (spec.names_no_constant (binding_of scope.now) (expr_view expr.now)) (of_constant NotConstant (place_of (expr_view expr.now)))) }
@@ -221,8 +221,8 @@ fn check_constancy(scope: &Scope, expr: &Expr, tally: &mut Tally) -> bool
     true
 }
 
-/// Tells more than 128 bits of these parts side by side, where it is known whether they have a fault. Whether there are
-/// no more.
+/// Reports more than 128 bits of these parts side by side, where it is known whether they have a fault. Whether there
+/// are no more.
 fn check_joined(scope: &Scope, place: Place, parts: &[Expr], known: bool, tally: &mut Tally) -> bool
     requires { known ≡ none (all_faults (binding_of scope.now) (exprs_of (exprs_view parts.now))) }
     ensures met { tally.new ≡ after_faults tally.old (spec.joined_faults (none (all_faults (binding_of scope.now) (exprs_of (exprs_view parts.now))) && not (names_faulty (binding_of scope.now) (concatenation place (exprs_of (exprs_view parts.now))))) (parts_of (names (binding_of scope.now)) (exprs_of (exprs_view parts.now))).width place) }
@@ -234,7 +234,7 @@ fn check_joined(scope: &Scope, place: Place, parts: &[Expr], known: bool, tally:
     check_size(total_width(scope, parts), place, tally)
 }
 
-/// Tells a count that is less than 1, or makes more than 128 bits of these parts, where it is known whether it is a
+/// Reports a count that is less than 1, or makes more than 128 bits of these parts, where it is known whether it is a
 /// number and whether the parts have a fault. Whether it is neither.
 fn check_count(
     scope: &Scope,

@@ -16,8 +16,8 @@ use cov_host::Place;
 use elab_scope::{Scope, Tally, names_constants};
 use verilog_tree::Expr;
 
-/// Tells an index of such bits that is constant and not of their range, where it is known that the index has no fault.
-/// Whether there is none.
+/// Reports an index of such bits that is constant and not of their range, where it is known that the index has no
+/// fault. Says whether there is no fault.
 pub(crate) fn check_index<'a>(
     scope: &Scope,
     bits: Selected<'a>,
@@ -35,8 +35,8 @@ pub(crate) fn check_index<'a>(
     bits.check_bit(number(scope, index), tally)
 }
 
-/// Tells the faults of a part of such bits with this bracket, where it is known that its bounds have no fault. Whether
-/// there is none.
+/// Reports the faults of a part of such bits with this bracket, where it is known that its bounds have no fault.
+/// Whether there is none.
 pub(crate) fn check_bounds<'a>(
     scope: &Scope,
     bits: Selected<'a>,
@@ -56,7 +56,7 @@ pub(crate) fn check_bounds<'a>(
     bits.check_part(bracket, bound(scope, high), bound(scope, low), tally)
 }
 
-/// Tells an indexed part of such bits whose base is constant and that is not inside of their range. Whether there is
+/// Reports an indexed part of such bits whose base is constant and that is not inside of their range. Whether there is
 /// none.
 pub(crate) fn check_slid<'a>(
     scope: &Scope,

@@ -1,4 +1,11 @@
-//! The faults of expressions, targets, loops and event lists in a scope (IEEE 1364-2001 clauses 4, 6 and 9).
+//! The faults of expressions, targets, statements, loops and event lists in a scope (IEEE 1364-2001 clauses 4, 6 and
+//! 9). Nothing is built here.
+//!
+//! [`check`] reports the faults of an expression, [`check_target`] those of a target, [`check_statement`] all that is
+//! found in a statement, with its loops in their turns, and [`check_when`] those of an event list;
+//! [`target_writings`] gives what the parts of a target write. Each is proved to report to a tally exactly what its
+//! definition lists, in order; [`check`] and [`check_target`] also say whether there was no fault, and the writings
+//! are exactly those of the definition.
 #![tactic(auto)]
 
 mod expressions;

@@ -26,7 +26,7 @@ use four_state::{Bit, Four};
 use std::alloc::Global;
 use verilog_tree::{Expr, For};
 
-/// The values of a loop's variable, one for each turn. A loop whose header has a fault has none.
+/// The values of a loop's variable, one for each turn. A loop whose header has a fault has no turns.
 pub fn turns<'a>(
     alloc: Global,
     scope: &mut Scope,
@@ -43,7 +43,7 @@ pub fn turns<'a>(
     found_turns(alloc, scope, header, tally)
 }
 
-/// The same values, where what is wrong with the header is told elsewhere.
+/// The values of a loop's variable, one for each turn. What is wrong with the header is reported elsewhere.
 pub fn turn_values(alloc: Global, scope: &mut Scope, header: &For) -> Result<Turns, NoMemory>
     ensures values { IfOk result (λ values. values ≡ spec.turns (binding_of scope.old) (loop_view header.now).0) }
     ensures kept { OnOk result (binding_of scope.new ≡ binding_of scope.old) }
@@ -51,7 +51,7 @@ pub fn turn_values(alloc: Global, scope: &mut Scope, header: &For) -> Result<Tur
     turns(alloc, scope, header, &mut Tally::new(alloc))
 }
 
-/// The faults of the names of a header; whether it has none and names nothing that has one.
+/// Reports the faults of the names of a header, and says whether it has no fault and names nothing that has one.
 fn check_header<'a>(
     alloc: Global,
     scope: &mut Scope,
@@ -99,7 +99,7 @@ pub fn variable_name(alloc: Global, header: &For) -> Result<Name, NoMemory>
     Ok(Name::from_vec(Vec::from_slice(alloc, base.name)?))
 }
 
-/// Lets a name stand for what it stood for before.
+/// Gives a name the meaning that it had before.
 pub fn put_back(scope: &mut Scope, name: &Name, before: Option<Entry>) -> Result<(), NoMemory>
     requires { IfSome before IsEntry }
     ensures { OnOk result (binding_of scope.new ≡ restored name.now before (binding_of scope.old)) }
@@ -113,7 +113,8 @@ pub fn put_back(scope: &mut Scope, name: &Name, before: Option<Entry>) -> Result
     }
 }
 
-/// The faults of the names of a header outside its turns; whether it has none and names nothing that has one.
+/// Reports the faults of the names of a header outside its turns, and says whether it has no fault and names nothing
+/// that has one.
 fn check_outside<'a>(scope: &Scope, header: &'a For, tally: &mut Tally<'a>) -> bool
     ensures met { tally.new ≡ after_faults tally.old (outer_faults (binding_of scope.now) (loop_view header.now).0) }
     ensures sound { result ≡ (none (outer_faults (binding_of scope.now) (loop_view header.now).0) && not (outer_names_faulty (binding_of scope.now) (loop_view header.now).0)) }
@@ -124,7 +125,8 @@ fn check_outside<'a>(scope: &Scope, header: &'a For, tally: &mut Tally<'a>) -> b
     over & first & !faulty
 }
 
-/// The same of the names in a turn.
+/// Reports the faults of the names of a header in a turn, and says whether it has no fault and names nothing that has
+/// one.
 fn check_inside<'a>(scope: &Scope, header: &'a For, tally: &mut Tally<'a>) -> bool
     ensures met { tally.new ≡ after_faults tally.old (inner_faults (binding_of scope.now) (loop_view header.now).0) }
     ensures sound { result ≡ (none (inner_faults (binding_of scope.now) (loop_view header.now).0) && not (inner_names_faulty (binding_of scope.now) (loop_view header.now).0)) }
@@ -135,7 +137,7 @@ fn check_inside<'a>(scope: &Scope, header: &'a For, tally: &mut Tally<'a>) -> bo
     test & step & !faulty
 }
 
-/// The faults of what a header loops over; whether it has none.
+/// Reports the faults of what a header loops over, and says whether it has no fault.
 fn check_over<'a>(scope: &Scope, header: &'a For, tally: &mut Tally<'a>) -> bool
     ensures met { tally.new ≡ after_faults tally.old (spec.over_faults (binding_of scope.now) (loop_view header.now).0) }
     ensures sound { result ≡ none (spec.over_faults (binding_of scope.now) (loop_view header.now).0) }
@@ -164,7 +166,8 @@ fn is_over_one_name(header: &For) -> bool
         && base_name(&header.name).name == base_name(&header.target).name
 }
 
-/// The faults of an expression of the header at this place, which names constants alone; whether it has none.
+/// Reports the faults of an expression of the header at this place, which names constants alone, and says whether it
+/// has no fault.
 fn check_named<'a>(scope: &Scope, place: Place, expr: &'a Expr, tally: &mut Tally<'a>) -> bool
     ensures met { tally.new ≡ after_faults tally.old (spec.named_faults (binding_of scope.now) place (expr_view expr.now)) }
     ensures sound { result ≡ none (spec.named_faults (binding_of scope.now) place (expr_view expr.now)) }
@@ -188,7 +191,7 @@ pub(crate) fn tell_if<'a>(test: bool, fault: FoundFault<'a>, tally: &mut Tally<'
     !test
 }
 
-/// The faults of an expression that names constants alone; whether there are none.
+/// Reports the faults of an expression that names constants alone, and says whether it has no fault.
 fn check_constant<'a>(scope: &Scope, expr: &'a Expr, tally: &mut Tally<'a>) -> bool
     ensures met { tally.new ≡ after_faults tally.old (faults_of_constant (binding_of scope.now) (expr_view expr.now)) }
     ensures sound { result ≡ none (faults_of_constant (binding_of scope.now) (expr_view expr.now)) }

@@ -1,4 +1,4 @@
-//! How far the bits that a select names stand above the lowest bit (IEEE 1364-2001 clause 4.2.1).
+//! How far the bits that a select names are above the lowest bit (IEEE 1364-2001 clause 4.2.1).
 
 ghost use Rattle.std.specs.Prelude.{◌≡◌, ◌≤◌, pos, Some, true, false};
 ghost use Rattle.design_model.specs.Value.{offset as spec_offset, slide_offset as spec_slide_offset};
@@ -29,7 +29,7 @@ use verilog_tree::{Expr, ExprForm};
 /// Some bits side by side.
 #[derive(Clone, Copy)]
 pub(crate) struct Bits {
-    /// How far the lowest of them stands above the lowest bit of all.
+    /// How far the lowest of them is above the lowest bit of all.
     pub low: u32,
     /// How many they are.
     pub count: u32,
@@ -98,7 +98,7 @@ fn bit(scope: &Scope, signal: SignalEntry, index: &Expr) -> Bits
     }
 }
 
-/// So many bits of a signal from the bit with the index `low` up.
+/// `width` bits of a signal from the bit with the index `low` up.
 fn part(scope: &Scope, signal: SignalEntry, low: &Expr, width: u8) -> Bits
     requires range { IsVectorRange signal.range }
     requires constant { of.names_constants (binding_of scope.now) (expr_view low.now) ≡ true }
@@ -139,7 +139,7 @@ fn slide(scope: &Scope, signal: SignalEntry, base: &Expr, width: &Expr, up: bool
     }
 }
 
-/// How far the bit with this index stands above the lowest bit of the range.
+/// How far the bit with this index is above the lowest bit of the range.
 fn offset(range: Range, index: u128) -> u32
     requires range { IsRange range }
     requires within { inside.contains range index ≡ true }
@@ -148,7 +148,7 @@ fn offset(range: Range, index: u128) -> u32
     (index as u32).abs_diff(range.low)
 }
 
-/// How far the lowest of so many bits from a base on, up or down, stands above the lowest bit of the range.
+/// How far the lowest of `width` bits from a base on, up or down, is above the lowest bit of the range.
 fn slide_offset(range: Range, up: bool, width: u8, base: u128) -> u32
     requires range { IsRange range }
     requires some { 1 ≤ width }

@@ -45,7 +45,7 @@ impl<'a> Selected<'a> {
         }
     }
 
-    /// Tells an index on what has no bits. Whether it has bits.
+    /// Reports an index on what has no bits, and says whether it has bits.
     pub(crate) fn check(self, tally: &mut Tally<'a>) -> bool
         ensures met { tally.new ≡ after_faults tally.old (spec.select_faults (selected_view self.entry)) }
         ensures sound { result ≡ none (spec.select_faults (selected_view self.entry)) }
@@ -57,7 +57,7 @@ impl<'a> Selected<'a> {
         true
     }
 
-    /// Tells an index that is not of the range. Whether there is none.
+    /// Reports an index that is out of the range, and says whether it is in the range.
     pub(crate) fn check_bit(self, index: Index, tally: &mut Tally<'a>) -> bool
         ensures met { tally.new ≡ after_faults tally.old (inside.bit_faults (selected_view self.entry) index) }
         ensures sound { result ≡ none (inside.bit_faults (selected_view self.entry) index) }
@@ -68,7 +68,7 @@ impl<'a> Selected<'a> {
         }
     }
 
-    /// Tells an indexed part that is not inside of the range. Whether there is none.
+    /// Reports an indexed part that is not inside the range, and says whether it is.
     pub(crate) fn check_slide(self, base: Index, width: u8, up: bool, tally: &mut Tally<'a>) -> bool
         requires { 1 ≤ width }
         ensures met { tally.new ≡ after_faults tally.old (inside.slide_faults (selected_view self.entry) up width base) }
@@ -82,8 +82,8 @@ impl<'a> Selected<'a> {
         }
     }
 
-    /// Tells a part with this bracket of less than one bit, of more than 128, or not inside of the range. Whether it is
-    /// none of these.
+    /// Reports a part with this bracket of less than one bit, of more than 128, or not inside of the range. Whether it
+    /// is none of these.
     pub(crate) fn check_part(
         self,
         bracket: Place,
@@ -104,7 +104,7 @@ impl<'a> Selected<'a> {
     }
 }
 
-/// Tells a wrong use of a name, unless the use is right.
+/// Reports a wrong use of a name, unless the use is right.
 fn check_use<'a>(right: bool, name: NameAt<'a>, tally: &mut Tally<'a>) -> bool
     ensures met { tally.new ≡ after_faults tally.old (fault_if (not right) (fault_at WrongUse (name_view name.entry))) }
     ensures sound { result ≡ right }
@@ -140,7 +140,7 @@ pub(crate) fn memory_named(scope: &Scope, of: &Expr) -> Option<MemoryEntry>
     }
 }
 
-/// Whether a number stands between the bounds of a range.
+/// Whether a number is between the bounds of a range.
 fn contains(range: Range, number: u128) -> bool
     ensures { result ≡ inside.contains range number }
 {

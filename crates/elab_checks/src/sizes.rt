@@ -13,7 +13,7 @@ use elab_const::ConstKind;
 use elab_scope::{FoundFault, Tally};
 use four_state::Index;
 
-/// Tells a width of less than one bit, or of more than 128. Whether it is neither.
+/// Reports a width of less than one bit, or of more than 128, and says whether it is neither.
 pub(crate) fn check_size(width: u128, place: Place, tally: &mut Tally) -> bool
     ensures met { tally.new ≡ after_faults tally.old (spec.size_faults width place) }
     ensures sound { result ≡ none (spec.size_faults width place) }
@@ -29,7 +29,7 @@ pub(crate) fn check_size(width: u128, place: Place, tally: &mut Tally) -> bool
     true
 }
 
-/// The same of the width of so many copies.
+/// Reports the width of `count` copies where it is less than one bit or more than 128, and says whether it is neither.
 pub(crate) fn check_copies(count: u128, width: u128, place: Place, tally: &mut Tally) -> bool
     ensures met { tally.new ≡ after_faults tally.old (spec.size_faults (count * width) place) }
     ensures sound { result ≡ none (spec.size_faults (count * width) place) }
@@ -40,7 +40,7 @@ pub(crate) fn check_copies(count: u128, width: u128, place: Place, tally: &mut T
     }
 }
 
-/// Tells a number with an x or z bit, whose expression begins here. Whether it has none.
+/// Reports a number with an x or z bit, whose expression begins here, and says whether it has no such bit.
 pub(crate) fn check_known(place: Place, number: Index, tally: &mut Tally) -> bool
     ensures met { tally.new ≡ after_faults tally.old (fault_if (is_no_number number) (of_constant NotConstant place)) }
     ensures sound { result ≡ none (fault_if (is_no_number number) (of_constant NotConstant place)) }
@@ -52,7 +52,7 @@ pub(crate) fn check_known(place: Place, number: Index, tally: &mut Tally) -> boo
     true
 }
 
-/// Tells a bound below 0 or above 1,048,575. Whether it is neither.
+/// Reports a bound below 0 or above 1,048,575, and says whether it is neither.
 pub(crate) fn check_bound_number(bracket: Place, number: Index, tally: &mut Tally) -> bool
     ensures met { tally.new ≡ after_faults tally.old (answer_faults (told (bound_from bracket number))) }
     ensures sound { result ≡ none (answer_faults (told (bound_from bracket number))) }
@@ -66,7 +66,7 @@ pub(crate) fn check_bound_number(bracket: Place, number: Index, tally: &mut Tall
     }
 }
 
-/// Tells a number that is no width of a part. Whether it is one.
+/// Reports a number that is no width of a part, and says whether it is one.
 pub(crate) fn check_width_number(bracket: Place, number: Index, tally: &mut Tally) -> bool
     ensures met { tally.new ≡ after_faults tally.old (answer_faults (told (size_from bracket number))) }
     ensures sound { result ≡ none (answer_faults (told (size_from bracket number))) }

@@ -1,4 +1,4 @@
-//! What is met in statements: faults, what the limits count, and writings (IEEE 1364-2001 clause 9).
+//! What is found in statements: faults, what the limits count, and writings (IEEE 1364-2001 clause 9).
 
 ghost use Rattle.std.specs.Prelude.{◌≡◌, ◌++◌, OnOk};
 ghost use Rattle.elab_scope.specs.Tally.{after_all};
@@ -21,7 +21,7 @@ use flat_design::{Entry, Mode};
 use std::alloc::Global;
 use verilog_tree::{Arm, Expr, For, Statement, StatementForm};
 
-/// Tells what is met in a statement of a process, where loops are replaced by their turns. The scope is as before.
+/// Reports what is found in a statement of a process, where loops are replaced by their turns. The scope is as before.
 #[cycle(statement)]
 pub fn check_statement<'a>(
     alloc: Global,
@@ -71,7 +71,7 @@ pub fn check_statement<'a>(
     }
 }
 
-/// The same of statements in order (9.8.1).
+/// Reports what is found in statements in order (9.8.1).
 #[cycle(statement)]
 fn check_statements<'a>(
     alloc: Global,
@@ -90,7 +90,7 @@ fn check_statements<'a>(
     Ok(())
 }
 
-/// The same of the arms of a case with their labels (9.5).
+/// Reports what is found in the arms of a case with their labels (9.5).
 #[cycle(statement)]
 fn check_arms<'a>(
     alloc: Global,
@@ -110,7 +110,7 @@ fn check_arms<'a>(
     Ok(())
 }
 
-/// The same of a loop: the faults of its header, and its body in each turn (9.6).
+/// Reports what is found in a loop: the faults of its header, and its body in each turn (9.6).
 #[cycle(statement)]
 fn check_turns<'a>(
     alloc: Global,
@@ -136,7 +136,7 @@ fn check_turns<'a>(
     put_back(scope, &variable, before)
 }
 
-/// The same of an assignment: the faults of its target and of its value, and what it writes (6.1 and 9.2).
+/// Reports what is found in an assignment: the faults of its target and of its value, and what it writes (6.1, 9.2).
 fn check_assignment<'a>(
     alloc: Global,
     scope: &Scope,

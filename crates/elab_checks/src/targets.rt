@@ -19,7 +19,7 @@ use elab_scope::{FoundFault, Scope, Tally, base_name};
 use flat_design::{ElabKind, Entry, Mode, SignalEntry};
 use verilog_tree::{Expr, ExprForm};
 
-/// The faults of a target; whether it has none.
+/// Reports the faults of a target, and says whether it has no fault.
 #[cycle(targets)]
 pub fn check_target<'a>(scope: &Scope, mode: Mode, expr: &'a Expr, tally: &mut Tally<'a>) -> bool
     ensures met { tally.new ≡ after_faults tally.old (spec.target_faults (binding_of scope.now) mode (expr_view expr.now)) }
@@ -68,7 +68,8 @@ fn widths(scope: &Scope, parts: &[Expr]) -> Option<u128>
     Some(sum)
 }
 
-/// The fault of a concatenation that begins here, by its width, if that is known; whether there is none.
+/// Reports the fault of a concatenation that begins here, by its width, if that is known, and says whether it has no
+/// fault.
 fn check_joined<'a>(width: Option<u128>, place: Place, tally: &mut Tally<'a>) -> bool
     ensures met { tally.new ≡ after_faults tally.old (joined_size_faults width place) }
     ensures sound { result ≡ none (joined_size_faults width place) }
@@ -82,7 +83,7 @@ fn check_joined<'a>(width: Option<u128>, place: Place, tally: &mut Tally<'a>) ->
     false
 }
 
-/// The faults of a target without concatenation; whether it has none.
+/// Reports the faults of a target without concatenation, and says whether it has no fault.
 fn check_leaf<'a>(scope: &Scope, mode: Mode, expr: &'a Expr, tally: &mut Tally<'a>) -> bool
     ensures met { tally.new ≡ after_faults tally.old (spec.leaf_faults (binding_of scope.now) mode (look_up (binding_of scope.now) (spec_base_name (expr_view expr.now)).name) (expr_view expr.now)) }
     ensures sound { result ≡ none (spec.leaf_faults (binding_of scope.now) mode (look_up (binding_of scope.now) (spec_base_name (expr_view expr.now)).name) (expr_view expr.now)) }
@@ -100,7 +101,7 @@ fn check_leaf<'a>(scope: &Scope, mode: Mode, expr: &'a Expr, tally: &mut Tally<'
     false
 }
 
-/// The faults of a target that is a signal or a select of one; whether it has none.
+/// Reports the faults of a target that is a signal or a select of one, and says whether it has no fault.
 fn check_signal<'a>(
     scope: &Scope,
     mode: Mode,
@@ -135,7 +136,7 @@ fn check_fixed<'a>(scope: &Scope, expr: &'a Expr, tally: &mut Tally<'a>) -> bool
     }
 }
 
-/// The faults of a target that is a word of a memory; whether it has none.
+/// Reports the faults of a target that is a word of a memory, and says whether it has no fault.
 fn check_memory<'a>(scope: &Scope, mode: Mode, expr: &'a Expr, tally: &mut Tally<'a>) -> bool
     ensures met { tally.new ≡ after_faults tally.old (spec.memory_target_faults (binding_of scope.now) mode (expr_view expr.now)) }
     ensures sound { result ≡ none (spec.memory_target_faults (binding_of scope.now) mode (expr_view expr.now)) }

@@ -15,7 +15,7 @@ use elab_scope::{FoundFault, NameAt, Scope, Tally};
 use flat_design::ElabKind;
 use verilog_tree::{Expr, ExprForm};
 
-/// Tells the names of an expression that have no declaration. Whether there are none.
+/// Reports the names of an expression that have no declaration, and says whether all have one.
 #[cycle(check_declared)]
 pub(crate) fn check_declared<'a>(scope: &Scope, expr: &'a Expr, tally: &mut Tally<'a>) -> bool
     ensures met { tally.new ≡ after_faults tally.old (spec.undeclared (binding_of scope.now) (expr_view expr.now)) }
@@ -53,7 +53,7 @@ pub(crate) fn check_declared<'a>(scope: &Scope, expr: &'a Expr, tally: &mut Tall
     }
 }
 
-/// The same of two expressions.
+/// Reports the names of two expressions that have no declaration, and says whether all have one.
 #[cycle(check_declared)]
 fn check_two<'a>(scope: &Scope, a: &'a Expr, b: &'a Expr, tally: &mut Tally<'a>) -> bool
     ensures met { tally.new ≡ after_faults tally.old (spec.undeclared (binding_of scope.now) (expr_view a.now) ++ spec.undeclared (binding_of scope.now) (expr_view b.now)) }
@@ -62,7 +62,7 @@ fn check_two<'a>(scope: &Scope, a: &'a Expr, b: &'a Expr, tally: &mut Tally<'a>)
     check_declared(scope, a, tally) & check_declared(scope, b, tally)
 }
 
-/// The same of several.
+/// Reports the names of several expressions that have no declaration, and says whether all have one.
 #[cycle(check_declared)]
 fn check_each<'a>(scope: &Scope, exprs: &'a [Expr], tally: &mut Tally<'a>) -> bool
     ensures met { tally.new ≡ after_faults tally.old (flat_map (λ x. fault_if (is_none (look_up (binding_of scope.now) x.name)) (fault_at Undeclared x)) (all_identifiers (exprs_of (exprs_view exprs.now)))) }
@@ -75,7 +75,7 @@ fn check_each<'a>(scope: &Scope, exprs: &'a [Expr], tally: &mut Tally<'a>) -> bo
     declared
 }
 
-/// The same of one name.
+/// Reports a name that has no declaration, and says whether it has one.
 fn check_name<'a>(scope: &Scope, name: NameAt<'a>, tally: &mut Tally<'a>) -> bool
     ensures met { tally.new ≡ after_faults tally.old (fault_if (is_none (look_up (binding_of scope.now) name.entry.name.now)) (fault_at Undeclared (name_view name.entry))) }
     ensures sound { result ≡ none (fault_if (is_none (look_up (binding_of scope.now) name.entry.name.now)) (fault_at Undeclared (name_view name.entry))) }

@@ -18,11 +18,14 @@ use flat_design::{Entry, Mode, Thing};
 use std::alloc::Global;
 use verilog_tree::{Expr, ExprForm};
 
-/// The assignment that a target stands in.
+/// The assignment that a target belongs to.
 #[derive(Clone, Copy)]
 pub struct Writer {
+    /// Whether it is a blocking assignment.
     pub blocking: bool,
+    /// Whether it is a continuous assignment.
     pub continuous: bool,
+    /// The number of its process.
     pub process: u32,
 }
 
@@ -108,8 +111,8 @@ fn add_writing<'a>(
     Ok(())
 }
 
-/// Tells what the parts of a target write, where it is known whether it has a fault. Nothing is told of a target that has
-/// one, or names something that has.
+/// Adds what the parts of a target write, where it is known whether it has a fault. Nothing is added of a target that
+/// has one, or names something that has.
 pub fn push_writings<'a>(
     alloc: Global,
     scope: &Scope,

@@ -1,4 +1,4 @@
--- Writings of one signal or memory that are at odds, and what is kept of those that stand before.
+-- Writings of one signal or memory that are in conflict, and what is kept of earlier ones.
 use Rattle.std.specs.Prelude.{◌≡◌, ℕ, nat_eq, unwrap_or, ◌+◌, ◌==◌, ◌≤◌, Bool, true, false, not, ◌&&◌, List, [], ◌∷◌, Option, Some, None}
 use Rattle.std.specs.Bool.{beq}
 use Rattle.std.specs.Cmp.Lexicographic.{slice_cmp}
@@ -25,12 +25,12 @@ use Rattle.elab_conflicts.specs.declared.conflicts.Processes.TheVariants.{No, On
 use Rattle.elab_conflicts.specs.declared.conflicts.Earlier.{Earlier}
 use Rattle.elab_conflicts.specs.declared.conflicts.EarlierTable.{EarlierTable}
 
--- two writings are at odds in this way
+-- two writings are in conflict in this way
 abbrev pub at_odds : Conflict → Writing → Writing → Bool
 at_odds Mixed = are_mixed
 at_odds TwoDrivers = are_two_drivers
 
--- the name that stands first in the text, if there is one
+-- the name that is first in the text, if there is one
 abbrev pub first_of : List Named → Option Named
 first_of [] = None
 first_of (x ∷ xs) = Some (first_name x xs)
@@ -40,7 +40,7 @@ abbrev pub faults_at : ElabKind → Option NameAt → List Fault
 faults_at k None = []
 faults_at k (Some x) = fault_at k (name_view x) ∷ []
 
--- how two names stand in the text, and at one place by their letters
+-- the order of two names in the text, and at one place by their letters
 abbrev pub name_order : Named → Named → Ordering
 name_order x y = ordering_then (nat_cmp x.place.source y.place.source) (ordering_then (nat_cmp x.place.line y.place.line) (ordering_then (nat_cmp x.place.column y.place.column) (slice_cmp nat_cmp x.name y.name)))
 

@@ -1,5 +1,5 @@
-//! Writings of one signal or memory that are at odds: two drivers of a bit (IEEE 1364-2001 clause 6.1), two processes
-//! that write it, and blocking with nonblocking assignments (clause 9.2).
+//! Writings of one signal or memory that are in conflict: two drivers of a bit (IEEE 1364-2001 clause 6.1), two
+//! processes that write it, and blocking with nonblocking assignments (clause 9.2).
 
 ghost use Rattle.std.specs.Prelude.{◌≡◌, ◌+◌, ◌-◌, ◌^◌, ◌≤◌, ℕ, List, ◌∷◌, [], ◌++◌, ◌||◌, ◌==◌, not, map, All, IfOk, OnOk, if◌then◌else◌};
 ghost use Rattle.std.specs.List.{list_any};
@@ -17,7 +17,7 @@ use std::alloc::Global;
 use std::cmp::Ordering;
 use std::collections::HashMap;
 
-/// In which way two writings of one signal or memory are at odds.
+/// In which way two writings of one signal or memory are in conflict.
 #[derive(Clone, Copy)]
 enum Conflict {
     /// One is blocking and the other is not.
@@ -34,7 +34,7 @@ enum Processes {
     Several,
 }
 
-/// What is kept of the writings of one signal or memory that stand before.
+/// What is kept of the earlier writings of one signal or memory.
 #[derive(Clone, Copy)]
 struct Earlier {
     blocking: bool,
@@ -52,7 +52,7 @@ struct EarlierTable {
     kept: HashMap<(bool, u32), Earlier>,
 }
 
-/// The first name in the text at which a second driver is met, of a bit of a net, or of a variable or memory.
+/// The first name in the text at which a second driver is found, of a bit of a net, or of a variable or memory.
 pub fn two_drivers<'a>(
     alloc: Global,
     writings: &[Written<'a>],
@@ -63,7 +63,7 @@ pub fn two_drivers<'a>(
     first_conflict(alloc, writings, Conflict::TwoDrivers)
 }
 
-/// The first name in the text at which both blocking and nonblocking assignments to one signal or memory are met.
+/// The first name in the text at which both blocking and nonblocking assignments to one signal or memory are found.
 pub fn mixed<'a>(alloc: Global, writings: &[Written<'a>]) -> Result<Option<NameAt<'a>>, NoMemory>
     requires { All IsWithin writings.now }
     ensures { IfOk result (λ found. mixed_faults (map writing_view writings.now) ≡ faults_at ElabKind.MixedAssign found) }
@@ -71,7 +71,7 @@ pub fn mixed<'a>(alloc: Global, writings: &[Written<'a>]) -> Result<Option<NameA
     first_conflict(alloc, writings, Conflict::Mixed)
 }
 
-/// The first name in the text of a writing that is at odds with one that stands before it.
+/// The first name in the text of a writing that is in conflict with an earlier one.
 fn first_conflict<'a>(
     alloc: Global,
     writings: &[Written<'a>],
@@ -102,7 +102,7 @@ fn in_text_order<'a>(alloc: Global, writings: &[Written<'a>]) -> Result<Vec<Writ
     Ok(sorted)
 }
 
-/// How two names stand in the text, and at one place by their letters.
+/// The order of two names in the text, and at one place by their letters.
 fn order(x: NameAt, y: NameAt) -> Ordering
     ensures { result ≡ name_order (name_view x.entry) (name_view y.entry) }
 {
@@ -160,7 +160,7 @@ impl Earlier {
         procedural: Processes::No,
     };
 
-    /// Whether a writing of the same signal or memory is at odds with one of these.
+    /// Whether a writing of the same signal or memory is in conflict with one of these.
     fn is_at_odds(&self, written: &Written, conflict: Conflict) -> bool
         requires { IsWithin written.now }
         ensures { (ws : List Written) → Summarizes self.now written.now.thing ws
@@ -207,7 +207,7 @@ fn bits_of(written: &Written) -> u128
     ones(written.low + written.count) - ones(written.low)
 }
 
-/// So many ones.
+/// A mask with this number of ones.
 fn ones(count: u32) -> u128
     requires { count ≤ 128 }
     ensures { result ≡ 2 ^ count - 1 }

@@ -4,7 +4,7 @@ use Rattle.elab_const.specs.Scope.{Fault, fault_at}
 use Rattle.elab_const.specs.declared.fault.ConstFault.{ConstFault}
 use Rattle.elab_const.specs.declared.fault.ConstFault.TheVariants.{NoMemory, At}
 
--- an answer, with its fault told
+-- an answer, with its fault as callers see it
 abbrev pub told : {A : Type 0} → Result A Fault → Result A ConstFault
 told (Ok x) = Ok x
 told (Err f) = Err (At f.kind f.place)

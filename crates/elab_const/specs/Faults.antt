@@ -130,7 +130,7 @@ number_answer g e = unless (number_fault g e (fault_of g e)) (number_of g e)
 abbrev pub alone_answer : Names → Expr → Result Vector Fault
 alone_answer g e = unless (fault_of g e) (constant g e)
 
--- the shape and the value of an expression in what stands around it, or its first fault
+-- the shape and the value of an expression in its context, or its first fault
 abbrev pub evaluated_answer : Names → Expr → Option Shape → Result Evaluated Fault
 evaluated_answer g e around = unless (fault_of g e) (within (meaning g e) around)
 
@@ -152,7 +152,7 @@ abbrev pub value_in : Result Evaluated Fault → Result Vector Fault
 value_in (Ok e) = Ok e.value
 value_in (Err f) = Err f
 
--- what stands around an operand, with the other operand, if that has no fault
+-- the context of an operand, with the other operand, if that has no fault
 abbrev pub beside : Option Shape → Result Shape Fault → Option Shape
 beside around (Ok s) = Some (context_of around s)
 beside around (Err f) = around

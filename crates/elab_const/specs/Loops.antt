@@ -37,7 +37,7 @@ abbrev pub some_if : Result Vector Fault → Bool → Result (Option Vector) Fau
 some_if next true = on_ok next (λ v. Ok (Some v))
 some_if next false = Ok None
 
--- what the variable has behind a turn, if that turn begins
+-- what the variable has after a turn, if that turn begins
 abbrev pub next_answer : Names → Place → Expr → Expr → Result (Option Vector) Fault
 next_answer g p test step = on_ok (begins g p test) (some_if (integer_answer g step))
 
@@ -55,7 +55,7 @@ abbrev pub more_if : Result (List Vector) Fault → Bool → Result (List Vector
 more_if more true = more
 more_if more false = Ok []
 
--- the turns from this value of the variable on, at most so many
+-- the turns from this value of the variable on, at most this number of them
 abbrev pub turns_from : Names → Place → List ℕ → Expr → Expr → ℕ → Vector → Result (List Vector) Fault
 turns_from g p x test step zero v = on_ok (begins (with_turn x v g) p test) (more_if (Err (fault_at LoopTooLong p)))
 turns_from g p x test step (suc k) v =
@@ -70,7 +70,7 @@ variable_of _ _ = None
 abbrev pub with_variable : List ℕ → Names → Names
 with_variable x g = with_turn x (record { bits = X ∷ []; signed = true }) g
 
--- the header names nothing but constants and x, which is no name of something else
+-- the header names only constants and x, and x is no name of something else
 abbrev pub is_over : Names → List ℕ → Expr → Expr → Expr → Bool
 is_over g x first test step = is_unknown (g x) && is_constant g first && is_constant (with_variable x g) test && is_constant (with_variable x g) step
 

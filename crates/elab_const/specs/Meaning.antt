@@ -35,7 +35,7 @@ vector_shape v = shape_as (length v.bits) v.signed
 abbrev pub common_shape : Shape → Shape → Shape
 common_shape a b = shape_as (max a.width b.width) (a.signed && b.signed)
 
--- the shape of what a name stands for: of a memory that of its words
+-- the shape of what a name means: of a memory that of its words
 abbrev pub entry_shape : Option Entry → Shape
 entry_shape None = shape_as 1 false
 entry_shape (Some (Constant v)) = vector_shape v
@@ -43,7 +43,7 @@ entry_shape (Some (Turn v)) = vector_shape v
 entry_shape (Some (Signal high low ranged width signed)) = shape_as width signed
 entry_shape (Some (Memory first last high low ranged width signed)) = shape_as width signed
 
--- the bits of a constant; what is none reads x
+-- the bits of a constant; without a value they read x
 abbrev pub entry_bits : Option Entry → List Bit
 entry_bits (Some (Constant v)) = v.bits
 entry_bits (Some (Turn v)) = v.bits
@@ -70,7 +70,7 @@ vector_as s bs = record { bits = extend s.width s.signed bs; signed = s.signed }
 abbrev pub vector_in : Meaning → Shape → Vector
 vector_in m s = vector_as s (m.bits s.width s.signed)
 
--- the context of an expression of this shape: its own, or with what stands around it
+-- the context of an expression of this shape: its own, or the one that it is in
 abbrev pub context_of : Option Shape → Shape → Shape
 context_of None s = s
 context_of (Some c) s = common_shape c s
@@ -79,11 +79,11 @@ context_of (Some c) s = common_shape c s
 abbrev pub at : Meaning → Shape → Evaluated
 at m s = record { shape = m.shape; value = vector_in m s }
 
--- the same in what stands around it
+-- the value of an expression in its context
 abbrev pub within : Meaning → Option Shape → Evaluated
 within m around = at m (context_of around m.shape)
 
--- bits of this shape in what stands around them
+-- bits of this shape in their context
 abbrev pub bits_within : Shape → List Bit → Option Shape → Evaluated
 bits_within s bs around = record { shape = s; value = vector_as (context_of around s) bs }
 
@@ -99,7 +99,7 @@ number_in v = index_of (index v.signed v.bits)
 abbrev pub number_alone : Meaning → Index
 number_alone m = number_in (vector_in m m.shape)
 
--- the number, 0 where it is none
+-- the number, 0 where there is no number
 abbrev pub count_of : Index → ℕ
 count_of (number.At n) = n
 count_of _ = 0
@@ -154,7 +154,7 @@ unary_shape op a = if is_wide_unary op then a else one_bit
 abbrev pub operand_shape : Unary → Shape → Shape → Shape
 operand_shape op a s = if is_wide_unary op then s else a
 
--- what stands around the operand of an operator
+-- the context of the operand of an operator
 abbrev pub around_operand : Unary → Option Shape → Option Shape
 around_operand op around = if is_wide_unary op then around else None
 
@@ -191,7 +191,7 @@ both_at a b s = (at a s.0, at b s.1)
 abbrev pub pair_within : Meaning → Meaning → Option Shape → Evaluated × Evaluated
 pair_within a b around = both_at a b (context_of around (common_shape a.shape b.shape), context_of around (common_shape a.shape b.shape))
 
--- both operands of an operator as it takes them, in what stands around it
+-- both operands of an operator as it takes them, in its context
 abbrev pub operands_within : Binary → Meaning → Meaning → Option Shape → Evaluated × Evaluated
 operands_within op a b around = both_at a b (operand_shapes (operands_of op) a.shape b.shape (context_of around (binary_shape op a.shape b.shape)))
 
@@ -220,7 +220,7 @@ pub record Parts : Type 0 where
   pub width : ℕ
   pub bits : List Bit
 
--- the bits that stand before a part, if there are any
+-- the bits before a part, if there are any
 abbrev pub bits_before : Option Vector → List Bit
 bits_before None = []
 bits_before (Some v) = v.bits
@@ -233,7 +233,7 @@ IsJoined j = j.width ≤ 128 → length (bits_before j.value) ≡ j.width
 abbrev pub part_before : Meaning → Parts → Parts
 part_before m others = record { width = m.shape.width + others.width; bits = others.bits ++ alone m }
 
--- what stands side by side is unsigned
+-- bits side by side are unsigned
 abbrev pub side_by_side : ℕ → List Bit → Meaning
 side_by_side w bs = means (shape_as w false) (λ _ _. bs)
 

@@ -1,4 +1,4 @@
--- The scope that names stand in, and the faults of constants with their places.
+-- The scope of names, and the faults of constants with their places.
 use Rattle.std.specs.Prelude.{◌≤◌, ℕ, ◌==◌, nat_lt, Bool, ◌&&◌, ◌||◌, if◌then◌else◌, List, bytes_eq, Option, Some, None, Result, Ok, Err}
 use Rattle.std.specs.Map.{lookup}
 use Rattle.cov_host.specs.declared.place.Place.{Place}
@@ -9,7 +9,7 @@ pub use Rattle.elab_const.specs.declared.fault.Fault.{Fault}
 pub use Rattle.elab_const.specs.declared.fault.ConstKind.{ConstKind}
 pub use Rattle.elab_const.specs.declared.fault.ConstKind.TheVariants.{NotConstant, TooWide, LoopNotConstant, LoopTooLong, BadRange}
 
--- what each name stands for
+-- what each name means
 abbrev pub Names : Type 0
 Names = List ℕ → Option Entry
 
@@ -17,11 +17,11 @@ Names = List ℕ → Option Entry
 abbrev pub look_up : List (List ℕ × Entry) → Names
 look_up bindings name = lookup (λ bound. bytes_eq name bound) bindings
 
--- the names where x stands for this
+-- the names where x means this
 abbrev pub with_entry : List ℕ → Entry → Names → Names
 with_entry x e g name = if bytes_eq name x then Some e else g name
 
--- the names where x stands for nothing
+-- the names where x means nothing
 abbrev pub without_entry : List ℕ → Names → Names
 without_entry x g name = if bytes_eq name x then None else g name
 
@@ -48,11 +48,11 @@ fault_at k p = record { kind = k; place = p }
 abbrev pub below_or : ℕ → ℕ → Bool → Bool
 below_or a b next = nat_lt a b || ((a == b) && next)
 
--- p stands before q in the text
+-- p is before q in the text
 abbrev pub is_before : Place → Place → Bool
 is_before p q = below_or p.source q.source (below_or p.line q.line (nat_lt p.column q.column))
 
--- of two faults the one that stands first in the text; at one place the first of both
+-- of two faults the one that is first in the text; at one place the first of both
 abbrev pub first_of : Fault → Fault → Fault
 first_of f h = if is_before h.place f.place then h else f
 

@@ -1,4 +1,4 @@
--- How many repeats stand in an expression, also in their counts.
+-- The number of repeats in an expression, also in their counts.
 use Rattle.std.specs.Prelude.{ℕ, ◌+◌}
 use Rattle.verilog_tree.specs.Tree.{Expr, literal, identifier, bit_select, part_select, indexed_part, unary_operator, binary_operator, conditional, concatenation, replication, sign_cast, parentheses, Exprs, no_exprs, an_expr}
 

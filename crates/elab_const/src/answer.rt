@@ -89,7 +89,7 @@ pub(crate) fn signed_shape(signed: bool, a: Result<Shape, Fault>) -> Result<Shap
     })
 }
 
-/// Of so many bits side by side, told with this place.
+/// Of this number of bits side by side, whose fault is at this place.
 pub(crate) fn side_by_side(place: Place, width: u128) -> Result<Shape, Fault>
     ensures value { result ≡ unless (size_fault width place) (of.shape_as width false) }
     ensures within { IfOk result IsShape }

@@ -1,4 +1,4 @@
-//! The shape and the value of an expression in what stands around it, by the answers for the expressions in it.
+//! The shape and the value of an expression in its context, by the answers for the expressions in it.
 
 ghost use Rattle.std.specs.Prelude.{◌≡◌, ◌≤◌, ◌*◌, [], ◌∷◌, length, IfOk, IfSome, false, Ok};
 ghost use Rattle.std.specs.Bool.{OnTrue};
@@ -36,7 +36,7 @@ pub(crate) fn named(
     Ok(Evaluated::of(shape, &bits_of(entry), around))
 }
 
-/// The bits of a constant; what is none reads x.
+/// The bits of a constant; a bit that there is not reads x.
 fn bits_of(entry: Option<&Entry>) -> Four
     ensures { result.bits ≡ of.entry_bits (option_copied entry.entry) }
 {
@@ -164,7 +164,7 @@ pub(crate) fn repeat(
     }
 }
 
-/// So many copies side by side, at least one.
+/// `count` copies side by side, at least one.
 fn repeated(times: u128, part: &Four) -> Four
     requires some { 1 ≤ times }
     requires within { times * length part.now.bits ≤ 128 }
@@ -177,7 +177,7 @@ fn repeated(times: u128, part: &Four) -> Four
     value
 }
 
-/// The number that a value says, which has no x or z bit; it is told with this place.
+/// The number that a value says, which has no x or z bit; a fault of it is at this place.
 pub(crate) fn number_in(place: Place, value: Result<Four, Fault>) -> Result<Index, Fault>
     ensures { result ≡ on_ok value (λ v. unless (fault_if (is_no_number (of.number_in v)) NotConstant place) (of.number_in v)) }
 {

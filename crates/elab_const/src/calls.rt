@@ -18,7 +18,7 @@ use four_state::Four;
 use std::alloc::Global;
 use verilog_tree::{Expr, ExprForm, For};
 
-/// The width and sign of an expression alone (IEEE 1364-2001, 4.4 and 4.5), or the fault that stands first in the
+/// The width and sign of an expression alone (IEEE 1364-2001, 4.4 and 4.5), or the first fault in the
 /// text. A name that the scope lacks is NotConstant at the name. It takes no memory.
 pub fn shape(expr: &Expr, scope: &Scope) -> Result<Shape, ConstFault>
     ensures answer { result ≡ told (shape_answer (look_up scope.now) (expr_view expr.now)) }
@@ -27,14 +27,14 @@ pub fn shape(expr: &Expr, scope: &Scope) -> Result<Shape, ConstFault>
     tell(measure(&Names::of(scope), expr))
 }
 
-/// The value of an expression that must be constant, or the fault that stands first in the text.
+/// The value of an expression that must be constant, or the first fault in the text.
 pub fn constant(_alloc: Global, expr: &Expr, scope: &Scope) -> Result<Four, ConstFault>
     ensures { result ≡ told (constant_answer (look_up scope.now) (expr_view expr.now)) }
 {
     tell(constant_in(&Names::of(scope), expr))
 }
 
-/// The same over these names.
+/// The value of an expression that must be constant, over these names, or the first fault.
 fn constant_in(names: &Names, expr: &Expr) -> Result<Four, Fault>
     ensures { result ≡ constant_answer (look_up names.now) (expr_view expr.now) }
 {
@@ -44,7 +44,7 @@ fn constant_in(names: &Names, expr: &Expr) -> Result<Four, Fault>
     alone(names, expr)
 }
 
-/// The values of the variable of a loop in order, at most 1,024, or the fault that stands first in the text.
+/// The values of the variable of a loop in order, at most 1,024, or the first fault in the text.
 pub fn turns(alloc: Global, header: &For, scope: &Scope) -> Result<Turns, ConstFault>
     ensures { Gives result (spec.turns_answer (look_up scope.now) (loop_view header.now).0) }
 {

@@ -13,7 +13,7 @@ use crate::{ConstFault, Scope, Shape};
 use verilog_tree::{Arm, Expr};
 
 /// The width and sign by which the selector and the labels of a case are compared (IEEE 1364-2001, 9.5): the greatest
-/// width of all, and a sign where all have one; or the fault that stands first in the text. It takes no memory.
+/// width of all, and a sign where all have one; or the first fault in the text. It takes no memory.
 pub fn case_shape(on: &Expr, arms: &[Arm], scope: &Scope) -> Result<Shape, ConstFault>
     ensures answer { result ≡ told (spec.case_answer (look_up scope.now) (expr_view on.now) (arms_of (arms_view arms.now))) }
     ensures within { IfOk result IsShape }
@@ -39,7 +39,7 @@ fn with_labels(names: &Names, shape: Result<Shape, Fault>, labels: &[Expr]) -> R
     shape
 }
 
-/// The greater width of both, and a sign where both have one; or the fault of both that stands first in the text.
+/// The greater width of both, and a sign where both have one; or the first fault of both in the text.
 fn together(a: Result<Shape, Fault>, b: Result<Shape, Fault>) -> Result<Shape, Fault>
     requires a { IfOk a IsShape }
     requires b { IfOk b IsShape }

@@ -18,7 +18,7 @@ pub(crate) fn in_context(value: &Four, context: Shape) -> Four
         .extend(context.width, context.signed)
 }
 
-/// The context of an expression of this shape: its own, or with what stands around it.
+/// The context of an expression of this shape: its own, or the one that it is in.
 pub(crate) fn context_of(around: Option<Shape>, shape: Shape) -> Shape
     requires shape { IsShape shape }
     requires around { IfSome around IsShape }
@@ -31,7 +31,7 @@ pub(crate) fn context_of(around: Option<Shape>, shape: Shape) -> Shape
     }
 }
 
-/// What stands around the operand of an operator.
+/// The context of the operand of an operator.
 pub(crate) fn around_operand(op: Unary, around: Option<Shape>) -> Option<Shape>
     requires { IfSome around IsShape }
     ensures value { result ≡ of.around_operand op around }
@@ -40,7 +40,7 @@ pub(crate) fn around_operand(op: Unary, around: Option<Shape>) -> Option<Shape>
     if is_wide_unary(op) { around } else { None }
 }
 
-/// What stands around an operand, with the other operand, if that one has no fault.
+/// The context of an operand, with the other operand, if that one has no fault.
 pub(crate) fn beside(around: Option<Shape>, other: Result<Shape, Fault>) -> Option<Shape>
     requires around { IfSome around IsShape }
     requires other { IfOk other IsShape }

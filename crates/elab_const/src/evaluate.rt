@@ -71,7 +71,7 @@ pub(crate) fn measure(names: &Names, expr: &Expr) -> Result<Shape, Fault>
     }
 }
 
-/// The same of the part of an expression with this bracket.
+/// The width and sign of the part of an expression with this bracket, or its first fault.
 #[cycle(evaluate)]
 fn measure_part(
     names: &Names,
@@ -90,7 +90,7 @@ fn measure_part(
     part_shape(bracket, falls(names, of), both(measure(names, of), bounds))
 }
 
-/// The same of the indexed part of an expression with this bracket.
+/// The width and sign of the indexed part of an expression with this bracket, or its first fault.
 #[cycle(evaluate)]
 fn measure_slide(
     names: &Names,
@@ -126,7 +126,7 @@ fn total_width(names: &Names, parts: &[Expr]) -> Result<u128, Fault>
     }
 }
 
-/// The first of a fault, if there is one, and of another that was met behind it.
+/// The first of a fault, if there is one, and of another that was found after it.
 fn first_found(found: Option<Fault>, fault: Fault) -> Fault
     ensures { Some result ≡ earlier found (Some fault) }
 {
@@ -154,7 +154,7 @@ pub(crate) fn alone(names: &Names, expr: &Expr) -> Result<Four, Fault>
     value_in(evaluate(names, expr, None))
 }
 
-/// The width and sign of an expression and its value in what stands around it, or its first fault. Both are found
+/// The width and sign of an expression and its value in its context, or its first fault. Both are found
 /// together, so that a count in it is evaluated once.
 #[cycle(evaluate)]
 pub(crate) fn evaluate(
@@ -191,7 +191,7 @@ pub(crate) fn evaluate(
     }
 }
 
-/// Both operands of an operator as it takes them, in what stands around it, or their first fault.
+/// Both operands of an operator as it takes them, in its context, or their first fault.
 #[cycle(evaluate)]
 fn operands(
     names: &Names,
@@ -212,8 +212,9 @@ fn operands(
     }
 }
 
-/// Two expressions in their common context, or their first fault. The width of one must be known before the other can be
-/// evaluated, so one is looked at twice: the one with fewer repeats. Else the time could double with each nested count.
+/// Two expressions in their common context, or their first fault. The width of one must be known before the other can
+/// be evaluated, so one is looked at twice: the one with fewer repeats. Else the time could double with each nested
+/// count.
 #[cycle(evaluate)]
 fn pair(
     names: &Names,

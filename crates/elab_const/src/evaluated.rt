@@ -15,7 +15,7 @@ pub(crate) struct Evaluated {
 }
 
 impl Evaluated {
-    /// Bits of this shape, in what stands around them.
+    /// Bits of this shape, in their context.
     pub(crate) fn of(shape: Shape, bits: &Four, around: Option<Shape>) -> Evaluated
         requires shape { IsShape shape }
         requires around { IfSome around IsShape }

@@ -39,7 +39,7 @@ impl Fault {
         Fault { kind, place }
     }
 
-    /// Of two faults the one that stands first in the text; at one place the first of both.
+    /// Of two faults the one that is first in the text; at one place the first of both.
     pub(crate) fn first(self, other: Fault) -> Fault
         ensures { result ≡ scope.first_of self other }
     {
@@ -51,7 +51,7 @@ impl Fault {
     }
 }
 
-/// Whether p stands before q in the text.
+/// Whether p is before q in the text.
 fn is_before(p: Place, q: Place) -> bool
     ensures { result ≡ scope.is_before p q }
 {
@@ -59,7 +59,7 @@ fn is_before(p: Place, q: Place) -> bool
         || p.source == q.source && (p.line < q.line || p.line == q.line && p.column < q.column)
 }
 
-/// Two answers, or the fault of both that stands first in the text.
+/// Two answers, or the fault of both that is first in the text.
 pub(crate) fn both<A: Drop, B: Drop>(
     a: Result<A, Fault>,
     b: Result<B, Fault>,
@@ -118,7 +118,7 @@ impl From<NoMemory> for ConstFault {
     }
 }
 
-/// An answer, with its fault told.
+/// An answer, with its fault as callers see it.
 pub(crate) fn tell<T: Drop>(answer: Result<T, Fault>) -> Result<T, ConstFault>
     ensures { result ≡ told answer }
 {

@@ -22,7 +22,7 @@ impl Joined {
         }
     }
 
-    /// The same with one part more, which has the lowest bits.
+    /// The parts with one more, which has the lowest bits.
     pub(crate) fn with(self, part: &Four) -> Joined
         requires small { self.width + 128 < 2 ^ 128 }
         requires whole { IsJoined self }
@@ -40,7 +40,7 @@ impl Joined {
     }
 }
 
-/// A part behind those before it, if there are any.
+/// A part, after the parts before it if there are any.
 fn behind(before: Option<Four>, part: &Four) -> Four
     requires { length (bits_before before) + length part.now.bits ≤ 128 }
     ensures { result.bits ≡ part.now.bits ++ bits_before before }

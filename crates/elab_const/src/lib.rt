@@ -1,4 +1,9 @@
-//! Constants, widths, signs and loops (IEEE 1364-2001, clauses 4.4, 4.5 and 9.6).
+//! Constants, widths, signs and loops (IEEE 1364-2001 clauses 4.4, 4.5, 9.5 and 9.6).
+//!
+//! [`shape`] gives the width and sign of an expression alone, [`constant`] the value of an expression that must be
+//! constant, [`case_shape`] the width and sign by which a case compares, and [`turns`] the values of the variable of
+//! a `for` loop. Each is proved to give exactly what its definition says (`specs/Faults.antt`, `Cases.antt`,
+//! `Loops.antt`), or the first fault in the text. What a name means is in a [`Scope`].
 #![tactic(auto)]
 
 mod answer;

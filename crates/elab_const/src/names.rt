@@ -6,14 +6,14 @@ use crate::{Entry, Scope};
 use cov_host::Name;
 use std::marker::Model;
 
-/// The names that an expression may use: those of a scope, before which a loop variable may stand.
+/// The names that an expression may use: those of a scope, and a loop variable, which goes before them.
 #[derive(Drop)]
 pub(crate) struct Names<'a> {
     scope: &'a Scope,
     turn: Option<LoopTurn<'a>>,
 }
 
-/// A loop variable, and what it stands for in one turn.
+/// A loop variable, and what it means in one turn.
 #[derive(Drop)]
 struct LoopTurn<'a> {
     variable: &'a Name,
@@ -40,7 +40,7 @@ impl<'a> Names<'a> {
         Names { scope, turn: None }
     }
 
-    /// The names of a scope, where this one stands for the entry.
+    /// The names of a scope, where this one has the entry as its meaning.
     pub(crate) fn with(scope: &'a Scope, variable: &'a Name, entry: &'a Entry) -> Names<'a>
         requires { IsEntry entry.now }
         ensures { result ≡ (variable.now, entry.now) ∷ scope.now }
@@ -51,7 +51,7 @@ impl<'a> Names<'a> {
         }
     }
 
-    /// What a name stands for.
+    /// What a name means.
     pub(crate) fn get(&self, name: &Name) -> Option<&Entry>
         ensures value { option_copied result ≡ look_up self.now name.now }
         ensures within { IfSome result (λ entry. IsEntry entry.now) }

@@ -8,7 +8,7 @@ use indexmap::IndexMap;
 use std::alloc::Global;
 use std::marker::Model;
 
-/// What each name stands for.
+/// What each name means.
 #[derive(Drop)]
 pub struct Scope {
     alloc: Global,
@@ -38,7 +38,7 @@ impl Scope {
         }
     }
 
-    /// Lets a name stand for an entry, in the place of what it stood for. After a refusal nothing has changed.
+    /// Gives a name this meaning, in place of the one it had. After a refusal nothing has changed.
     pub fn insert(&mut self, name: &str, entry: Entry) -> Result<(), NoMemory>
         requires { IsEntry entry }
         ensures ok { OnOk result (look_up self.new ≡ with_entry name.now entry (look_up self.old)) }
@@ -47,7 +47,7 @@ impl Scope {
         self.insert_bytes(name.as_bytes(), entry)
     }
 
-    /// The same for the name of a token.
+    /// Gives the name of a token this meaning, in place of the one it had. After a refusal nothing has changed.
     pub fn insert_name(&mut self, name: &Name, entry: Entry) -> Result<(), NoMemory>
         requires { IsEntry entry }
         ensures ok { OnOk result (look_up self.new ≡ with_entry name.now entry (look_up self.old)) }
@@ -66,14 +66,14 @@ impl Scope {
         Ok(())
     }
 
-    /// Lets a name stand for nothing.
+    /// Takes the meaning of a name away.
     pub fn remove(&mut self, name: &Name)
         ensures { look_up self.new ≡ without_entry name.now (look_up self.old) }
     {
         let _ = self.entries.swap_remove(name.as_slice());
     }
 
-    /// What a name stands for.
+    /// What a name means.
     pub(crate) fn get(&self, name: &[u8]) -> Option<&Entry>
         ensures value { option_copied result ≡ look_up self.now name.now }
         ensures within { IfSome result (λ entry. IsEntry entry.now) }

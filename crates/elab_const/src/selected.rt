@@ -22,7 +22,7 @@ pub(crate) fn select_shape(names: &Names, of: &Expr) -> Shape
     }
 }
 
-/// The same by what the name stands for.
+/// The width and sign of a select, by what its name means.
 fn indexed_shape(entry: Option<&Entry>) -> Shape
     requires { IfSome entry (λ e. IsEntry e.now) }
     ensures value { result ≡ meaning.indexed_shape (option_copied entry.entry) }
@@ -51,7 +51,7 @@ pub(crate) fn falls(names: &Names, of: &Expr) -> bool
     }
 }
 
-/// The same of the bits of a signal.
+/// Whether the indexes of a signal's bits fall from left to right.
 fn signal_falls(entry: Option<&Entry>) -> bool
     ensures { result ≡ meaning.signal_falls (option_copied entry.entry) }
 {
@@ -68,7 +68,7 @@ fn signal_falls(entry: Option<&Entry>) -> bool
     }
 }
 
-/// The same of the bits of a memory's words.
+/// Whether the indexes of the bits of a memory's words fall from left to right.
 fn word_falls(entry: Option<&Entry>) -> bool
     ensures { result ≡ meaning.word_falls (option_copied entry.entry) }
 {

@@ -45,7 +45,7 @@ pub(crate) struct Loop<'a> {
 }
 
 impl<'a> Loop<'a> {
-    /// Whether the header names nothing but constants and the variable, which is no name of something else.
+    /// Whether the header names only constants and the variable, which is no name of something else.
     pub(crate) fn is_closed(&self, first: &Expr) -> bool
         ensures { result ≡ spec.is_over (look_up self.now.scope.now) self.now.variable.now (expr_view first.now) (expr_view self.now.test.now) (expr_view self.now.step.now) }
     {
@@ -69,7 +69,7 @@ impl<'a> Loop<'a> {
         }
     }
 
-    /// What the variable has behind a turn with this value, if that turn begins.
+    /// What the variable has after a turn with this value, if that turn begins.
     fn next(&self, value: Four) -> Result<Option<Four>, Fault>
         ensures { result ≡ spec.next_answer (with_turn self.now.variable.now value (look_up self.now.scope.now)) self.now.place (expr_view self.now.test.now) (expr_view self.now.step.now) }
     {
@@ -104,7 +104,7 @@ impl<'a> Loop<'a> {
         }
     }
 
-    /// That no turn begins with this value, behind as many as there may be.
+    /// That no turn begins with this value, after the greatest number of turns.
     fn ends(&self, value: Four) -> Result<(), Fault>
         ensures { result ≡ on_ok (spec.begins (with_turn self.now.variable.now value (look_up self.now.scope.now)) self.now.place (expr_view self.now.test.now)) (spec.end_if self.now.place) }
     {

@@ -5,7 +5,7 @@ ghost use Rattle.elab_const.specs.Weight as spec;
 
 use verilog_tree::{Expr, ExprForm};
 
-/// How many repeats stand in an expression, also in their counts, as far as a number can say it.
+/// The number of repeats in an expression, also in their counts, as far as a number can say it.
 #[cycle(weight)]
 pub(crate) fn repeats(expr: &Expr) -> u64
     ensures { result ≡ min (spec.repeats (expr_view expr.now)) 18446744073709551615 }
@@ -41,7 +41,7 @@ pub(crate) fn repeats(expr: &Expr) -> u64
     }
 }
 
-/// The same of all of them together.
+/// The number of repeats in all parts together, as far as a number can say it.
 #[cycle(weight)]
 fn repeats_of_all(parts: &[Expr]) -> u64
     ensures { result ≡ min (spec.repeats_of_all (exprs_of (exprs_view parts.now))) 18446744073709551615 }

@@ -9,7 +9,9 @@ use four_state::{Binary, Four, Unary};
 /// The width of an expression in bits, from 1 to 128, and whether it is signed (IEEE 1364-2001, 4.4 and 4.5).
 #[derive(Clone, Copy, Debug, PartialEq, Eq)]
 pub struct Shape {
+    /// The number of bits.
     pub width: u8,
+    /// Whether it is signed.
     pub signed: bool,
 }
 

@@ -1,4 +1,4 @@
--- The overrides, the parameters and the other names of a module, as those of the code stand for them.
+-- The overrides, the parameters and the other names of a module, as the definitions take those of the code.
 use Rattle.std.specs.Prelude.{◌≡◌, ℕ, Bool, true, false, if◌then◌else◌, List, [], ◌∷◌, bytes_eq, map, Option, Some, None}
 use Rattle.std.specs.Prelude as std
 use Rattle.std.specs.Option.{option_map}
@@ -26,7 +26,7 @@ overrides_view os = map override_view os
 abbrev pub given_value : List spec.Override → List ℕ → Option Vector
 given_value os x = option_map (λ o. o.value) (std.find (λ o. bytes_eq o.name x) os)
 
--- the name of the parameter, with what it stands for
+-- the name of the parameter, with what it means
 abbrev pub bound_view : BoundParam → List ℕ × Entry
 bound_view p = (p.name, p.entry)
 
@@ -34,17 +34,17 @@ bound_view p = (p.name, p.entry)
 abbrev pub bindings_view : List BoundParam → Bindings
 bindings_view ps = map bound_view ps
 
--- the scope in which these names stand for what is no constant
+-- the scope in which these names have meanings that are no constants
 abbrev pub with_others : List Named → Scope → Scope
 with_others xs g = λ x. if is_among xs x then Some NoConstant else g x
 
--- what a parameter can stand for
+-- what a parameter can mean
 abbrev pub is_param_entry : Option Entry → Bool
 is_param_entry (Some (Constant v)) = true
 is_param_entry (Some Faulty) = true
 is_param_entry _ = false
 
--- names that stand for what parameters can
+-- names with meanings that parameters can have
 abbrev pub AreParams : Bindings → Type 0
 AreParams [] = Unit {0}
 AreParams (b ∷ bs) = (is_param_entry (Some b.1) ≡ true) × AreParams bs

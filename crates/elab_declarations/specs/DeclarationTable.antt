@@ -14,7 +14,7 @@ Table = List (Bor (List ℕ) × Declaration)
 abbrev pub declarations_in : Table → List spec.Declaration
 declarations_in es = map (λ e. declaration_view e.1) es
 
--- each declaration stands by its own name, once
+-- each declaration is found by its own name, once
 abbrev pub AreByName : Table → Type 0
 AreByName [] = Unit {0}
 AreByName (e ∷ es) = (e.1.name.now.name ≡ e.0.now) × (lookup (λ name. bytes_eq e.0.now name.now) es ≡ None) × AreByName es

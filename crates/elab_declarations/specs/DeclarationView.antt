@@ -1,4 +1,4 @@
--- The declarations that those of the code stand for.
+-- The declarations of the definitions for those of the code.
 use Rattle.std.specs.Prelude.{List, map}
 use Rattle.flat_design.specs.Declarations as spec
 use Rattle.elab_declarations.specs.declared.declaration.Declaration.{Declaration}

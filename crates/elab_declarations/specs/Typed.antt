@@ -18,7 +18,7 @@ ranged_as (Some r) signed v = record { bits = extend (range_width (Some r)) v.si
 abbrev pub typed_as : Bool → Option Range → Bool → Vector → Vector
 typed_as integer range signed v = if integer then record { bits = extend 32 v.signed v.bits; signed = true } else ranged_as range signed v
 
--- what a parameter stands for, with the value that an override gives
+-- what a parameter means, with the value that an override gives
 abbrev pub entry_given : Scope → Option Vector → Param → Entry
 entry_given g given p =
     if none (param_faults g p) && is_sound_vector g p.range && not (names_faulty g p.value) then Constant (typed_value g p (unwrap_or given (constant g p.value))) else Faulty

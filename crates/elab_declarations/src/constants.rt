@@ -1,4 +1,4 @@
-//! The parameters of a module with what they stand for (IEEE 1364-2001 clauses 3.11 and 12.2).
+//! The parameters of a module with what they mean (IEEE 1364-2001 clauses 3.11 and 12.2).
 
 ghost use Rattle.std.specs.Prelude.{◌≡◌, [], IfOk, OnOk, is_none, if◌then◌else◌};
 ghost use Rattle.elab_declarations.specs.Constants.{AreSeen, bindings_view, given_value, is_param_entry, overrides_view};
@@ -21,14 +21,18 @@ use verilog_tree::{ItemForm, Module, Param};
 /// The value that an instance gives a parameter in place of its own.
 #[derive(Drop)]
 pub struct Override {
+    /// The name of the parameter.
     pub name: Name,
+    /// The value that the parameter gets.
     pub value: Four,
 }
 
-/// A parameter, and what it stands for.
+/// A parameter, and what it means.
 #[derive(Drop)]
 pub struct BoundParam {
+    /// The name of the parameter.
     pub name: Name,
+    /// What it means.
     pub entry: Entry,
 }
 
@@ -36,7 +40,9 @@ pub struct BoundParam {
 #[derive(Drop)]
 pub struct Constants<'a> {
     module: &'a Module,
+    /// The meanings of names in an expression that must be constant.
     pub scope: Scope,
+    /// The parameters that were found.
     pub found: Vec<BoundParam>,
 }
 
@@ -62,7 +68,7 @@ fn is_param(scope: &Scope, name: &Name) -> bool
     )
 }
 
-/// Adds a parameter, unless another one of its name stands before it.
+/// Adds a parameter, unless an earlier one has its name.
 fn add_param<'a>(
     alloc: Global,
     overrides: &[Override],

@@ -23,11 +23,15 @@ pub enum Sort {
 /// A declared name.
 #[derive(Clone, Copy, Drop)]
 pub struct Declaration<'a> {
+    /// The name with its place.
     pub name: &'a Named,
     /// Of the first token of its item.
     pub item: Place,
+    /// What is declared.
     pub sort: Sort,
+    /// The range of its bits, if it has one.
     pub range: Option<Range>,
+    /// Whether it is declared as signed.
     pub signed: bool,
     /// Of a port: true for an input.
     pub direction: Option<bool>,
@@ -52,7 +56,8 @@ impl Sort {
 }
 
 impl<'a> Declaration<'a> {
-    /// Whether a port is declared once more by wire or reg, with the same sign and range (IEEE 1364-2001 clause 12.3.3).
+    /// Whether a port is declared once more by wire or reg, with the same sign and range (IEEE 1364-2001 clause
+    /// 12.3.3).
     fn completes(&self, other: &Declaration) -> bool
         ensures { result ≡ spec.completes (declaration_view self.now) (declaration_view other.now) }
     {

@@ -1,4 +1,9 @@
 //! The parameters and the declared names of a module, with their faults (IEEE 1364-2001 clauses 3 and 12).
+//!
+//! [`check_constants`] gives the parameters of a module under overrides, each visible to those after it, and
+//! [`check_declarations`] its declared names, each once, with ranges within their limits. Both are proved to give
+//! exactly those of the definition, and to report exactly the faults of ranges, values, names that are declared again
+//! and the port list.
 #![tactic(auto)]
 
 mod constants;

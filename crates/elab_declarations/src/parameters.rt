@@ -19,7 +19,7 @@ use four_state::Four;
 use std::alloc::Global;
 use verilog_tree::Param;
 
-/// What a parameter stands for, with the value that an override gives, and the faults of its range and its value.
+/// What a parameter means, with the value that an override gives, and the faults of its range and its value.
 pub(crate) fn param_entry<'a>(
     alloc: Global,
     scope: &Scope,
@@ -39,7 +39,7 @@ pub(crate) fn param_entry<'a>(
     }
 }
 
-/// What a parameter without a fault stands for, with the value that an override gives.
+/// What a parameter without a fault means, with the value that an override gives.
 fn sound_entry(
     alloc: Global,
     scope: &Scope,

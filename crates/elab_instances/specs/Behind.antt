@@ -1,4 +1,4 @@
--- Names that are bound, and others behind them.
+-- Names that are bound, and others after them.
 use Rattle.std.specs.Prelude.{ℕ, List, Option}
 use Rattle.std.specs.Option.{option_or}
 use Rattle.elab_scope.specs.NameMap.{bound_to}

@@ -10,21 +10,21 @@ use Rattle.elab_instances.specs.declared.instantiation.Numbers.{Numbers}
 use Rattle.elab_instances.specs.declared.entries.Inside.{Inside}
 use Rattle.elab_instances.specs.declared.roles.Role.{Role}
 
--- the numbers behind a name of this role
+-- the numbers that follow a name of this role
 abbrev pub numbers_behind : Role → Numbers → Numbers
 numbers_behind r n = record { signal = n.signal + one_if (is_own_role r); memory = n.memory + one_if (is_memory_role r) }
 
--- what these names stand for, in their order
+-- what these names mean, in their order
 abbrev pub role_entries : Linked → Numbers → List Declaration → Bindings
 role_entries l n [] = []
 role_entries l n (d ∷ ds) = (d.name.name, role_entry (role_of l d) n.signal n.memory d) ∷ role_entries l (numbers_behind (role_of l d) n) ds
 
--- the numbers behind these names
+-- the numbers after these names
 abbrev pub numbers_past : Linked → Numbers → List Declaration → Numbers
 numbers_past l n [] = n
 numbers_past l n (d ∷ ds) = numbers_past l (numbers_behind (role_of l d) n) ds
 
--- the numbers behind those of an instance
+-- the numbers after those of an instance
 abbrev pub numbers_after : Instantiation → Numbers → Numbers
 numbers_after i n =
     record {
@@ -36,7 +36,7 @@ numbers_after i n =
 abbrev pub AreFew : Numbers → Type 0
 AreFew n = (n.signal ≤ 65536) × (n.memory ≤ 262144)
 
--- the scope of the instance whose first signal and memory have these numbers, and the numbers behind them
+-- the scope of the instance whose first signal and memory have these numbers, and the numbers after them
 pub record IsInside (i : Instantiation) (n : Numbers) (inside : Inside) : Type 0 where
   pub scope : binding_of inside.scope ≡ scope_of i n.signal n.memory
   pub next : inside.next ≡ numbers_after i n

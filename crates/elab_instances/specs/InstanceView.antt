@@ -1,4 +1,4 @@
--- The instantiation that one of the code stands for.
+-- The instantiation of the definitions for one of the code.
 use Rattle.std.specs.Prelude.{ℕ, List, map, reverse}
 use Rattle.std.specs.Borrow.{Bor}
 use Rattle.verilog_tree.specs.View.{module_view}

@@ -29,7 +29,7 @@ sort_role outer named _ = Faulty
 abbrev pub role_of : Linked → Declaration → Role
 role_of l d = sort_role (l.outer d.name.name) (l.named d.name.name) d.sort
 
--- what a name of this role stands for; the next signal has number s, the next memory number k
+-- what a name of this role means; the next signal has number s, the next memory number k
 abbrev pub role_entry : Role → ℕ → ℕ → Declaration → Entry
 role_entry Own s k d = signal_entry s d
 role_entry (Joined n) s k d = signal_entry n d

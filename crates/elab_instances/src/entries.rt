@@ -1,4 +1,4 @@
-//! What each declared name of an instance stands for.
+//! What each declared name of an instance means.
 
 ghost use Rattle.std.specs.Prelude.{◌≡◌, ◌≤◌, [], ◌∷◌, All, IfOk, OnOk};
 ghost use Rattle.elab_declarations.specs.Constants.{bindings_view};
@@ -20,10 +20,12 @@ use elab_scope::Scope;
 use flat_design::{Entry, MemoryEntry, SignalEntry};
 use std::alloc::Global;
 
-/// What the names of an instance stand for, and the numbers behind those of its signals and memories.
+/// What the names of an instance mean, and the numbers that follow those of its signals and memories.
 #[derive(Drop)]
 pub struct Inside {
+    /// The meanings of its names.
     pub scope: Scope,
+    /// The numbers of the next signal and the next memory.
     pub next: Numbers,
 }
 
@@ -56,7 +58,7 @@ impl Inside {
     }
 }
 
-/// Lets parameters stand for their values.
+/// Gives parameters their values as their meanings.
 fn bind_constants(scope: &mut Scope, constants: &[BoundParam]) -> Result<(), NoMemory>
     requires { All (λ p. IsEntry p.entry) constants.now }
     ensures { OnOk result (binding_of scope.new ≡ or_bound (binding_of scope.old) (bindings_view constants.now)) }
@@ -67,7 +69,7 @@ fn bind_constants(scope: &mut Scope, constants: &[BoundParam]) -> Result<(), NoM
     Ok(())
 }
 
-/// Lets declared names stand for what they are. The numbers behind them.
+/// Gives declared names their meanings, and gives the numbers that follow.
 fn bind_declared(
     scope: &mut Scope,
     links: &Links,
@@ -92,7 +94,7 @@ fn bind_declared(
     Ok(numbers)
 }
 
-/// Lets a name stand for an entry, unless it stands for one.
+/// Gives a name this meaning, unless it has one.
 fn bind(scope: &mut Scope, name: &Name, entry: Entry) -> Result<(), NoMemory>
     requires { IsEntry entry }
     ensures { OnOk result (binding_of scope.new ≡ or_bound (binding_of scope.old) ((name.now, entry) ∷ [])) }
@@ -103,7 +105,7 @@ fn bind(scope: &mut Scope, name: &Name, entry: Entry) -> Result<(), NoMemory>
     scope.insert(name, entry)
 }
 
-/// What a name of this role stands for.
+/// What a name of this role means.
 fn role_entry(role: Role, declaration: &Declaration, numbers: Numbers) -> Entry
     requires bits { IsVectorRange declaration.now.range }
     requires words { kind.IsFewWords role }
@@ -140,7 +142,7 @@ fn signal_entry(declaration: &Declaration, number: u32) -> Entry
 }
 
 impl Numbers {
-    /// The numbers behind a name of this role.
+    /// The numbers that follow a name of this role.
     fn behind(self, role: Role) -> Numbers
         requires { spec.AreFew (spec.numbers_behind role self) }
         ensures { result ≡ spec.numbers_behind role self }

@@ -1,5 +1,9 @@
-//! An instance of a module, opened: its parameters, its declared names with what they stand for, and what is met in
-//! them (IEEE 1364-2001 clauses 3 and 12).
+//! An instance of a module, opened once for both phases of elaboration (IEEE 1364-2001 clauses 3 and 12).
+//!
+//! [`open_instance`] gives the parameters and declared names of an instance, and which of the names are signals of
+//! its own; it reports the faults of its path, parameters and declarations. [`Opened::enter`] gives the scope of the
+//! instance with the numbers of its signals and memories, and the `push` functions append its signals, memories,
+//! constants and aliases to a design. Each is proved to give exactly those of the definition of the flat design.
 #![tactic(auto)]
 
 mod entries;

@@ -1,4 +1,4 @@
-//! An instance of a module is opened: what is met in its declarations, and what its names stand for.
+//! An instance of a module is opened: what is found in its declarations, and what its names mean.
 
 ghost use Rattle.std.specs.Prelude.{◌≡◌, ◌∷◌, flat_map, length, nat_lt, All, IfOk, OnOk};
 ghost use Rattle.elab_declarations.specs.Constants.{bindings_view, overrides_view};
@@ -30,9 +30,13 @@ use std::alloc::Global;
 /// An instance with its parameters, its declared names, and what decides which of these are signals of its own.
 #[derive(Drop)]
 pub struct Opened<'b, 'a> {
+    /// The instance.
     pub given: &'b Instantiation<'a>,
+    /// Its parameters.
     pub constants: Constants<'a>,
+    /// Its declared names.
     pub declared: Declarations<'a>,
+    /// Which of its names are signals of its own.
     pub links: Links<'a>,
     pub ghost parameters: { bindings_view constants.found.items ≡ of.constants (overrides_view given.now.overrides.items) (module_view given.now.module.now) },
     pub ghost names: { declared ≡ of.declared (overrides_view given.now.overrides.items) (module_view given.now.module.now) },
@@ -40,8 +44,8 @@ pub struct Opened<'b, 'a> {
 }
 
 /// Opens an instance: its own signals and memories, and the faults of its path, its parameters and its declarations are
-/// met (IEEE 1364-2001 clauses 3 and 12). Numbers that were counted before, with those of the instance, are counted
-/// then.
+/// reported (IEEE 1364-2001 clauses 3 and 12). Numbers that were counted before, with those of the instance, are
+/// counted then.
 pub fn open_instance<'b, 'a>(
     alloc: Global,
     given: &'b Instantiation<'a>,

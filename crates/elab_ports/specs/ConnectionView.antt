@@ -1,4 +1,4 @@
--- What connections of the code stand for.
+-- The connections of the definitions for those of the code.
 use Rattle.std.specs.Prelude.{List, map, Option}
 use Rattle.std.specs.Option.{option_map}
 use Rattle.std.specs.Borrow.{Bor}

@@ -1,4 +1,4 @@
--- What the ports that an instance joins stand for, and how they are joined.
+-- The ports that an instance joins, and how they are joined, for those of the code.
 use Rattle.std.specs.Prelude.{List, map}
 use Rattle.flat_design.specs.Connections as spec
 use Rattle.verilog_tree.specs.View.{expr_view}

@@ -15,7 +15,7 @@ use cov_host::NoMemory;
 use elab_scope::NameMap;
 use std::alloc::Global;
 
-/// Notes the signal that a port is joined to as one, unless one of its name stands before it.
+/// Notes the signal that a port is joined to as one, unless an earlier port has its name.
 fn note_alias(aliases: &mut NameMap<u32>, port: &JoinedPort, joined: Joined) -> Result<(), NoMemory>
     ensures { OnOk result (bound_to aliases.new ≡ or_bound (bound_to aliases.old) (alias_number (spec.alias_as port.now.port.name.now.name (joined_view joined)))) }
 {

@@ -17,16 +17,20 @@ use flat_design::ElabKind;
 use std::alloc::Global;
 use verilog_tree::{Expr, Given, Named};
 
-/// A connection of a port or an override of a parameter: which one, the name that a fault is told with, and the value.
+/// A connection of a port or an override of a parameter: which one, the name that a fault is reported with, and the
+/// value.
 #[derive(Clone, Copy, Drop)]
 pub struct Connection<'a> {
+    /// The name of the port or the parameter.
     pub port: &'a [u8],
+    /// The name that a fault is reported with, and its place.
     pub label: NameAt<'a>,
+    /// The expression, None for an empty connection.
     pub value: Option<&'a Expr>,
 }
 
 /// The connections in their order; those by position take the names in order, and the label as the name that they are
-/// told with.
+/// reported with.
 pub fn connections<'a>(
     alloc: Global,
     label: NameAt<'a>,

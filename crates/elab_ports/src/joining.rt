@@ -32,7 +32,7 @@ pub enum Joined {
     /// It is one signal with the one of this number.
     Alias(u32),
     Assignment,
-    /// A fault stands.
+    /// It is joined to nothing, since it has a fault.
     Nothing,
 }
 
@@ -63,7 +63,7 @@ fn join_signal(port: &Declaration, signal: SignalEntry) -> Joined
     }
 }
 
-/// How a port is joined to a plain name, by what that stands for.
+/// How a port is joined to a plain name, by what that means.
 fn join_name(port: &Declaration, entry: Option<&Entry>) -> Joined
     ensures { joined_view result ≡ spec.joined_name (declaration_view port.now) (option_copied entry.entry) }
 {
@@ -96,7 +96,7 @@ fn output_fault<'a>(scope: &Scope, label: NameAt<'a>, expr: &'a Expr) -> Option<
     }
 }
 
-/// The fault of an output that is joined to what is no concatenation; whether there is none.
+/// Reports the fault of an output that is joined to what is no concatenation, and says whether there is no fault.
 fn check_output_leaf<'a>(
     scope: &Scope,
     label: NameAt<'a>,
@@ -115,7 +115,7 @@ fn check_output_leaf<'a>(
     }
 }
 
-/// The faults of an output that is joined to an expression, part by part; whether it has none.
+/// Reports the faults of an output that is joined to an expression, part by part, and says whether it has no fault.
 #[cycle(outputs)]
 fn check_output<'a>(scope: &Scope, label: NameAt<'a>, expr: &'a Expr, tally: &mut Tally<'a>) -> bool
     ensures met { tally.new ≡ after_faults tally.old (spec.output_faults (binding_of scope.now) (name_view label.entry) (expr_view expr.now)) }
@@ -127,7 +127,7 @@ fn check_output<'a>(scope: &Scope, label: NameAt<'a>, expr: &'a Expr, tally: &mu
     }
 }
 
-/// The same of all of them.
+/// Reports the faults of outputs that are joined to these expressions, and says whether none of them has a fault.
 #[cycle(outputs)]
 fn check_outputs<'a>(
     scope: &Scope,
@@ -145,7 +145,7 @@ fn check_outputs<'a>(
     sound
 }
 
-/// The faults of the expression that a port is joined to; whether it has none.
+/// Reports the faults of the expression that a port is joined to, and says whether it has no fault.
 fn check_value<'a>(scope: &Scope, port: &JoinedPort<'a>, tally: &mut Tally<'a>) -> bool
     ensures met { tally.new ≡ after_faults tally.old (spec.joined_faults (binding_of scope.now) (name_view port.now.label) (declaration_view port.now.port) (expr_view port.now.value.now)) }
     ensures sound { result ≡ none (spec.joined_faults (binding_of scope.now) (name_view port.now.label) (declaration_view port.now.port) (expr_view port.now.value.now)) }
@@ -173,7 +173,7 @@ pub fn join<'a>(scope: &Scope, port: &JoinedPort<'a>, tally: &mut Tally<'a>) -> 
     }
 }
 
-/// The same of each port.
+/// How each port is joined to its expression, with what is wrong where it is joined to nothing.
 pub fn join_all<'a>(
     alloc: Global,
     scope: &Scope,

@@ -1,4 +1,10 @@
-//! How an instance joins the ports of its module, and which parameters it overrides (IEEE 1364-2001, 12.2 and 12.3).
+//! How an instance joins the ports of its module, and which parameters it overrides (IEEE 1364-2001 clauses 12.2 and
+//! 12.3).
+//!
+//! [`check_given`] gives connections and overrides by position and by name, [`check_overrides`] the values of
+//! overrides, [`joined_ports`] the ports that are joined to expressions, and [`join`] how each is joined: as one
+//! signal with another, by an assignment, or not at all. Each is proved to give exactly what its definition says,
+//! with its faults.
 #![tactic(auto)]
 
 mod aliases;

@@ -33,7 +33,7 @@ fn push_free<'a>(names: &mut Vec<NameAt<'a>>, params: &'a [Param]) -> Result<(),
     Ok(())
 }
 
-/// The same for the parameters of an item.
+/// Adds the names of the parameters of an item that may be given another value.
 fn push_item_free<'a>(names: &mut Vec<NameAt<'a>>, form: &'a ItemForm) -> Result<(), NoMemory>
     ensures { OnOk result (names_view names.new.items ≡ names_view names.old.items ++ map (λ p. p.name) (filter (λ p. not p.local) (item_params (item_form_view form.now)))) }
 {
@@ -67,7 +67,7 @@ fn check_values<'a>(scope: &Scope, overrides: &[Connection<'a>], tally: &mut Tal
     sound
 }
 
-/// The faults of a value, if there is one; whether it has none.
+/// Reports the faults of a value, if there is one, and says whether it has no fault.
 fn check_value<'a>(scope: &Scope, value: Option<&'a Expr>, tally: &mut Tally<'a>) -> bool
     ensures met { tally.new ≡ after_faults tally.old (spec.override_value_faults (binding_of scope.now) (value_view value.entry)) }
     ensures sound { result ≡ none (spec.override_value_faults (binding_of scope.now) (value_view value.entry)) }

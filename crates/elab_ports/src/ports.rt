@@ -20,9 +20,11 @@ use verilog_tree::{Expr, Module};
 /// A port of a module that an instance joins to an expression.
 #[derive(Clone, Copy, Drop)]
 pub struct JoinedPort<'a> {
+    /// The declaration of the port.
     pub port: Declaration<'a>,
-    /// The name that a fault is told with.
+    /// The name that a fault is reported with.
     pub label: NameAt<'a>,
+    /// The expression that it is joined to.
     pub value: &'a Expr,
 }
 

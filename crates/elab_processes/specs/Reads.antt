@@ -10,7 +10,7 @@ use Rattle.flat_design.specs.Fault.{none}
 use Rattle.flat_design.specs.Loops.{is_identifier}
 use Rattle.flat_design.specs.Scope.{Scope, names_faulty}
 
--- the names and selects of an expression from left to right, but for names that are selected from, bounds and counts
+-- the names and selects of an expression from left to right, except for names that are selected from, bounds and counts
 abbrev mutual
   pub read_parts : t.Expr → List t.Expr
   read_parts (literal p v) = []

@@ -17,8 +17,8 @@ use flat_design::{ElabKind, Mode};
 use std::alloc::Global;
 use verilog_tree::{Statement, When};
 
-/// Tells what is met in `always @when body`, which stands at this place and is the process with this number. The scope
-/// is as before.
+/// Reports what is found in `always @when body`, whose item is at this place and whose process has this number. The
+/// scope is as before.
 pub fn check_always<'a>(
     alloc: Global,
     scope: &mut Scope,
@@ -53,8 +53,8 @@ fn mode_of(when: &When) -> Mode
     }
 }
 
-/// Tells the first place at which both blocking and nonblocking assignments to one signal or memory are met, among the
-/// writings from this one on (9.2).
+/// Reports the first place at which both blocking and nonblocking assignments to one signal or memory are found, among
+/// the writings from this one on (9.2).
 fn check_mixed(alloc: Global, start: usize, tally: &mut Tally) -> Result<(), NoMemory>
     requires { start ≤ length tally.old.writings }
     ensures { OnOk result (tally.new ≡ after_faults tally.old (spec.mixed_faults (drop start tally.old.writings))) }
@@ -65,7 +65,7 @@ fn check_mixed(alloc: Global, start: usize, tally: &mut Tally) -> Result<(), NoM
     Ok(())
 }
 
-/// Tells what a block with a list of names reads that the list lacks (9.7.4). The scope is as before.
+/// Reports what a block with a list of names reads that the list lacks (9.7.4). The scope is as before.
 fn check_incomplete<'a>(
     alloc: Global,
     scope: &mut Scope,

@@ -46,7 +46,7 @@ pub(crate) fn add_assigned(
     }
 }
 
-/// The same of statements in order.
+/// Adds the signals that statements assign, in order.
 #[cycle(add_assigned)]
 fn add_all_assigned(
     alloc: Global,
@@ -63,7 +63,7 @@ fn add_all_assigned(
     Ok(())
 }
 
-/// The same of the arms of a case.
+/// Adds the signals that the arms of a case assign.
 #[cycle(add_assigned)]
 fn add_arms(
     alloc: Global,
@@ -80,7 +80,7 @@ fn add_arms(
     Ok(())
 }
 
-/// The same of the body of a loop in each turn.
+/// Adds the signals that the body of a loop assigns in each turn.
 #[cycle(add_assigned)]
 fn add_turns(
     alloc: Global,
@@ -112,7 +112,7 @@ fn add_targets(scope: &Scope, target: &Expr, known: &mut SignalSet) -> Result<()
     }
 }
 
-/// The same of several targets.
+/// Adds the signals of several targets.
 #[cycle(add_targets)]
 fn add_all_targets(scope: &Scope, targets: &[Expr], known: &mut SignalSet) -> Result<(), NoMemory>
     ensures { OnOk result (has known.new ≡ has (listed_signals (binding_of scope.now) (map spec_base_name (all_leaves (exprs_of (exprs_view targets.now)))) ++ known.old)) }

@@ -18,7 +18,7 @@ use flat_design::Mode;
 use std::alloc::Global;
 use verilog_tree::Expr;
 
-/// Tells what is met in `assign target = value`, which stands at this place and is the process with this number.
+/// Reports what is found in `assign target = value`, whose item is at this place and whose process has this number.
 pub fn check_continuous<'a>(
     alloc: Global,
     scope: &Scope,
@@ -42,7 +42,7 @@ pub fn check_continuous<'a>(
     check_self_assign(alloc, scope, target, value, sound & known, tally)
 }
 
-/// Tells the bits that an assignment both reads and drives, where it is known whether it has a fault.
+/// Reports the bits that an assignment both reads and drives, where it is known whether it has a fault.
 fn check_self_assign<'a>(
     alloc: Global,
     scope: &Scope,

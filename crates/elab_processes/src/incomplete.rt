@@ -23,8 +23,8 @@ use flat_design::{ElabKind, Entry};
 use std::alloc::Global;
 use verilog_tree::{Arm, Expr, ExprForm, For, Statement, StatementForm};
 
-/// Tells what a statement reads that is not among the known signals, where loops are replaced by their turns. The scope
-/// is as before.
+/// Reports what a statement reads that is not among the known signals, where loops are replaced by their turns. The
+/// scope is as before.
 #[cycle(check_reads)]
 pub(crate) fn check_reads<'a>(
     alloc: Global,
@@ -60,7 +60,7 @@ pub(crate) fn check_reads<'a>(
     }
 }
 
-/// The same of statements in order.
+/// Reports what statements read that is not among the known signals, in order.
 #[cycle(check_reads)]
 fn check_all_reads<'a>(
     alloc: Global,
@@ -78,7 +78,7 @@ fn check_all_reads<'a>(
     Ok(())
 }
 
-/// The same of the arms of a case with their labels.
+/// Reports what the arms of a case and their labels read that is not among the known signals.
 #[cycle(check_reads)]
 fn check_arms<'a>(
     alloc: Global,
@@ -97,7 +97,7 @@ fn check_arms<'a>(
     Ok(())
 }
 
-/// The same of the body of a loop in each turn.
+/// Reports what the body of a loop reads in each turn that is not among the known signals.
 #[cycle(check_reads)]
 fn check_turns<'a>(
     alloc: Global,
@@ -119,7 +119,7 @@ fn check_turns<'a>(
     put_back(scope, &variable, before)
 }
 
-/// Tells the names of an expression that are not among the known signals.
+/// Reports the names of an expression that are not among the known signals.
 #[cycle(check_names)]
 fn check_names<'a>(scope: &Scope, known: &SignalSet, expr: &'a Expr, tally: &mut Tally<'a>)
     ensures { tally.new ≡ after_faults tally.old (lacking (binding_of scope.now) known.now (identifiers (expr_view expr.now))) }
@@ -154,7 +154,7 @@ fn check_names<'a>(scope: &Scope, known: &SignalSet, expr: &'a Expr, tally: &mut
     }
 }
 
-/// The same of two expressions.
+/// Reports the names of two expressions that are not among the known signals.
 #[cycle(check_names)]
 fn check_two<'a>(scope: &Scope, known: &SignalSet, a: &'a Expr, b: &'a Expr, tally: &mut Tally<'a>)
     ensures { tally.new ≡ after_faults tally.old (lacking (binding_of scope.now) known.now (identifiers (expr_view a.now) ++ identifiers (expr_view b.now))) }
@@ -163,7 +163,7 @@ fn check_two<'a>(scope: &Scope, known: &SignalSet, a: &'a Expr, b: &'a Expr, tal
     check_names(scope, known, b, tally);
 }
 
-/// The same of three expressions.
+/// Reports the names of three expressions that are not among the known signals.
 #[cycle(check_names)]
 fn check_three<'a>(
     scope: &Scope,
@@ -180,7 +180,7 @@ fn check_three<'a>(
     check_names(scope, known, c, tally);
 }
 
-/// The same of all of them.
+/// Reports the names of all expressions that are not among the known signals.
 #[cycle(check_names)]
 fn check_all_names<'a>(scope: &Scope, known: &SignalSet, exprs: &'a [Expr], tally: &mut Tally<'a>)
     ensures { tally.new ≡ after_faults tally.old (lacking (binding_of scope.now) known.now (all_identifiers (exprs_of (exprs_view exprs.now)))) }
@@ -190,7 +190,7 @@ fn check_all_names<'a>(scope: &Scope, known: &SignalSet, exprs: &'a [Expr], tall
     }
 }
 
-/// The same of the indexes of a target.
+/// Reports the names in the indexes of a target that are not among the known signals.
 #[cycle(check_target_names)]
 fn check_target_names<'a>(scope: &Scope, known: &SignalSet, expr: &'a Expr, tally: &mut Tally<'a>)
     ensures { tally.new ≡ after_faults tally.old (lacking (binding_of scope.now) known.now (target_reads (expr_view expr.now))) }
@@ -218,7 +218,7 @@ fn check_target_names<'a>(scope: &Scope, known: &SignalSet, expr: &'a Expr, tall
     }
 }
 
-/// The same of several targets.
+/// Reports the names in the indexes of several targets that are not among the known signals.
 #[cycle(check_target_names)]
 fn check_all_target_names<'a>(
     scope: &Scope,
@@ -233,7 +233,7 @@ fn check_all_target_names<'a>(
     }
 }
 
-/// The same of a name.
+/// Reports a name that is not among the known signals.
 fn check_name<'a>(scope: &Scope, known: &SignalSet, name: NameAt<'a>, tally: &mut Tally<'a>)
     ensures { tally.new ≡ after_faults tally.old (fault_if (lacks (look_up (binding_of scope.now) name.entry.name.now) known.now) (fault_at Incomplete (name_view name.entry))) }
 {

@@ -15,8 +15,8 @@ use flat_design::{Mode, SignalEntry, Thing};
 use std::alloc::Global;
 use verilog_tree::Expr;
 
-/// Tells what is met where the signal of an input port is assigned an expression, by the process with this number. The
-/// connection is told by its label.
+/// Reports what is found where the signal of an input port is assigned an expression, by the process with this number.
+/// A fault of the connection is at its label.
 pub fn check_joined_input<'a>(
     scope: &Scope,
     process: u32,
@@ -34,7 +34,7 @@ pub fn check_joined_input<'a>(
     tally.writing(whole(label, signal, process))
 }
 
-/// Tells what is met where a target is assigned the signal of an output port, by the process with this number.
+/// Reports what is found where a target is assigned the signal of an output port, by the process with this number.
 pub fn check_joined_output<'a>(
     alloc: Global,
     scope: &Scope,
@@ -56,7 +56,7 @@ pub fn check_joined_output<'a>(
     push_writings(alloc, scope, Mode::Continuous, writer, value, sound, tally)
 }
 
-/// All bits of a signal, driven by the process with this number. They are told by its label.
+/// All bits of a signal, driven by the process with this number, at the place of the label.
 pub(crate) fn whole<'a>(label: NameAt<'a>, signal: SignalEntry, process: u32) -> Written<'a>
     requires { IsVectorRange signal.range }
     ensures value { writing_view result ≡ spec.whole_writing process (name_view label.entry) signal }

@@ -23,7 +23,7 @@ use flat_design::{ElabKind, Entry, SignalEntry};
 use std::alloc::Global;
 use verilog_tree::{Expr, Named};
 
-/// Tells what is met where a net is declared with a value in an item at this place: the net is assigned the value, by the
+/// Reports what is found where a net is declared with a value in an item at this place: the net is assigned it, by the
 /// process with this number.
 pub fn check_net<'a>(
     alloc: Global,
@@ -47,7 +47,7 @@ pub fn check_net<'a>(
     check_value(alloc, scope, whole(label, net, 0), value, sound, tally)
 }
 
-/// The net that a name stands for, if an assignment may drive it. Tells the fault of a name that stands for none.
+/// The net that a name means, if an assignment may drive it. Reports the fault of a name that means no such net.
 fn driven_net<'a>(scope: &Scope, name: &'a Named, tally: &mut Tally<'a>) -> Option<SignalEntry>
     ensures met { tally.new ≡ after_faults tally.old (target_faults (binding_of scope.now) Continuous (identifier name.now.place name.now.name)) }
     ensures net { result ≡ spec_driven_net (look_up (binding_of scope.now) name.now.name) }
@@ -70,7 +70,8 @@ fn driven_net<'a>(scope: &Scope, name: &'a Named, tally: &mut Tally<'a>) -> Opti
     None
 }
 
-/// Tells the reads in a value of bits of the net that is assigned it, where it is known whether the value has a fault.
+/// Reports the reads in a value of bits of the net that is assigned it, where it is known whether the value has a
+/// fault.
 fn check_value<'a>(
     alloc: Global,
     scope: &Scope,

@@ -20,7 +20,7 @@ use flat_design::{ElabKind, Entry, Thing};
 use std::alloc::Global;
 use verilog_tree::{Expr, ExprForm};
 
-/// Tells the reads of an expression without a fault of bits that these targets drive.
+/// Reports the reads of an expression without a fault of bits that these targets drive.
 pub(crate) fn check_reads<'a>(
     alloc: Global,
     scope: &Scope,
@@ -78,7 +78,7 @@ fn add_parts<'a>(expr: &'a Expr, parts: &mut Vec<&'a Expr>) -> Result<(), NoMemo
     }
 }
 
-/// The same of what is selected from, unless that is a name.
+/// Adds the parts of what is selected from, unless that is a name.
 #[cycle(add_parts)]
 fn add_inner_parts<'a>(of: &'a Expr, parts: &mut Vec<&'a Expr>) -> Result<(), NoMemory>
     ensures { OnOk result (parts_view parts.new.items ≡ parts_view parts.old.items ++ (if is_identifier (expr_view of.now) then [] else read_parts (expr_view of.now))) }
@@ -89,7 +89,7 @@ fn add_inner_parts<'a>(of: &'a Expr, parts: &mut Vec<&'a Expr>) -> Result<(), No
     add_parts(of, parts)
 }
 
-/// The same of all of them.
+/// Adds the parts of all expressions.
 #[cycle(add_parts)]
 fn add_all_parts<'a>(exprs: &'a [Expr], parts: &mut Vec<&'a Expr>) -> Result<(), NoMemory>
     ensures { OnOk result (parts_view parts.new.items ≡ parts_view parts.old.items ++ all_read_parts (exprs_of (exprs_view exprs.now))) }
@@ -107,7 +107,7 @@ fn is_name(expr: &Expr) -> bool
     matches!(&*expr.form, ExprForm::Name(_))
 }
 
-/// Tells the names and selects that read a bit that these targets drive.
+/// Reports the names and selects that read a bit that these targets drive.
 fn check_each<'a>(scope: &Scope, driven: &[Written], parts: &[&'a Expr], tally: &mut Tally<'a>)
     requires within { All IsWithin driven.now }
     requires sound { AreSound (binding_of scope.now) (parts_view parts.now) }
@@ -118,7 +118,7 @@ fn check_each<'a>(scope: &Scope, driven: &[Written], parts: &[&'a Expr], tally: 
     }
 }
 
-/// Tells a name or a select that reads a bit that these targets drive.
+/// Reports a name or a select that reads a bit that these targets drive.
 fn check_read<'a>(scope: &Scope, driven: &[Written], expr: &'a Expr, tally: &mut Tally<'a>)
     requires within { All IsWithin driven.now }
     requires sound { IsSound (binding_of scope.now) (expr_view expr.now) }

@@ -21,6 +21,6 @@ IsEntry (Signal s) = IsVectorRange s.range
 IsEntry (Memory m) = IsRange m.words × (span m.words.high m.words.low ≤ 65536) × IsVectorRange m.range × (m.number ≤ 262144)
 IsEntry e = Unit {0}
 
--- the scope where x stands for nothing
+-- the scope where x means nothing
 abbrev pub without_entry : List ℕ → Scope → Scope
 without_entry x g = λ y. if bytes_eq y x then None else g y

@@ -1,4 +1,4 @@
--- Tests of what the names of an expression stand for.
+-- Tests of what the names of an expression mean.
 use Rattle.std.specs.Prelude.{Bool, not, List, Option}
 use Rattle.std.specs.List.{list_any}
 use Rattle.flat_design.specs.Expressions.{is_no_constant}
@@ -8,7 +8,7 @@ use Rattle.verilog_tree.specs.declared.item.Named.{Named}
 use Rattle.elab_scope.specs.declared.names.NameTest.{NameTest}
 use Rattle.elab_scope.specs.declared.names.NameTest.TheVariants.{Thing, Faulty, NoConstant, Variable}
 
--- what a name stands for passes the test
+-- what a name means passes the test
 abbrev pub passes : NameTest → Option Entry → Bool
 passes Thing e = is_thing_entry e
 passes Faulty e = is_faulty_entry e

@@ -18,12 +18,12 @@ pub record Tally : Type 0 where
 abbrev pub nothing_found : Tally
 nothing_found = record { first = None; counts = nothing; ended = false; writings = [] }
 
--- the fault is told and not the one found so far
+-- the fault is reported and not the one found so far
 abbrev pub tells : Option Fault → Fault → Bool
 tells None f = true
 tells (Some g) f = goes_before f g
 
--- of a fault, if there is one, and of one that is met behind it, the one that is told
+-- of a fault, if there is one, and of one that is found after it, the one that is reported
 abbrev pub sooner : Option Fault → Fault → Option Fault
 sooner None f = Some f
 sooner (Some g) f = Some (if goes_before f g then f else g)
@@ -46,7 +46,7 @@ with_met (met_instance p) t = with_counts (t.counts.instances == 65536) (limit_f
 with_met (met_statement p) t = with_counts (t.counts.statements == 1048576) (limit_fault Statements p) (record (t.counts) { statements = t.counts.statements + 1 }) t
 with_met (met_writing w) t = record t { writings = t.writings ++ w ∷ [] }
 
--- nothing counts behind a limit that is passed
+-- nothing counts after a limit that is passed
 abbrev pub after : Tally → Met → Tally
 after t m = if t.ended then t else with_met m t
 

@@ -1,4 +1,4 @@
--- What the values of the code stand for.
+-- The values of the definitions for those of the code.
 use Rattle.std.specs.Prelude.{◌+◌, ◌≤◌, List, map}
 use Rattle.std.specs.List.{range_with_len}
 use Rattle.flat_design.specs.Fault.{Fault, of_constant, of_modules}
@@ -14,7 +14,7 @@ abbrev pub fault_view : FoundFault → Fault
 fault_view (Constant k p) = of_constant k p
 fault_view (Modules k p x) = of_modules k p x.now
 
--- the name that stands at a place
+-- the name with its place
 abbrev pub name_view : NameAt → Named
 name_view x = record { name = x.name.now; place = x.place }
 
@@ -30,7 +30,7 @@ writing_view w =
       process = w.process;
     }
 
--- the names that stand at their places
+-- the names with their places
 abbrev pub names_view : List NameAt → List Named
 names_view xs = map name_view xs
 

@@ -12,7 +12,7 @@ use flat_design::{DesignLimit, ElabKind};
 pub enum FoundFault<'a> {
     /// Of a constant, a width or a loop.
     Constant(ConstKind, Place),
-    /// Of modules, with the name that it is told with. For a top that no module has there is no place.
+    /// Of modules, with the name that it is reported with. For a top that no module has there is no place.
     Modules(ElabKind, Option<Place>, &'a [u8]),
 }
 
@@ -31,8 +31,8 @@ impl<'a> FoundFault<'a> {
         FoundFault::Modules(ElabKind::Limit, Some(place), digit(limit))
     }
 
-    /// Whether this fault is told and not the other one: it stands before it, or at one place it alone is an undeclared
-    /// name.
+    /// Whether this fault is reported and not the other one: it comes first in the text, or at one place it alone is an
+    /// undeclared name.
     pub fn goes_before(&self, other: &FoundFault) -> bool
         ensures { result ≡ spec.goes_before (fault_view self.now) (fault_view other.now) }
     {
@@ -67,7 +67,7 @@ impl<'a> FoundFault<'a> {
     }
 }
 
-/// Whether p stands before q in the text, or is the same place and the test holds.
+/// Whether p is before q in the text, or is the same place and the test holds.
 pub fn is_before_or(same: bool, p: Place, q: Place) -> bool
     ensures { result ≡ spec.before_or same p q }
 {

@@ -1,4 +1,9 @@
-//! What the names of an instance stand for, and what was found of modules so far (IEEE 1364-2001 clause 12).
+//! What the names of an instance mean, and what was found in modules so far (IEEE 1364-2001 clause 12).
+//!
+//! [`Scope`] maps each name to its meaning, for targets and values and for constants. [`Tally`] keeps the first
+//! fault, what the limits count and what is written, up to the first limit that is passed; each call is proved to add
+//! what its name says, so the first fault of whole modules follows. [`NameMap`] and [`NameSet`] find names by a hash,
+//! and the tests of names say what an expression mentions.
 #![tactic(auto)]
 
 mod fault;

@@ -16,10 +16,12 @@ use cov_host::Place;
 use flat_design::Entry;
 use verilog_tree::{Expr, ExprForm, Named};
 
-/// A name where it stands.
+/// A name with its place.
 #[derive(Clone, Copy, Drop)]
 pub struct NameAt<'a> {
+    /// The bytes of the name.
     pub name: &'a [u8],
+    /// The place of its token.
     pub place: Place,
 }
 

@@ -12,7 +12,7 @@ use indexmap::IndexMap;
 use std::alloc::Global;
 use std::marker::Model;
 
-/// What each name of an instance stands for, and the same names as constants, widths and loops see them.
+/// What each name of an instance means, and the same names as constants, widths and loops see them.
 #[derive(Drop)]
 pub struct Scope {
     alloc: Global,
@@ -45,7 +45,7 @@ impl Scope {
         }
     }
 
-    /// Lets a name stand for an entry, in the place of what it stood for.
+    /// Gives a name this meaning, in place of the one it had.
     pub fn insert(&mut self, name: &Name, entry: Entry) -> Result<(), NoMemory>
         requires { IsEntry entry }
         ensures { OnOk result (binding_of self.new ≡ with_entry name.now entry (binding_of self.old)) }
@@ -60,7 +60,7 @@ impl Scope {
         Ok(())
     }
 
-    /// Lets a name stand for nothing.
+    /// Takes the meaning of a name away.
     pub fn remove(&mut self, name: &Name)
         ensures { binding_of self.new ≡ without_entry name.now (binding_of self.old) }
     {
@@ -68,7 +68,7 @@ impl Scope {
         let _ = self.entries.swap_remove(name.as_slice());
     }
 
-    /// What a name stands for.
+    /// What a name means.
     pub fn get(&self, name: &[u8]) -> Option<&Entry>
         ensures value { option_copied result ≡ binding_of self.now name.now }
         ensures within { IfSome result (λ entry. IsEntry entry.now) }
@@ -76,7 +76,7 @@ impl Scope {
         self.entries.get(name)
     }
 
-    /// What gives memory.
+    /// The allocator.
     pub fn alloc(&self) -> Global {
         self.alloc
     }
@@ -124,7 +124,7 @@ fn value_entry(entry: &Entry) -> Option<elab_const::Entry>
     }
 }
 
-/// The range, `[0:0]` for what has none.
+/// The range, `[0:0]` for what has no range.
 pub fn range_or(range: Option<Range>) -> Range
     ensures { result ≡ spec_range_or range }
 {

@@ -11,21 +11,26 @@ use flat_design::{Counts, DesignLimit, Thing};
 use std::alloc::Global;
 use std::marker::Model;
 
-/// A target of an assignment: the signal or memory that its name stands for, and which of its bits are written.
+/// A target of an assignment: the signal or memory that its name means, and which of its bits are written.
 #[derive(Clone, Copy, Drop)]
 pub struct Written<'a> {
+    /// The name that the target begins with.
     pub name: NameAt<'a>,
+    /// The signal or memory that the name means.
     pub thing: Thing,
-    /// How far the lowest bit that is written stands above the lowest bit.
+    /// How far the lowest bit that is written is above the lowest bit.
     pub low: u32,
     /// The number of bits that are written.
     pub count: u32,
+    /// Whether it is a blocking assignment.
     pub blocking: bool,
+    /// Whether it is a continuous assignment.
     pub continuous: bool,
+    /// The number of the process of the assignment.
     pub process: u32,
 }
 
-/// What was met up to the first limit that is passed: the first fault, what the limits count, and what is written.
+/// What was found up to the first limit that is passed: the first fault, what the limits count, and what is written.
 #[derive(Drop)]
 pub struct Tally<'a> {
     first: Option<FoundFault<'a>>,
@@ -71,7 +76,7 @@ impl<'a> Tally<'a> {
         }
     }
 
-    /// A fault.
+    /// Reports a fault.
     pub fn fault(&mut self, fault: FoundFault<'a>)
         ensures { self.new ≡ spec.after self.old (met_fault (fault_view fault.entry)) }
     {
@@ -91,7 +96,7 @@ impl<'a> Tally<'a> {
         }
     }
 
-    /// Whether this fault is told and not the one found so far.
+    /// Whether this fault is reported and not the one found so far.
     fn tells(&self, fault: &FoundFault) -> bool
         ensures { result ≡ spec.tells self.now.first (fault_view fault.now) }
     {
@@ -101,7 +106,7 @@ impl<'a> Tally<'a> {
         }
     }
 
-    /// A declared signal, whose item stands here.
+    /// Counts a declared signal, whose item is at this place.
     pub fn signal(&mut self, place: Place)
         ensures { self.new ≡ spec.after self.old (met_signal place) }
     {
@@ -115,7 +120,7 @@ impl<'a> Tally<'a> {
         }
     }
 
-    /// A memory of so many words, whose item stands here.
+    /// Counts a memory of `count` words, whose item is at this place.
     pub fn words(&mut self, place: Place, count: u32)
         ensures { self.new ≡ spec.after self.old (met_words place count) }
     {
@@ -129,7 +134,7 @@ impl<'a> Tally<'a> {
         }
     }
 
-    /// A process, whose item stands here.
+    /// Counts a process, whose item is at this place.
     pub fn process(&mut self, place: Place)
         ensures { self.new ≡ spec.after self.old (met_process place) }
     {
@@ -143,7 +148,7 @@ impl<'a> Tally<'a> {
         }
     }
 
-    /// An instance, whose item stands here.
+    /// Counts an instance, whose item is at this place.
     pub fn instance(&mut self, place: Place)
         ensures { self.new ≡ spec.after self.old (met_instance place) }
     {
@@ -157,7 +162,7 @@ impl<'a> Tally<'a> {
         }
     }
 
-    /// A statement that stands here.
+    /// Counts a statement at this place.
     pub fn statement(&mut self, place: Place)
         ensures { self.new ≡ spec.after self.old (met_statement place) }
     {
@@ -171,7 +176,7 @@ impl<'a> Tally<'a> {
         }
     }
 
-    /// A target of an assignment.
+    /// Adds what a target of an assignment writes.
     pub fn writing(&mut self, written: Written<'a>) -> Result<(), NoMemory>
         requires { IsWithin written }
         ensures { OnOk result (self.new ≡ spec.after self.old (met_writing (writing_view written.entry))) }
@@ -182,7 +187,7 @@ impl<'a> Tally<'a> {
         Ok(())
     }
 
-    /// Whether a limit is passed, so that nothing behind counts.
+    /// Whether a limit is passed, so that nothing after it counts.
     pub fn is_ended(&self) -> bool
         ensures { result ≡ self.now.ended }
     {

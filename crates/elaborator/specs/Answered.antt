@@ -9,7 +9,7 @@ use Rattle.flat_design.specs.Instances.{Sofar, meet}
 use Rattle.flat_design.specs.declared.fault.ElabFault.{ElabFault}
 use Rattle.flat_design.specs.declared.fault.ElabFault.TheVariants.{NoMemory}
 
--- the top and all below it, or the fault of a missing top, behind what was met before
+-- the top and all below it, or the fault of a missing top, after what was found before
 abbrev pub walked_top : ℕ → List Module → List ℕ → Option Module → Sofar → Sofar
 walked_top base ms top None st = meet (met_fault (missing_top top) ∷ []) st
 walked_top base ms top (Some m) st = instance base ms 64 (top_instance top m) st

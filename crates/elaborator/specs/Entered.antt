@@ -18,7 +18,7 @@ pub record IsPassed (w later : Walk) (i : Instantiation) : Type 0 where
   pub opens : Opens w later no_numbers i
   pub ended : later.tally.ended ≡ true
 
--- the instance is opened, and its declared names with what they stand for are these
+-- the instance is opened, and its declared names with what they mean are these
 pub record IsEntered (w later : Walk) (i : Instantiation) (entered : Entered) : Type 0 where
   pub opens : Opens w later entered.numbers i
   pub before : w.tally.ended ≡ false

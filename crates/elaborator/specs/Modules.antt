@@ -1,11 +1,11 @@
--- Where the modules of a name stand.
+-- The places of the modules of a name.
 use Rattle.std.specs.Prelude.{ℕ, ◌+◌, if◌then◌else◌, List, [], ◌∷◌, bytes_eq, is_some, Option, Some, None}
 use Rattle.std.specs.Option.{option_or}
 use Rattle.verilog_tree.specs.Tree.{Module}
 use Rattle.flat_design.specs.Fault.{Fault, fault_at, fault_if}
 use Rattle.flat_design.specs.declared.fault.ElabKind.TheVariants.{TwoModules}
 
--- where the first module of a name stands among these, of which the first has this place
+-- the place of the first module of a name among these, of which the first has this place
 abbrev pub first_places : ℕ → List Module → List ℕ → Option ℕ
 first_places k [] x = None
 first_places k (m ∷ ms) x = if bytes_eq m.name.name x then Some k else first_places (k + 1) ms x

@@ -23,6 +23,7 @@ pub record AreOf (ms : List Module) (around : List (List ℕ)) (g : Scope) (x : 
   pub sound : are_sound_overrides g x m cs ≡ true
   pub overrides : os ≡ overrides_of g x m cs
 
--- the instances of a module by this name have no items, and these faults are told of them
+-- the instances of a module by this name have no items, and these faults are reported of them
 pub record HaveNone (ms : List Module) (around : List (List ℕ)) (g : Scope) (x : Named) (cs : List Given) (fs : List Fault) : Type 0 where
-  pub told : (child : Instantiation → Sofar → Sofar) (base : ℕ) (c : Context) (p : Place) (ones : List One) (st : Sofar) → c.given.around ≡ around → c.scope ≡ g → instances_of child base c p (item_of x cs ones) (module_of ms x.name) st ≡ meet (met_faults fs) st
+  pub told : (child : Instantiation → Sofar → Sofar) (base : ℕ) (c : Context) (p : Place) (ones : List One) (st : Sofar) → c.given.around ≡ around
+      → c.scope ≡ g → instances_of child base c p (item_of x cs ones) (module_of ms x.name) st ≡ meet (met_faults fs) st

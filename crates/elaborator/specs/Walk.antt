@@ -13,7 +13,7 @@ use Rattle.elab_scope.specs.Tally.{Tally, after_all}
 use Rattle.elaborator.specs.declared.walk.Numbers.{Numbers}
 use Rattle.elaborator.specs.declared.walk.Walk.{Walk}
 
--- what the limits count is as many as the design has, and so many memories were met
+-- the counts of the limits are those of the design, and this number of memories was counted
 pub record HasNumbers (t : Tally) (n : ℕ) (d : model.Design) : Type 0 where
   pub signals : t.counts.signals ≡ length d.signals
   pub processes : t.counts.processes ≡ length d.processes
@@ -30,12 +30,12 @@ pub record StandsFor (before t : Tally) (n : ℕ) (st : Sofar) : Type 0 where
 abbrev pub with_process : t.Process → model.Design → model.Design
 with_process p d = record d { processes = d.processes ++ p ∷ [] }
 
--- nothing was told, and no limit is passed
+-- nothing was reported, and no limit is passed
 pub record IsClean (t : Tally) : Type 0 where
   pub open' : t.ended ≡ false
   pub none : t.first ≡ None
 
--- the walk builds the design whose memories are numbered from b on, and nothing was told
+-- the walk builds the design whose memories are numbered from b on, and nothing was reported
 pub record IsBuilding (base b : ℕ) (w : Walk) (d : Design) : Type 0 where
   pub same : b ≡ base
   pub draft : w.draft ≡ Some d
@@ -51,16 +51,16 @@ pub record IsAmong (before : Tally) (base b : ℕ) (w : Walk) (numbers : Numbers
   pub at : IsAt before base b w st
   pub numbered : (d : Design) → IsBuilding base b w d → (numbers.instance ≡ i) × (numbers.line ≡ l) × (numbers.node ≡ n)
 
--- where the later walk builds a design and nothing was told, so it was before
+-- where the later walk builds a design and nothing was reported, so it was before
 abbrev pub Remains : Walk → Walk → Type 0
 Remains w later = (d : Design) → later.draft ≡ Some d → IsClean later.tally → (o : Design) × (w.draft ≡ Some o) × IsClean w.tally
 
--- from one moment to the next the walk in an instance goes by this step, which takes so many line points and counted nodes
+-- from one moment to the next the walk in an instance goes by this step, which takes this number of line points and counted nodes
 abbrev pub GoesBy : ℕ → Walk → Numbers → Walk → Numbers → (ℕ → ℕ → ℕ → ℕ → Sofar → Sofar) → ℕ → ℕ → Type 0
 GoesBy base w numbers later others f lines nodes =
     (before : Tally) (b : ℕ) (st : Sofar) (i l n : ℕ) → IsAmong before base b w numbers st i l n → IsAmong before base b later others (f b i l n st) i (l + lines) (n + nodes) × Remains w later
 
--- this was met, and the process added to the design, if one is built and nothing was told
+-- this was found, and the process added to the design, if one is built and nothing was reported
 pub record Adds (w later : Walk) (ms : List Met) (p : t.Process) : Type 0 where
   pub met : later.tally ≡ after_all w.tally ms
   pub memories : later.memories ≡ w.memories
@@ -74,11 +74,12 @@ WalksBy base w later f = (before : Tally) (b : ℕ) (st : Sofar) → IsAt before
 abbrev pub opened_design : Instantiation → model.Design → model.Design
 opened_design i d = (opened i (record { design = d; met = [] })).design
 
--- the instance was opened, and its own parts are added to the design, if one is built and nothing was told
+-- the instance was opened, and its own parts are added to the design, if one is built and nothing was reported
 pub record Opens (w later : Walk) (numbers : Numbers) (i : Instantiation) : Type 0 where
   pub met : later.tally ≡ after_all w.tally (opening_met i)
   pub memories : later.tally.ended ≡ false → later.memories ≡ w.memories + length (filter is_memory (declared i.overrides i.of_module))
-  pub draft : (d : Design) → later.draft ≡ Some d → IsClean later.tally → (o : Design) × (w.draft ≡ Some o) × (design_view d ≡ opened_design i (design_view o)) × (numbers.instance ≡ length (design_view o).instances)
+  pub draft : (d : Design) → later.draft ≡ Some d → IsClean later.tally
+      → (o : Design) × (w.draft ≡ Some o) × (design_view d ≡ opened_design i (design_view o)) × (numbers.instance ≡ length (design_view o).instances)
   pub line : numbers.line ≡ 1
   pub node : numbers.node ≡ 1
 

@@ -28,7 +28,7 @@ use flat_design::{ElabFault, ElabKind};
 use std::alloc::Global;
 use verilog_tree::{Module, Modules};
 
-/// The flat design of modules and the top of this name, or the first fault in the text. Memories are numbered behind
+/// The flat design of modules and the top of this name, or the first fault in the text. Memories are numbered after
 /// all signals, so what is wrong is found first, with the number of signals, and then the design is built.
 pub fn elaborate(alloc: Global, modules: &Modules, top: &str) -> Result<Design, ElabFault>
     ensures design { IfOk result (λ design. answer (modules_view modules.now) top.now ≡ Ok (design_view design)) }
@@ -72,7 +72,7 @@ fn find_faults<'a>(
     Ok(found)
 }
 
-/// The design of modules without a fault, whose memories are numbered behind so many signals.
+/// The design of modules without a fault, whose memories are numbered after `signals` signals.
 fn build<'a>(
     alloc: Global,
     table: &ModuleTable<'a>,
@@ -101,7 +101,7 @@ fn build<'a>(
     }
 }
 
-/// Walks the top with all below it.
+/// Elaborates the top with all below it.
 fn walk_top<'a>(ground: Ground<'_, 'a>, top: &'a [u8], walk: &mut Walk<'a>) -> Result<(), NoMemory>
     requires base { ground.base ≤ 65536 }
     requires few { walk.old.tally.ended ≡ false → walk.old.memories ≤ walk.old.tally.counts.words }
@@ -155,7 +155,7 @@ fn empty_design(alloc: Global, top: &[u8]) -> Result<Design, NoMemory>
     })
 }
 
-/// Tells the first place in the text at which a second driver is met.
+/// Reports the first place in the text at which a second driver is found.
 fn tell_drivers(alloc: Global, tally: &mut Tally) -> Result<(), NoMemory>
     ensures { OnOk result (tally.new ≡ after_faults tally.old (driver_faults tally.old.writings)) }
 {
@@ -165,7 +165,7 @@ fn tell_drivers(alloc: Global, tally: &mut Tally) -> Result<(), NoMemory>
     Ok(())
 }
 
-/// The fault as it is told, with a name of its own.
+/// The fault as callers see it, with a copy of its name.
 fn told(alloc: Global, fault: FoundFault) -> ElabFault
     ensures { (result ≡ elab_fault.NoMemory) ⊎ (result ≡ told (fault_view fault.entry)) }
 {

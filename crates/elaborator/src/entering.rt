@@ -1,4 +1,4 @@
-//! An instance is entered: what is met in its declarations, its own parts in the design, and what its names stand for.
+//! An instance is entered: what is found in its declarations, its own parts in the design, and what its names mean.
 
 ghost use Rattle.std.specs.Prelude.{◌≡◌, ◌≤◌, MatchOption, Some, false, true, length, IfOk, OnOk};
 ghost use Rattle.design_model.specs.View.{design_view};
@@ -20,7 +20,7 @@ use elab_instances::{Inside, Instantiation, Opened, open_instance};
 use elab_scope::{Scope, Tally};
 use std::alloc::Global;
 
-/// The declared names of an instance, what they stand for, and the first numbers of its items.
+/// The declared names of an instance, what they mean, and the first numbers of its items.
 #[derive(Drop)]
 pub(crate) struct Entered<'a> {
     pub(crate) declared: Declarations<'a>,
@@ -57,7 +57,7 @@ fn boxed_opened<'b, 'a>(
     Ok(Box::new(alloc, opened)?)
 }
 
-/// What the names of an opened instance stand for, in a box.
+/// What the names of an opened instance mean, in a box.
 fn boxed_inside(
     alloc: Global,
     opened: &Opened,

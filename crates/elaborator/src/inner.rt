@@ -1,4 +1,4 @@
-//! An instance inside another one: its ports, and how it is put in place (IEEE 1364-2001, 12.1.2 and 12.3).
+//! An instance inside another one: its ports, and how it is elaborated (IEEE 1364-2001, 12.1.2 and 12.3).
 
 ghost use Rattle.std.specs.Prelude.{◌≡◌, ◌∷◌, [], ◌++◌, ℕ, IfOk, OnOk, bytes_eq, flat_map, map, ◌&&◌};
 ghost use Rattle.std.specs.List.{list_any};
@@ -38,7 +38,7 @@ fn is_same_place(p: Place, q: Place) -> bool
     p.source == q.source && p.line == q.line && p.column == q.column
 }
 
-/// Whether the declaration of a name stands at its place.
+/// Whether the declaration of a name is at its place.
 pub(crate) fn is_declared_here(declared: &Declarations, name: &Named) -> bool
     requires { AreDistinct (map (λ d. d.name.name) declared.now) }
     ensures { result ≡ list_any (λ d. bytes_eq d.name.name name.now.name && is_same_place d.name.place name.now.place) declared.now }
@@ -60,7 +60,8 @@ fn port_names<'a>(alloc: Global, module: &'a Module) -> Result<Vec<NameAt<'a>>, 
     Ok(names)
 }
 
-/// The declared names of a module with these overrides. What is wrong with them is told where the instance is opened.
+/// The declared names of a module with these overrides. What is wrong with them is reported where the instance is
+/// opened.
 fn declared_names<'a>(
     alloc: Global,
     overrides: &[Override],
@@ -161,7 +162,7 @@ fn dotted(alloc: Global, path: &Name, name: &Name) -> Result<Name, NoMemory>
     Ok(Name::from_vec(bytes))
 }
 
-/// The modules around what stands in a module.
+/// The modules around what is in a module.
 fn with_module<'a>(
     alloc: Global,
     around: &[&'a Module],
@@ -174,7 +175,7 @@ fn with_module<'a>(
     Ok(longer)
 }
 
-/// One of the instances that an item names, as it is put in place inside another one.
+/// One of the instances that an item names, inside another one.
 pub(crate) fn inner_instance<'a>(
     alloc: Global,
     given: &Instantiation<'a>,

@@ -25,7 +25,7 @@ use elab_scope::{FoundFault, Scope};
 use flat_design::DesignLimit;
 use verilog_tree::One;
 
-/// Walks the instances that an item names.
+/// Elaborates the instances that an item names.
 #[cycle(walk)]
 pub(crate) fn walk_instances<'a>(
     ground: Ground<'_, 'a>,
@@ -58,7 +58,7 @@ pub(crate) fn walk_instances<'a>(
     }
 }
 
-/// Walks these of the instances that an item names.
+/// Elaborates these of the instances that an item names.
 #[cycle(walk)]
 fn walk_ones<'a>(
     ground: Ground<'_, 'a>,
@@ -83,7 +83,7 @@ fn walk_ones<'a>(
     Ok(())
 }
 
-/// Walks one instance with all below it, and then its ports.
+/// Elaborates one instance with all below it, and then its ports.
 #[cycle(walk)]
 fn walk_one<'a>(
     ground: Ground<'_, 'a>,
@@ -124,7 +124,7 @@ fn walk_one<'a>(
     }
 }
 
-/// Walks an instance with all below it, so many levels deep at most. Its scope, unless a limit is passed with it.
+/// Elaborates an instance with all below it, at most `depth` levels deep. Gives its scope, unless a limit is passed.
 #[cycle(walk)]
 pub(crate) fn walk_instance<'a>(
     ground: Ground<'_, 'a>,

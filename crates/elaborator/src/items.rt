@@ -24,14 +24,14 @@ use elab_instances::Instantiation;
 use elab_scope::Scope;
 use verilog_tree::{Item, ItemForm};
 
-/// Where the items of an instance stand: how it was put in place, and its declared names.
+/// The instance that items belong to, and its declared names.
 #[derive(Clone, Copy)]
 pub(crate) struct Body<'b, 'a> {
     pub(crate) given: &'b Instantiation<'a>,
     pub(crate) declared: &'b Declarations<'a>,
 }
 
-/// Walks the items of an instance in order, with all below it, so many levels deep at most.
+/// Elaborates the items of an instance in order, with all below it, at most `depth` levels deep.
 #[cycle(walk)]
 pub(crate) fn walk_items<'a>(
     ground: Ground<'_, 'a>,
@@ -55,7 +55,7 @@ pub(crate) fn walk_items<'a>(
     Ok(())
 }
 
-/// Walks one item.
+/// Elaborates one item.
 #[cycle(walk)]
 fn walk_item<'a>(
     ground: Ground<'_, 'a>,

@@ -15,7 +15,7 @@ use flat_design::ElabKind;
 use std::alloc::Global;
 use verilog_tree::Module;
 
-/// The modules, and where the first of each name stands among them.
+/// The modules, and the place of the first of each name among them.
 #[derive(Drop)]
 pub(crate) struct ModuleTable<'a> {
     modules: &'a [Module],
@@ -51,7 +51,7 @@ impl<'a> ModuleTable<'a> {
     }
 }
 
-/// Notes where a module stands, unless another one of its name stands before it, which is a fault.
+/// Notes the place of a module, unless an earlier one has its name, which is a fault.
 fn note_module<'a>(
     places: &mut NameMap<usize>,
     place: usize,

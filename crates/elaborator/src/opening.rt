@@ -31,7 +31,7 @@ pub(crate) fn add_instance(
     Ok(number)
 }
 
-/// The number of what comes behind so many others.
+/// The number of what follows `count` others.
 fn number_of(count: usize) -> Result<u32, NoMemory>
     ensures { IfOk result (λ number. number ≡ count) }
 {

@@ -42,7 +42,7 @@ fn is_input(port: &JoinedPort) -> bool
     port.port.direction.unwrap_or(false)
 }
 
-/// Walks a port that is joined by an assignment, with its signal.
+/// Elaborates a port that is joined by an assignment, with its signal.
 fn walk_signal<'a>(
     ground: Ground<'_, 'a>,
     outside: &Scope,
@@ -66,7 +66,7 @@ fn walk_signal<'a>(
     }
 }
 
-/// Walks a port that is joined in this way.
+/// Elaborates a port that is joined in this way.
 fn walk_port<'a>(
     ground: Ground<'_, 'a>,
     outside: &Scope,
@@ -89,7 +89,7 @@ fn walk_port<'a>(
     }
 }
 
-/// The same of each port in order.
+/// Elaborates each port in order.
 pub(crate) fn walk_ports<'a>(
     ground: Ground<'_, 'a>,
     outside: &Scope,

@@ -1,4 +1,4 @@
-//! The processes of items and of joined ports: what is met in them, and where nothing was found, their place in the
+//! The processes of items and of joined ports: what is found in them, and where there is no fault, their place in the
 //! design (IEEE 1364-2001 clauses 6.1, 9.9 and 12.3).
 
 ghost use Rattle.std.specs.Prelude.{◌≡◌, ◌≤◌, ◌+◌, length, OnOk};

@@ -87,14 +87,14 @@ CanMove m moved v [] = ⊤
 CanMove m moved v (w ∷ ws) =
     (m.is_input w.cell ≡ true) × (moved w.cell ≡ false) × (v w.cell ≢ w.value) × CanMove m (mark moved w) (put v w) ws
 
--- the event may stand at this state: queued updates become active only where no event is
+-- the event may happen at this state: queued updates become active only where there is no event
 abbrev pub CanOccur : {V : Type 0} → Machine V → State V → Event V → Type 0
 CanOccur m s (Move ws) = (ws ≢ []) × CanMove m s.moved s.values ws
 CanOccur m s (Evaluate p) = s.woken p ≡ true
 CanOccur m s Activate = IsQuiet s × (s.queued ≢ [])
 CanOccur m s Apply = s.active ≢ []
 
--- each of the events may stand where it stands; active events come in any order (IEEE 1364-2001, 5.4.2)
+-- each of the events may happen at its place; active events come in any order (IEEE 1364-2001, 5.4.2)
 abbrev pub IsLegal : {V : Type 0} → Machine V → State V → List (Event V) → Type 0
 IsLegal m s [] = ⊤
 IsLegal m s (e ∷ es) = CanOccur m s e × IsLegal m (state_after m s e) es

@@ -5,7 +5,7 @@ use Rattle.event_machine.specs.Machine.{Edge, Machine}
 use Rattle.event_machine.specs.State.{State, IsQuiet}
 use Rattle.event_machine.specs.Event.{Event, Move, Evaluate, Activate, Apply, state_after, end_state}
 
--- with Free a Move may stand at any point; with Late inputs that are no event signals wait
+-- with Free a Move may happen at any point; with Late inputs that are no event signals wait
 pub data Habit : Type 0 where
   Free : Habit
   Late : Habit

@@ -13,7 +13,7 @@ use Rattle.event_machine.specs.Early.{IsEarly}
 use Rattle.event_machine.specs.Single.{IsSingle}
 use Rattle.event_machine.specs.Run.{Timed, HasComputed, IsRun, state_at}
 
--- Waking law: an event wakes each process that is level-sensitive to a cell that it changes, but for the one that it evaluates.
+-- Waking law: an event wakes each process that is level-sensitive to a cell that it changes, except the one that it evaluates.
 abbrev pub WakingLaw : {V : Type 0} → Machine V → Type 0
 WakingLaw {V} m =
     (s : State V) (e : Event V) (c : Cell) (p : ℕ)

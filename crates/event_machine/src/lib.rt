@@ -1,6 +1,12 @@
-//! The event machine of an elaborated design (IEEE 1364-2001, clause 5), and its laws. A machine says which things
-//! each process is sensitive to, what it may write and what its evaluation writes; the laws hold for any such machine,
-//! any values, and any division of the inputs into told and untold ones. Each function does no work: it carries laws.
+//! The abstract machine of IEEE 1364-2001 clause 5 and the theorems of its steps. There is no code: each function's
+//! contract states theorems.
+//!
+//! A machine says which things each process is sensitive to, what it may write, and what its evaluation writes
+//! (`specs/Machine.antt`). The theorems hold for any such machine, any values, and any division of the inputs into
+//! those whose change over a step is given, which are called told, and those that may move in any step: what wakes a
+//! process ([`waking_law`]), what keeps its value ([`rest_law`]), when a process is evaluated on settled values
+//! ([`settled_law`]), that a clean block is evaluated exactly once ([`edge_law`]), and that the sets of a step are
+//! the least ones ([`least_law`]).
 #![tactic(auto)]
 
 ghost use Rattle.std.specs.Prelude.{◌≡◌};

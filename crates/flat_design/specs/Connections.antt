@@ -14,7 +14,7 @@ use Rattle.flat_design.specs.Loops.{is_identifier}
 use Rattle.flat_design.specs.Scope.{Scope, Entry, a_constant, a_signal, a_memory, a_faulty_one, SignalEntry, look_up, constant, names_faulty}
 use Rattle.flat_design.specs.Targets.{Continuous, target_faults, leaves}
 
--- a connection or an override: which port or parameter, the name that a fault is told with, and the value
+-- a connection or an override: which port or parameter, the name that a fault is reported with, and the value
 pub record Connection : Type 0 where
   pub port : List ℕ
   pub label : Named

@@ -74,7 +74,7 @@ typed_value g p v = if p.integer then record { bits = extend 32 v.signed v.bits;
 abbrev pub param_faults : Scope → Param → List Fault
 param_faults g p = vector_faults g p.range ++ constant_faults g p.value (faults g p.value)
 
--- what a parameter stands for
+-- what a parameter means
 abbrev pub param_entry : Scope → List Override → Param → Entry
 param_entry g os p =
     if none (param_faults g p) && is_sound_vector g p.range && not (names_faulty g p.value) then a_constant (typed_value g p (overridden os p.name.name (constant g p.value))) else a_faulty_one

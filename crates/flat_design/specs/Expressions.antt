@@ -67,7 +67,7 @@ abbrev pub select_faults : Selected → List Fault
 select_faults (no_bits x) = fault_at WrongUse x ∷ []
 select_faults _ = []
 
--- the bits from this offset up, so many, are bits of the range; an index with an x or z is not checked
+-- the bits from this offset up, in this number, are bits of the range; an index with an x or z is not checked
 abbrev pub is_inside : Range → Option ℤ → ℕ → Bool
 is_inside r None w = true
 is_inside r (Some (negsuc k)) w = false

@@ -14,12 +14,12 @@ use Rattle.flat_design.specs.declared.fault.ElabFault.TheVariants as elab_fault
 pub use Rattle.flat_design.specs.declared.fault.ElabKind.{ElabKind}
 pub use Rattle.flat_design.specs.declared.fault.ElabKind.TheVariants.{NoModule, TwoModules, Recursion, Undeclared, TwiceDeclared, PortMismatch, TwoDrivers, MixedAssign, Incomplete, EventNotBit, SelfAssign, Limit, WrongTarget, WrongUse}
 
--- a fault: of a constant, width or loop, or of modules with the place and the name that it is told with
+-- a fault: of a constant, width or loop, or of modules with the place and the name that it is reported with
 pub data Fault : Type 0 where
   of_constant : ConstKind → Place → Fault
   of_modules : ElabKind → Option Place → List ℕ → Fault
 
--- a fault of this kind, told with this name and its place
+-- a fault of this kind, reported with this name and its place
 abbrev pub fault_at : ElabKind → Named → Fault
 fault_at k x = of_modules k (Some x.place) x.name
 
@@ -41,12 +41,12 @@ limit_fault l p = of_modules Limit (Some p) ((48 + limit_number l) ∷ [])
 abbrev pub missing_top : List ℕ → Fault
 missing_top top = of_modules NoModule None top
 
--- a fault of a constant, as elaboration tells it
+-- a fault of a constant, as elaboration reports it
 abbrev pub told_constant : ConstFault → ElabFault
 told_constant const_fault.NoMemory = elab_fault.NoMemory
 told_constant fault = elab_fault.Const fault
 
--- a fault, as it is told
+-- a fault, as callers see it
 abbrev pub told : Fault → ElabFault
 told (of_constant k p) = elab_fault.Const (const_fault.At k p)
 told (of_modules k p x) = elab_fault.At k p x
@@ -55,7 +55,7 @@ told (of_modules k p x) = elab_fault.At k p x
 abbrev pub fault_if : Bool → Fault → List Fault
 fault_if test f = if test then f ∷ [] else []
 
--- the fault that an answer on constants tells, if it tells one
+-- the fault of an answer on constants, if it has one
 abbrev pub answer_faults : {A : Type 0} → Result A ConstFault → List Fault
 answer_faults (Err (const_fault.At k p)) = of_constant k p ∷ []
 answer_faults _ = []
@@ -65,12 +65,12 @@ abbrev pub none : {A : Type 0} → List A → Bool
 none [] = true
 none (x ∷ xs) = false
 
--- where a fault stands
+-- the place of a fault
 abbrev pub place_of : Fault → Option Place
 place_of (of_constant k p) = Some p
 place_of (of_modules k p x) = p
 
--- p stands before q in the text, or is the same place and the test holds
+-- p is before q in the text, or is the same place and the test holds
 abbrev pub before_or : Bool → Place → Place → Bool
 before_or same p q = below_or p.source q.source (below_or p.line q.line (below_or p.column q.column same))
 
@@ -90,7 +90,7 @@ option_before same None _ = false
 option_before same (Some p) None = true
 option_before same (Some p) (Some q) = before_or same p q
 
--- f is told rather than g: it stands before g, or at one place f alone is an undeclared name
+-- f is reported rather than g: it comes before g in the text, or at one place f alone is an undeclared name
 abbrev pub goes_before : Fault → Fault → Bool
 goes_before f g = option_before (is_undeclared f && not (is_undeclared g)) (place_of f) (place_of g)
 

@@ -1,4 +1,4 @@
--- What stands in modules: the faults met up to the first limit that is passed, and which of them is the first.
+-- The faults of modules: those found up to the first limit that is passed, and which of them is the first.
 use Rattle.std.specs.Prelude.{ℕ, ◌+◌, ◌==◌, nat_lt, if◌then◌else◌, List, [], ◌∷◌, ◌++◌, Option, Some, None, Result, Ok, Err}
 use Rattle.design_model.specs.Design.{Design, In}
 use Rattle.verilog_tree.specs.declared.item.Named.{Named}
@@ -15,7 +15,7 @@ use Rattle.flat_design.specs.Processes.{writings, driver_faults}
 abbrev pub nothing : Counts
 nothing = record { signals = 0; processes = 0; words = 0; instances = 0; statements = 0 }
 
--- the faults met in order, up to the first limit that is passed; the rest stands where none is
+-- the faults found in order, up to the first limit that is passed; the rest follows where no limit is passed
 abbrev pub told : Counts → List Fault → List Met → List Fault
 told c rest [] = rest
 told c rest (met_fault f ∷ ms) = f ∷ (if is_limit f then [] else told c rest ms)
@@ -35,7 +35,7 @@ two_modules sofar (m ∷ ms) = fault_if (is_among sofar m.name.name) (fault_at T
 abbrev pub faults_of : List Module → List ℕ → List Fault
 faults_of ms top = two_modules [] ms ++ told nothing (driver_faults (writings (elaborated ms top).met)) (elaborated ms top).met
 
--- the fault stands in the modules
+-- the modules have the fault
 abbrev pub Stands : List Module → List ℕ → Fault → Type 0
 Stands ms top f = In f (faults_of ms top)
 
@@ -48,7 +48,7 @@ design_or d (Some f) = Err f
 abbrev pub answer : List Module → List ℕ → Result Design Fault
 answer ms top = design_or (elaborated ms top).design (first_fault (faults_of ms top))
 
--- the flat design, which exists where no fault stands
+-- the flat design, where there is no fault
 abbrev pub some_design : Result Design Fault → Option Design
 some_design (Ok d) = Some d
 some_design (Err f) = None

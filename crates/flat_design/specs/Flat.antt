@@ -56,7 +56,7 @@ replaced child base c p i js st = join_ports c p (context base i st).scope js (c
 abbrev pub is_same_place : Place → Place → Bool
 is_same_place p q = (p.source == q.source) && (p.line == q.line) && (p.column == q.column)
 
--- the declaration of this name stands at this place
+-- the declaration of this name is at this place
 abbrev pub is_declared_here : Context → Named → Bool
 is_declared_here c x = list_any (λ d. bytes_eq d.name.name x.name && is_same_place d.name.place x.place) (declared c.given.overrides c.given.of_module)
 

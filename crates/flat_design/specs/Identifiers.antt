@@ -1,4 +1,4 @@
--- The names that stand in expressions, statements and items, and those that items declare.
+-- The names that are in expressions, statements and items, and those that items declare.
 use Rattle.std.specs.Prelude.{ℕ, Bool, List, [], ◌∷◌, ◌++◌, map, flat_map, bytes_eq, Option, Some, None}
 use Rattle.std.specs.List.{list_any}
 use Rattle.cov_host.specs.declared.place.Place.{Place}

@@ -115,18 +115,18 @@ is_input d = unwrap_or d.direction false
 abbrev pub signal_entry : ℕ → Declaration → Entry
 signal_entry n d = a_signal (record { number = n; range = d.range; signed = d.signed; net = is_net d.sort; input = is_input d })
 
--- what a name of this sort stands for, if it is no signal; a memory has number k
+-- what a name of this sort means, if it is no signal; a memory has number k
 abbrev pub other_entry : ℕ → Declaration → Sort → Entry
 other_entry k d (words_from r) = a_memory (record { number = k; words = r; range = d.range; signed = d.signed })
 other_entry k d an_integer = a_loop_variable
 other_entry k d some_instance = an_instance
 other_entry k d _ = a_faulty_one
 
--- what a declared name stands for; the next signal has number s, the next memory number k
+-- what a declared name means; the next signal has number s, the next memory number k
 abbrev pub declared_entry : PortAliases → Module → ℕ → ℕ → Declaration → Entry
 declared_entry as' m s k d = if is_signal m d then signal_entry (unwrap_or (alias_number as' d.name.name) s) d else other_entry k d d.sort
 
--- what the declared names stand for, in their order
+-- what the declared names mean, in their order
 abbrev pub entries : PortAliases → Module → ℕ → ℕ → List Declaration → Bindings
 entries as' m s k [] = []
 entries as' m s k (d ∷ ds) = (d.name.name, declared_entry as' m s k d) ∷ entries as' m (s + one_if (is_own as' m d)) (k + one_if (is_memory d)) ds
@@ -135,7 +135,7 @@ entries as' m s k (d ∷ ds) = (d.name.name, declared_entry as' m s k d) ∷ ent
 abbrev pub scope_of : Instantiation → ℕ → ℕ → Scope
 scope_of i s k = with_bindings (constants i.overrides i.of_module) (with_bindings (entries i.aliases i.of_module s k (declared i.overrides i.of_module)) no_names)
 
--- the signal of instance i that a declared name stands for
+-- the signal of instance i for a declared name
 abbrev pub signal_of : ℕ → Bool → Declaration → Signal
 signal_of i is_top d =
     record {
@@ -158,7 +158,7 @@ sort_words _ = range_or None
 abbrev pub words_of : Declaration → Range
 words_of d = sort_words d.sort
 
--- the memory of instance i that a declared name stands for
+-- the memory of instance i for a declared name
 abbrev pub memory_of : ℕ → Declaration → Memory
 memory_of i d =
     record {
@@ -173,7 +173,7 @@ memory_of i d =
       signed = d.signed;
     }
 
--- the constant of instance i that a parameter stands for
+-- the constant of instance i for a parameter
 abbrev pub constant_of : ℕ → List ℕ × Entry → List Constant
 constant_of i (x, a_constant v) = record { instance = i; name = x; value = v } ∷ []
 constant_of i _ = []
@@ -183,7 +183,7 @@ abbrev pub alias_to : ℕ → List ℕ → Option ℕ → List Alias
 alias_to i x None = []
 alias_to i x (Some n) = record { instance = i; name = x; signal = n } ∷ []
 
--- the alias of instance i that a port joined to a plain name stands for
+-- the alias of instance i for a port that is joined to a plain name
 abbrev pub alias_of : ℕ → PortAliases → Declaration → List Alias
 alias_of i as' d = alias_to i d.name.name (alias_number as' d.name.name)
 

@@ -1,4 +1,4 @@
--- The processes that items stand for, and their faults: lists of names, edges, drivers, self assignments (clauses 6.1, 9.7).
+-- The processes of items, and their faults: lists of names, edges, drivers, self assignments (clauses 6.1, 9.7).
 use Rattle.std.specs.Prelude.{ℕ, ◌+◌, ◌==◌, max, Bool, true, false, not, ◌&&◌, ◌||◌, if◌then◌else◌, List, [], ◌∷◌, ◌++◌, map, flat_map, Option, Some, None}
 use Rattle.std.specs.Cmp.Lexicographic.{slice_cmp}
 use Rattle.std.specs.Ordering.{is_lt, nat_cmp}
@@ -33,7 +33,7 @@ abbrev pub is_signal_entry : Option Entry → Bool
 is_signal_entry (Some (a_signal s)) = true
 is_signal_entry _ = false
 
--- a number stands in both lists
+-- a number is in both lists
 abbrev pub have_common : List ℕ → List ℕ → Bool
 have_common xs ys = list_any (λ x. list_any (λ y. x == y) ys) xs
 
@@ -101,7 +101,7 @@ when_faults g Star = []
 when_faults g (Names xs) = flat_map (λ x. listed_faults (look_up g x.name) x) xs
 when_faults g (Edges es) = flat_map (λ e. edge_faults (look_up g e.1.name) e.1) es
 
--- the number of the signal that a name stands for
+-- the number of the signal that a name means
 abbrev pub signal_numbers : Option Entry → List ℕ
 signal_numbers (Some (a_signal s)) = s.number ∷ []
 signal_numbers _ = []
@@ -123,24 +123,24 @@ writing_met _ = []
 abbrev pub writings : List Met → List Writing
 writings ms = flat_map writing_met ms
 
--- x stands before y in the text; at one place the lesser of their names goes first
+-- x is before y in the text; at one place the lesser of their names goes first
 abbrev pub is_named_before : Named → Named → Bool
 is_named_before x y = before_or (is_lt (slice_cmp nat_cmp x.name y.name)) x.place y.place
 
--- of two names the one that stands later in the text
+-- of two names the one that is later in the text
 abbrev pub later_of : Named → Named → Named
 later_of x y = if is_named_before x y then y else x
 
--- of two names the one that stands first in the text
+-- of two names the one that is first in the text
 abbrev pub earlier_of : Named → Named → Named
 earlier_of x y = if is_named_before y x then y else x
 
--- for each two writings that are at odds, the name that stands later in the text
+-- for each two writings that are in conflict, the name that is later in the text
 abbrev pub conflicts : (Writing → Writing → Bool) → List Writing → List Named
 conflicts at_odds [] = []
 conflicts at_odds (a ∷ bs) = flat_map (λ b. if at_odds a b then later_of a.name b.name ∷ [] else []) bs ++ conflicts at_odds bs
 
--- the name of the list that stands first in the text
+-- the name of the list that is first in the text
 abbrev pub first_name : Named → List Named → Named
 first_name x [] = x
 first_name x (y ∷ ys) = first_name (earlier_of x y) ys
@@ -219,7 +219,7 @@ abbrev mutual
   all_uncounted t.no_terms = t.no_terms
   all_uncounted (t.a_term x xs) = t.a_term (uncounted x) (all_uncounted xs)
 
--- process k drives all bits of a port's signal, told by this name
+-- process k drives all bits of a port's signal, at the place of this name
 abbrev pub whole_writing : ℕ → Named → SignalEntry → Writing
 whole_writing k label s = record { name = label; thing = the_signal s.number; offsets = range_with_len 0 (range_width s.range); blocking = true; continuous = true; process = k }
 

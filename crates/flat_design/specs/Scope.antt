@@ -1,4 +1,4 @@
--- The scope that the names of an instance stand in, and what an expression is worth in it (clauses 4.4, 4.5 and 12.7).
+-- The scope of the names of an instance, and the value of an expression in it (clauses 4.4, 4.5 and 12.7).
 use Rattle.std.specs.Prelude.{ℕ, ◌+◌, ◌==◌, Bool, true, false, if◌then◌else◌, List, bytes_eq, ℤ, Option, Some, None}
 use Rattle.std.specs.List.{list_all, list_any}
 use Rattle.std.specs.Map.{lookup}
@@ -20,15 +20,15 @@ pub use Rattle.flat_design.specs.declared.entry.Thing.{Thing}
 pub use Rattle.flat_design.specs.declared.entry.Thing.TheVariants.{Signal as the_signal, Memory as the_memory}
 pub use Rattle.flat_design.specs.declared.entry.Entry.TheVariants.{Constant as a_constant, Turn as a_turn, Signal as a_signal, Memory as a_memory, LoopVariable as a_loop_variable, Instance as an_instance, NoConstant as no_constant, Faulty as a_faulty_one}
 
--- what each name that can be used at a place stands for
+-- what each name that can be used at a place means
 abbrev pub Scope : Type 0
 Scope = List ℕ → Option Entry
 
--- what the name stands for
+-- what the name means
 abbrev pub look_up : Scope → List ℕ → Option Entry
 look_up g x = g x
 
--- the scope where x stands for e
+-- the scope where x means e
 abbrev pub with_entry : List ℕ → Entry → Scope → Scope
 with_entry x e g = λ y. if bytes_eq y x then Some e else g y
 
@@ -36,7 +36,7 @@ with_entry x e g = λ y. if bytes_eq y x then Some e else g y
 abbrev pub with_turn : List ℕ → Vector → Scope → Scope
 with_turn x v g = with_entry x (a_turn v) g
 
--- names with what they stand for, in order; the first of equal names counts
+-- names with what they mean, in order; the first of equal names counts
 abbrev pub Bindings : Type 0
 Bindings = List (List ℕ × Entry)
 
@@ -49,7 +49,7 @@ abbrev pub entry_or : Option Entry → Option Entry → Option Entry
 entry_or None other = other
 entry_or (Some e) other = Some e
 
--- the scope where the bound names stand for these, and all others for what they did
+-- the scope where the bound names mean these, and all others mean what they did
 abbrev pub with_bindings : Bindings → Scope → Scope
 with_bindings bs g = λ x. entry_or (binding_of bs x) (g x)
 
@@ -99,7 +99,7 @@ whole_number g e = parts.index (constant g e).signed (constant g e).bits
 abbrev pub natural_number : Scope → Expr → ℕ
 natural_number g e = of.count_of (of.number_of (names g) e)
 
--- the signal or memory that a name stands for
+-- the signal or memory that a name means
 abbrev pub thing_of : Option Entry → Thing
 thing_of (Some (a_signal s)) = the_signal s.number
 thing_of (Some (a_memory m)) = the_memory m.number

@@ -27,7 +27,7 @@ pub use Rattle.flat_design.specs.declared.entry.Mode.{Mode}
 pub use Rattle.flat_design.specs.declared.entry.Mode.TheVariants.{Continuous, Combinational, Clocked}
 use Rattle.flat_design.specs.Terms.{alone, head_as}
 
--- the range of the signal that a name stands for
+-- the range of the signal that a name means
 abbrev pub declared_range : Option Entry → Range
 declared_range (Some (a_signal s)) = range_or s.range
 declared_range _ = record { high = 0; low = 0 }
@@ -45,11 +45,11 @@ behind_zero base g e n =
 abbrev pub with_sign_bit : ℕ → Scope → Expr → ℕ → Term
 with_sign_bit base g e n = if nat_lt (shape g e).width 128 && not (shape g e).signed then behind_zero base g e n else alone base g e n
 
--- the number of an expression as a signed term of so many bits; what gives it has its own width, whatever stands around it
+-- the number of an expression as a signed term of w bits; the term in it has its own width
 abbrev pub signed_term : ℕ → Scope → ℕ → Expr → ℕ → Term
 signed_term base g w e n = t.sign (head_as (place_of e) (shape_as w true) None) true (with_sign_bit base g e n)
 
--- the bits of an index that is moved: so many that it does not wrap
+-- the number of bits of an index that is moved, such that it does not wrap
 abbrev pub moved_width : Scope → Expr → ℕ
 moved_width g e = min 128 (max ((shape g e).width + 1) 8 + 1)
 
@@ -125,7 +125,7 @@ abbrev pub memory_target_faults : Scope → Mode → Expr → List Fault
 memory_target_faults g Clocked e = if is_part_of_word e then fault_at WrongTarget (base_name e) ∷ [] else faults g e
 memory_target_faults g _ e = fault_at WrongTarget (base_name e) ∷ []
 
--- a target without concatenation, by what its name stands for
+-- a target without concatenation, by what its name means
 abbrev pub leaf_faults : Scope → Mode → Option Entry → Expr → List Fault
 leaf_faults g mode None e = fault_at Undeclared (base_name e) ∷ []
 leaf_faults g mode (Some (a_constant v)) e = fault_at WrongTarget (base_name e) ∷ []
@@ -137,7 +137,7 @@ leaf_faults g mode (Some (a_signal s)) e = signal_target_faults g mode s e
 leaf_faults g mode (Some (a_memory m)) e = memory_target_faults g mode e
 leaf_faults g mode (Some _) e = []
 
--- the expression has a width: no fault of a constant or width stands in it
+-- the expression has a width: it has no fault of a constant or width
 abbrev pub has_shape : Scope → Expr → Bool
 has_shape g e = is_ok (told (shape_answer (names g) e))
 
@@ -165,7 +165,7 @@ offsets_from size w (Some (negsuc k)) = filter (λ i. nat_lt i size) (range_with
 abbrev pub all_offsets : SignalEntry → List ℕ
 all_offsets s = range_with_len 0 (range_width s.range)
 
--- so many bits of a signal from this offset, where that is constant, and else all of them
+-- this number of bits of a signal from this offset, where that is constant, and else all of them
 abbrev pub offsets_if : Bool → SignalEntry → ℕ → Option ℤ → List ℕ
 offsets_if is_constant s w from = if is_constant then offsets_from (range_width s.range) w from else all_offsets s
 

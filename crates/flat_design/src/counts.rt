@@ -1,10 +1,13 @@
 /// What the limits of a design count.
 #[derive(Clone, Copy, Debug, PartialEq, Eq)]
 pub struct Counts {
+    /// Signals.
     pub signals: u32,
+    /// Processes.
     pub processes: u32,
     /// The words of all memories.
     pub words: u32,
+    /// Instances.
     pub instances: u32,
     /// Statements, with each turn of a loop written out.
     pub statements: u32,

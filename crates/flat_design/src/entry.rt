@@ -8,6 +8,7 @@ pub struct SignalEntry {
     pub number: u32,
     /// None for one bit without a range.
     pub range: Option<Range>,
+    /// Whether it is declared as signed.
     pub signed: bool,
     /// Whether it is declared as a net here, and not as a variable.
     pub net: bool,
@@ -24,10 +25,11 @@ pub struct MemoryEntry {
     pub words: Range,
     /// The range of the bits of a word, None for one bit without a range.
     pub range: Option<Range>,
+    /// Whether its words are signed.
     pub signed: bool,
 }
 
-/// What a name stands for in an instance of a module.
+/// What a name means in an instance of a module.
 #[derive(Clone, Copy, Debug, PartialEq, Eq)]
 pub enum Entry {
     /// A parameter (IEEE 1364-2001, 3.11).
@@ -40,7 +42,7 @@ pub enum Entry {
     LoopVariable,
     /// The name of an instance.
     Instance,
-    /// Where only constants are told: declared as something else, or later.
+    /// Where only constants are needed: it is declared as something else, or later.
     NoConstant,
     /// Its declaration has a fault.
     Faulty,
@@ -53,7 +55,7 @@ pub enum Thing {
     Memory(u32),
 }
 
-/// What an assignment stands in.
+/// The kind of process that an assignment belongs to.
 #[derive(Clone, Copy, Debug, PartialEq, Eq)]
 pub enum Mode {
     /// A continuous assignment, or the connection of an output.

@@ -7,15 +7,15 @@ use elab_const::ConstFault;
 use std::alloc::{AllocError, AllocFailed};
 use thiserror::Error;
 
-/// What is wrong with modules and a top, apart from the faults of constants. Each is told with a name and the place
-/// of that name's token; where two things are at odds it is the later one.
+/// What is wrong with modules and a top, apart from the faults of constants. Each is reported with a name and the place
+/// of that name's token; where two things are in conflict it is the later one.
 #[derive(Clone, Copy, Debug, PartialEq, Eq)]
 pub enum ElabKind {
     /// No module has this name. For the top there is no place.
     NoModule = 1,
     /// Two modules have this name.
     TwoModules = 2,
-    /// A module stands inside itself. The place is the module's name in the item.
+    /// A module is inside itself. The place is the module's name in the item.
     Recursion = 3,
     /// A name without declaration.
     Undeclared = 4,
@@ -93,9 +93,11 @@ pub enum ElabFault {
     Const(ConstFault),
     #[error("{kind:?}")]
     At {
+        /// What is wrong.
         kind: ElabKind,
         /// None for a top that no module has.
         place: Option<Place>,
+        /// The name that the fault is reported with, or the number of a limit.
         detail: Name,
     },
 }

@@ -37,7 +37,8 @@ NodeLaw g h = HaveSameThings g h → (s : Statement) → statement_nodes g s ≡
 -- in each context the term of a constant expression without a fault has the value of the expression, in every design and state
 abbrev pub ConstantLaw : Scope → Expr → Type 0
 ConstantLaw g e =
-    is_constant (names g) e ≡ true → fault_of (names g) e ≡ None → (base : ℕ) (d : Design) (v : Values Bit) (n : ℕ) (s : Shape) → value d v (term base g e n s) ≡ (vector_in (meaning (names g) e) s).bits
+    is_constant (names g) e ≡ true → fault_of (names g) e ≡ None → (base : ℕ) (d : Design) (v : Values Bit) (n : ℕ) (s : Shape)
+    → value d v (term base g e n s) ≡ (vector_in (meaning (names g) e) s).bits
 
 -- in a turn the names that have a value are those of the scope, and the variable with the value of the turn
 abbrev pub TurnLaw : Scope → Type 0

@@ -1,4 +1,4 @@
--- The literals that stand in a module.
+-- The literals in a module.
 use Rattle.std.specs.Prelude.{List, [], ◌∷◌, ◌++◌, flat_map, Option, Some, None}
 use Rattle.four_state.specs.Vector.{Vector}
 use Rattle.verilog_tree.specs.Tree.{Expr, literal, identifier, bit_select, part_select, indexed_part, unary_operator, binary_operator, conditional, concatenation, replication, sign_cast, parentheses, Exprs, no_exprs, an_expr, Statement, sequential_block, if_statement, case_statement, for_loop, assignment, system_task, null_statement, Statements, no_statements, a_statement, CaseItems, no_items, case_item, Given, ItemForm, net_item, parameter_item, continuous_item, always_item, instance_item, Module}

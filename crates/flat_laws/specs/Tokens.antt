@@ -10,7 +10,7 @@ use Rattle.verilog_tree.specs.Tree.{CaseItems, InstanceItem, Item, Module, One, 
 use Rattle.flat_design.specs.Identifiers.{names_of}
 use Rattle.flat_laws.specs.Literals.{literals_of}
 
--- a dot stands in the name
+-- the name has a dot
 abbrev pub has_dot : List ℕ → Bool
 has_dot x = list_any (λ b. b == 46) x
 
@@ -38,10 +38,11 @@ abbrev pub has_edges : When → Bool
 has_edges (Edges es) = true
 has_edges _ = false
 
--- no dot stands in the name of a module or of an instance, no declared name is empty, only under edges there are nonblocking assignments, and each literal has from 1 to 128 bits
+-- there is no dot in the name of a module or of an instance, no declared name is empty, only under edges there are nonblocking assignments, and each literal has from 1 to 128 bits
 pub record AreOfTokens (ms : List Module) : Type 0 where
   pub modules : (m : Module) → In m ms → has_dot m.name.name ≡ false  -- for the names in a path
   pub instances : (m : Module) → In m ms → (x : Item) → In x m.items → (k : InstanceItem) → x.form ≡ instance_item k → (o : One) → In o k.ones → has_dot o.name.name ≡ false  -- the same
   pub names : (m : Module) → In m ms → (x : Named) → In x (names_of m) → x.name ≡ [] → ⊥  -- for targets: what begins with no name names nothing
-  pub blocking : (m : Module) → In m ms → (x : Item) → In x m.items → (w : When) (s : Statement) → x.form ≡ always_item w s → has_edges w ≡ false → is_blocking s ≡ true  -- for what is combinational: the grammar's body without edges has no `<=`
+  pub blocking : (m : Module) → In m ms → (x : Item) → In x m.items → (w : When) (s : Statement) → x.form ≡ always_item w s → has_edges w ≡ false
+      → is_blocking s ≡ true  -- for what is combinational: the grammar's body without edges has no `<=`
   pub literals : (m : Module) → In m ms → (v : Vector) → In v (literals_of m) → HasWidth v  -- for the widths of terms

@@ -1,4 +1,10 @@
-//! What holds of the flat design of modules, and of its faults (IEEE 1364-2001 clause 12).
+//! Theorems of the definitions of `flat_design`; there is no code (IEEE 1364-2001 clause 12).
+//!
+//! A design is answered only where there is no fault, and the fault that is answered is the first one
+//! ([`first_fault_law`]). A design that is answered is lawful ([`lawful_law`]), which is what everything above
+//! assumes of a design. The other functions state that line points are numbered one after the other, that turns of a
+//! loop count the same nodes, that the term of a constant has its value, and that a turn changes the loop's variable
+//! alone. `proofs/` has worked texts, whose designs and faults are computed from the definitions.
 #![tactic(auto)]
 
 ghost use Rattle.std.specs.Prelude.{ℕ, ◌≡◌, List, Ok, Err};
@@ -11,7 +17,7 @@ ghost use Rattle.flat_design.specs.Scope.{Scope};
 ghost use Rattle.flat_laws.specs.Laws.{ConstantLaw, LineLaw, NodeLaw, TurnLaw};
 ghost use Rattle.flat_laws.specs.Tokens.{AreOfTokens};
 
-/// A design is answered only where no fault stands; a fault that is answered stands, and none that stands goes before
+/// A design is answered only where there is no fault. A fault that is answered is there, and no other fault goes before
 /// it in the text.
 pub fn first_fault_law()
     ensures design { (ms : List Module) (top : List ℕ) (d : Design) → answer ms top ≡ Ok d → (f : Fault) → Stands ms top f → ⊥ }

@@ -1,4 +1,4 @@
--- Arithmetic, relations and shifts on bits, through the whole numbers that known bits stand for
+-- Arithmetic, relations and shifts on bits, through the whole numbers of known bits
 -- (IEEE 1364-2001, clauses 4.1.5, 4.1.6, 4.1.7, 4.1.12 and 4.5).
 use Rattle.std.specs.Prelude.{ℕ, zero, suc, ◌+◌, ◌-◌, ◌*◌, ◌/◌, ◌%◌, ◌==◌, nat_lt, Bool, false, ◌&&◌, if◌then◌else◌, List, [], ◌∷◌, ◌++◌, map, length, slice_index_or, ℤ, pos, negsuc}
 use Rattle.std.specs.List.{range_with_len}
@@ -20,7 +20,7 @@ abbrev pub low_bits : ℕ → ℕ → List Bit
 low_bits zero n = []
 low_bits (suc w) n = bit_of (n % 2 == 1) ∷ low_bits w (n / 2)
 
--- the whole number that known bits stand for, in two's complement if signed
+-- the whole number of known bits, in two's complement if signed
 abbrev pub whole : Bool → List Bit → ℤ
 whole signed bs = if signed && is_one (top bs) then negsuc (natural (map not_bit bs)) else pos (natural bs)
 

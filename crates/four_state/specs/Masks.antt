@@ -19,7 +19,7 @@ is_one_or_z _ = false
 abbrev pub is_strange : Bit → Bool
 is_strange b = not (is_known b)
 
--- the w bits that two masks stand for
+-- the w bits of two masks
 unfoldable pub bits_of_masks : ℕ → ℕ → ℕ → List Bit
 bits_of_masks zero ones strange = []
 bits_of_masks (suc w) ones strange = bit_in_masks (ones % 2 == 1) (strange % 2 == 1) ∷ bits_of_masks w (ones / 2) (strange / 2)

@@ -1,4 +1,4 @@
--- The masks of the bits that two masks stand for are those masks, so that a vector's bits give back what it keeps.
+-- The masks of the bits of two masks are those masks, so that a vector's bits give back what it keeps.
 use Rattle.std.specs.Prelude.{◌≡◌, ℕ, zero, suc, ◌+◌, ◌*◌, ◌/◌, ◌%◌, ◌^◌, ◌<◌, ◌==◌, Bool, true, false, if◌then◌else◌, length, refl}
 use Rattle.std.proofs.Common.{suc-le-suc, zero-lt-suc, mod-lt, pow-suc, ap, subst, ◌∙◌}
 use Rattle.std.proofs.Math.Nat.{mod-add-div}

@@ -63,7 +63,7 @@ truth_bit True = One
 truth_bit False = Zero
 truth_bit Strange = X
 
--- so many bits that are all this one
+-- this number of bits that are all this one
 abbrev pub fill : ℕ → Bit → List Bit
 fill w b = replicate w b
 

@@ -45,7 +45,7 @@ impl Model for Four {
 }
 
 impl Four {
-    /// The vector that two masks stand for: a 1 bit is in `ones`, x in `strange`, z in both.
+    /// The vector of two masks: a 1 bit is in `ones`, x in `strange`, z in both.
     pub fn make(width: u8, signed: bool, ones: u128, strange: u128) -> Four
         requires at_least { 1 ≤ width }
         requires at_most { width ≤ 128 }
@@ -93,7 +93,7 @@ impl Four {
         self.width
     }
 
-    /// Whether the vector stands for a number in two's complement.
+    /// Whether the vector is a number in two's complement.
     pub fn is_signed(&self) -> bool
         ensures { result ≡ self.now.signed }
     {

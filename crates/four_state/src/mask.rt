@@ -20,14 +20,14 @@ pub(crate) fn has_place(mask: u128, place: u8) -> bool
     mask >> place & 1 == 1
 }
 
-/// The mask with each place so many places higher; what leaves the 128 places is dropped.
+/// The mask with each place `places` places higher; what leaves the 128 places is dropped.
 pub(crate) fn raised(mask: u128, places: u128) -> u128
     ensures { (i : ℕ) → i < 128 → is_set result i ≡ is_set_at mask (pos i -ℤ pos places) }
 {
     if places < 128 { mask << places } else { 0 }
 }
 
-/// The mask with each place so many places lower.
+/// The mask with each place `places` places lower.
 pub(crate) fn lowered(mask: u128, places: u128) -> u128
     ensures { (i : ℕ) → is_set result i ≡ is_set mask (i + places) }
 {

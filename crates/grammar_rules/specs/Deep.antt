@@ -9,7 +9,7 @@ module _ (L : Language) where
   Begins S [] = ⊥
   Begins {A} S (t ∷ i) = (more : Tokens L) × (v : A) × (o : Tokens L) × S v (t ∷ more) o
 
-  -- the next token stands at the place
+  -- the next token is at the place
   abbrev pub StandsAt : Tokens L → L.Place → Type 0
   StandsAt [] place = ⊥
   StandsAt (t ∷ i) place = L.place t ≡ place
@@ -20,7 +20,7 @@ module _ (L : Language) where
     abbrev pub IsTooHigh : {A B : Type 0} → Growth L A → Rule L B → A → Tokens L → L.Place → Type 0
     IsTooHigh w h v i place = (fits (w.height v) ≡ false) × (w.deepest v ≡ place) × Begins (Spells L (λ n. true) U h) i
 
-    -- What stands before the second tokens is spelled within the limits, and their first one begins or makes a part beyond them, at the place.
+    -- What is before the second tokens is spelled within the limits, and their first one begins or makes a part beyond them, at the place.
     abbrev pub Exceeds : {A : Type 0} → Rule L A → Tokens L → Tokens L → L.Place → Type 0
     Exceeds (one x xs) i o place = ⊥
     Exceeds empty i o place = ⊥
@@ -40,7 +40,7 @@ module _ (L : Language) (G : Grammar L) where
   abbrev pub NestsAtAll : (p : L.Phrase) → L.Value p → Tokens L → Tokens L → Type 0
   NestsAtAll p v i o = (d : ℕ) × Nests L G d p v i o
 
-  -- the same of a phrase, in which so many may nest; with none the phrase itself is beyond the limits, where its first token stands
+  -- the same of a phrase, in which this number may nest; with 0 the phrase itself is beyond the limits, where its first token is
   abbrev pub NestsTooDeep : ℕ → (p : L.Phrase) → Tokens L → Tokens L → L.Place → Type 0
   NestsTooDeep zero p i o place = (i ≡ o) × StandsAt L i place × Begins L (NestsAtAll p) i
   NestsTooDeep (suc d) p i o place = Exceeds L (λ h. nat_le h d) (Nests L G d) NestsAtAll (NestsTooDeep d) (G.rule_of p) i o place

@@ -57,7 +57,7 @@ deepest (number p) = p
 deepest (plus p a b) = if nat_le (height b) (height a) then deepest a else deepest b
 deepest (paren p a) = deepest a
 
--- any sum may stand before a plus
+-- any sum may precede a plus
 abbrev pub growth : Growth sums Sum
 growth = record { may = λ a. true; again = true; height = height; deepest = deepest }
 
@@ -141,6 +141,6 @@ pub record ReadsTexts : Type 0 where
   -- so is a token that begins a sum inside too many, but no other token is
   pub too_deep_inside : said 3 (codes "((1));") ≡ wrong (too_deep 2) 4
   pub other_inside : said 3 (codes "((;") ≡ wrong unexpected 1
-  -- a fault stands at the first token with which nothing goes on, and at the end where something does
+  -- a fault is at the first token with which nothing goes on, and at the end where something does
   pub no_operand : said 9 (codes "1++1;") ≡ wrong unexpected 3
   pub no_end : said 9 (codes "i1i") ≡ wrong unexpected 0

@@ -1,4 +1,4 @@
--- A grammar, what tokens it spells, and what stands where they are none.
+-- A grammar, what tokens it spells, and the fault where it spells none.
 use Rattle.std.specs.Prelude.{ℕ, zero, suc, ◌<◌, nat_le, if◌then◌else◌, List, [], ◌++◌, length, take, ◌==◌, Result, Ok, Err}
 use Rattle.grammar_rules.specs.Rule.{Language, Tokens, next, member, Rule, Spells, Fault, unexpected, Outcome, refuse, deep, read, ◌>>=◌}
 

@@ -24,9 +24,9 @@ member x [] = false
 member x (y ∷ []) = nat_eq x y
 member x (y ∷ z ∷ ys) = nat_eq x y || member x (z ∷ ys)
 
--- What a value says of itself where more may stand behind it that makes it a part of a greater one.
+-- What is known of a value that may become a part of a greater one.
 pub record Growth (L : Language) (A : Type 0) : Type 0 where
-  -- may more stand behind it?
+  -- may it become a part of a greater one?
   pub may : A → Bool
   -- may it be more than once?
   pub again : Bool
@@ -49,9 +49,9 @@ pub data Rule (L : Language) : Type 0 → Type 1 where
   either : {A : Type 0} → Rule L A → Rule L A → Rule L A
   -- any number of times
   many : {A : Type 0} → Rule L A → Rule L (List A)
-  -- behind a token of this kind, and nothing where that does not come next
+  -- after a token of this kind, and nothing where that does not come next
   maybe : {A : Type 0} → ℕ → Rule L A → Rule L (Option A)
-  -- the first, and any number of the second, each of which makes what stands before it a part of a greater value
+  -- the first, and any number of the second, each of which makes the value before it a part of a greater one
   grow : {A B : Type 0} (w : Growth L A) (f : A → B → A) (ends : Ends w.again w f) → Rule L A → Rule L B → Rule L A
   made : {A B : Type 0} → (A → B) → Rule L A → Rule L B
   -- a phrase, one deeper
@@ -89,7 +89,7 @@ abbrev pub Chain : {A T : Type 0} → (A → List T → List T → Type 0) → L
 Chain S [] i o = i ≡ o
 Chain {T = T} S (v ∷ vs) i o = (m : List T) × S v i m × Chain S vs m o
 
--- a value that grows by others, where each that more stands behind may grow and is not too high
+-- a value that grows by others, where each value that grows may grow and is not too high
 abbrev pub Grown : {L : Language} {A B : Type 0} → (fits : ℕ → Bool) → Growth L A → (A → B → A) → A → List B → A → Type 0
 Grown fits w f a [] v = a ≡ v
 Grown fits w f a (b ∷ bs) v = (w.may a ≡ true) × (fits (w.height a) ≡ true) × Grown fits w f (f a b) bs v

@@ -11,7 +11,7 @@ pub record IsIdentity (xs : List ℕ) (n : ℕ) : Type 0 where
   pub count : length xs ≡ n
   pub each : (k : ℕ) → k < n → slice_index xs k ≡ k
 
--- the order has each number below its length once, the places are those of the numbers in it, and so many numbers are used
+-- the order has each number below its length once, the places are those of the numbers in it, and this number of them is used
 pub record ArePlaces (order places : List ℕ) (used : ℕ) : Type 0 where
   pub count : length places ≡ length order
   pub within : used ≤ length order

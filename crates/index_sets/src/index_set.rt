@@ -52,7 +52,7 @@ impl IndexSet {
         self.used
     }
 
-    /// The member that was put in after so many others.
+    /// The member at this place in the order in which members were put in, from 0.
     pub fn get(&self, place: usize) -> usize
         requires { place < length self.now.items }
         ensures value { result ≡ slice_index self.now.items place }
@@ -76,7 +76,7 @@ impl IndexSet {
         self.places[number] < self.used
     }
 
-    /// Puts a number in, behind the other members, and says whether it was not yet one. It takes no memory.
+    /// Puts a number in, after the other members, and says whether it was not yet one. It takes no memory.
     pub fn insert(&mut self, number: usize) -> bool
         requires { number < self.old.size }
         ensures there { IsFalse result ↔ Contains self.old.items number }
@@ -106,7 +106,7 @@ impl IndexSet {
     }
 }
 
-/// So many numbers of a list, from its first on.
+/// The first `count` numbers of a list.
 fn first(numbers: &[usize], count: usize) -> &[usize]
     requires { count ≤ length numbers.now }
     ensures { result.now ≡ take count numbers.now }

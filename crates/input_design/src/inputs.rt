@@ -5,7 +5,7 @@ ghost use Rattle.input_design.specs.InputsAlone.{HasInputsAlone};
 
 use design_model::{Design, Signal};
 
-/// Whether a design has nothing but inputs: no process, no memory, and no other signal.
+/// Whether a design has inputs alone: no process, no memory, and no other signal.
 pub fn has_inputs_alone(design: &Design) -> bool
     ensures { IsTrue result ↔ HasInputsAlone (design_view design.now) }
 {

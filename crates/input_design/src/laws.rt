@@ -8,7 +8,7 @@ ghost use Rattle.input_toggles.specs.InputDesign.{IsInputDesign};
 ghost use Rattle.input_design.specs.InputsAlone.{HasInputsAlone};
 ghost use Rattle.parsed_modules.specs.Named.{AreNamed};
 
-/// A design of inputs alone that modules stand for can be scored by its inputs.
+/// A design of inputs alone that is the flat design of modules can be scored by its inputs.
 pub fn inputs_law()
     ensures { (ms : List Module) (top : List ℕ) (design : CodeDesign) → AreOfTokens ms → AreNamed ms
         → answer ms top ≡ Ok (design_view design) → HasInputsAlone (design_view design) → IsInputDesign design }

@@ -1,4 +1,8 @@
-//! Designs of inputs alone: whether a design is one, and that such a design can be scored by its inputs.
+//! Designs made of inputs alone, which are those that the program scores today.
+//!
+//! [`has_inputs_alone`] is true exactly where a design has no process, no memory and no signal that is not an input
+//! of the top. [`inputs_law`] states that `input_toggles` can score such a design, where its modules are those of
+//! sources.
 #![tactic(auto)]
 
 mod inputs;

@@ -45,7 +45,8 @@ IsLeftOpen other = ⊥
 -- at a window time at which nothing is in doubt for it, no run that shows the dump hits the point
 abbrev pub IsHitInDoubtOnly : Design → Dump → List ℕ → Point → Type 0
 IsHitInDoubtOnly design dump instance point =
-    (r : Run) → IsShownBy design dump instance r → (t : ℕ) → IsWindow (bound_dump design dump instance) t → IsCertain design dump instance point t → IsHitAt (design_view design) (bound_dump design dump instance) r point t → ⊥
+    (r : Run) → IsShownBy design dump instance r → (t : ℕ) → IsWindow (bound_dump design dump instance) t → IsCertain design dump instance point t
+    → IsHitAt (design_view design) (bound_dump design dump instance) r point t → ⊥
 
 -- some block reaches the point at some window time
 abbrev pub IsReachedPoint : Design → Dump → List ℕ → Point → Type 0

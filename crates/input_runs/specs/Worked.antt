@@ -25,7 +25,7 @@ outer = record { path = codes "top"; «module» = codes "top" }
 abbrev pub inner : Instance
 inner = record { path = codes "top.u"; «module» = codes "sub" }
 
--- the inputs stand in the top, and the inner instance has a port k that is joined to clk
+-- the top has the inputs, and the inner instance has a port k that is joined to clk
 abbrev pub nested : Design
 nested = record {
   top = codes "top";
@@ -37,7 +37,7 @@ nested = record {
   aliases = record { instance = 1; name = codes "k"; signal = 0 } ∷ [];
 }
 
--- a dump in which clk stands as k of the instance u alone
+-- a dump that has clk as k of the instance u alone
 abbrev pub dump_text : List ℕ
 dump_text = codes "$scope module tb $end\n$scope module dut $end\n$var wire 2 ! a $end\n$scope module u $end\n$var wire 1 \" k $end\n$upscope $end\n$upscope $end\n$upscope $end\n$enddefinitions $end\n#0\n$dumpvars\nb00 !\n0\"\n$end\n#5\nb01 !\n1\"\n#10\nb1x !\n0\"\n#15\n1\"\n"
 

@@ -1,5 +1,8 @@
-//! The runs of a design of inputs alone: some run takes each list of values, some run shows each dump, and what a dump
-//! says holds in every run that shows it.
+//! Theorems of the runs of a design made of inputs alone; there is no code.
+//!
+//! Some run takes each list of values ([`inputs_run`]), some run shows each dump ([`shown_by_some_run`]), and the
+//! verdicts of `input_toggles` hold in every run that shows the dump, none of them left open without a reason
+//! ([`verdicts_hold`]). Its toggle points are all points of such a design ([`points_listed`]).
 #![tactic(auto)]
 
 ghost use Rattle.std.specs.Prelude.{◌≡◌, ℕ, List, [], All};

@@ -11,7 +11,7 @@ abbrev pub HasIndex : Signal → Option ℕ → Type 0
 HasIndex signal None = signal.ranged ≡ false
 HasIndex signal (Some index) = (signal.ranged ≡ true) × (min signal.high signal.low ≤ index) × (index ≤ max signal.high signal.low)
 
--- how far above the lowest bit the bit with this index stands
+-- how far the bit with this index is above the lowest bit
 abbrev pub place_of : Signal → Option ℕ → ℕ
 place_of signal None = 0
 place_of signal (Some index) = abs_diff index signal.low

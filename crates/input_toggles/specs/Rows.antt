@@ -8,6 +8,6 @@ use Rattle.coverage_db.specs.declared.db.DbInstance.{DbInstance}
 abbrev pub PathsDiffer : List DbInstance → Type 0
 PathsDiffer rows = AllPairs (λ a b. a.path ≢ b.path) rows
 
--- each path stands before the next one by its bytes
+-- the paths rise by their bytes
 abbrev pub PathsRise : List DbInstance → Type 0
 PathsRise rows = Rises (λ a b. bytes_cmp a.path b.path) rows

@@ -56,7 +56,7 @@ pub record AreSources (sources : List (List ℕ)) : Type 0 where
 abbrev pub row_of : Instance → DbInstance
 row_of i = record { path = i.path; «module» = i.module }
 
--- what stands for an instance that a table does not have
+-- in place of an instance that a table does not have
 abbrev pub no_row : DbInstance
 no_row = row_of no_instance
 

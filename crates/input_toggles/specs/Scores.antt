@@ -1,4 +1,4 @@
--- What a scorer stands for: a design under what a dump has said so far.
+-- What a scorer keeps: a design under what a dump has said so far.
 use Rattle.std.specs.Prelude.{◌≡◌, ◌-◌, ◌<◌, ◌≤◌, ◌↔◌, ℕ, Bool, true, false, IsTrue, IsSome, List, [], map, length, take, slice_index_or, All}
 use Rattle.std.specs.List.{list_any}
 use Rattle.coverage_db.specs.declared.db.Db.{Db}
@@ -39,7 +39,8 @@ pub record LacksValue (scorer : Scorer) (signal : ℕ) : Type 0 where
 -- the toggles are those of the code, whatever was said
 abbrev pub HasToggles : Tracks → Watched → Type 0
 HasToggles tracks w =
-    (entries : List Entry) → Follows tracks entries → IsTracked tracks w.code → (place : ℕ) (rise : Bool) → IsTrue (has_toggle w.toggles place rise) ↔ ToggledBy (value_so_far entries w.code) (count_of entries - 1) place rise
+    (entries : List Entry) → Follows tracks entries → IsTracked tracks w.code → (place : ℕ) (rise : Bool)
+    → IsTrue (has_toggle w.toggles place rise) ↔ ToggledBy (value_so_far entries w.code) (count_of entries - 1) place rise
 
 -- the signals with the codes and the toggles of the scorer
 pub record AreWatched (scorer : Scorer) (signals : List Signal) (watched : List Watched) : Type 0 where
@@ -50,4 +51,5 @@ pub record AreWatched (scorer : Scorer) (signals : List Signal) (watched : List 
 -- the table is that of the design under whatever was said
 abbrev pub IsScoreBy : Scorer → Design → List (List ℕ) → Db → Type 0
 IsScoreBy scorer design sources db =
-    (vars : List Var) (instance : List ℕ) (entries : List Entry) → Scores scorer design vars instance entries → AreRising (times_of (steps_of entries)) → IsToggleTable design (record { vars = vars; steps = steps_of entries }) sources instance db
+    (vars : List Var) (instance : List ℕ) (entries : List Entry) → Scores scorer design vars instance entries
+    → AreRising (times_of (steps_of entries)) → IsToggleTable design (record { vars = vars; steps = steps_of entries }) sources instance db

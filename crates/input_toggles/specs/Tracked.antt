@@ -26,23 +26,23 @@ count_of entries = length (open_steps entries)
 abbrev pub value_after : List DumpStep → ℕ → Option Vector
 value_after steps code = last_value code (flat_map (λ step. step.changes) steps)
 
--- the value of a code after so many of the steps so far
+-- the value of a code after this number of the steps so far
 abbrev pub value_so_far : List Entry → ℕ → ℕ → Option Vector
 value_so_far entries code count = value_after (take count (open_steps entries)) code
 
--- the bit toggles in a direction from one of so many steps to the next, where these are the values after each
+-- the bit toggles in a direction from one of this number of steps to the next, where these are the values after each
 pub record ToggledBy (values : ℕ → Option Vector) (count place : ℕ) (rise : Bool) : Type 0 where
   pub number : ℕ
   pub inside : number + 1 < count
   pub before : bit_at (values (number + 1)) place ≡ old_bit rise
   pub after : bit_at (values (number + 2)) place ≡ new_bit rise
 
--- the value and the toggles are those of so many steps
+-- the value and the toggles are those of this number of steps
 pub record StandsFor (values : ℕ → Option Vector) (count : ℕ) (value : Option Vector) (toggles : Toggles) : Type 0 where
   pub value_is : value ≡ values count
   pub toggles_are : (place : ℕ) (rise : Bool) → IsTrue (has_toggle toggles place rise) ↔ ToggledBy values count place rise
 
--- what is followed of a code stands for the steps before that of its last change, and has changed in no later one
+-- what is kept of a code accounts for the steps before that of its last change, and it has changed in no later step
 pub record IsTrack (values : ℕ → Option Vector) (count mark : ℕ) (track : Track) : Type 0 where
   pub none : values 0 ≡ None
   pub number : ℕ
@@ -52,7 +52,7 @@ pub record IsTrack (values : ℕ → Option Vector) (count mark : ℕ) (track : 
   pub earlier : number + 1 < count → track.mark < mark
   pub latest : number + 1 ≡ count → track.mark ≡ mark
 
--- what is followed of a code stands for all steps but the open one
+-- what is kept of a code accounts for all steps except the open one
 pub record IsClosed (values : ℕ → Option Vector) (count mark : ℕ) (track : Track) : Type 0 where
   pub none : values 0 ≡ None
   pub some : 1 ≤ count
@@ -82,7 +82,7 @@ abbrev pub IsMark : Option ℕ → ℕ → Type 0
 IsMark None mark = mark ≡ 0
 IsMark (Some last) mark = mark ≤ last
 
--- what is followed stands for what was said
+-- what is kept accounts for what was said
 pub record Follows (tracks : Tracks) (entries : List Entry) : Type 0 where
   pub last : tracks.last ≡ last_time None entries
   pub first : tracks.is_first ≡ nat_lt (count_of entries) 2

@@ -13,6 +13,6 @@ signals_of watched = map (λ w. w.signal.now) watched
 abbrev pub NamesDiffer : List Watched → Type 0
 NamesDiffer watched = AllPairs (λ a b. a.signal.now.name ≢ b.signal.now.name) watched
 
--- each name stands before the next one by its bytes
+-- the names rise by their bytes
 abbrev pub NamesRise : List Watched → Type 0
 NamesRise watched = Rises (λ a b. bytes_cmp a.signal.now.name b.signal.now.name) watched

@@ -28,7 +28,7 @@ pub(crate) fn bind(
     }
 }
 
-/// The codes of the first so many signals, each of which is bound.
+/// The codes of the first `count` signals, each of which is bound.
 fn codes_of(alloc: Global, binding: &Binding, count: u32) -> Result<Vec<u32>, NoMemory>
     requires { (s : ℕ) → s < count → IsSome (slice_index_or binding.now s None) }
     ensures { IfOk result (λ codes. (length codes.items ≡ count) × ((s : ℕ) → s < count → Some (slice_index_or codes.items s 0) ≡ slice_index_or binding.now s None)) }

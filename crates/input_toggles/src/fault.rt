@@ -4,5 +4,6 @@ use thiserror::Error;
 #[derive(Clone, Copy, Debug, PartialEq, Eq, Error)]
 #[error("signal {signal} has no first value")]
 pub struct NoBaseline {
+    /// The number of the signal in the design.
     pub signal: usize,
 }

@@ -23,7 +23,7 @@ pub(crate) fn rows_of(
     Ok(Sequence::from_vec(rows))
 }
 
-/// The rows of the instances, as these stand.
+/// The rows of the instances, as these are.
 fn rows_as_they_stand(alloc: Global, instances: &[Instance]) -> Result<Vec<DbInstance>, NoMemory>
     ensures { IfOk result (λ rows. rows.items ≡ map row_of instances.now) }
 {

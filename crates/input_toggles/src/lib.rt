@@ -1,5 +1,8 @@
-//! Scores a dump for a design of inputs alone while it is read: binds its signals, follows their values over the steps
-//! of the dump, and lists its toggle points with their verdicts.
+//! Scores a dump for a design made of inputs alone while the dump is read.
+//!
+//! A [`Scorer`] binds the signals of the design, takes the times and changes of the dump one by one, and gives the
+//! table of its toggle points with their verdicts. It is proved that the table lists exactly the toggle points and
+//! that each verdict says whether the dump shows the toggle. Only [`Scorer::new`] and [`Scorer::finish`] take memory.
 #![tactic(auto)]
 
 mod binding;

@@ -96,7 +96,7 @@ fn address_of(alloc: Global, signal: &Signal, index: u32, rise: bool) -> Result<
     })
 }
 
-/// How far above the lowest bit the bit with this index stands.
+/// How far the bit with this index is above the lowest bit.
 fn place_of(signal: &Signal, index: u32) -> u8
     requires input { IsInput signal.now }
     requires from_least { min signal.now.high signal.now.low ≤ index }

@@ -57,8 +57,8 @@ impl Scorer {
         self.tracks.change(code, value);
     }
 
-    /// Takes a time that is greater than the one before. At the second one each signal has to have a value; after a fault
-    /// the scorer is as before.
+    /// Takes a time that is greater than the one before. At the second one each signal has to have a value; after a
+    /// fault the scorer is as before.
     pub fn open_step(&mut self, time: u64) -> Result<(), NoBaseline>
         ensures ok { OnOk result ((design : SpecDesign) (vars : List SpecVar) (instance : List ℕ) (entries : List Entry) → Rises None (entries ++ entry.Time time ∷ [])
             → Scores self.old design vars instance entries → Scores self.new design vars instance (entries ++ entry.Time time ∷ [])) }
@@ -86,7 +86,8 @@ impl Scorer {
         Ok(())
     }
 
-    /// The database of the design, which was read from these files, under the dump that was told.
+    /// The database of the design, which was read from these files, under the dump whose times and changes it was
+    /// given.
     pub fn finish(
         &self,
         alloc: Global,

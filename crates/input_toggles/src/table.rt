@@ -31,7 +31,7 @@ pub(crate) fn table_of(
     table_in_order(alloc, design.top.as_slice(), sources, instances, &watched)
 }
 
-/// The database of a top module from these sources, with these instances and the points of the signals as they stand.
+/// The database of a top module from these sources, with these instances and the points of the signals as they are.
 fn table_in_order(
     alloc: Global,
     top: &[u8],

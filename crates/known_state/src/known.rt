@@ -92,7 +92,7 @@ impl Known {
         self.value.width()
     }
 
-    /// Whether the vector stands for a number in two's complement.
+    /// Whether the vector is a number in two's complement.
     pub fn is_signed(&self) -> bool
         ensures { result ≡ self.now.signed }
     {

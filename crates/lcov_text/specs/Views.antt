@@ -17,7 +17,7 @@ branch_view branch = record { module_name = branch.«module».now; number = bran
 abbrev pub trace_view : Traced → TracePoint
 trace_view point = record { at = point.at; branch = option_map branch_view point.branch; hit = point.is_hit }
 
--- a point behind a reference
+-- a point of a reference
 abbrev pub trace_behind : Bor Traced → TracePoint
 trace_behind point = trace_view point.now
 

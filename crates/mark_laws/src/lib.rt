@@ -1,4 +1,8 @@
-//! What the marks of points say of what a replay reports.
+//! Theorems that join the marks of points with the replay; there is no code.
+//!
+//! Where each thing that a replay reports is marked at the number of a point of which it is a key, the verdict by
+//! number is the verdict of the point in the sense of `replay_model` ([`verdict_law`]), and the visit of a spot of a
+//! process is that of its points ([`key_law`]).
 #![tactic(auto)]
 
 ghost use Rattle.std.specs.Prelude.{◌≡◌, ◌<◌, ℕ, List, Some, length};

@@ -15,7 +15,7 @@ pub struct Shape {
     pub last: u32,
     /// The number of bits of a word, from 1 to 128.
     pub width: u8,
-    /// Whether a word stands for a number in two's complement.
+    /// Whether a word is a number in two's complement.
     pub signed: bool,
     /// The thing to blame for what is not known of a word: the memory.
     pub blame: u32,

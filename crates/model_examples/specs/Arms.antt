@@ -50,7 +50,7 @@ in_run x bits = ((x ≡ a_signal 1) × (bits ≡ Zero ∷ [])) ⊎ ((x ≡ a_sig
 abbrev pub line : ℕ → Point
 line n = line_point 0 n (at 0) Assign
 
--- Lines of the other arms, and of the reset, are not open; those of the arm that matches are surely open up to the undecided test; what is behind that is open, and not surely.
+-- Lines of the other arms, and of the reset, are not open; those of the arm that matches are surely open up to the undecided test; what follows that is open, and not surely.
 pub record IsArmsExample : Type 0 where
   pub reset_not_open : IsOpen controller in_run (body_at controller 0) (line 2) → ⊥
   pub other_arm_not_open : IsOpen controller in_run (body_at controller 0) (line 5) → ⊥

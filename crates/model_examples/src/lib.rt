@@ -1,5 +1,7 @@
-//! Worked examples of the definitions of clear, doubt, open and reached: small designs with dumps, each as the contract
-//! of a function that does no work.
+//! Worked examples of the definitions of `design_model`: what is clear, in doubt, open and reached in small designs
+//! with dumps. There is no code: each function's contract states the facts of one example.
+//!
+//! `docs/DEFINITIONS.md` lists the examples, and says which definition each one shows.
 #![tactic(auto)]
 
 ghost use Rattle.model_examples.specs.Reset.{IsBothExample, IsReleaseExample, IsSteadyResetExample};
@@ -93,7 +95,8 @@ pub fn divided_clock()
     ensures { IsDividedExample }
 {}
 
-/// A reset that a register makes: as it stays, the clock alone wakes the block, once the register is known to be single.
+/// A reset that a register makes: as it stays, the clock alone wakes the block, once the register is known to be
+/// single.
 pub fn synchronised_reset()
     ensures { IsSyncedExample }
 {}
@@ -113,7 +116,8 @@ pub fn tested_bit()
     ensures { IsHoldBitExample }
 {}
 
-/// The same gate before a register, with an output that the dump lacks: clear from the step on, and known to the register.
+/// A gate whose two inputs move in one step, before a register: the dump lacks its output, which is clear from the step
+/// on and known to the register.
 pub fn settled_gate()
     ensures { IsSettlingExample }
 {}

@@ -1,4 +1,7 @@
-//! What holds of the modules that tokens of sources spell, and of the design that they stand for.
+//! Theorems that join the front end and elaboration; there is no code.
+//!
+//! The modules that sound tokens spell are as the definitions of elaboration take them, and their names are
+//! identifiers ([`parsed_law`]). So the flat design of sources that are accepted is lawful ([`lawful_sources_law`]).
 #![tactic(auto)]
 
 ghost use Rattle.std.specs.Prelude.{ℕ, ◌≡◌, List, [], Ok};
@@ -19,7 +22,7 @@ pub fn parsed_law()
     ensures names { (tokens : List Lexeme) (ms : List Module) → AreSound [] tokens → AreModules tokens ms → AreNamed ms }
 {}
 
-/// The flat design that the modules of sources stand for is lawful.
+/// The flat design of the modules of sources is lawful.
 pub fn lawful_sources_law()
     ensures { (tokens : List Lexeme) (ms : List Module) (top : List ℕ) (d : Design) → AreSound [] tokens → AreModules tokens ms → answer ms top ≡ Ok d → IsLawfulDesign d }
 {}

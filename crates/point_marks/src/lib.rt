@@ -1,4 +1,7 @@
-//! What is known of each coverage point: that it was hit, what left it open first, or nothing.
+//! A verdict for each coverage point by its number: that it was hit, what left it open first, or nothing.
+//!
+//! [`PointMarks::hit`] and [`PointMarks::doubt`] mark a point, and [`PointMarks::verdict`] is proved to give hit
+//! where it was marked so, else its first doubt, else missed. Only [`PointMarks::new`] takes memory.
 #![tactic(auto)]
 
 mod marks;

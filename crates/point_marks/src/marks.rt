@@ -22,7 +22,7 @@ impl Model for PointMarks {
 }
 
 impl PointMarks {
-    /// Marks of so many points, none of which is marked yet.
+    /// Marks of `count` points, none of which is marked yet.
     pub fn new(alloc: Global, count: u32) -> Result<Self, NoMemory>
         ensures verdicts { IfOk result (λ marks. marks ≡ replicate count Verdict.Missed) }
         ensures markings { IfOk result (IsMarked []) }
@@ -40,8 +40,8 @@ impl PointMarks {
         self.verdicts[point as usize] = Verdict::Hit;
     }
 
-    /// The thing left the point open at this time. A point that was hit stays hit, and the first doubt is kept. It takes
-    /// no memory.
+    /// The thing left the point open at this time. A point that was hit stays hit, and the first doubt is kept. It
+    /// takes no memory.
     pub fn doubt(&mut self, point: u32, thing: u32, time: u64)
         requires { point < length self.old }
         ensures verdicts { let doubt : Doubt = record { thing = thing; time = time } in self.new ≡ slice_set self.old point (with_doubt doubt (slice_index_or self.old point Verdict.Missed)) }

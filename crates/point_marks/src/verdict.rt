@@ -6,6 +6,7 @@ ghost use Rattle.point_marks.specs.Marking.{with_doubt};
 pub struct Doubt {
     /// The number of the signal or memory.
     pub thing: u32,
+    /// The time, in units of the dump.
     pub time: u64,
 }
 

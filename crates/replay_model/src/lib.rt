@@ -1,4 +1,11 @@
-//! The replay of a dump, as a pure function, and why its verdicts hold. Each function does no work: it carries laws.
+//! The replay of a dump as a function of what is known, of what may move and of what the dump says, and why its
+//! verdicts hold. There is no code: each function's contract states theorems, whose premises are named in
+//! `specs/Laws.antt`.
+//!
+//! After each step the settled values of every run that shows the dump are allowed, and what was reported to be hit
+//! is hit ([`sound_replay`]); a contradiction means that no run shows the dump ([`true_contradictions`]). So a hit is
+//! hit and a missed point is never hit, in every run that shows the dump ([`sound_verdicts`]), and an undetermined
+//! point has its doubt ([`reasoned_verdicts`]).
 #![tactic(auto)]
 
 ghost use Rattle.event_machine.specs.Habit.{Habit};

@@ -12,11 +12,11 @@ pub record ScopedName : Type 0 where
   pub scope : List ℕ
   pub name : List ℕ
 
--- the variable is in this scope under this name, has so many bits, and is of a kind that holds a value
+-- the variable is in this scope under this name, has this number of bits, and is of a kind that holds a value
 abbrev pub holds : ScopedName → ℕ → Var → Bool
 holds x width var = bytes_eq var.scope x.scope && bytes_eq var.name x.name && var.size == width && holds_value var.kind
 
--- the code of the first variable under this name that holds values of so many bits, if there is one
+-- the code of the first variable under this name that holds values of this number of bits, if there is one
 abbrev pub code_under : List Var → ℕ → ScopedName → Option ℕ
 code_under vars width x = option_map (λ var. var.code) (find (holds x width) vars)
 

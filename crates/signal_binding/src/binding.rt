@@ -101,7 +101,7 @@ fn add_aliases<'a>(design: &'a Design, table: &Table<'a>, codes: &mut [Option<u3
     }
 }
 
-/// Gives the signal of an alias the code under the alias, if it has none.
+/// Gives the signal of an alias the code under the alias, if it has no code.
 fn add_alias<'a>(design: &'a Design, table: &Table<'a>, codes: &mut [Option<u32>], alias: &'a Alias)
     requires { length codes.old ≡ length design.now.signals }
     ensures { (aliases : List SpecAlias) → AreCodesAmong table.now design.now aliases codes.old → AreCodesAmong table.now design.now (aliases ++ alias.now ∷ []) codes.new }

@@ -9,7 +9,7 @@ ghost use Rattle.vcd_reader.specs.declared.vars.Var.{Var};
 ghost use Rattle.signal_binding.specs.Binding.{code_of, codes_of};
 
 /// The binding depends on the header of a dump alone: it is the same for all that two texts say which begin with one
-/// header, whatever comes behind it.
+/// header, whatever comes after it.
 pub fn bound_by_header()
     ensures { (design : Design) (instance front rest other word : List ℕ) (b : Body) → Stands front (body b) word → (says also : Body) → SaysBody (front ++ rest) says → SaysBody (front ++ other) also
         → codes_of design also.vars instance ≡ codes_of design says.vars instance }

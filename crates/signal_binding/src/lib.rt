@@ -1,5 +1,10 @@
 //! Binds the signals of a design to the variables of a dump's header, so that the changes of a code are those of the
 //! signals that are bound to it.
+//!
+//! [`bind`] gives a [`Binding`], the code of each signal by its number, and is proved to give exactly that of
+//! `specs/Binding.antt`: the variable of the signal's width under the first of its names that has one. It refuses
+//! exactly where the instance is not in the dump or an input has no variable. [`bound_by_header`] states that a
+//! binding depends on the header alone.
 #![tactic(auto)]
 
 mod binding;

@@ -29,7 +29,7 @@ fn is_below(path: &[u8], outer: &[u8]) -> bool
     path.len() > outer.len() && &path[..outer.len()] == outer && path[outer.len()] == b'.'
 }
 
-/// What the path of the instance with this number has behind that of the top.
+/// What the path of the instance with this number has after that of the top.
 pub(crate) fn below_top(design: &Design, instance: u32) -> &[u8]
     ensures { result.now ≡ drop (length design.now.top) (slice_index_or design.now.instances instance no_instance).path }
 {
@@ -39,7 +39,7 @@ pub(crate) fn below_top(design: &Design, instance: u32) -> &[u8]
     }
 }
 
-/// The bytes without the first so many.
+/// The bytes without the first `count`.
 fn behind(bytes: &[u8], count: usize) -> &[u8]
     ensures { result.now ≡ drop count bytes.now }
 {
@@ -49,7 +49,7 @@ fn behind(bytes: &[u8], count: usize) -> &[u8]
     &bytes[count..]
 }
 
-/// What the bytes have behind these first ones, if they begin with them.
+/// What the bytes have after these first ones, if they begin with them.
 pub(crate) fn behind_front<'a>(bytes: &'a [u8], front: &[u8]) -> Option<&'a [u8]>
     ensures begins { IfSome result (λ rest. (below : List ℕ) → bytes_eq bytes.now (front.now ++ below) ≡ bytes_eq rest.now below) }
     ensures other { IfNone result ((below : List ℕ) → bytes_eq bytes.now (front.now ++ below) ≡ false) }

@@ -13,7 +13,7 @@ use vcd_reader::Var;
 /// A name in a scope below the instance, with a size.
 #[derive(Clone, Copy, PartialEq, Eq, Hash)]
 pub(crate) struct Key<'a> {
-    /// What the scope has behind the path of the instance.
+    /// What the scope has after the path of the instance.
     pub(crate) below: &'a [u8],
     pub(crate) name: &'a [u8],
     pub(crate) size: u32,

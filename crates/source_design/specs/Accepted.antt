@@ -1,4 +1,4 @@
--- Which sources are accepted, and the design that accepted sources stand for.
+-- Which sources are accepted, and the design of accepted sources.
 use Rattle.std.specs.Prelude.{◌≡◌, ℕ, List, Ok, Err}
 use Rattle.design_model.specs.View.{design_view}
 use Rattle.design_model.specs.declared.design.Design.{Design}

@@ -20,7 +20,7 @@ use Rattle.source_design.specs.declared.read.ReadDesign.{ReadDesign}
 abbrev pub HasSources : SourceValues → Outside → List SourceText → Type 0
 HasSources words before sources = AreSources before words.files words.folder words.defines sources
 
--- the design that the files of the words stand for, with the names of the sources
+-- the design of the files of the words, with the names of the sources
 pub record IsReadIn (words : SourceValues) (before : Outside) (read : ReadDesign) : Type 0 where
   pub sources : List SourceText
   pub gathered : HasSources words before sources
@@ -34,7 +34,7 @@ pub record HasBegun (words : SourceValues) (before : Outside) (sources : List So
   pub grow : Grow before words.folder words.defines roots sources
   pub within : AreWithinLimits sources
 
--- the file at the path does not fit behind the sources, under the name
+-- the file at the path does not fit after the sources, under the name
 pub record DoesNotFit (before : Outside) (path name : List ℕ) (sources : List SourceText) (refusal : SourceRefusal) : Type 0 where
   pub text : List ℕ
   pub is : IsFile before path text
@@ -43,7 +43,7 @@ pub record DoesNotFit (before : Outside) (path name : List ℕ) (sources : List 
   pub kind_is : refusal.kind ≡ kind.Lex lex_kind
   pub spot : refusal.spot ≡ None
 
--- a call gave nothing for a file of the words, behind those before it, which joined
+-- a call gave nothing for a file of the words, after those before it, which joined
 pub record HasRefusedRoot (words : SourceValues) (before after : Outside) (call : Call) (file : List ℕ) : Type 0 where
   pub front : List (List ℕ)
   pub others : List (List ℕ)
@@ -53,7 +53,7 @@ pub record HasRefusedRoot (words : SourceValues) (before after : Outside) (call 
   pub within : AreWithinLimits sources
   pub refused : IsRefusedCall before after file call
 
--- a file of the words does not fit behind those before it, which joined
+-- a file of the words does not fit after those before it, which joined
 pub record HasFullRoot (words : SourceValues) (before : Outside) (refusal : SourceRefusal) : Type 0 where
   pub front : List (List ℕ)
   pub file : List ℕ
@@ -64,7 +64,7 @@ pub record HasFullRoot (words : SourceValues) (before : Outside) (refusal : Sour
   pub within : AreWithinLimits sources
   pub not_fit : DoesNotFit before file file sources refusal
 
--- an included file does not fit behind the sources on the way, which lack it
+-- an included file does not fit after the sources on the way, which lack it
 pub record HasFullInclude (words : SourceValues) (before : Outside) (refusal : SourceRefusal) : Type 0 where
   pub sources : List SourceText
   pub name : List ℕ
@@ -72,7 +72,7 @@ pub record HasFullInclude (words : SourceValues) (before : Outside) (refusal : S
   pub lacks : Lacks sources words.defines name
   pub not_fit : DoesNotFit before (path_of words.folder name) name sources refusal
 
--- a fault of the lexer, of the parser or of elaboration stands in the sources on the way
+-- the sources on the way have a fault of the lexer, of the parser or of elaboration
 pub record HasRefused (words : SourceValues) (before : Outside) (refusal : SourceRefusal) : Type 0 where
   pub sources : List SourceText
   pub begun : HasBegun words before sources

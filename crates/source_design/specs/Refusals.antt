@@ -34,7 +34,7 @@ IsFoundAt sources defines top (kind.Const k) (Some place) None = AreFaulty sourc
 IsFoundAt sources defines top (kind.Elab k) place (Some name) = AreFaulty sources defines top (of_modules k place name)
 IsFoundAt sources defines top k place detail = ⊥
 
--- a fault, other than a missing file, stands in the sources with this top, at the place that the refusal tells
+-- the sources with this top have a fault, other than a missing file, at the place that is reported
 pub record AreRefused (sources : List SourceText) (defines : List DefineText) (top : List ℕ) (refusal : SourceRefusal) : Type 0 where
   pub place : Option Place
   pub found : IsFoundAt sources defines top refusal.kind place refusal.detail

@@ -24,7 +24,7 @@ use Rattle.source_design.specs.declared.fault.SourceKind.TheVariants as kind
 use Rattle.source_design.specs.declared.stage.Found.{Found}
 use Rattle.source_design.specs.declared.stage.Found.TheVariants as found
 
--- the sources stand for the design, or lack the file of the name
+-- the sources have the design, or the file of the name is missing
 abbrev pub IsFound : SourceValues → List SourceText → Found → Type 0
 IsFound words sources (found.Design design) = StandFor sources words.defines words.top design
 IsFound words sources (found.Lacking name) = Lacks sources words.defines name

@@ -21,16 +21,22 @@ pub enum SourceKind {
 /// A place in a source, by the source's name. Lines and columns are counted from 1, columns in bytes.
 #[derive(Debug, Drop)]
 pub struct SourceSpot {
+    /// The name of the source.
     pub file: Name,
+    /// The line, from 1.
     pub line: u32,
+    /// The column in bytes, from 1.
     pub column: u32,
 }
 
 /// Why sources are refused. The detail is a name or a form, and neither it nor the place is there for every kind.
 #[derive(Debug, Drop)]
 pub struct SourceRefusal {
+    /// What is wrong.
     pub kind: SourceKind,
+    /// The name or the form that the fault is about.
     pub detail: Option<Name>,
+    /// Where it is.
     pub spot: Option<SourceSpot>,
 }
 

@@ -21,11 +21,13 @@ use verilog_lexer::{LexKind, Sources};
 /// order of their first use.
 #[derive(Drop)]
 pub struct ReadDesign {
+    /// The flat design.
     pub design: Design,
+    /// The names of the sources, of which the first is number 1.
     pub sources: Sequence<Name>,
 }
 
-/// The design that the files of the words stand for. They are read in order, and then each included file that they are
+/// The design of the files of the words. They are read in order, and then each included file that they are
 /// found to lack, from the folder, by the name that its directive writes.
 pub fn read_design<'a, H: Host>(
     alloc: Global,

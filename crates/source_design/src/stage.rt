@@ -18,7 +18,7 @@ use verilog_parser::{ParseFault, parse};
 /// What sources give.
 #[derive(Drop)]
 pub(crate) enum Found {
-    /// The design that they stand for.
+    /// Their design.
     Design(Design),
     /// An included file of this name is not among them.
     Lacking(Name),

@@ -8,7 +8,7 @@ use Rattle.verilog_lexer.specs.Sources.{AreWithinLimits, SourceText}
 use Rattle.verilog_lexer.specs.declared.fault.LexFault.TheVariants as lex_fault
 use Rattle.verilog_lexer.specs.declared.fault.LexKind.TheVariants.{IncludeMissing}
 
--- the file has this text, where the host tells the files
+-- the file has this text, where the files of the host are known
 abbrev pub IsFile : Outside → List ℕ → List ℕ → Type 0
 IsFile outside name text = IfSome outside.files (λ files. files name ≡ Some text)
 
@@ -46,7 +46,8 @@ pub record AreLacking (before : Outside) (folder : Option (List ℕ)) (defines :
 -- included files that are lacking come to the sources one after the other
 pub data Grow (before : Outside) (folder : Option (List ℕ)) (defines : List DefineText) : List SourceText → List SourceText → Type 0 where
   end : {sources : List SourceText} → Grow before folder defines sources sources
-  more : {sources all : List SourceText} → (name text : List ℕ) → AreLacking before folder defines sources name text → Grow before folder defines (sources ++ included name text ∷ []) all → Grow before folder defines sources all
+  more : {sources all : List SourceText} → (name text : List ℕ) → AreLacking before folder defines sources name text
+      → Grow before folder defines (sources ++ included name text ∷ []) all → Grow before folder defines sources all
 
 -- the files that the words name, and the files that these include and so on, within the limits; no file is lacking
 pub record AreSources (before : Outside) (names : List (List ℕ)) (folder : Option (List ℕ)) (defines : List DefineText) (sources : List SourceText) : Type 0 where

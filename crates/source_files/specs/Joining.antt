@@ -11,7 +11,7 @@ use Rattle.source_files.specs.declared.fault.JoinFault.{JoinFault}
 use Rattle.source_files.specs.declared.fault.JoinFault.TheVariants as join_fault
 use Rattle.source_files.specs.declared.fault.RootFault.{RootFault}
 
--- the file at the path stands at the end of the sources, under the name
+-- the file at the path is at the end of the sources, under the name
 pub record Joins (before : Outside) (path name : List ℕ) (root : Bool) (old new : List SourceText) : Type 0 where
   pub text : List ℕ
   pub is : IsFile before path text
@@ -24,7 +24,7 @@ IsRefusedCall before after path OpenRead = IsCounted before.faults after.faults 
 IsRefusedCall before after path Read = IsCounted before.faults after.faults
 IsRefusedCall before after path call = ⊥
 
--- the file at the path does not fit behind the sources, under the name
+-- the file at the path does not fit after the sources, under the name
 abbrev pub DoesNotFit : Outside → List ℕ → List ℕ → List SourceText → JoinFault → Type 0
 DoesNotFit before path name sources (join_fault.Full kind detail) = (text : List ℕ) × IsFile before path text × (refusal_of sources name (length text) ≡ Some (lex_fault.At kind None detail))
 DoesNotFit before path name sources other = ⊥

@@ -27,6 +27,8 @@ impl From<AllocError> for JoinFault {
 /// The first file of the words that did not join the sources, and why.
 #[derive(Debug, Drop)]
 pub struct RootFault<'a> {
+    /// The name of the file.
     pub file: &'a str,
+    /// Why it did not join.
     pub fault: JoinFault,
 }

@@ -11,7 +11,7 @@ use cov_host::{Host, NoMemory};
 use std::alloc::Global;
 use verilog_lexer::Sources;
 
-/// The path of an included file: its name, behind the folder and a slash where there is a folder.
+/// The path of an included file: its name, after the folder and a slash where there is a folder.
 pub fn include_path(alloc: Global, folder: Option<&str>, name: &[u8]) -> Result<String, NoMemory>
     requires { IsTrue (is_file_name name.now) }
     ensures { IfOk result (λ path. string_bytes path ≡ path_of (option_copied folder.entry) name.now) }

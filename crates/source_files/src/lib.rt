@@ -1,4 +1,9 @@
-//! The files of a design: those that the words name, and those that they include.
+//! The files of a design: those that the words of a command name, and those that they include.
+//!
+//! [`read_roots`] reads the files of the words in order, and [`join_include`] reads and adds an included file, whose
+//! path [`include_path`] gives. Each file is proved to join the sources with its content, within the limits of
+//! `verilog_lexer`, or the first that does not join is reported with the reason. The functions of `laws` state that
+//! the name of a missing file is printable, and that the files of the words have one list of sources.
 #![tactic(auto)]
 
 mod fault;

@@ -5,7 +5,7 @@ use Rattle.design_model.specs.declared.design.Alias.{Alias}
 use Rattle.design_model.specs.declared.design.Constant.{Constant}
 use Rattle.design_model.specs.declared.design.Signal.{Signal}
 
--- what stands past the ends of the lists
+-- what is past the ends of the lists
 abbrev pub no_alias : Alias
 no_alias = record { instance = 0; name = []; signal = 0 }
 

@@ -43,10 +43,13 @@ impl Progress {
     }
 }
 
-/// The value of a term, and the blame of the first read of the run that was not wholly sure, after the term is evaluated.
+/// The value of a term, and the blame of the first read of the run that was not wholly sure, after the term is
+/// evaluated.
 #[derive(Clone, Copy, Debug, PartialEq, Eq)]
 pub struct Evaluated {
+    /// The value.
     pub value: Known,
+    /// The blame of the first read that was not wholly sure.
     pub first: Option<u32>,
 }
 
@@ -57,8 +60,8 @@ struct Joined {
     first: Option<u32>,
 }
 
-/// Evaluates a term of a body. The cases of the counted nodes and the words that are read are noted in order; in a branch
-/// of an undecided test each is a doubt by that test.
+/// Evaluates a term of a body. The cases of the counted nodes and the words that are read are noted in order; in a
+/// branch of an undecided test each is a doubt by that test.
 #[cycle(terms)]
 pub fn evaluate<R: Reads, N: Notes>(
     reads: &R,
@@ -110,8 +113,8 @@ pub fn evaluate<R: Reads, N: Notes>(
     }
 }
 
-/// How often a concatenation is repeated, by its evaluated count: at most as often as it fits, since one without bits may be
-/// repeated more often.
+/// How often a concatenation is repeated, by its evaluated count: at most as often as it fits, since one without bits
+/// may be repeated more often.
 fn whole_count(count: &Known) -> u8
     ensures { result ≡ min (natural (filled bits.Zero count.now.bits)) 128 }
 {

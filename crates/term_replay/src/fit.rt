@@ -25,7 +25,7 @@ pub fn fitted(value: &Known, head: TermHead) -> Known
     value.extend(head.width, head.signed)
 }
 
-/// The same of a value of which all bits are sure.
+/// The value of which all bits are sure at another width, extended by the sign of its term.
 fn whole_fitted(value: &Four, head: TermHead) -> Known
     requires { IsHead head }
     ensures { result ≡ whole_at head value.now.bits }
@@ -42,7 +42,7 @@ pub(crate) fn blank(head: TermHead) -> Known
     Known::whole(Four::fill(head.width, head.signed, Bit::Zero))
 }
 
-/// The same bits with this thing to blame where not all are sure.
+/// A value with its bits, and with this thing to blame where not all of them are sure.
 pub(crate) fn blamed(value: &Known, thing: u32) -> Known
     ensures bits { result.bits ≡ value.now.bits }
     ensures blame { is_whole result ≡ false → result.blame ≡ thing }

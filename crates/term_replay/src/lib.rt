@@ -1,5 +1,9 @@
-//! The terms of a body evaluated on values that are partly known, with the first read that was not wholly sure and the
-//! cases of their counted nodes. No memory is taken.
+//! The terms of a body evaluated on values of which only some bits are known.
+//!
+//! [`evaluate`] gives the value of a term over what a trait reads ([`Reads`]), with the blame of the first read of
+//! the run that was not wholly sure, and notes the words that are read and the cases of counted nodes ([`Notes`]).
+//! All three are proved to be those of the definition of a run in `body_replay`. Each form of a term is one function
+//! over the values of its operands. No call takes memory.
 #![tactic(auto)]
 
 mod answers;

@@ -44,7 +44,7 @@ pub trait Notes {
     /// table of verdicts says which verdicts these marks give.
     ghost noted: { List Mark → Self → Type 0 };
 
-    /// A spot is hit where `doubt` is none, else it may be hit, and this thing is to blame. It takes no memory.
+    /// A spot is hit where `doubt` is None, else it may be hit, and this thing is to blame. It takes no memory.
     fn note(&mut self, spot: Spot, doubt: Option<u32>)
         ensures { Adds noted self.old (mark_of spot doubt ∷ []) self.new };
 }

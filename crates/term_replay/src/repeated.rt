@@ -36,7 +36,7 @@ fn appended(high: &Known, low: &Known) -> Known
     Known::append(high, low)
 }
 
-/// So many copies of a value side by side.
+/// `count` copies of a value side by side.
 pub fn copies(value: &Known, count: u8) -> Known
     requires some { 1 ≤ count }
     requires room { length value.now.bits * count ≤ 128 }
@@ -51,7 +51,7 @@ pub fn copies(value: &Known, count: u8) -> Known
     all
 }
 
-/// So many copies of the joined values of a concatenation, at the shape of its term: 0 where there are no bits.
+/// `count` copies of the joined values of a concatenation, at the shape of its term: 0 where there are no bits.
 pub fn concat(all: Option<Known>, count: u8, head: TermHead) -> Known
     requires head { IsHead head }
     requires room { length (so_far all).bits * count ≤ 128 }

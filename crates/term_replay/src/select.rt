@@ -17,7 +17,7 @@ use design_model::{Form, Range, Term};
 use four_state::{Bit, Four};
 use known_state::Known;
 
-/// So many bits from this offset up, all x without an offset.
+/// `width` bits from this offset up, all x without an offset.
 fn selected(of: &Known, offset: Option<i64>, width: u8) -> Known
     requires at_least { 1 ≤ width }
     requires at_most { width ≤ 128 }
@@ -70,8 +70,8 @@ fn bits_between(high: &Four, low: &Four) -> u8
     (high.max(low) - high.min(low) + 1) as u8
 }
 
-/// The value of `of[base +: count]`, or where `up` is false of `of[base -: count]`, where `of` has this range. By a base
-/// that is not whole nothing is known.
+/// The value of `of[base +: count]`, or where `up` is false of `of[base -: count]`, where `of` has this range. By a
+/// base that is not whole nothing is known.
 pub fn slide(
     range: Range,
     base: &Known,
@@ -91,7 +91,7 @@ pub fn slide(
     Known::unknown(head.width, head.signed, base.blame())
 }
 
-/// The same by a base and a count that are whole: 0 where the count is.
+/// The value of an indexed part by a base and a count of which all bits are sure: 0 where the count is 0.
 fn whole_slide(
     range: Range,
     base: &Four,

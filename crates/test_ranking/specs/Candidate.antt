@@ -11,7 +11,7 @@ goes_before table added best = nat_lt best.added added || (added == best.added &
 abbrev pub better : Candidate → ℕ → ℕ → Candidate
 better best table added = if goes_before table added best then record { table = table; added = added } else best
 
--- the candidate is one of the tables, and none of the first so many goes before it
+-- the candidate is one of the tables, and none of the first ones, in this number, goes before it
 pub record IsBest (tables : List (List Bool)) (hit : List Bool) (count : ℕ) (best : Candidate) : Type 0 where
   pub listed : best.table < length tables
   pub added : best.added ≡ gain tables hit best.table

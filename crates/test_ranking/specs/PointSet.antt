@@ -1,7 +1,7 @@
 -- Sets of the points of a table: one mark for each point, in their order.
 use Rattle.std.specs.Prelude.{ℕ, Bool, false, not, ◌&&◌, ◌||◌, List, [], ◌∷◌, count_by, replicate, slice_index_or}
 
--- none of so many points
+-- the empty set of this number of points
 abbrev pub no_points : ℕ → List Bool
 no_points count = replicate count false
 

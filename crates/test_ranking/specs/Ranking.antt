@@ -45,16 +45,16 @@ abbrev pub places : ℕ → List ℕ
 places zero = []
 places (suc count) = places count ++ count ∷ []
 
--- the tables that are not used, of so many, in their order
+-- the tables that are not used, of this number of tables, in their order
 abbrev pub skipped_of : ℕ → List Use → List ℕ
 skipped_of count uses = filter (λ table. not (is_used uses table)) (places count)
 
--- a mark for each of so many tables, set where it is used
+-- a mark for each of this number of tables, set where it is used
 pub record AreMarked (count : ℕ) (uses : List Use) (marks : List Bool) : Type 0 where
   pub long : length marks ≡ count
   pub marked : (table : ℕ) → table < count → slice_index_or marks table false ≡ is_used uses table
 
--- the ranking of tables of so many points
+-- the ranking of tables of this number of points
 pub record IsRanking (points : ℕ) (tables : List (List Bool)) (ranking : Ranking) : Type 0 where
   pub used : AreUsed tables (no_points points) ranking.used
   pub skipped : ranking.skipped ≡ skipped_of (length tables) ranking.used

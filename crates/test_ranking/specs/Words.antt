@@ -6,17 +6,17 @@ use lib.Lanes.{mask_l}
 abbrev pub word_of : List Bool → ℕ
 word_of marks = mask_l marks
 
--- so many of the lowest bits
+-- this number of the lowest bits
 unfoldable pub bits : ℕ → ℕ → List Bool
 bits zero word = []
 bits (suc count) word = (word % 2 == 1) ∷ bits count (word / 2)
 
--- the marks of so many points
+-- the marks of this number of points
 unfoldable pub marks_of : ℕ → List ℕ → List Bool
 marks_of points [] = []
 marks_of points (word ∷ words) = bits (min 64 points) word ++ marks_of (points - 64) words
 
--- so many words of marks
+-- this number of words of marks
 unfoldable pub words_of : ℕ → List Bool → List ℕ
 words_of zero marks = []
 words_of (suc count) marks = word_of (take 64 marks) ∷ words_of count (drop 64 marks)

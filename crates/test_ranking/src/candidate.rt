@@ -42,7 +42,7 @@ impl Candidate {
         }
     }
 
-    /// Whether a table that adds so many points goes before this one.
+    /// Whether a table that adds `added` points goes before this one.
     fn yields_to(self, table: usize, added: u32) -> bool
         ensures { result ≡ goes_before table added self }
     {

@@ -27,7 +27,7 @@ impl Model for HitSet {
 }
 
 impl HitSet {
-    /// None of so many points.
+    /// A set of which none of `points` points is a member.
     pub fn none(alloc: Global, points: u32) -> Result<HitSet, NoMemory>
         ensures { IfOk result (λ set. set ≡ no_points points) }
     {
@@ -58,7 +58,7 @@ impl HitSet {
         self.points
     }
 
-    /// How many points another set adds to those of this one, which are so many.
+    /// The number of points that another set adds to those of this one, whose size is `total`.
     pub(crate) fn gain(&self, other: &HitSet, total: u32) -> u32
         requires same { length self.now ≡ length other.now }
         requires total { total ≡ size self.now }

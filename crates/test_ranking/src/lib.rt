@@ -1,5 +1,10 @@
-//! The order in which the tests behind databases of one design are worth running: each next one adds the most points
-//! that were not hit before.
+//! The order in which the tests of one design are worth running: each next one adds the most points that were not hit
+//! before.
+//!
+//! [`HitSet::of`] gives the hit points of a table, [`rank`] the ranking of several, and [`ranking_text`] its text. A
+//! ranking is proved to be exactly that of `specs/Ranking.antt`; [`ranking_laws`] states that tables have one
+//! ranking, that each used table adds a point and is used once, and that together they hit what the merge of all
+//! tables has hit.
 #![tactic(auto)]
 
 mod candidate;

@@ -6,7 +6,7 @@ ghost use Rattle.test_ranking.specs.Ranking.{IsNext, NoneAdds, gain};
 use crate::candidate::Candidate;
 use crate::{HitSet, Use};
 
-/// The next table to be used, where these points are hit, which are so many. The last count of each table is a bound of
+/// The next table to be used, where these points are hit, `total` in number. The last count of each table is a bound of
 /// what it adds, since what is added becomes less as more points are hit.
 pub(crate) fn next_table(
     tables: &[HitSet],

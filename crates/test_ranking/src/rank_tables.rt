@@ -7,8 +7,8 @@ use crate::{HitSet, Ranking};
 use cov_host::{NoMemory, Sequence};
 use std::alloc::Global;
 
-/// Ranks tables of so many points by the points that they have hit. A table is counted again only while it could be the
-/// next one by its last count.
+/// Ranks tables of `points` points by the points that they have hit. A table is counted again only while it could be
+/// the next one by its last count.
 pub fn rank(alloc: Global, tables: &[HitSet], points: u32) -> Result<Ranking, NoMemory>
     requires { All (λ set. length set ≡ points) tables.now }
     ensures { IfOk result (λ ranking. IsRanking points tables.now ranking) }

@@ -5,7 +5,7 @@ use crate::Use;
 use cov_host::{NoMemory, Sequence};
 use std::alloc::Global;
 
-/// The places of the tables that are not used, of so many, in their order.
+/// The places of the tables that are not used, of `count` tables, in their order.
 pub(crate) fn skipped_tables(
     alloc: Global,
     count: usize,
@@ -24,7 +24,7 @@ pub(crate) fn skipped_tables(
     Ok(skipped)
 }
 
-/// A mark for each of so many tables, set where it is used.
+/// A mark for each of `count` tables, set where it is used.
 fn mark_used(alloc: Global, count: usize, used: &[Use]) -> Result<Vec<bool>, NoMemory>
     requires { All (λ use_at. use_at.table < count) used.now }
     ensures { IfOk result (λ marks. AreMarked count used.now marks.items) }

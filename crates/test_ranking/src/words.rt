@@ -7,7 +7,7 @@ use cov_host::NoMemory;
 use coverage_db::{DbPoint, DbVerdict};
 use std::alloc::Global;
 
-/// A bit for each point, set where it is hit, in so many words.
+/// A bit for each point, set where it is hit, in `count` words.
 pub(crate) fn words_of(
     alloc: Global,
     points: &[DbPoint],

@@ -1,4 +1,7 @@
-//! The lawful designs of sources that are accepted, for tests and measurements.
+//! The lawful designs of sources, for tests and measurements.
+//!
+//! [`design_of`] lexes, parses and elaborates sources. It gives a design that is proved to be lawful, or None where
+//! the sources are refused or memory runs out.
 #![tactic(auto)]
 
 ghost use Rattle.std.specs.Prelude.{IfSome};
@@ -11,7 +14,7 @@ use std::alloc::Global;
 use verilog_lexer::{Defines, Sources, lex};
 use verilog_parser::parse;
 
-/// The design that sources stand for under a top, None where they are refused or memory runs out.
+/// The design of sources under a top, None where they are refused or memory runs out.
 pub fn design_of(alloc: Global, sources: &Sources, top: &str) -> Option<Design>
     ensures { IfSome result (λ design. IsLawfulDesign (design_view design)) }
 {

@@ -1,4 +1,7 @@
-//! The line points and the counted nodes of the processes of a design, as their texts have them.
+//! The line points and the counted nodes of one process, as its text gives them.
+//!
+//! [`push_lines`] appends the statements of a process, and [`push_nodes`] the cases of its counted nodes, in order of
+//! the text. Both are proved to append exactly the list of `specs/Lines.antt` and `specs/Nodes.antt`.
 #![tactic(auto)]
 
 mod lines;

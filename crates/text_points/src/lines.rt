@@ -1,5 +1,5 @@
 #![tactic(auto, using(crate::proofs::Joining::joined_lines))]
-//! The line points of statements, once for each time that a statement stands in the text with its loops unrolled.
+//! The line points of statements, once for each time that a statement occurs with its loops unrolled.
 
 ghost use Rattle.std.specs.Prelude.{◌≡◌, ◌++◌, ◌∷◌, [], OnOk, map};
 ghost use Rattle.design_model.specs.Numbered.{lines_of, lines, all_lines, arm_lines, line_at};

@@ -16,9 +16,13 @@ pub struct Owner {
 pub struct LinePoint {
     /// The number of its instance in the design.
     pub instance: u32,
+    /// The number of the line point in its module.
     pub line: u32,
+    /// The number of its process in the design.
     pub process: u32,
+    /// Of the first token of the statement.
     pub place: Place,
+    /// The kind of the statement.
     pub word: LineWord,
 }
 
@@ -27,10 +31,15 @@ pub struct LinePoint {
 pub struct NodePoint {
     /// The number of its instance in the design.
     pub instance: u32,
+    /// The number of the counted node in its module.
     pub node: u32,
+    /// The truths of its operands, or its own.
     pub case: NodeCase,
+    /// The number of its process in the design.
     pub process: u32,
+    /// Of the first token of the node.
     pub place: Place,
+    /// The operator of the node.
     pub operator: NodeOperator,
 }
 

@@ -13,7 +13,7 @@ use four_state::{Four, Index};
 /// An index that is as far from 0 is in no range, and a part of 128 bits from there does not reach one.
 const FAR: u128 = 1_099_511_627_776;
 
-/// The number that an index stands for, if no bit of it is x or z; one that is farther from 0 than `FAR` is cut.
+/// The number of an index, if no bit of it is x or z; one that is farther from 0 than `FAR` is cut.
 fn near_index(index: &Four) -> Option<i64>
     ensures { result ≡ near_option (index_value index.now.signed index.now.bits) }
 {
@@ -37,8 +37,8 @@ fn offset_in(range: Range, index: &Four) -> Option<i64>
     }
 }
 
-/// How far above the lowest bit of a range the bit with this index is, if no bit of the index is x or z. One that is too
-/// far from 0 for a part of 128 bits to reach the range is cut.
+/// How far above the lowest bit of a range the bit with this index is, if no bit of the index is x or z. One that is
+/// too far from 0 for a part of 128 bits to reach the range is cut.
 pub(crate) fn part_offset(range: Range, index: &Four) -> Option<i64>
     ensures { (qs ps : List (Option Bit)) → length qs ≤ 128 → length ps ≤ 128 → placed_bits qs ps result ≡ placed_bits qs ps (offset_option range (index_value index.now.signed index.now.bits)) }
 {

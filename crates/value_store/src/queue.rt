@@ -4,8 +4,8 @@ use cov_host::NoMemory;
 use std::alloc::Global;
 use std::marker::Model;
 
-/// Items in order, with room for so many, as the updates that nonblocking assignments queue (IEEE 1364-2001, clause 9.2.2).
-/// Only `new` takes memory.
+/// Items in order, with room for a fixed number, as the updates that nonblocking assignments queue (IEEE 1364-2001,
+/// clause 9.2.2). Only `new` takes memory.
 #[derive(Drop)]
 pub struct Queue<T> {
     items: Vec<T>,
@@ -24,7 +24,7 @@ impl<T> Model for Queue<T> {
 }
 
 impl<T> Queue<T> {
-    /// No items, with room for so many.
+    /// No items, with room for `room` items.
     pub fn new(alloc: Global, room: usize) -> Result<Self, NoMemory>
         ensures { IfOk result (λ queue. queue ≡ record { items = []; room = room }) }
     {

@@ -1,4 +1,4 @@
--- What reading answers: a value, or the fault that stands first.
+-- What reading answers: a value, or the fault that is first.
 use Rattle.std.specs.Prelude.{◌≡◌, ℕ, Bool, if◌then◌else◌, Option, Some, None, Result, Ok, Err}
 use Rattle.vcd_reader.specs.declared.fault.DumpKind.{DumpKind}
 use Rattle.vcd_reader.specs.declared.fault.DumpFault.{DumpFault}

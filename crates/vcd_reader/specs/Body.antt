@@ -1,4 +1,5 @@
 -- The body of a dump (IEEE 1364-2001 clauses 18.2.1 and 18.2.2): times, changes, and which word is a fault.
+-- Bytes are written as numbers: 35 number sign, 66 B, 82 R, 83 S, 98 b, 114 r, 115 s.
 use Rattle.std.specs.Prelude.{ℕ, ◌==◌, ◌^◌, nat_le, nat_lt, Bool, true, false, not, ◌&&◌, ◌||◌, bytes_eq, if◌then◌else◌, List, [], ◌∷◌, length, codes, Option, Some, None, Ok, Err}
 use Rattle.std.specs.List.{list_all}
 use Rattle.cov_host.specs.Decimal.{decimal_value}
@@ -55,7 +56,7 @@ abbrev pub new_time : Option ℕ → ℕ → Option Entry
 new_time None time = Some (entry.Time time)
 new_time (Some last) time = if time == last then None else Some (entry.Time time)
 
--- the digits of a time that stands here
+-- the digits of a time that begins here
 abbrev pub time_fault : Option ℕ → List ℕ → ℕ → Option DumpFault
 time_fault last word at =
     if not (is_decimal word) then Some (At BadChange at)
@@ -66,7 +67,7 @@ time_fault last word at =
 abbrev pub value_of : Bool → ℕ → ℕ → List ℕ → Option Entry
 value_of is_read number size word = if is_read && nat_le size 128 then Some (entry.Value number (record { bits = value_bits size word; signed = false })) else None
 
--- the change of a code, if there is one, to the digits of a word; where the change begins, and where its code stands
+-- the change of a code, if there is one, to the digits of a word; where the change begins, and where its code is
 abbrev pub change_of : Option Code → List ℕ → ℕ → ℕ → Answer (Option Entry)
 change_of None word first at = Err (At UnknownCode at)
 change_of (Some code) word first at = unless (fault_if (nat_lt code.size (length word)) VectorTooLong first) (value_of code.is_read code.number code.size word)
@@ -126,7 +127,7 @@ first_word table (byte ∷ bytes) at last =
     else if is_passed_letter byte then Ok (begins last passed)
     else dollar_word (byte ∷ bytes) at last
 
--- the digits of a word behind its letter
+-- the digits of a word after its letter
 abbrev pub behind_letter : List ℕ → List ℕ
 behind_letter [] = []
 behind_letter (letter ∷ word) = word

@@ -1,4 +1,4 @@
--- Where the reader of a body stands after a text.
+-- The state of the reader of a body after a text.
 use Rattle.std.specs.Prelude.{◌≡◌, ◌<◌, ◌≤◌, ℕ, ◌+◌, true, false, List, [], ◌∷◌, ◌++◌, length, take, Option, None, Some}
 use Rattle.std.specs.Option.{option_to_list}
 use Rattle.vcd_reader.specs.Reading.{Body, body}
@@ -33,7 +33,7 @@ pub record HasSaid (says : Option Entry) (b next : Body) : Type 0 where
   pub items : next.items ≡ b.items ++ option_to_list says
   pub vars : next.vars ≡ b.vars
 
--- the reader stands behind this text, which says so much more than the body
+-- the reader is after this text, which says this entry more than the body
 pub record SaysNext (says : Option Entry) (reader : BodyReader) (text : List ℕ) (b : Body) : Type 0 where
   pub next : Body
   pub stands : BodyStands reader text next
@@ -45,7 +45,7 @@ pub record EndsSaying (says : Option Entry) (text : List ℕ) (b : Body) : Type 
   pub ends : EndsAs text next
   pub said : HasSaid says b next
 
--- so many bytes of the next piece were used for an entry
+-- this number of bytes of the next piece was used for an entry
 pub record HasEntry (says : Entry) (used : ℕ) (reader : BodyReader) (text piece : List ℕ) (b : Body) : Type 0 where
   pub at_least : 1 ≤ used
   pub at_most : used ≤ length piece

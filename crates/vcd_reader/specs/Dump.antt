@@ -80,7 +80,7 @@ SaysBody text b = BeginsAs text b ⊎ EndsAs text b
 abbrev pub HasNoBody : List ℕ → Type 0
 HasNoBody text = (b : Body) → SaysBody text b → ⊥
 
--- the body has these variables and says this, and maybe more behind it
+-- the body has these variables and says this, and maybe more after it
 pub record GoesOn (b whole : Body) : Type 0 where
   pub vars : whole.vars ≡ b.vars
   pub more : List Entry

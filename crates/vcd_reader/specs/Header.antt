@@ -1,5 +1,6 @@
 -- The header of a dump (IEEE 1364-2001 clause 18.2.3): sections, what they declare, and which of their words is a fault.
 -- A section is a keyword, fields and `$end`, which always ends it.
+-- Bytes are written as numbers: 36 dollar sign, 46 dot, 91 open bracket; 33 to 126 are printable and no space.
 use Rattle.std.specs.Prelude.{ℕ, ◌-◌, ◌==◌, nat_le, nat_lt, Bool, false, not, ◌&&◌, bytes_eq, if◌then◌else◌, List, [], ◌∷◌, ◌++◌, take, length, codes, is_none, Option, Some, None, option_map}
 use Rattle.std.specs.List.{list_all, before_first, join_with_byte}
 use Rattle.std.specs.Char.{digit_value}
@@ -63,12 +64,12 @@ abbrev pub is_of_size : Option ℕ → ℕ → Bool
 is_of_size None number = false
 is_of_size (Some size) number = size == number
 
--- a code that has stood with another size
+-- a code that was declared with another size
 abbrev pub has_other_size : Option ℕ → Option ℕ → Bool
 has_other_size size None = false
 has_other_size size (Some known) = not (is_of_size size known)
 
--- the size that a code has stood with
+-- the size that a code was declared with
 abbrev pub size_in : List Code → List ℕ → Option ℕ
 size_in table text = option_map (λ code. code.size) (code_of table text)
 
@@ -79,13 +80,13 @@ code_fault table size word =
     else if nat_lt 8 (length word.bytes) then Some (At LongCode word.at)
     else fault_if (has_other_size size (size_in table word.bytes)) BadHeader word.at
 
--- the next field of a variable, behind these
+-- the next field of a variable, after these
 abbrev pub variable_fault : List Code → List (List ℕ) → Word → Option DumpFault
 variable_fault table (kind ∷ []) word = fault_if (is_none (size_of word.bytes)) BadHeader word.at
 variable_fault table (kind ∷ size ∷ []) word = code_fault table (size_of size) word
 variable_fault table _ word = None
 
--- The next field of a section, behind these: a scope has at most two, and one that opens none, or the last, has none.
+-- The next field of a section, after these: a scope has at most two, and one that opens none, or the last, has none.
 abbrev pub field_fault : List Code → Keyword → List (List ℕ) → Word → Option DumpFault
 field_fault table Scope fields word = fault_if (nat_le 2 (length fields)) BadHeader word.at
 field_fault table Upscope fields word = Some (At BadHeader word.at)
@@ -93,7 +94,7 @@ field_fault table Variable fields word = variable_fault table fields word
 field_fault table EndDefinitions fields word = Some (At BadHeader word.at)
 field_fault table Passed fields word = None
 
--- the end of a section behind so many fields: a scope has one at least, a variable four
+-- the end of a section after this number of fields: a scope has one at least, a variable four
 abbrev pub end_fault : Keyword → ℕ → ℕ → Option DumpFault
 end_fault Scope count at = fault_if (count == 0) BadHeader at
 end_fault Variable count at = fault_if (nat_lt count 4) BadHeader at

@@ -1,4 +1,5 @@
--- What the parts of the code stand for: the bytes of a word of which a few numbers are kept.
+-- What the parts of the code keep: the bytes of a word of which a few numbers are kept.
+-- Bytes are written as numbers: 35 number sign, 66 B, 98 b.
 use Rattle.std.specs.Prelude.{◌≡◌, ◌≤◌, ℕ, ◌^◌, min, nat_lt, Bool, true, false, ◌⊎◌, if◌then◌else◌, List, [], ◌∷◌, length, take, Result, Ok, Err}
 use Rattle.std.specs.List.{list_all}
 use Rattle.std.specs.Char.{digit_value}

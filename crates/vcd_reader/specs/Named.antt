@@ -1,4 +1,4 @@
--- Faults that stand in a text.
+-- Faults of a text.
 use Rattle.vcd_reader.specs.declared.fault.DumpFault.{DumpFault}
 use Rattle.vcd_reader.specs.declared.fault.DumpFault.TheVariants.{NoMemory, At}
 

@@ -33,7 +33,7 @@ HasFailed h fault = h.fault ≡ Some fault
 abbrev pub header_at_end : Header → Bool
 header_at_end h = is_at_end h.reader.progress
 
--- what the next piece came to: it is not empty, and is used up, or the header is done behind so many of its bytes
+-- what the next piece came to: it is not empty, and is used up, or the header is done after some of its bytes
 abbrev pub Feeds : Fed → Header → List ℕ → List ℕ → Type 0
 Feeds fed_row.More h text piece = (0 < length piece) × HasRead h (text ++ piece)
 Feeds (fed_row.Done used) h text piece = (used ≤ length piece) × (header_at_end h ≡ true → piece ≡ []) × IsRead h (text ++ take used piece)

@@ -1,4 +1,4 @@
--- Where a code stands in the order of all codes: a table by numbers says it of short codes, a sorted one of all others.
+-- The place of a code in the order of all codes: a table by numbers has it for short codes, a sorted one for all others.
 use Rattle.std.specs.Prelude.{◌≡◌, ℕ, suc, ◌+◌, ◌-◌, ◌*◌, Bool, false, bytes_eq, if◌then◌else◌, List, [], ◌∷◌, slice_index_or, Option, Some, None, option_map}
 use Rattle.std.specs.List.{list_all}
 use Rattle.std.specs.Global.{Vec}
@@ -27,11 +27,11 @@ place_at table number = slice_index_or table number None
 abbrev pub place_under : List (Vec ℕ × ℕ) → List ℕ → Option ℕ
 place_under entries text = lookup (λ key. is_eq (slice_cmp nat_cmp text key.items)) entries
 
--- where the code of these bytes stands
+-- the place of the code of these bytes
 abbrev pub place_in : Places → List ℕ → Option ℕ
 place_in places text = if is_short text then place_at places.short.items (code_number text) else place_under places.long.entries text
 
--- where the first code of these bytes stands in a list
+-- the place of the first code of these bytes in a list
 abbrev pub place_of : List Code → List ℕ → Option ℕ
 place_of [] text = None
 place_of (code ∷ codes) text = if bytes_eq text code.text then Some 0 else option_map suc (place_of codes text)

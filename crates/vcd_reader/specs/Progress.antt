@@ -11,7 +11,7 @@ abbrev pub is_at_end : Progress → Bool
 is_at_end AtEnd = true
 is_at_end _ = false
 
--- how many bytes were read at most: the white space behind a header is one more than its limit
+-- the greatest number of bytes that were read: the white space after a header is one more than its limit
 abbrev pub longest_of : Progress → ℕ
 longest_of Going = 67108864
 longest_of _ = 67108865

@@ -59,7 +59,7 @@ abbrev pub last_word : HeaderReading → ℕ → List ℕ → Answer (Bool × He
 last_word reading end [] = Ok (false, reading)
 last_word reading end (byte ∷ bytes) = header_word reading (record { at = end - length (byte ∷ bytes); bytes = byte ∷ bytes })
 
--- a dump in its body: the header's variables and codes, the times and changes so far, and where reading stands
+-- a dump in its body: the header's variables and codes, the times and changes so far, and what reading is in the middle of
 pub record Body : Type 0 where
   pub vars : List Var
   pub codes : List Code
@@ -72,7 +72,7 @@ pub data Meaning : Type 0 where
   body : Body → Meaning
   fault : DumpFault → Meaning
 
--- behind the last word of the header
+-- after the last word of the header
 abbrev pub body_after : Declared → Body
 body_after declared = record { vars = declared.vars; codes = declared.codes; items = []; reading = record { last = None; begun = nothing } }
 
@@ -90,7 +90,7 @@ room_of (header reading) = 67108864
 room_of (body b) = 1099511627776
 room_of (fault f) = 0
 
--- the fault that stands where there is no more room
+-- the fault where there is no more room
 abbrev pub stop_of : Meaning → DumpFault
 stop_of (header reading) = At HeaderTooLong 67108864
 stop_of (body b) = At DumpTooLong 1099511627776
@@ -106,7 +106,7 @@ reading_on (fault f) word = fault f
 abbrev pub with_word : Meaning → Word → Meaning
 with_word means word = if nat_lt (room_of means) (word.at + length word.bytes) then fault (stop_of means) else reading_on means word
 
--- words behind what has a meaning
+-- words after what has a meaning
 abbrev pub meaning_after : Meaning → List Word → Meaning
 meaning_after before [] = before
 meaning_after before (word ∷ words) = meaning_after (with_word before word) words

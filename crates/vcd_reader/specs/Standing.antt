@@ -1,4 +1,4 @@
--- Where the reader of a header stands after a text.
+-- The state of the reader of a header after a text.
 use Rattle.std.specs.Prelude.{◌≡◌, ◌<◌, ◌≤◌, ℕ, true, false, List, [], ◌∷◌, ◌++◌, length, take}
 use Rattle.vcd_reader.specs.Reading.{header, body, body_after}
 use Rattle.vcd_reader.specs.Dump.{HasNoBody}
@@ -24,7 +24,7 @@ pub record HeaderStands (reader : HeaderReader) (text : List ℕ) : Type 0 where
   pub at : reader.at ≡ length text
   pub means : HeaderMeans reader.progress reader text
 
--- the fault stands in the header of the text, if it is not want of memory
+-- the header of the text has the fault, if it is not want of memory
 abbrev pub IsFoundFault : List ℕ → DumpFault → Type 0
 IsFoundFault text dump_fault.NoMemory = Unit {0}
 IsFoundFault text (dump_fault.At kind byte) = HasFault text (dump_fault.At kind byte) × HasNoBody text
@@ -45,7 +45,7 @@ pub record HasMore (reader : HeaderReader) (text piece : List ℕ) : Type 0 wher
   pub goes_on : is_going reader.progress ≡ true
   pub stands : HeaderStands reader (text ++ piece)
 
--- so many bytes of the next piece were used, and the header is done, at the end of the input only where the piece is empty
+-- this number of bytes of the next piece was used, and the header is done, at the end of the input only where the piece is empty
 pub record IsDone (used : ℕ) (reader : HeaderReader) (text piece : List ℕ) : Type 0 where
   pub within : used ≤ length piece
   pub done : is_going reader.progress ≡ false

@@ -1,4 +1,4 @@
--- What a text means so far, and where its first fault stands, in whatever pieces it comes.
+-- What a text means so far, and where its first fault is, in whatever pieces it comes.
 use Rattle.std.specs.Prelude.{◌≡◌, ◌≤◌, ℕ, ◌-◌, Bool, true, false, not, ◌&&◌, ◌||◌, List, [], ◌∷◌, ◌++◌, length}
 use Rattle.vcd_reader.specs.Words.{Word, words_of, is_white_space, IsWhole, IsBlack}
 use Rattle.vcd_reader.specs.Values.{is_digit}
@@ -17,7 +17,7 @@ pub record Stands (text : List ℕ) (means : Meaning) (word : List ℕ) : Type 0
   pub meaning : meaning_of (words_of front) ≡ means
   pub within : length text ≤ room_of means
 
--- a word that stands here, if there is one
+-- a word that begins here, if there is one
 abbrev pub word_at : ℕ → List ℕ → List Word
 word_at at [] = []
 word_at at (byte ∷ bytes) = record { at = at; bytes = byte ∷ bytes } ∷ []
@@ -26,7 +26,7 @@ word_at at (byte ∷ bytes) = record { at = at; bytes = byte ∷ bytes } ∷ []
 abbrev pub after : Meaning → ℕ → List ℕ → Meaning
 after means end word = meaning_after means (word_at (end - length word) word)
 
--- the first fault of a text, whatever comes behind it
+-- the first fault of a text, whatever comes after it
 pub data HasFault : List ℕ → DumpFault → Type 0 where
   -- white space ends a word, if there is one, and leaves no room
   behind_a_word : (text word rest : List ℕ) (means next : Meaning) (space : ℕ) → Stands text means word → is_white_space space ≡ true
@@ -57,7 +57,7 @@ is_open (header reading) = true
 is_open (body b) = has_begun b.reading.begun
 is_open (fault f) = false
 
--- the first fault of a text that ends, where none stands before its last word
+-- the first fault of a text that ends, where there is none before its last word
 pub data EndsWithFault : List ℕ → DumpFault → Type 0 where
   in_the_last_word : (text word : List ℕ) (means : Meaning) (f : DumpFault) → Stands text means word → is_alone means word ≡ false
       → after means (length text) word ≡ fault f → EndsWithFault text f

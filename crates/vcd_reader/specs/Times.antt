@@ -14,7 +14,7 @@ Rises last [] = Unit {0}
 Rises last (Time time ∷ entries) = IsLater last time × Rises (Some time) entries
 Rises last (Value code value ∷ entries) = Rises last entries
 
--- the last time behind entries, where this one stood before them
+-- the last time after entries, where this one was before them
 abbrev pub last_time : Option ℕ → List Entry → Option ℕ
 last_time last [] = last
 last_time last (Time time ∷ entries) = last_time (Some time) entries

@@ -1,4 +1,5 @@
 -- The digits of a value (IEEE 1364-2001 clause 18.2.2).
+-- Bytes are written as numbers: 48 0, 49 1, 88 X, 90 Z, 120 x, 122 z.
 use Rattle.std.specs.Prelude.{ℕ, ◌-◌, ◌==◌, Bool, ◌||◌, if◌then◌else◌, List, ◌++◌, map, reverse, length}
 use Rattle.four_state.specs.declared.Bit.{Bit}
 use Rattle.four_state.specs.declared.Bit.TheVariants.{Zero, One, X, Z}

@@ -1,4 +1,5 @@
 -- The words of a text, which white space separates.
+-- Bytes are written as numbers: 32 space; 9 to 13 are white space too.
 use Rattle.std.specs.Prelude.{◌≡◌, ℕ, ◌+◌, ◌==◌, nat_le, Bool, true, not, ◌||◌, ◌&&◌, if◌then◌else◌, List, [], ◌∷◌}
 use Rattle.std.specs.List.{list_all}
 

@@ -28,7 +28,7 @@ pub(crate) struct BodyReader {
     pub(crate) reading: Reading,
     /// The word that may go on.
     pub(crate) word: Word,
-    /// Where that word stands.
+    /// The byte at which that word begins.
     pub(crate) word_at: u64,
     /// Whether the input has ended.
     pub(crate) is_at_end: bool,
@@ -38,7 +38,7 @@ pub(crate) struct BodyReader {
 impl BodyReader {
     ghost use Rattle.vcd_reader.specs.BodyStanding.{BodyStands, BodyEnded, SaysNext, HasStepped, EndsSaying, StepsOn, IsFaultAt};
 
-    /// The body behind a header of so many bytes.
+    /// The body after a header of `at` bytes.
     pub(crate) fn new(codes: Codes, at: u64, is_at_end: bool) -> Self
         requires { at ≤ 67108865 }
         ensures at_end { result.is_at_end ≡ is_at_end }

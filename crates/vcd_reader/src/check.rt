@@ -31,7 +31,7 @@ pub(crate) fn fault_if(test: bool, kind: DumpKind, at: u64) -> Result<(), DumpFa
     }
 }
 
-/// The section that a word opens where so many scopes are open.
+/// The section that a word opens where `depth` scopes are open.
 pub(crate) fn opening(word: &[u8], at: u64, depth: usize) -> Result<Keyword, DumpFault>
     ensures ok { IfOk result (λ keyword. keyword_of word.now ≡ Some keyword) }
     ensures fits { IfOk result (λ keyword. keyword_fault depth (keyword_of word.now) at ≡ None) }
@@ -44,7 +44,7 @@ pub(crate) fn opening(word: &[u8], at: u64, depth: usize) -> Result<Keyword, Dum
     Ok(keyword)
 }
 
-/// Whether a section can begin where so many scopes are open.
+/// Whether a section can begin where `depth` scopes are open.
 fn check_depth(keyword: Keyword, at: u64, depth: usize) -> Result<(), DumpFault>
     ensures { result ≡ unless (keyword_fault depth (Some keyword) at) tt }
 {
@@ -55,7 +55,7 @@ fn check_depth(keyword: Keyword, at: u64, depth: usize) -> Result<(), DumpFault>
     }
 }
 
-/// Whether a section can end behind so many fields.
+/// Whether a section can end after `count` fields.
 pub(crate) fn check_end(keyword: Keyword, count: usize, at: u64) -> Result<(), DumpFault>
     ensures { result ≡ unless (end_fault keyword count at) tt }
 {
@@ -66,7 +66,7 @@ pub(crate) fn check_end(keyword: Keyword, count: usize, at: u64) -> Result<(), D
     }
 }
 
-/// Whether a word can be the next field of a section, behind these.
+/// Whether a word can be the next field of a section, after these.
 pub(crate) fn check_field(
     codes: &Codes,
     keyword: Keyword,
@@ -84,7 +84,7 @@ pub(crate) fn check_field(
     }
 }
 
-/// Whether a word can be the next field of a variable, behind these.
+/// Whether a word can be the next field of a variable, after these.
 fn check_variable(codes: &Codes, fields: &[Name], word: &[u8], at: u64) -> Result<(), DumpFault>
     ensures { result ≡ unless (variable_fault codes.now fields.now (record { at = at; bytes = word.now })) tt }
 {
@@ -113,7 +113,7 @@ fn check_code(codes: &Codes, size: Option<u32>, word: &[u8], at: u64) -> Result<
     )
 }
 
-/// Whether a code has stood with another size.
+/// Whether a code was declared with another size.
 fn has_other_size(size: Option<u32>, known: Option<u32>) -> bool
     ensures { result ≡ has_other_size size known }
 {

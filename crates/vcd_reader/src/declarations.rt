@@ -164,7 +164,7 @@ fn before_range(reference: &[u8]) -> &[u8]
     name
 }
 
-/// How many bytes stand before the first `[`.
+/// The number of bytes before the first `[`.
 fn name_len(reference: &[u8]) -> usize
     ensures length { result ≡ prefix_len (λ byte. not (byte == 91)) reference.now }
     ensures within { result ≤ length reference.now }

@@ -36,7 +36,7 @@ const DUMP_OFF: &[u8] = b"$dumpoff";
 
 const COMMENT: &[u8] = b"$comment";
 
-/// Reads the next word, which stands at this byte. No word says nothing.
+/// Reads the next word, which begins at this byte. Where there is no word, nothing is said.
 pub(crate) fn read_word(
     codes: &Codes,
     reading: Reading,
@@ -177,7 +177,7 @@ fn read_long(reading: Reading, first: u8, at: u64) -> Result<Said, DumpFault>
     }
 }
 
-/// The same where nothing has begun.
+/// Reads a word of more than 8 bytes that begins with this byte, where nothing has begun.
 fn read_long_first(first: u8, at: u64, last: Option<u64>) -> Result<Said, DumpFault>
     ensures { (table : List SpecCode) (bytes : List ℕ) → is_marker first ≡ false → 8 < length bytes → Gives result (first_word table (first ∷ bytes) at last) }
 {
@@ -238,7 +238,7 @@ fn is_passed_letter(byte: u8) -> bool
     matches!(byte, b'r' | b'R' | b's' | b'S')
 }
 
-/// A change to a digit of the code that stands directly behind it.
+/// A change to a digit of the code that follows it directly.
 fn read_scalar(codes: &Codes, digit: u8, code: &[u8], at: u64) -> Result<Option<Entry>, DumpFault>
     ensures { result ≡ scalar codes.now digit code.now at }
 {

@@ -45,7 +45,7 @@ impl DumpKind {
     }
 }
 
-/// Why a dump was not read. The byte is the offset in the dump at which the fault stands.
+/// Why a dump was not read. The byte is the offset of the fault in the dump, from 0.
 #[derive(Clone, Copy, Debug, PartialEq, Eq, Error)]
 pub enum DumpFault {
     #[error("memory ran out")]
@@ -55,7 +55,7 @@ pub enum DumpFault {
 }
 
 impl DumpFault {
-    /// A fault that stands at this byte.
+    /// A fault at this byte.
     pub(crate) fn at(kind: DumpKind, byte: u64) -> Self
         ensures { result ≡ dump_fault.At kind byte }
     {

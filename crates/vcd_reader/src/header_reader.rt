@@ -134,7 +134,7 @@ impl HeaderReader {
     }
 }
 
-/// Whether a header goes on behind its last word or not.
+/// Whether a header goes on after its last word or not.
 fn progress(is_last: bool) -> Progress
     ensures { result ≡ (if is_last then Progress.Done else Progress.Going) }
 {

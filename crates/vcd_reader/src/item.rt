@@ -5,7 +5,7 @@ use four_state::Four;
 pub enum Fed {
     /// The piece is used up.
     More,
-    /// The header ends behind so many bytes of the piece.
+    /// The header ends after `used` bytes of the piece.
     Done { used: usize },
 }
 
@@ -26,6 +26,8 @@ pub enum Item {
 /// What the body says next, and how many bytes of the piece were used for it.
 #[derive(Clone, Copy, PartialEq, Eq)]
 pub struct Step {
+    /// What the body says.
     pub item: Item,
+    /// The number of bytes of the piece that were used.
     pub used: usize,
 }

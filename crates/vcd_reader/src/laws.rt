@@ -31,7 +31,7 @@ pub fn example_dump()
     ensures { EndsAs example_text example_body }
 {}
 
-/// A dump has the variables that the text says at a place behind its header, and says first what the text says there.
+/// A dump has the variables that the text says at a place after its header, and begins with what the text says there.
 pub fn dump_goes_on()
     ensures { (text : List ℕ) (b whole : Body) → SaysBody text b → EndsAs text whole → GoesOn b whole }
 {}

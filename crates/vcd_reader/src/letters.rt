@@ -18,7 +18,7 @@ pub(crate) fn is_digit(byte: u8) -> bool
     matches!(byte, b'0' | b'1' | b'x' | b'X' | b'z' | b'Z')
 }
 
-/// Whether each byte can stand in a code (IEEE 1364-2001 clause 18.2.1).
+/// Whether each byte can be a part of a code (IEEE 1364-2001 clause 18.2.1).
 pub(crate) fn are_printable(word: &[u8]) -> bool
     ensures { result ≡ list_all is_printable word.now }
 {

@@ -1,7 +1,17 @@
 //! Reads a value change dump (IEEE 1364-2001 clause 18) in pieces that may end anywhere.
 //!
-//! A [`Header`] is fed until it is done and gives the variables and the [`Body`], which gives times and changes one
-//! by one and takes no memory.
+//! A [`Header`] is fed until it is done. It gives the variables and the [`Body`], which gives times and changes one
+//! by one and takes no memory. Wherever the pieces end, what was given so far is proved to be what the text so far
+//! means (`specs/Dump.antt`); a fault is the first one of the text, with its byte, or want of memory, and every later
+//! call answers it again. The functions of `laws` state that a text means one thing, has one header and one first
+//! fault, and that times rise. An empty piece is the end of the input.
+//!
+//! ```text
+//! let mut header = Header::new(alloc);
+//! let Fed::Done { used } = header.feed(piece)? else { .. }; // More: read the next piece and feed it
+//! let (vars, mut body) = header.split();                    // the scope, name, size and code of each variable
+//! let step = body.next(rest)?;                              // a time, a change of a code, or: give the next piece
+//! ```
 #![tactic(auto)]
 
 mod body;

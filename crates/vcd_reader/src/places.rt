@@ -6,10 +6,10 @@ use cov_host::NoMemory;
 use std::alloc::Global;
 use std::collections::BTreeMap;
 
-/// How many bytes can stand in a code.
+/// The greatest number of bytes of a code.
 const PRINTABLE: usize = 94;
 
-/// Where each code stands in the order of all codes. A short code, of one to three bytes, is found at its number, any
+/// The place of each code in the order of all codes. A short code, of one to three bytes, is found at its number, any
 /// other by its bytes.
 #[derive(Drop)]
 pub(crate) struct Places {
@@ -30,7 +30,7 @@ impl Places {
         }
     }
 
-    /// Where the code of these bytes stands.
+    /// The place of the code of these bytes.
     pub(crate) fn get(&self, bytes: &[u8]) -> Option<u32>
         ensures { result ≡ place_in self.now bytes.now }
     {
@@ -40,7 +40,7 @@ impl Places {
         }
     }
 
-    /// Sets where the code of these bytes stands. An `Err` changes nothing.
+    /// Sets the place of the code of these bytes. An `Err` changes nothing.
     pub(crate) fn set(&mut self, alloc: Global, bytes: &[u8], place: u32) -> Result<(), NoMemory>
         ensures set { OnOk result ((text : List ℕ) → place_in self.new text ≡ (if bytes_eq text bytes.now then Some place else place_in self.old text)) }
         ensures same { OnErr result ((text : List ℕ) → place_in self.new text ≡ place_in self.old text) }
@@ -79,7 +79,7 @@ fn digit(byte: u8) -> usize
     usize::from(byte.saturating_sub(32))
 }
 
-/// Where the short code of this number stands.
+/// The place of the short code of this number.
 fn get_short(table: &[Option<u32>], number: usize) -> Option<u32>
     ensures { result ≡ place_at table.now number }
 {
@@ -89,14 +89,14 @@ fn get_short(table: &[Option<u32>], number: usize) -> Option<u32>
     }
 }
 
-/// Where the code of these bytes stands.
+/// The place of the code of these bytes.
 fn get_long(table: &BTreeMap<Vec<u8>, u32>, bytes: &[u8]) -> Option<u32>
     ensures { result ≡ place_under table.now.entries bytes.now }
 {
     table.get(bytes).copied()
 }
 
-/// Sets where the short code of this number stands. An `Err` changes nothing.
+/// Sets the place of the short code of this number. An `Err` changes nothing.
 fn set_short(table: &mut Vec<Option<u32>>, number: usize, place: u32) -> Result<(), NoMemory>
     requires { number < 2 ^ 32 }
     ensures set { OnOk result ((other : ℕ) → place_at table.new.items other ≡ (if other == number then Some place else place_at table.old.items other)) }
@@ -107,7 +107,7 @@ fn set_short(table: &mut Vec<Option<u32>>, number: usize, place: u32) -> Result<
     Ok(())
 }
 
-/// Room for so many numbers, of which the new ones have no place. An `Err` changes nothing.
+/// Makes room for `count` numbers, of which the new ones have no place. An `Err` changes nothing.
 fn make_room(table: &mut Vec<Option<u32>>, count: usize) -> Result<(), NoMemory>
     ensures room { OnOk result (count ≤ length table.new.items) }
     ensures kept { OnOk result ((number : ℕ) → place_at table.new.items number ≡ place_at table.old.items number) }
@@ -119,7 +119,7 @@ fn make_room(table: &mut Vec<Option<u32>>, count: usize) -> Result<(), NoMemory>
     Ok(())
 }
 
-/// Sets where the code of a key's bytes stands. An `Err` changes nothing.
+/// Sets the place of the code of a key's bytes. An `Err` changes nothing.
 fn set_long(table: &mut BTreeMap<Vec<u8>, u32>, key: Vec<u8>, place: u32) -> Result<(), NoMemory>
     ensures set { OnOk result ((text : List ℕ) → place_under table.new.entries text ≡ (if bytes_eq text key.items then Some place else place_under table.old.entries text)) }
     ensures same { OnErr result (table.new.entries ≡ table.old.entries) }

@@ -7,7 +7,7 @@ use crate::entry::Entry;
 #[derive(Clone, Copy)]
 pub(crate) struct VectorStart {
     pub(crate) digits: Digits,
-    /// Where the word of the digits stands.
+    /// The byte at which the word of the digits begins.
     pub(crate) at: u64,
     ghost some: { 0 < digits.count },
 }
@@ -22,7 +22,7 @@ pub(crate) enum Begun {
     Comment,
 }
 
-/// Where the reading of the body stands.
+/// What the reader of the body is in the middle of.
 #[derive(Clone, Copy)]
 pub(crate) struct Reading {
     /// The last time.

@@ -38,7 +38,7 @@ impl Sections {
         }
     }
 
-    /// Reads the next word, which stands at this byte, and says whether it is the last of the header.
+    /// Reads the next word, which begins at this byte, and says whether it is the last of the header.
     pub(crate) fn read(&mut self, word: &[u8], at: u64) -> Result<bool, DumpFault>
         ensures ok { IfOk result (λ last. header_word (reading_of self.old) (record { at = at; bytes = word.now }) ≡ Ok (last, reading_of self.new)) }
         ensures fault { IfErr result (IsFault (header_word (reading_of self.old) (record { at = at; bytes = word.now }))) }

@@ -36,7 +36,7 @@ impl Word {
         }
     }
 
-    /// Adds a byte, with which the word begins where there is none.
+    /// Adds a byte, with which the word begins where there is no word yet.
     pub(crate) fn push(&mut self, byte: u8, has_begun: bool)
         ensures { (bytes : List ℕ) → IsWord self.old has_begun bytes → IsWord self.new has_begun (bytes ++ byte ∷ []) }
     {
@@ -48,7 +48,7 @@ impl Word {
         }
     }
 
-    /// Where the word stands: where it stood, or here where there is none.
+    /// The byte at which the word begins: this one where there is no word yet.
     pub(crate) fn start(&self, word_at: u64, here: u64) -> u64
         ensures none { (has_begun : Bool) (bytes : List ℕ) → IsWord self.now has_begun bytes → length bytes ≡ 0 → result ≡ here }
         ensures some { (has_begun : Bool) (bytes : List ℕ) → IsWord self.now has_begun bytes → 0 < length bytes → result ≡ word_at }

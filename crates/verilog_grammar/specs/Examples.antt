@@ -1,4 +1,4 @@
--- Texts of the language with what they say. In a text of an example spaces stand between the tokens, and the column of a
+-- Texts of the language with what they say. In a text of an example spaces are between the tokens, and the column of a
 -- token is its number.
 use Rattle.std.specs.Prelude.{◌≡◌, ℕ, suc, ◌==◌, if◌then◌else◌, List, [], ◌∷◌, ◌++◌, codes, drop, None, Some, Result, Ok, Err}
 use Rattle.std.specs.Char.{is_ascii_digit}

@@ -18,7 +18,7 @@ use Rattle.verilog_grammar.specs.Parts.{Phrased, only, any_of, after, before, op
 
 -- ---- numbers
 
--- a decimal number, or with a based one behind it its size
+-- a decimal number, or the size of a based number that follows
 abbrev pub sized_or_decimal : Lexeme → Option Lexeme → Expr
 sized_or_decimal t None = literal t.place (decimal_vector t.text)
 sized_or_decimal t (Some b) = literal t.place (based_vector (width_of t.text) b.text)
@@ -36,7 +36,7 @@ number_rule = either (made decimal_of (both (only k.Decimal) (optional (only k.B
 
 -- ---- names and selects
 
--- what stands behind the first expression in a bracket
+-- what follows the first expression in a bracket
 pub data SelectEnd : Type 0 where
   closed : SelectEnd
   low_end : Expr → SelectEnd
@@ -53,7 +53,7 @@ select_end_rule =
     (either (made low_end (after k.Colon (before an_expression k.CloseBracket)))
     (either (made up_end (after k.PlusColon (before an_expression k.CloseBracket))) (made down_end (after k.MinusColon (before an_expression k.CloseBracket)))))
 
--- the bracket, the first expression in it, and what stands behind
+-- the bracket, the first expression in it, and what follows
 abbrev pub Select : Type 0
 Select = Lexeme × (Expr × SelectEnd)
 
@@ -104,7 +104,7 @@ paren_of p = parentheses p.0.place p.1
 unfoldable pub paren_rule : Phrased Expr
 paren_rule = made paren_of (both (only k.OpenParen) (before an_expression k.CloseParen))
 
--- what stands behind the first expression in a brace
+-- what follows the first expression in a brace
 pub data BraceEnd : Type 0 where
   repeated : List Expr → BraceEnd
   others : List Expr → BraceEnd
@@ -191,7 +191,7 @@ binary_of_kind k.AndAnd = binary.LogicalAnd
 binary_of_kind k.OrOr = binary.LogicalOr
 binary_of_kind _ = binary.Add
 
--- the operators of a level (clause 4.1.2); the tightest has those that stand before an operand
+-- the operators of a level (clause 4.1.2); the tightest has those that are before an operand
 abbrev pub operators : Level → Phrased Lexeme
 operators level.Unary = unary_operators
 operators level.Product = any_of k.Star (k.Slash ∷ k.Percent ∷ [])
@@ -205,7 +205,7 @@ operators level.BitwiseOr = only k.Or
 operators level.LogicalAnd = only k.AndAnd
 operators level.LogicalOr = only k.OrOr
 
--- an operator of a level, and the operand behind it
+-- an operator of a level, and the operand after it
 unfoldable pub operation_rule : (l : Level) → (tight : Level) → Phrased (Lexeme × Expr)
 operation_rule l tight = both (operators l) (nest (operand tight))
 

@@ -13,7 +13,7 @@ pub use Rattle.verilog_grammar.specs.declared.body.Body.TheVariants.{Combination
 -- what nests: each is one deeper than what is round it
 pub data Phrase : Type 0 where
   expression : Phrase
-  -- what stands behind an operator, as tight as this
+  -- what follows an operator, as tight as this
   operand : Level → Phrase
   -- the left side of an assignment
   target : Phrase

@@ -1,4 +1,5 @@
--- The vectors that number literals stand for (IEEE 1364-2001 clause 2.5.1).
+-- The vectors of number literals (IEEE 1364-2001 clause 2.5.1).
+-- Bytes are written as numbers: 98 b, 100 d, 104 h, 111 o; digits begin at 48, 65 and 97.
 use Rattle.std.specs.Prelude.{ℕ, ◌-◌, nat_le, Bool, true, not, ◌||◌, ◌==◌, List, if◌then◌else◌, slice_index, drop, filter, flat_map, reverse}
 use Rattle.four_state.specs.declared.bit.Bit.{Bit}
 use Rattle.four_state.specs.declared.bit.Bit.TheVariants.{Zero, X, Z}
@@ -19,7 +20,7 @@ strange_bit byte = if byte == 120 || byte == 88 then X else Z
 abbrev pub digit_value : ℕ → ℕ
 digit_value byte = if nat_le 97 byte then byte - 87 else (if nat_le 65 byte then byte - 55 else byte - 48)
 
--- the bits of a digit that stands for so many, the lowest first
+-- the bits of a digit of n bits, the lowest first
 abbrev pub digit_bits : ℕ → ℕ → List Bit
 digit_bits n byte = if is_strange byte then fill n (strange_bit byte) else low_bits n (digit_value byte)
 
@@ -27,7 +28,7 @@ digit_bits n byte = if is_strange byte then fill n (strange_bit byte) else low_b
 abbrev pub filler : (digits : List ℕ) → Bit
 filler digits = if is_strange (slice_index digits 0) then strange_bit (slice_index digits 0) else Zero
 
--- w bits by digits that stand for so many bits each
+-- w bits by digits of n bits each
 abbrev pub bits_of_digits : ℕ → (w : ℕ) → (digits : List ℕ) → List Bit
 bits_of_digits n w digits = fit w (filler digits) (flat_map (digit_bits n) (reverse digits))
 
@@ -39,7 +40,7 @@ bits_of_decimal w digits = if is_strange (slice_index digits 0) then fill w (str
 abbrev pub is_letter : ℕ → ℕ → Bool
 is_letter small letter = letter == small || letter == small - 32
 
--- w bits by digits in the base that a letter names; a letter that names none stands for 0
+-- w bits by digits in the base that a letter names; it is 0 where the letter names no base
 abbrev pub bits_in_base : (letter : ℕ) → (w : ℕ) → (digits : List ℕ) → List Bit
 bits_in_base letter w digits =
     if is_letter 98 letter then bits_of_digits 1 w digits

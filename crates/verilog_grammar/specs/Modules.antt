@@ -56,14 +56,14 @@ port_of p = record { direction = p.0; shape = p.1.0; name = p.1.1 }
 unfoldable pub port_rule : Phrased PortHead
 port_rule = made port_of (both direction_rule (both shape_rule name_rule))
 
--- a port and the plain names behind it
+-- a port and the plain names after it
 abbrev pub port_item_of : PortHead → List Named → Item
 port_item_of h names = record {
   place = h.direction.place;
   form = port_item (record { input = h.direction.input; reg = h.direction.reg; signed = h.shape.0; range = h.shape.1; names = h.name ∷ names });
 }
 
--- what stands behind a comma in a list of ports
+-- what follows a comma in a list of ports
 pub data Entry : Type 0 where
   new_port : PortHead → Entry
   more_name : Named → Entry
@@ -74,7 +74,7 @@ entry_rule = either (made new_port port_rule) (made more_name name_rule)
 unfoldable pub entries_rule : Phrased (PortHead × List Entry)
 entries_rule = both port_rule (many (after k.Comma entry_rule))
 
--- the items of a port with these names behind it, and of what follows
+-- the items of a port with these names after it, and of what follows
 abbrev pub port_items : PortHead → (names : List Named) → List Entry → List Item
 port_items h names [] = port_item_of h names ∷ []
 port_items h names (new_port other ∷ entries) = port_item_of h names ∷ port_items other [] entries
@@ -107,7 +107,7 @@ header_ports_rule = either (in_parentheses (either plist_rule (made no_ports emp
 
 -- ---- parameters
 
--- whether "signed" or "integer" stands there, and the range
+-- whether "signed" or "integer" is next, and the range
 pub record ParamType : Type 0 where
   pub signed : Bool
   pub integer : Bool
@@ -140,7 +140,7 @@ valued_rule = both name_rule (after k.Equals an_expression)
 abbrev pub param_of : (local : Bool) → ParamType → Named × Expr → Param
 param_of local t p = record { name = p.0; local = local; signed = t.signed; integer = t.integer; range = t.range; value = p.1 }
 
--- a parameter of a header, with its type if "parameter" stands there
+-- a parameter of a header, with its type if there is a "parameter"
 abbrev pub HeaderParam : Type 0
 HeaderParam = Option ParamType × (Named × Expr)
 

@@ -24,11 +24,11 @@ first_of_two p = p.0
 abbrev pub second_of_two : {A B : Type 0} → A × B → B
 second_of_two p = p.1
 
--- what stands behind a token of this kind
+-- what follows a token of this kind
 abbrev pub after : {A : Type 0} → Kind → Phrased A → Phrased A
 after x g = made second_of_two (both (only x) g)
 
--- what stands before a token of this kind
+-- what precedes a token of this kind
 abbrev pub before : {A : Type 0} → Phrased A → Kind → Phrased A
 before g x = made first_of_two (both g (only x))
 
@@ -48,7 +48,7 @@ is_there t = true
 abbrev pub is_not_there : Unit {0} → Bool
 is_not_there u = false
 
--- whether a token of this kind stands there
+-- whether a token of this kind is next
 abbrev pub present : Kind → Phrased Bool
 present x = either (made is_there (only x)) (made is_not_there empty)
 

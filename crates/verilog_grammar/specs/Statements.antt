@@ -63,7 +63,7 @@ rest_of_arms (Some p) = p.0 ∷ p.1
 abbrev pub all_arms : CaseArm × (List CaseArm × Option (CaseArm × List CaseArm)) → List CaseArm
 all_arms p = p.0 ∷ (p.1.0 ++ rest_of_arms p.1.1)
 
--- the default, and the arms with labels behind it
+-- the default, and the arms with labels after it
 unfoldable pub default_arms_rule : Body → Phrased (CaseArm × List CaseArm)
 default_arms_rule b = both (default_arm_rule b) (label_arms_rule b)
 

@@ -1,4 +1,4 @@
-/// Where a statement stands, which decides what it may be.
+/// The kind of process around a statement, which decides what it may be.
 #[derive(Clone, Copy, Debug, PartialEq, Eq)]
 pub enum Body {
     /// Under `*` or names.

@@ -1,4 +1,9 @@
-//! The grammar of the language as a value of rules, and its laws.
+//! The grammar of the language as a value of rules (IEEE 1364-2001 annex A, as far as the language has it).
+//!
+//! `specs/Verilog.antt` is the grammar. [`grammar_is_exact`] says that it has the theorems of `grammar_rules`: tokens
+//! spell at most one list of modules, reading from left to right finds it, and each fault is at the first token with
+//! which nothing goes on, or at the end of the tokens. [`Kind::of`] is the kind of a token by its text, [`Level`] the
+//! precedence of operators, and [`Body`] says which statements a process allows.
 #![tactic(auto)]
 
 ghost use Rattle.std.specs.Prelude.{ℕ, ◌≤◌, List};
@@ -18,7 +23,7 @@ pub use body::Body;
 pub use kind::{KEYWORDS, Kind, OPERATORS, SYSTEM_NAMES};
 pub use level::Level;
 
-/// Tokens spell at most one list of modules, reading from left to right finds it, and each fault stands at the first
+/// Tokens spell at most one list of modules, reading from left to right finds it, and each fault is at the first
 /// token with which nothing goes on, or where the tokens end. What is spelled within a depth is no higher.
 #[tactic(auto, using(crate::proofs::Verilog::verilog_exact, crate::proofs::Verilog::reads_texts, crate::proofs::Low::phrase_low))]
 pub fn grammar_is_exact()

@@ -1,4 +1,4 @@
--- What the definitions answer: a value, or the fault that stands first.
+-- What the definitions answer: a value, or the fault that is first.
 use Rattle.std.specs.Prelude.{◌≡◌, None, Some, Result, Ok, Err}
 use Rattle.cov_host.specs.declared.place.Place.{Place}
 use Rattle.verilog_lexer.specs.declared.fault.LexFault.{LexFault}
@@ -8,7 +8,7 @@ use Rattle.verilog_lexer.specs.declared.fault.LexKind.{LexKind}
 abbrev pub Answer : Type 0 → Type 0
 Answer A = Result A LexFault
 
--- what comes next, where no fault stands before
+-- what comes next, where there is no fault before it
 infixl 10 ◌>>=◌
 abbrev pub ◌>>=◌ : {A B : Type 0} → Answer A → (A → Answer B) → Answer B
 (Ok value) >>= next = next value

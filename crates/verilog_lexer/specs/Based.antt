@@ -1,4 +1,6 @@
 -- Based numbers (IEEE 1364-2001 clause 2.5.1).
+-- Bytes are written as numbers: 63 question mark, 66 B, 68 D, 72 H, 79 O, 83 S, 88 X, 90 Z, 95 underscore, 98 b, 100 d, 104 h, 111 o, 115 s, 120 x, 122 z;
+-- 48 to 57 the digits, 65 to 70 and 97 to 102 the digits above 9.
 use Rattle.std.specs.Prelude.{ℕ, ◌+◌, ◌^◌, ◌-◌, nat_le, is_some, Bool, true, false, not, ◌&&◌, ◌||◌, ◌==◌, List, Option, None, Some, if◌then◌else◌, slice_index, drop}
 use Rattle.std.specs.List.{list_any}
 use Rattle.std.specs.Char.{is_ascii_digit}
@@ -52,11 +54,11 @@ digits_length Octal text = run (is_part Octal) text
 digits_length Decimal text = decimal_digits_length text
 digits_length Hexadecimal text = run (is_part Hexadecimal) text
 
--- where the letter of the base stands, behind the quote and the letter of the sign if there is one
+-- where the letter of the base is, after the quote and the letter of the sign if there is one
 abbrev pub letter_at : List ℕ → ℕ
 letter_at text = if slice_index text 1 == 115 || slice_index text 1 == 83 then 2 else 1
 
--- where the digits begin, behind the letter of the base and white space
+-- where the digits begin, after the letter of the base and white space
 unfoldable pub digits_at : List ℕ → ℕ
 digits_at text = letter_at text + 1 + run is_white (drop (letter_at text + 1) text)
 

@@ -1,11 +1,12 @@
 -- The text of a macro, which a directive defines (IEEE 1364-2001 clause 19.3.1).
+-- Bytes are written as numbers: 10 line feed, 34 double quote, 42 star, 47 slash, 92 backslash.
 use Rattle.std.specs.Prelude.{ℕ, ◌+◌, Bool, true, false, ◌&&◌, ◌==◌, List, [], ◌∷◌, Option, None, Some, if◌then◌else◌, slice_index}
 use Rattle.std.specs.Option.{option_map_or}
 use Rattle.verilog_lexer.specs.declared.define_text.Within.{Within}
 use Rattle.verilog_lexer.specs.declared.define_text.Within.TheVariants.{Code, Quote, Comment}
 use Rattle.verilog_lexer.specs.declared.define_text.Standing.{Standing}
 
--- the byte belongs to the text, and what follows stands within this, the next byte being taken along or not
+-- the byte belongs to the text, and what follows is part of this, the next byte being taken along or not
 abbrev pub goes_on : Within → (taken : Bool) → Option Standing
 goes_on within taken = Some (record { within = within; taken = taken })
 
@@ -33,13 +34,13 @@ turn_within Code byte next = turn_in_code byte next
 turn_within Quote byte next = turn_in_quote byte
 turn_within Comment byte next = turn_in_comment byte next
 
--- what the next line begins within: a string stands on one line
+-- what the next line begins within: a string is on one line
 abbrev pub on_next_line : Within → Within
 on_next_line Code = Code
 on_next_line Quote = Code
 on_next_line Comment = Comment
 
--- whether the text goes on with a byte: the line's end ends it, unless a backslash stands directly before
+-- whether the text goes on with a byte: the line's end ends it, unless a backslash is directly before
 abbrev pub turn : Standing → ℕ → ℕ → Option Standing
 turn state byte next =
     if byte == 92 && next == 10 then goes_on (on_next_line state.within) true

@@ -1,4 +1,5 @@
 -- Numbers as digits (IEEE 1364-2001 clause 2.5).
+-- Bytes are written as numbers: 48 0, 95 underscore.
 use Rattle.std.specs.Prelude.{ℕ, ◌+◌, ◌-◌, ◌*◌, ◌==◌, nat_le, List, [], ◌∷◌, Option, None, Some, if◌then◌else◌}
 
 -- the number with one digit more at its end, where an underscore adds nothing

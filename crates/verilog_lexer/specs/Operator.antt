@@ -26,7 +26,7 @@ is_pair first second = list_any (λ word. slice_index word 0 == first && slice_i
 abbrev pub is_single : ℕ → Bool
 is_single first = list_any (λ byte. byte == first) singles
 
--- how many bytes the longest operator at the front has, 0 where none stands there
+-- the number of bytes of the longest operator at the front, 0 where there is no operator
 unfoldable pub operator_length : List ℕ → ℕ
 operator_length text =
     if is_triple (slice_index text 0) (slice_index text 1) (slice_index text 2) then 3

@@ -1,4 +1,5 @@
--- What stands at the front of a text: a token, or a directive with what belongs to it (IEEE 1364-2001 clauses 2 and 19).
+-- What is at the front of a text: a token, or a directive with what belongs to it (IEEE 1364-2001 clauses 2 and 19).
+-- Bytes are written as numbers: 34 double quote, 36 dollar sign, 39 quote, 40 open parenthesis, 41 close parenthesis, 42 star, 47 slash, 96 grave accent; 32 to 126 are printable.
 use Rattle.std.specs.Prelude.{ℕ, ◌+◌, ◌-◌, nat_le, Bool, false, not, ◌&&◌, ◌||◌, ◌==◌, List, [], Option, None, Some, if◌then◌else◌, slice_index, take, drop, length}
 use Rattle.std.specs.List.{list_all}
 use Rattle.std.specs.Char.{is_ascii_digit}
@@ -24,7 +25,7 @@ pub data Test : Type 0 where
   otherwise : Test
   end_of_condition : Test
 
--- what stands at the front, with the number of its bytes where it does not show
+-- what is at the front, with the number of its bytes where it does not show
 pub data Piece : Type 0 where
   blank : ℕ → Piece
   token : TokenKind → List ℕ → Piece
@@ -33,7 +34,7 @@ pub data Piece : Type 0 where
   condition : Test → ℕ → Piece
   inclusion : List ℕ → ℕ → Piece
   expansion : List ℕ → ℕ → Piece
-  -- a fault, and how many bytes stand before it
+  -- a fault, and the number of bytes before it
   fault : LexKind → ℕ → Piece
 
 -- how many bytes a piece has
@@ -76,7 +77,7 @@ system_piece text = if run continues_name (drop 1 text) == 0 then fault BadByte 
 abbrev pub operator_piece : List ℕ → Piece
 operator_piece text = if operator_length text == 0 then fault BadByte 0 else token_of kind.Operator text (operator_length text)
 
--- what stands between two bytes and the next such pair of bytes counts as white space
+-- what is between two bytes and the next such pair of bytes counts as white space
 abbrev pub comment_piece : (first second : ℕ) → List ℕ → Piece
 comment_piece first second text = up_to (λ n. blank (n + 2)) (fault OpenComment 0) (through_pair first second 0 (drop 2 text))
 
@@ -87,13 +88,13 @@ slash_piece text =
     else if slice_index text 1 == 42 then comment_piece 42 47 text
     else operator_piece text
 
--- an attribute (clause 2.8), unless it is the star in parentheses that stands for all events
+-- an attribute (clause 2.8), unless it is the star in parentheses that means all events
 abbrev pub parenthesis_piece : List ℕ → Piece
 parenthesis_piece text =
     if slice_index text 1 == 42 && not (slice_index (drop 2 text) (run is_white (drop 2 text)) == 41) then comment_piece 42 41 text
     else operator_piece text
 
--- the name behind blanks, empty where none stands there
+-- the name after blanks, empty where there is no name
 abbrev pub name_in : List ℕ → List ℕ
 name_in text = if begins_name (slice_index text 0) then take (run continues_name text) text else []
 
@@ -119,7 +120,7 @@ define_piece start text =
 abbrev pub is_file_name : List ℕ → Bool
 is_file_name name = not (length name == 0) && list_all (λ byte. nat_le 32 byte && nat_le byte 126) name
 
--- the inclusion of the file whose name stands in the quotes, where before is how many bytes stand before it
+-- the inclusion of the file whose name is in the quotes, where before is the number of bytes before it
 abbrev pub file_piece : (before : ℕ) → (name : List ℕ) → Piece
 file_piece before name = if is_file_name name then inclusion name (before + length name + 1) else fault UnknownDirective 0
 
@@ -161,7 +162,7 @@ abbrev pub or_piece : Option Piece → Piece → Piece
 or_piece None other = other
 or_piece (Some piece) other = piece
 
--- the word behind a grave accent
+-- the word after a grave accent
 abbrev pub directive_word : List ℕ → List ℕ
 directive_word text = name_in (drop 1 text)
 
@@ -183,7 +184,7 @@ mark_piece text =
     else if slice_index text 0 == 36 then system_piece text
     else operator_piece text
 
--- what stands at the front of a text that is read
+-- what is at the front of a text that is read
 unfoldable pub read_piece : List ℕ → Piece
 read_piece text =
     if is_white (slice_index text 0) then blank (run is_white text)
@@ -208,7 +209,7 @@ abbrev pub left_out_accent : List ℕ → Piece
 left_out_accent text =
     or_piece (condition_piece (directive_of (directive_word text)) (length (directive_word text) + 1) (drop (length (directive_word text) + 1) text)) (blank 1)
 
--- what stands at the front of a text that a condition leaves out: only directives of conditions are read there
+-- what is at the front of a text that a condition leaves out: only directives of conditions are read there
 unfoldable pub left_out_piece : List ℕ → Piece
 left_out_piece text =
     if slice_index text 0 == 47 then left_out_slash text

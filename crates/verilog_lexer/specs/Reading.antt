@@ -1,4 +1,5 @@
--- What sources say: their tokens under definitions, or the fault that stands first (IEEE 1364-2001 clause 19).
+-- What sources say: their tokens under definitions, or the fault that is first (IEEE 1364-2001 clause 19).
+-- Bytes are written as numbers: 10 line feed, 92 backslash.
 use Rattle.std.specs.Prelude.{ℕ, zero, suc, ◌+◌, ◌-◌, Bool, false, ◌==◌, List, [], ◌∷◌, Option, None, Some, Ok, Err, if◌then◌else◌, length, slice_get, slice_index, is_none, ◌&&◌, take}
 use Rattle.cov_host.specs.declared.place.Place.{Place}
 use Rattle.verilog_lexer.specs.Answer.{Answer, ◌>>=◌, fault_at}
@@ -61,7 +62,7 @@ front_piece in_macro conditions text =
     else if is_left_out conditions then left_out_piece text
     else read_piece text
 
--- what is left of a text: where it stands, and, for a file, the open conditions of what is round it
+-- what is left of a text: where it begins, and, for a file, the open conditions of what is round it
 pub record PassageText : Type 0 where
   pub text : List ℕ
   pub spot : Spot
@@ -116,7 +117,7 @@ opened sources spot (file name) reading = included sources spot name (include_pl
 abbrev pub scan_passage : Inner → PassageText → Reading → Answer Reading
 scan_passage inner passage reading = scan inner passage.ending 0 passage.spot passage.text reading
 
--- the reading of what is entered, where so many more may be entered inside one another
+-- the reading of what is entered, where this number of others may be entered inside one another
 unfoldable pub inner_at : ℕ → List SourceText → Inner
 inner_at zero sources spot entry reading = fault_at MacroDepth spot.place
 inner_at (suc depth) sources spot entry reading =
@@ -147,6 +148,6 @@ read_roots all number (source ∷ others) reading = read_source all number sourc
 abbrev pub beginning : List DefineText → Reading
 beginning defines = record { tokens = []; macros = with_macros no_macros defines; conditions = [] }
 
--- the tokens of sources under defines, or the fault that stands first
+-- the tokens of sources under defines, or the fault that is first
 unfoldable pub tokens_of : List SourceText → List DefineText → Answer (List Lexeme)
 tokens_of sources defines = read_roots sources 1 sources (beginning defines) >>= λ reading. Ok reading.tokens

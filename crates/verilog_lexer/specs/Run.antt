@@ -1,4 +1,5 @@
 -- Runs of bytes at the front of a text (IEEE 1364-2001 clause 2).
+-- Bytes are written as numbers: 10 line feed, 32 space, 34 double quote, 92 backslash; 9 to 13 are white space too.
 use Rattle.std.specs.Prelude.{ℕ, ◌+◌, nat_le, Bool, not, ◌&&◌, ◌||◌, ◌==◌, List, [], ◌∷◌, Option, None, Some, if◌then◌else◌, slice_index}
 use Rattle.std.specs.List.{prefix_len}
 

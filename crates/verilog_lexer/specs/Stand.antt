@@ -1,4 +1,4 @@
--- Where the program stands in its reading: in a text, within others that wait for it.
+-- The state of reading: a text, and others that wait for it.
 use Rattle.std.specs.Prelude.{ℕ, ◌≡◌, ◌+◌, ◌-◌, ◌*◌, ◌^◌, ◌<◌, List, [], ◌∷◌, ◌++◌, Ok, length, map, take, drop}
 use Rattle.verilog_lexer.specs.Answer.{Answer, ◌>>=◌}
 use Rattle.verilog_lexer.specs.Sources.{SourceText}
@@ -17,7 +17,7 @@ pub record Stand : Type 0 where
 abbrev pub stand_of : Reader → Stand
 stand_of reader = record { waiting = map passage_view reader.waiting.items; passage = passage_view reader.passage; reading = reading_view reader.reading }
 
--- the reading of what is left of a text, inside which so many more may be entered
+-- the reading of what is left of a text, inside which this number of others may be entered
 abbrev pub resumed : ℕ → List SourceText → PassageText → Reading → Answer Reading
 resumed depth sources passage reading = scan_passage (inner_at depth sources) passage reading
 
@@ -38,7 +38,7 @@ weight depth (passage ∷ others) = (length passage.text + 1) * (2 ^ 64) ^ depth
 unfoldable pub work : Stand → ℕ
 work stand = weight 64 stand.waiting + (length stand.passage.text + 1) * (2 ^ 64) ^ (64 - length stand.waiting)
 
--- a passage behind so many bytes
+-- a passage after this number of bytes
 abbrev pub advanced : ℕ → PassageText → PassageText
 advanced bytes passage = record passage { text = drop bytes passage.text; spot = after_all passage.spot (take bytes passage.text) }
 

@@ -1,4 +1,5 @@
--- Where the tokens of sources stand.
+-- The places of the tokens of sources.
+-- Bytes are written as numbers: 96 grave accent.
 use Rattle.std.specs.Prelude.{ℕ, ◌≡◌, ◌<◌, ◌+◌, List, [], ◌∷◌, ◌++◌, Some, true, false, length, slice_get}
 use Rattle.std.specs.List.{All}
 use Rattle.cov_host.specs.Identifier.{has_name_form}
@@ -13,11 +14,11 @@ use Rattle.verilog_lexer.specs.declared.directive.Directive.TheVariants.{Use}
 abbrev pub file_start : ℕ → Place
 file_start number = record { source = number; line = 1; column = 1 }
 
--- the place behind bytes of a file that begin at a place
+-- the place after bytes of a file that begin at a place
 abbrev pub place_behind : Place → List ℕ → Place
 place_behind place bytes = (after_all (record { place = place; inside = false }) bytes).place
 
--- the bytes stand in a source at the place, where sources are counted from 1
+-- the source has the bytes at the place, where sources are counted from 1
 pub record StandsAt (sources : List SourceText) (bytes : List ℕ) (place : Place) : Type 0 where
   pub number : ℕ
   pub source : SourceText
@@ -38,10 +39,10 @@ pub data AreRead (sources : List SourceText) : Place → List Lexeme → Type 0 
   -- bytes that give none
   blank_bytes : {place : Place} {bytes : List ℕ} {others : List Lexeme} → StandsAt sources bytes place
       → AreRead sources (place_behind place bytes) others → AreRead sources place others
-  -- a token, which stands where its text stands
+  -- a token, at the place of its text
   one_token : {token : Lexeme} {others : List Lexeme} → StandsAt sources token.text token.place → 0 < length token.text
       → AreRead sources (place_behind token.place token.text) others → AreRead sources token.place (token ∷ others)
-  -- a grave accent and the name of a macro, whose tokens all stand where the macro is used
+  -- a grave accent and the name of a macro, whose tokens all have the place of the use
   macro_use : {place : Place} {name : List ℕ} {others : List Lexeme} (inside : List Lexeme) → IsMacroName name → StandsAt sources (96 ∷ name) place → All (λ token. token.place ≡ place) inside
       → AreRead sources (place_behind place (96 ∷ name)) others → AreRead sources place (inside ++ others)
   -- the inclusion of a file, which is a reading of its own

@@ -6,7 +6,7 @@ use Rattle.verilog_lexer.specs.Sources.{SourceText}
 use Rattle.verilog_lexer.specs.Tokens.{Lexeme, bad_number}
 use Rattle.verilog_lexer.specs.declared.token.TokenKind.TheVariants.{Identifier, Keyword}
 
--- the part stands in the text, its bytes one behind the other
+-- the text has the part, its bytes one after the other
 pub record IsPartOf (text part : List ℕ) : Type 0 where
   pub before : List ℕ
   pub behind : List ℕ
@@ -17,13 +17,13 @@ pub data IsTextOf (sources : List SourceText) (defines : List DefineText) (bytes
   of_source : (number : ℕ) (source : SourceText) → slice_get sources number ≡ Some source → IsPartOf source.bytes bytes → IsTextOf sources defines bytes
   of_define : (number : ℕ) (define : DefineText) → slice_get defines number ≡ Some define → IsPartOf define.text bytes → IsTextOf sources defines bytes
 
--- the token may stand behind these tokens: a name is an identifier, and a number is a literal that fits
+-- the token may follow these tokens: a name is an identifier, and a number is a literal that fits
 pub record IsSound (before : List Lexeme) (token : Lexeme) : Type 0 where
   pub name : token.kind ≡ Identifier → is_identifier token.text ≡ true
   pub keyword : token.kind ≡ Keyword → is_reserved token.text ≡ true
   pub number : bad_number before token.kind token.text token.place ≡ None
 
--- each of the tokens may stand behind those before it
+-- each of the tokens may follow those before it
 abbrev pub AreSound : (before tokens : List Lexeme) → Type 0
 AreSound before [] = Unit {0}
 AreSound before (token ∷ others) = IsSound before token × AreSound (before ++ token ∷ []) others

@@ -50,7 +50,7 @@ abbrev pub bad_based : (size : Option Lexeme) → (text : List ℕ) → Place �
 bad_based None text place = unless (is_sound_based false text) place
 bad_based (Some size) text place = unless (is_size size.text && is_sound_based true text) size.place
 
--- where a bad number begins, if the token that comes behind these tokens makes one
+-- where a bad number begins, if the token that follows these tokens makes one
 abbrev pub bad_number : List Lexeme → TokenKind → (text : List ℕ) → Place → Option Place
 bad_number before Decimal text place = unless (is_some (number_within (2 ^ 32 - 1) text)) place
 bad_number before Based text place = bad_based (decimal_of (last_of before)) text place
@@ -81,7 +81,7 @@ sound_number (Some place) = fault_at BadNumber place
 abbrev pub room_for_one : List Lexeme → Place → Answer (Unit {0})
 room_for_one tokens place = if length tokens == 4194304 then fault_at TooManyTokens place else Ok tt
 
--- the fault stands at the 256th byte of the text, which begins with the token
+-- the fault is at the 256th byte of the text, which begins with the token
 abbrev pub short_enough : Spot → (text : List ℕ) → TokenKind → List ℕ → Answer (Unit {0})
 short_enough spot text kind word = if is_too_long kind word then fault_at BadByte (after_all spot (take 255 text)).place else Ok tt
 

@@ -15,7 +15,7 @@ pub(crate) enum Base {
     Hexadecimal,
 }
 
-/// The base that stands behind a quote and the letter of a sign.
+/// The base after a quote and the letter of a sign.
 pub(crate) fn base_at(text: &[u8]) -> Option<Base>
     ensures { result ≡ base_of (slice_index text.now (letter_at text.now)) }
 {
@@ -55,7 +55,7 @@ fn base_of(letter: u8) -> Option<Base>
     }
 }
 
-/// Where the letter of the base stands.
+/// The place of the letter of the base.
 fn letter_at(text: &[u8]) -> usize
     ensures value { result ≡ letter_at text.now }
     ensures within { result ≤ 2 }
@@ -110,7 +110,7 @@ fn decimal_digits_length(text: &[u8]) -> usize
     decimal_length(text)
 }
 
-/// How many underscores stand at the front.
+/// The number of underscores at the front.
 fn underscores_length(text: &[u8]) -> usize
     ensures value { result ≡ run is_underscore text.now }
     ensures within { result ≤ length text.now }
@@ -118,7 +118,7 @@ fn underscores_length(text: &[u8]) -> usize
     text.iter().take_while(|byte| **byte == b'_').count()
 }
 
-/// How many decimal digits and underscores stand at the front.
+/// The number of decimal digits and underscores at the front.
 pub(crate) fn decimal_length(text: &[u8]) -> usize
     ensures value { result ≡ run is_decimal_part text.now }
     ensures within { result ≤ length text.now }
@@ -194,7 +194,7 @@ fn digits_fit(sized: bool, base: Base, digits: &[u8]) -> bool
     }
 }
 
-/// The same for decimal digits.
+/// Whether decimal digits fit in a literal.
 fn decimal_digits_fit(sized: bool, digits: &[u8]) -> bool
     ensures { result ≡ digits_fit sized Base.Decimal digits.now }
 {

@@ -12,8 +12,8 @@ use crate::{LexFault, LexKind};
 use cov_host::Place;
 use smallvec::SmallVec;
 
-/// Whether the branch of a condition is read, may still come, or lies behind. In a part that is left out all
-/// branches lie behind.
+/// Whether the branch of a condition is read, may still come, or is past. In a part that is left out all
+/// branches are past.
 #[derive(Clone, Copy, PartialEq, Eq)]
 pub(crate) enum Branch {
     Read,
@@ -50,7 +50,7 @@ pub(crate) fn is_left_out(conditions: &Conditions) -> bool
     }
 }
 
-/// Obeys a directive of conditions that stands at a place (IEEE 1364-2001 clause 19.4).
+/// Obeys a directive of conditions at a place (IEEE 1364-2001 clause 19.4).
 pub(crate) fn obey(
     conditions: &mut Conditions,
     macros: &Macros<'_>,
@@ -113,7 +113,7 @@ fn first_branch(left_out: bool, holds: bool) -> Branch
     }
 }
 
-/// The branch behind another one.
+/// The branch that follows another one.
 fn next_branch(branch: Branch, holds: bool) -> Branch
     ensures { result ≡ next_branch branch holds }
 {

@@ -3,7 +3,7 @@ ghost use Rattle.verilog_lexer.specs.DefineText.{turn, turn_within, turn_in_code
 
 use crate::run::byte_at;
 
-/// What a byte of a macro's text stands within.
+/// What a byte of a macro's text is part of.
 #[derive(Clone, Copy, PartialEq, Eq)]
 pub(crate) enum Within {
     Code,
@@ -64,7 +64,7 @@ fn on_next_line(within: Within) -> Within
     }
 }
 
-/// The same where the byte stands on the line, and no backslash took it with it.
+/// Whether the text goes on with a byte on the line that no backslash took with it, and what follows it.
 fn turn_within(within: Within, byte: u8, next: u8) -> Option<Standing>
     ensures { result ≡ turn_within within byte next }
 {
@@ -75,7 +75,7 @@ fn turn_within(within: Within, byte: u8, next: u8) -> Option<Standing>
     }
 }
 
-/// The same outside of strings and comments.
+/// Whether the text goes on with a byte outside of strings and comments, and what follows it.
 fn turn_in_code(byte: u8, next: u8) -> Option<Standing>
     ensures { result ≡ turn_in_code byte next }
 {
@@ -90,7 +90,7 @@ fn turn_in_code(byte: u8, next: u8) -> Option<Standing>
     }
 }
 
-/// The same in a string.
+/// Whether the text goes on with a byte in a string, and what follows it.
 fn turn_in_quote(byte: u8) -> Option<Standing>
     ensures { result ≡ turn_in_quote byte }
 {
@@ -101,7 +101,7 @@ fn turn_in_quote(byte: u8) -> Option<Standing>
     }
 }
 
-/// The same in a comment between two marks.
+/// Whether the text goes on with a byte in a comment between two marks, and what follows it.
 fn turn_in_comment(byte: u8, next: u8) -> Option<Standing>
     ensures { result ≡ turn_in_comment byte next }
 {

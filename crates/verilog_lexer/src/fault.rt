@@ -33,7 +33,7 @@ pub enum LexKind {
     TooManySources = 11,
 }
 
-/// Why sources have no tokens. The place is where the fault stands, and None where a file was not added. The
+/// Why sources have no tokens. The place is that of the fault, and None where a file was not added. The
 /// detail is the name of an unknown macro, of a missing include or of the file that was not added.
 #[derive(Debug, Drop, Error)]
 pub enum LexFault {
@@ -41,8 +41,11 @@ pub enum LexFault {
     NoMemory,
     #[error("{kind:?}")]
     At {
+        /// What is wrong.
         kind: LexKind,
+        /// Where it is, None where a file was not added.
         place: Option<Place>,
+        /// The name of an unknown macro, of a missing include or of the file that was not added.
         detail: Option<Name>,
     },
 }

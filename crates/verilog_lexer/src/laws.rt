@@ -8,14 +8,14 @@ ghost use Rattle.verilog_lexer.specs.TokenPlaces.{AreReadInTurn};
 ghost use Rattle.verilog_lexer.specs.TokenTexts.{IsTextOf, AreSound};
 ghost use Rattle.verilog_lexer.specs.Tokens.{Lexeme};
 
-/// Tokens that come from one reading of a source outside of macros have rising places, since each stands behind
-/// the bytes of those before it. What comes from a macro stands where the outermost macro is used.
+/// Tokens that come from one reading of a source outside of macros have rising places, since each comes
+/// after the bytes of those before it. What comes from a macro has the place where the outermost macro is used.
 pub fn places_rise()
     ensures rise { PlacesRise }
     ensures stay { PlacesStay }
 {}
 
-/// A token stands where its text stands in its source, behind the text of the token before it in the same reading of
+/// The place of a token is that of its text in its source, after the text of the token before it in the same reading of
 /// the file, or, if it comes from a macro, where the macro is used. An included file is a reading of its own.
 pub fn tokens_stand()
     ensures { (sources : List SourceText) (defines : List DefineText) (tokens : List Lexeme) → tokens_of sources defines ≡ Ok tokens → AreReadInTurn sources 1 tokens }

@@ -9,7 +9,7 @@ use std::alloc::Global;
 
 /// The tokens of sources under defines (IEEE 1364-2001 clauses 2 and 19). The roots are read one after the other as
 /// one list of tokens, and macros carry over. Each source is read once from left to right, for each time that it is
-/// named. The fault is the one that stands first.
+/// named. The fault is the first one.
 pub fn lex<'a>(
     alloc: Global,
     sources: &'a Sources,

@@ -1,4 +1,18 @@
-//! From sources to tokens: the lexical rules and the compiler directives of Verilog.
+//! From sources to tokens: the preprocessor with its directives and macros, and the tokens of Verilog (IEEE 1364-2001
+//! clauses 2 and 19).
+//!
+//! [`lex`] gives exactly the tokens of the sources under the defines, as `tokens_of` of `specs/Reading.antt` says, or
+//! the first fault with its place. The functions of `laws` say what holds of all tokens: their places rise, each is
+//! at its text or at the use of its macro, its text is a part of a source or a define, and names, keywords and
+//! numbers are sound. An included file that is missing is a fault with its name, so that the caller can read the
+//! file, add it and lex again.
+//!
+//! ```text
+//! let mut sources = Sources::new(alloc);
+//! sources.add_root("pads.v", bytes)?;
+//! let defines = Defines::new(alloc);
+//! let tokens = lex(alloc, &sources, &defines)?; // `module pads (..` gives a keyword, an identifier, an operator, ..
+//! ```
 #![tactic(auto)]
 
 mod based;

@@ -16,7 +16,7 @@ const PAIRS: [[u8; 2]; 16] = [
 /// The operators of one byte.
 const SINGLES: [u8; 26] = *b"()[]{},;:.=+-*/%!~&|^<>?@#";
 
-/// How many bytes the longest operator at the front has, 0 where none stands there (IEEE 1364-2001 clause 2.4).
+/// The number of bytes of the longest operator at the front, 0 where there is no operator (IEEE 1364-2001 clause 2.4).
 #[tactic(auto, unfolding(crate::specs::Operator::operator_length))]
 pub(crate) fn operator_length(text: &[u8]) -> usize
     ensures { result ≡ operator_length text.now }

@@ -6,7 +6,7 @@ use crate::run::{front, tail};
 use crate::spot::Spot;
 use cov_host::Place;
 
-/// What is left of a text: where it stands, and, for a file, the open conditions of what is round it.
+/// What is left of a text: where it begins, and, for a file, the open conditions of what is round it.
 #[derive(Drop)]
 pub(crate) struct Passage<'a> {
     pub(crate) text: &'a [u8],

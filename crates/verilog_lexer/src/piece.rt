@@ -25,7 +25,7 @@ pub(crate) enum Test<'a> {
     End,
 }
 
-/// What stands at the front of a text.
+/// What is at the front of a text.
 #[derive(Clone, Copy)]
 pub(crate) enum Piece<'a> {
     /// White space, a comment, an attribute or what is passed over.
@@ -57,7 +57,7 @@ pub(crate) enum Piece<'a> {
         name: &'a [u8],
         length: usize,
     },
-    /// A fault behind so many bytes.
+    /// A fault after this number of bytes.
     Fault {
         kind: LexKind,
         before: usize,
@@ -89,7 +89,7 @@ impl<'a> Piece<'a> {
     }
 }
 
-/// What stands at the front of a text that is read (IEEE 1364-2001 clauses 2 and 19).
+/// What is at the front of a text that is read (IEEE 1364-2001 clauses 2 and 19).
 #[tactic(auto, unfolding(crate::specs::Piece::read_piece))]
 pub(crate) fn read_piece(text: &[u8]) -> Piece<'_>
     ensures { piece_view result ≡ read_piece text.now }
@@ -107,7 +107,7 @@ pub(crate) fn read_piece(text: &[u8]) -> Piece<'_>
     }
 }
 
-/// What stands at the front of a text that a condition leaves out: only directives of conditions are read there.
+/// What is at the front of a text that a condition leaves out: only directives of conditions are read there.
 #[tactic(auto, unfolding(crate::specs::Piece::left_out_piece))]
 pub(crate) fn left_out_piece(text: &[u8]) -> Piece<'_>
     ensures { piece_view result ≡ left_out_piece text.now }
@@ -219,7 +219,7 @@ fn operator_piece(text: &[u8]) -> Piece<'_>
     }
 }
 
-/// A byte that begins no token, behind so many bytes.
+/// A byte that begins no token, after `before` bytes.
 fn bad_byte<'a>(before: usize) -> Piece<'a>
     ensures { piece_view result ≡ fault LexKind.BadByte before }
 {
@@ -239,7 +239,7 @@ fn unknown_directive<'a>() -> Piece<'a>
     }
 }
 
-/// What stands between the first two bytes and the next such pair of bytes.
+/// What is between the first two bytes and the next such pair of bytes.
 fn comment_piece(first: u8, second: u8, text: &[u8]) -> Piece<'_>
     ensures { piece_view result ≡ comment_piece first second text.now }
 {
@@ -267,7 +267,7 @@ fn slash_piece(text: &[u8]) -> Piece<'_>
     }
 }
 
-/// An attribute (clause 2.8), unless it is the star in parentheses that stands for all events.
+/// An attribute (clause 2.8), unless it is the star in parentheses that means all events.
 fn parenthesis_piece(text: &[u8]) -> Piece<'_>
     ensures { piece_view result ≡ parenthesis_piece text.now }
 {
@@ -297,7 +297,7 @@ fn accent_piece(text: &[u8]) -> Piece<'_>
     }
 }
 
-/// The word behind a grave accent, empty where there is none.
+/// The word after a grave accent, empty where there is no word.
 fn directive_word(text: &[u8]) -> &[u8]
     ensures value { result.now ≡ directive_word text.now }
     ensures within { length result.now ≤ length text.now }
@@ -305,7 +305,7 @@ fn directive_word(text: &[u8]) -> &[u8]
     name_in(tail(text, 1))
 }
 
-/// A directive of conditions, whose name stands in the text behind its word.
+/// A directive of conditions, whose name comes in the text after its word.
 fn condition_piece(directive: Directive, start: usize, text: &[u8]) -> Option<Piece<'_>>
     requires { start + length text.now < 2 ^ 64 }
     ensures { piece_option_view result ≡ condition_piece directive start text.now }
@@ -342,7 +342,7 @@ fn condition_piece(directive: Directive, start: usize, text: &[u8]) -> Option<Pi
     }
 }
 
-/// Any other directive, whose arguments stand in the text behind its word.
+/// Any other directive, whose arguments come in the text after its word.
 fn other_piece<'a>(directive: Directive, word: &'a [u8], start: usize, text: &'a [u8]) -> Piece<'a>
     requires { start + length text.now < 2 ^ 64 }
     ensures { piece_view result ≡ other_piece directive word.now start text.now }
@@ -370,7 +370,7 @@ fn other_piece<'a>(directive: Directive, word: &'a [u8], start: usize, text: &'a
     }
 }
 
-/// The name at the front, empty where none stands there.
+/// The name at the front, empty where there is no name.
 fn name_in(text: &[u8]) -> &[u8]
     ensures value { result.now ≡ name_in text.now }
     ensures within { length result.now ≤ length text.now }
@@ -382,14 +382,14 @@ fn name_in(text: &[u8]) -> &[u8]
     }
 }
 
-/// The name behind blanks, empty where none stands there.
+/// The name after blanks, empty where there is no name.
 fn name_behind(text: &[u8]) -> &[u8]
     ensures value { result.now ≡ name_behind text.now }
 {
     name_in(tail(text, blank_length(text)))
 }
 
-/// Where the name behind blanks ends.
+/// Where the name after blanks ends.
 fn name_end(text: &[u8]) -> usize
     ensures value { result ≡ name_end text.now }
     ensures within { result ≤ length text.now }
@@ -441,7 +441,7 @@ fn include_piece(start: usize, text: &[u8]) -> Piece<'_>
     }
 }
 
-/// The inclusion of the file whose name stands in the quotes, behind so many bytes.
+/// The inclusion of the file whose name is in the quotes, after `before` bytes.
 fn file_piece(before: usize, name: &[u8]) -> Piece<'_>
     requires { before + length name.now + 1 < 2 ^ 64 }
     ensures { piece_view result ≡ file_piece before name.now }

@@ -167,7 +167,7 @@ impl<'a> Reading<'a> {
     }
 }
 
-/// Whether a backslash before the end of a line stands at the front.
+/// Whether a backslash before the end of a line is at the front.
 fn is_continuation(text: &[u8]) -> bool
     ensures { result ≡ is_continuation text.now }
 {

@@ -42,7 +42,7 @@ pub(crate) fn is_blank(byte: u8) -> bool
     is_white(byte) && byte != b'\n'
 }
 
-/// How many bytes of white space stand at the front.
+/// The number of bytes of white space at the front.
 pub(crate) fn white_length(text: &[u8]) -> usize
     ensures value { result ≡ run is_white text.now }
     ensures within { result ≤ length text.now }
@@ -50,7 +50,7 @@ pub(crate) fn white_length(text: &[u8]) -> usize
     text.iter().take_while(|byte| is_white(**byte)).count()
 }
 
-/// How many bytes of white space stand at the front, within the line.
+/// The number of bytes of white space at the front, within the line.
 pub(crate) fn blank_length(text: &[u8]) -> usize
     ensures value { result ≡ run is_blank text.now }
     ensures within { result ≤ length text.now }
@@ -66,7 +66,7 @@ pub(crate) fn line_length(text: &[u8]) -> usize
     text.iter().take_while(|byte| **byte != b'\n').count()
 }
 
-/// How many bytes stand at the front that a name may go on with.
+/// The number of bytes at the front that a name may go on with.
 pub(crate) fn name_length(text: &[u8]) -> usize
     ensures value { result ≡ run continues_name text.now }
     ensures within { result ≤ length text.now }

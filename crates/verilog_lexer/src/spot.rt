@@ -3,7 +3,7 @@ ghost use Rattle.verilog_lexer.specs.Spot.{next_place, after, after_all, IsInRan
 
 use cov_host::Place;
 
-/// Where something stands. Within a macro this is where the outermost macro is used.
+/// A place in the text. Within a macro it is where the outermost macro is used.
 #[derive(Clone, Copy, PartialEq, Eq)]
 pub(crate) struct Spot {
     pub(crate) place: Place,
@@ -39,7 +39,7 @@ impl Spot {
         }
     }
 
-    /// The spot behind bytes.
+    /// The spot after these bytes.
     #[tactic(auto, using(crate::proofs::Spots::spots))]
     pub(crate) fn after_all(self, bytes: &[u8]) -> Self
         requires { IsInRange self (length bytes.now) }
@@ -59,7 +59,7 @@ impl Spot {
     }
 }
 
-/// The place behind a byte.
+/// The place after a byte.
 fn next_place(place: Place, byte: u8) -> Place
     requires line { place.line + 1 < 2 ^ 32 }
     requires column { place.column + 1 < 2 ^ 32 }

@@ -65,7 +65,7 @@ fn last_of<'a>(tokens: &[Token<'a>]) -> Option<Token<'a>>
     tokens.last().copied()
 }
 
-/// Where a bad number begins, if the token that comes behind these tokens makes one.
+/// Where a bad number begins, if the token that follows these tokens makes one.
 fn bad_number(tokens: &[Token<'_>], kind: TokenKind, text: &[u8], place: Place) -> Option<Place>
     ensures { result ≡ bad_number (lexemes tokens.now) kind text.now place }
 {
@@ -107,7 +107,7 @@ fn is_size(text: &[u8]) -> bool
     }
 }
 
-/// No bad number stands anywhere.
+/// There is no bad number.
 fn sound_number(bad: Option<Place>) -> Result<(), LexFault>
     ensures ok { OnOk result (sound_number bad ≡ Ok tt) }
     ensures fault { IfErr result (IsFault (sound_number bad)) }

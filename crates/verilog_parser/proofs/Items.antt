@@ -11,9 +11,9 @@ use Rattle.verilog_grammar.specs.Language.{verilog}
 use Rattle.verilog_grammar.specs.Verilog.{grammar, begins}
 use Rattle.verilog_grammar.specs.Modules.{item_rule, port_item_rule, port_rule, direction_rule, net_item_rule, variable_item_rule, integer_item_rule, parameter_item_rule, continuous_item_rule, always_item_rule, initial_item_rule, instance_item_rule, items_rule, joined}
 use Rattle.verilog_grammar.proofs.Verilog.{tables, passes}
-use Rattle.verilog_parser.specs.declared.fault.ReadFault.{ReadFault}
-use Rattle.verilog_parser.specs.declared.fault.ReadFault.TheVariants as read_fault
-use Rattle.verilog_parser.specs.Gives.{Fails, fault_view}
+use Rattle.verilog_expressions.specs.declared.fault.ReadFault.{ReadFault}
+use Rattle.verilog_expressions.specs.declared.fault.ReadFault.TheVariants as read_fault
+use Rattle.verilog_expressions.specs.Gives.{Fails, fault_view}
 
 -- the items so far and those that follow
 abbrev pub with_items : List Item → List (List Item) → List Item

@@ -12,9 +12,9 @@ use Rattle.verilog_grammar.specs.Verilog.{grammar}
 use Rattle.verilog_grammar.specs.Parts.{Phrased, only, before, first_of_two, listed}
 use Rattle.verilog_grammar.specs.Statements.{set_rule}
 use Rattle.verilog_grammar.specs.Modules.{continuous_item_of, continuous_items_of, continuous_item_rule}
-use Rattle.verilog_parser.specs.declared.fault.ReadFault.{ReadFault}
-use Rattle.verilog_parser.specs.declared.fault.ReadFault.TheVariants as read_fault
-use Rattle.verilog_parser.specs.Gives.{Fails}
+use Rattle.verilog_expressions.specs.declared.fault.ReadFault.{ReadFault}
+use Rattle.verilog_expressions.specs.declared.fault.ReadFault.TheVariants as read_fault
+use Rattle.verilog_expressions.specs.Gives.{Fails}
 use Rattle.verilog_parser.proofs.Repeated.{paired, mapped}
 use Rattle.verilog_parser.proofs.Statements.{made_behind}
 

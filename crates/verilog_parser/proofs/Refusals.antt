@@ -14,10 +14,10 @@ use Rattle.verilog_grammar.specs.Language.{verilog}
 use Rattle.verilog_grammar.specs.Verilog.{grammar}
 use Rattle.verilog_grammar.proofs.Verilog.{verilog_exact}
 use Rattle.verilog_parser.specs.Parses.{AreModules, IsRefusalOf, NestTooDeep, IsTooDeepAt, StandsIn}
-use Rattle.verilog_parser.specs.Gives.{wrong_view, fault_view}
-use Rattle.verilog_parser.specs.declared.fault.Fault.{Fault}
-use Rattle.verilog_parser.specs.declared.fault.Wrong.{Wrong}
-use Rattle.verilog_parser.specs.declared.fault.Wrong.TheVariants as wrong
+use Rattle.verilog_expressions.specs.Gives.{wrong_view, fault_view}
+use Rattle.verilog_expressions.specs.declared.fault.Fault.{Fault}
+use Rattle.verilog_expressions.specs.declared.fault.Wrong.{Wrong}
+use Rattle.verilog_expressions.specs.declared.fault.Wrong.TheVariants as wrong
 use Rattle.verilog_parser.specs.declared.fault.ParseFault.{ParseFault}
 use Rattle.verilog_parser.specs.declared.fault.ParseFault.TheVariants as fault
 use Rattle.verilog_parser.specs.declared.fault.ParseKind.TheVariants.{Unexpected, EarlyEnd, TooDeep, LeftOut}

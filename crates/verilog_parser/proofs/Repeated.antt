@@ -9,9 +9,9 @@ use Rattle.verilog_grammar.specs.Language.{verilog}
 use Rattle.verilog_grammar.specs.Verilog.{grammar, begins}
 use Rattle.verilog_grammar.specs.Parts.{Phrased, with_front}
 use Rattle.verilog_grammar.proofs.Verilog.{tables, passes}
-use Rattle.verilog_parser.specs.declared.fault.ReadFault.{ReadFault}
-use Rattle.verilog_parser.specs.declared.fault.ReadFault.TheVariants as read_fault
-use Rattle.verilog_parser.specs.Gives.{Fails, fault_view}
+use Rattle.verilog_expressions.specs.declared.fault.ReadFault.{ReadFault}
+use Rattle.verilog_expressions.specs.declared.fault.ReadFault.TheVariants as read_fault
+use Rattle.verilog_expressions.specs.Gives.{Fails, fault_view}
 
 -- one that is begun and fails
 pub turn_fails : {S A B : Type 0} (fin : S → List A → B) (d : ℕ) (g : Phrased A) → nullable g ≡ false → member 0 (first verilog begins g) ≡ false

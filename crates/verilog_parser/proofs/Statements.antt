@@ -17,30 +17,14 @@ use Rattle.verilog_grammar.specs.Verilog.{grammar}
 use Rattle.verilog_grammar.specs.Parts.{Phrased, only, any_of}
 use Rattle.verilog_grammar.specs.Statements.{arguments_rule, task_of, task_rule, task_or_null_rule, null_rule}
 use Rattle.verilog_grammar.specs.declared.kind.Kind.TheVariants as k
-use Rattle.verilog_parser.specs.Cursor.{take_next}
+use Rattle.verilog_expressions.specs.Cursor.{take_next}
 use Rattle.verilog_parser.specs.Statements.{task_words, task_end, task_end_rule}
+use Rattle.verilog_expressions.proofs.Taken.{any_taken}
 use Rattle.verilog_parser.proofs.Repeated.{paired, mapped}
 
 -- what is read and dropped, with what came before it
 abbrev pub drop_all : Unit {0} → List (Unit {0}) → Unit {0}
 drop_all u us = tt
-
--- a token of any kind, where its kind is one of these
-pub any_taken : (ks : List ℕ) (i o : List Lexeme) (t : Lexeme) → take_next i ≡ Ok (t, o) → member (next verilog i) ks ≡ true → take_one verilog ks i ≡ Ok (t, o)
-unfolding take_one
-any_taken ks [] o t e h = absurd (search (rules, e))
-any_taken ks (x ∷ i) o t e h = rw h e
-
--- where the next token is of none of these kinds
-pub any_refused : (ks : List ℕ) (i : List Lexeme) → member (next verilog i) ks ≡ false → take_one verilog ks i ≡ refuse verilog i
-unfolding take_one
-any_refused ks [] h = refl
-any_refused ks (x ∷ i) h = rw h refl
-
--- the kind of the token that is taken
-pub kind_taken : (i o : List Lexeme) (t : Lexeme) → take_next i ≡ Ok (t, o) → next_kind i ≡ kind_of t
-kind_taken [] o t e = absurd (search (rules, e))
-kind_taken (x ∷ i) o t e = grind (arith, e)
 
 regroup : {A B C : Type 0} (f : A × B → C) (a : A) (o : Outcome verilog B) → mapped f (paired a o) ≡ mapped (λ b. f (a, b)) o
 regroup f a (Ok y) = refl

@@ -1,13 +1,4 @@
-pub mod Declarations
-pub mod Digits
-pub mod Gives
-pub mod Instances
 pub mod LeftOut
-pub mod Measured
-pub mod Views
 pub mod Parses
-pub mod Cursor
-pub mod Grows
-pub mod Others
 pub mod Statements
 pub mod Processes

@@ -16,7 +16,7 @@ use Rattle.verilog_grammar.specs.Verilog.{begins}
 use Rattle.verilog_grammar.specs.Parts.{Phrased, only, optional, in_parentheses}
 use Rattle.verilog_grammar.specs.Statements.{arguments_rule}
 use Rattle.verilog_parser.specs.declared.statement.LoopHeader.{LoopHeader}
-use Rattle.verilog_parser.specs.Views.{set_view}
+use Rattle.verilog_expressions.specs.Views.{set_view}
 
 -- the words of a case
 abbrev pub case_words : List ℕ

@@ -5,15 +5,15 @@ ghost use Rattle.verilog_tree.specs.View.{modules_view};
 ghost use Rattle.grammar_rules.specs.Grammar.{whole};
 ghost use Rattle.verilog_grammar.specs.Language.{verilog};
 ghost use Rattle.verilog_grammar.specs.Verilog.{grammar};
-ghost use Rattle.verilog_parser.specs.Gives.{fault_view};
+ghost use Rattle.verilog_expressions.specs.Gives.{fault_view};
 ghost use Rattle.verilog_parser.specs.Parses.{AreModules, IsAnswer, IsRefusalOf, StandsIn};
 
-use crate::cursor::Cursor;
-use crate::fault::{Fault, ParseFault, ParseKind, ReadFault, Wrong};
+use crate::fault::{ParseFault, ParseKind};
 use crate::left_out::form_of;
 use crate::module::modules;
 use cov_host::Name;
 use std::alloc::Global;
+use verilog_expressions::{Cursor, Fault, ReadFault, Wrong};
 use verilog_grammar::Kind;
 use verilog_lexer::{Token, Tokens};
 use verilog_tree::Modules;
@@ -21,8 +21,8 @@ use verilog_tree::Modules;
 /// How deep statements and expressions nest at most.
 const MOST_DEPTH: u32 = 256;
 
-/// The modules that the tokens spell (IEEE 1364-2001 annex A, as far as the language has it), or the fault that
-/// stands first in them.
+/// The modules that the tokens spell (IEEE 1364-2001 annex A, as far as the language has it), or the first
+/// fault in them.
 #[tactic(auto, using(crate::proofs::Refusals::found, crate::proofs::Refusals::only, crate::proofs::Refusals::none))]
 pub fn parse<'a>(alloc: Global, tokens: &Tokens<'a>) -> Result<Modules, ParseFault>
     ensures found { IfOk result (λ found. AreModules (lexemes tokens.now) (modules_view found)) }

@@ -1,8 +1,4 @@
-ghost use Rattle.std.specs.Prelude.{◌≡◌};
-ghost use Rattle.verilog_parser.specs.declared.fault.ReadFault.TheVariants.{Memory};
-
-use cov_host::{Name, NoMemory, Place};
-use std::alloc::{AllocError, AllocFailed};
+use cov_host::{Name, Place};
 use thiserror::Error;
 
 /// What is wrong with tokens.
@@ -26,55 +22,11 @@ pub enum ParseFault {
     NoMemory,
     #[error("{kind:?}")]
     At {
+        /// What is wrong.
         kind: ParseKind,
+        /// Of the token, or of the part that nests too deep. None where the tokens end.
         place: Option<Place>,
+        /// The form that is left out.
         detail: Option<Name>,
     },
-}
-
-/// What is wrong at a token.
-#[derive(Clone, Copy, Debug, PartialEq, Eq)]
-pub(crate) enum Wrong {
-    /// No rule of the grammar goes on with it.
-    Unexpected,
-    /// With it a part is known to nest too deep, which begins at this place.
-    TooDeep(Place),
-}
-
-/// A fault, and how many tokens are left at it.
-#[derive(Clone, Copy, Debug, PartialEq, Eq)]
-pub(crate) struct Fault {
-    pub(crate) wrong: Wrong,
-    pub(crate) left: usize,
-}
-
-/// Why a phrase was not read.
-#[derive(Debug, Drop)]
-pub(crate) enum ReadFault {
-    Memory,
-    At(Fault),
-}
-
-impl From<AllocError> for ReadFault {
-    ghost from_gives = { λ _ fault. fault ≡ Memory };
-
-    fn from(_: AllocError) -> Self {
-        ReadFault::Memory
-    }
-}
-
-impl<T: Drop> From<AllocFailed<T>> for ReadFault {
-    ghost from_gives = { λ _ fault. fault ≡ Memory };
-
-    fn from(_: AllocFailed<T>) -> Self {
-        ReadFault::Memory
-    }
-}
-
-impl From<NoMemory> for ReadFault {
-    ghost from_gives = { λ _ fault. fault ≡ Memory };
-
-    fn from(_: NoMemory) -> Self {
-        ReadFault::Memory
-    }
 }

@@ -9,19 +9,18 @@ ghost use Rattle.verilog_grammar.specs.Kind.{code};
 ghost use Rattle.verilog_grammar.specs.Language.{verilog};
 ghost use Rattle.verilog_grammar.specs.Verilog.{grammar, begins};
 ghost use Rattle.verilog_grammar.specs.Modules.{item_rule, items_rule, module_rule, source_rule};
-ghost use Rattle.verilog_parser.specs.Gives.{Gives, GivesAll};
-ghost use Rattle.verilog_parser.specs.Views.{one_item_view};
+ghost use Rattle.verilog_expressions.specs.Gives.{Gives, GivesAll};
+ghost use Rattle.verilog_expressions.specs.Views.{one_item_view};
 
-use crate::cursor::Cursor;
-use crate::declaration::{integer_item, name, net_item, variable_item};
-use crate::fault::ReadFault;
-use crate::instance::instance_item;
-use crate::parameter::{header_params, parameter_item};
-use crate::port::{Ports, begins_port, header_ports, port_item};
 use crate::process::{always_item, continuous_items, initial_item};
 use cov_host::Sequence;
 use std::alloc::Global;
+use verilog_expressions::{Cursor, ReadFault};
 use verilog_grammar::Kind;
+use verilog_items::{
+    Ports, begins_port, header_params, header_ports, instance_item, integer_item, name, net_item,
+    parameter_item, port_item, variable_item,
+};
 use verilog_tree::{Item, Module};
 
 /// Whether the next token begins an item.

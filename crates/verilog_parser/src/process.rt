@@ -11,22 +11,21 @@ ghost use Rattle.verilog_grammar.specs.Verilog.{grammar};
 ghost use Rattle.verilog_grammar.specs.Parts.{after, listed, name_rule};
 ghost use Rattle.verilog_grammar.specs.Statements.{set_rule};
 ghost use Rattle.verilog_grammar.specs.Modules.{continuous_item_of, continuous_item_rule, separated, edge_rule, timed_rule, always_item_rule, initial_item_rule};
-ghost use Rattle.verilog_parser.specs.Gives.{Gives, same};
+ghost use Rattle.verilog_expressions.specs.Gives.{Gives, same};
 ghost use Rattle.verilog_parser.specs.Processes.{separators, next_rule, closed_rule, timed_inside_rule, timed_view};
-ghost use Rattle.verilog_parser.specs.Views.{set_view, one_item_view};
+ghost use Rattle.verilog_expressions.specs.Views.{set_view, one_item_view};
 
-use crate::cursor::Cursor;
-use crate::declaration::name;
-use crate::fault::ReadFault;
 use crate::statement::{set, statement};
 use cov_host::{Place, Sequence};
 use four_state::Edge;
 use std::alloc::Global;
+use verilog_expressions::{Cursor, ReadFault};
 use verilog_grammar::{Body, Kind};
+use verilog_items::name;
 use verilog_lexer::Token;
 use verilog_tree::{Expr, Item, ItemForm, Named, Statement, When};
 
-/// An item for each assignment behind an `assign`.
+/// An item for each assignment after an `assign`.
 #[tactic(auto, unfolding(verilog_grammar::specs::Modules::continuous_item_rule))]
 pub(crate) fn continuous_items(
     alloc: Global,
@@ -91,7 +90,7 @@ fn sees_separator(cursor: &Cursor<'_, '_>) -> bool
 }
 
 /// An `or` or a comma.
-#[tactic(auto, using(crate::proofs::Statements::any_taken, crate::proofs::Statements::any_refused))]
+#[tactic(auto, using(verilog_expressions::proofs::Taken::any_taken, verilog_expressions::proofs::Taken::any_refused))]
 fn separator<'a>(cursor: &mut Cursor<'_, 'a>) -> Result<Token<'a>, ReadFault>
     ensures { Gives lexeme (take_one verilog separators cursor.old) result cursor.new }
 {
@@ -115,7 +114,7 @@ fn separated_names(alloc: Global, cursor: &mut Cursor<'_, '_>) -> Result<Vec<Nam
     Ok(all)
 }
 
-/// A name behind `or` or a comma.
+/// A name after `or` or a comma.
 fn next_name(alloc: Global, cursor: &mut Cursor<'_, '_>) -> Result<Named, ReadFault>
     ensures { Gives same (reads verilog grammar 0 (next_rule name_rule) cursor.old) result cursor.new }
 {
@@ -140,7 +139,7 @@ fn separated_edges(
     Ok(all)
 }
 
-/// An edge behind `or` or a comma.
+/// An edge after `or` or a comma.
 fn next_edge(alloc: Global, cursor: &mut Cursor<'_, '_>) -> Result<(Edge, Named), ReadFault>
     ensures { Gives same (reads verilog grammar 0 (next_rule edge_rule) cursor.old) result cursor.new }
 {
@@ -163,7 +162,7 @@ fn edge(alloc: Global, cursor: &mut Cursor<'_, '_>) -> Result<(Edge, Named), Rea
     Ok((Edge::Neg, name))
 }
 
-/// The parenthesis behind what a block waits for, and its body.
+/// The parenthesis after what a block waits for, and its body.
 fn closed(
     alloc: Global,
     cursor: &mut Cursor<'_, '_>,

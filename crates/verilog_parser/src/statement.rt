@@ -13,17 +13,17 @@ ghost use Rattle.verilog_grammar.specs.Parts.{after, in_parentheses as in_parent
 ghost use Rattle.verilog_grammar.specs.Statements.{case_kind as kind_of_case, statement_rule, statements_rule, block_rule, if_rule, case_rule, arms_rule};
 ghost use Rattle.verilog_grammar.specs.Statements.{label_arm_rule, label_arms_rule, default_arm_rule, default_arms_rule, set_rule, header_rule, for_rule};
 ghost use Rattle.verilog_grammar.specs.Statements.{sign_rule, assignment_rule, argument_rule, arguments_rule, task_or_null_rule, null_rule};
-ghost use Rattle.verilog_parser.specs.Gives.{Gives, Fails, same};
+ghost use Rattle.verilog_expressions.specs.Gives.{Gives, Fails, same};
 ghost use Rattle.verilog_parser.specs.Statements.{case_words, task_words, argument_words, default_arms_view, header_view, no_value, task_end_rule};
-ghost use Rattle.verilog_parser.specs.Views.{set_view};
+ghost use Rattle.verilog_expressions.specs.Views.{set_view};
 
-use crate::cursor::Cursor;
-use crate::expr::{begins_expression, expression, expressions, in_parentheses};
-use crate::fault::ReadFault;
-use crate::select::{begins_target, target};
 use cov_host::{NoMemory, Place};
 use four_state::CaseKind;
 use std::alloc::Global;
+use verilog_expressions::{
+    Cursor, ReadFault, begins_expression, begins_target, expression, expressions, in_parentheses,
+    target,
+};
 use verilog_grammar::{Body, Kind};
 use verilog_lexer::Token;
 use verilog_tree::{Arm, Expr, Statement};
@@ -195,7 +195,7 @@ fn case_kind(kind: Kind) -> CaseKind
 }
 
 /// The word of a case, and how the labels match.
-#[tactic(auto, using(crate::proofs::Statements::any_taken, crate::proofs::Statements::any_refused))]
+#[tactic(auto, using(verilog_expressions::proofs::Taken::any_taken, verilog_expressions::proofs::Taken::any_refused))]
 fn case_word<'a>(cursor: &mut Cursor<'_, 'a>) -> Result<(Token<'a>, CaseKind), ReadFault>
     ensures reads { Gives (λ p. lexeme p.0) (take_one verilog case_words cursor.old) result cursor.new }
     ensures kind { IfOk result (λ p. p.1 ≡ kind_of_case (kind_of (lexeme p.0))) }
@@ -225,7 +225,7 @@ fn case(
     Ok(Statement::case(alloc, word.place, kind, on, found)?)
 }
 
-/// An arm and the arms behind it.
+/// An arm and the arms that follow it.
 fn with_front(first: Arm, mut others: Vec<Arm>) -> Result<Vec<Arm>, NoMemory>
     ensures { IfOk result (λ v. arms_view v.items ≡ arm_view first ∷ arms_view others.items) }
 {
@@ -259,7 +259,7 @@ fn arms(
     Ok(all)
 }
 
-/// The default, and the arms with labels behind it.
+/// The default, and the arms with labels that follow it.
 #[cycle(statement)]
 #[tactic(auto, unfolding(verilog_grammar::specs::Statements::default_arms_rule))]
 fn default_arms(
@@ -343,7 +343,7 @@ pub(crate) fn set(
     Ok((left.into_expr(), right.into_expr()))
 }
 
-/// What stands in the parentheses of a `for`.
+/// What is in the parentheses of a `for`.
 #[derive(Drop)]
 struct LoopHeader {
     start: (Expr, Expr),
@@ -441,7 +441,7 @@ fn empty(alloc: Global, cursor: &mut Cursor<'_, '_>) -> Result<Statement, ReadFa
     Ok(Statement::empty(alloc, semicolon.place)?)
 }
 
-/// What stands behind the word of a system task, which has this place. Its arguments are read and dropped.
+/// What follows the word of a system task, which has this place. Its arguments are read and dropped.
 #[tactic(auto, unfolding(verilog_grammar::specs::Statements::arguments_rule, verilog_grammar::specs::Statements::argument_rule))]
 fn task(
     alloc: Global,

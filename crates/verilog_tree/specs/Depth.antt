@@ -12,7 +12,7 @@ alone place = record { height = 1; place = place }
 abbrev pub none : Place → Depth
 none place = record { height = 0; place = place }
 
--- the deeper of two parts that stand one behind the other, the first where they are equally deep
+-- the deeper of two parts, one after the other, the first where they are equally deep
 abbrev pub deeper : Depth → Depth → Depth
 deeper a b = if nat_le b.height a.height then a else b
 
@@ -36,7 +36,7 @@ abbrev mutual
   depth (sign_cast p s a) = under (depth a)
   depth (parentheses p a) = under (depth a)
 
-  -- the deepest of one that stands before and of all of these
+  -- the deepest of an earlier one and of all of these
   pub deepest_of : Depth → Exprs → Depth
   deepest_of d no_exprs = d
   deepest_of d (an_expr e es) = deepest_of (deeper d (depth e)) es

@@ -123,7 +123,7 @@ pub record Item : Type 0 where
   pub place : Place
   pub form : ItemForm
 
--- a module: the parameters of its header, the names of its port list, and its items; ports declared in the header stand first among the items
+-- a module: the parameters of its header, the names of its port list, and its items; ports declared in the header come first among the items
 pub record Module : Type 0 where
   pub name : Named
   pub params : List Param

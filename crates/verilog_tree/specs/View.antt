@@ -1,4 +1,4 @@
--- The plain trees that the trees of the code stand for.
+-- The plain trees of the trees of the code.
 use Rattle.std.specs.Prelude.{List, map, Option, Some, None}
 use Rattle.std.specs.Option.{option_map}
 use Rattle.cov_host.specs.declared.place.Place.{Place}

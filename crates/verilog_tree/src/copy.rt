@@ -7,14 +7,14 @@ use crate::{Expr, ExprForm, Range};
 use cov_host::{Name, NoMemory};
 use std::alloc::Global;
 
-/// The same name.
+/// A copy of the name.
 fn copied_name(alloc: Global, name: &Name) -> Result<Name, NoMemory>
     ensures { IfOk result (λ copy. copy ≡ name.now) }
 {
     Ok(Name::from_vec(Vec::from_slice(alloc, name.as_slice())?))
 }
 
-/// The same expressions.
+/// Copies of the expressions.
 #[cycle(copy)]
 fn all_copied(alloc: Global, exprs: &[Expr]) -> Result<Vec<Expr>, NoMemory>
     ensures { IfOk result (λ copy. exprs_view copy.items ≡ exprs_view exprs.now) }
@@ -26,7 +26,7 @@ fn all_copied(alloc: Global, exprs: &[Expr]) -> Result<Vec<Expr>, NoMemory>
     Ok(all)
 }
 
-/// The same expression.
+/// A copy of the expression.
 #[cycle(copy)]
 pub(crate) fn copied(alloc: Global, expr: &Expr) -> Result<Expr, NoMemory>
     ensures { IfOk result (λ copy. expr_view copy ≡ expr_view expr.now) }
@@ -86,7 +86,7 @@ pub(crate) fn copied(alloc: Global, expr: &Expr) -> Result<Expr, NoMemory>
 }
 
 impl Range {
-    /// The same range.
+    /// A copy of the range.
     pub fn try_copy(&self, alloc: Global) -> Result<Range, NoMemory>
         ensures { IfOk result (λ copy. range_view copy ≡ range_view self.now) }
     {

@@ -7,7 +7,9 @@ use cov_host::{NoMemory, Place};
 /// of the expressions directly in it. The place is where the first of the innermost ones begins.
 #[derive(Clone, Copy, Debug, PartialEq, Eq)]
 pub struct Depth {
+    /// How deep the expression nests.
     pub height: u64,
+    /// Where the first of the innermost expressions begins.
     pub place: Place,
 }
 
@@ -26,7 +28,7 @@ impl Depth {
         Depth { height: 0, place }
     }
 
-    /// The greater of two expressions, of which `other` stands behind, and the first where they are equal.
+    /// The deeper of two expressions, of which `other` comes later, and the first where they are equal.
     pub fn deeper(self, other: Depth) -> Depth
         ensures { result ≡ deeper self other }
     {

@@ -13,6 +13,7 @@ use std::alloc::Global;
 pub struct Expr {
     /// Of its first token.
     pub place: Place,
+    /// Its form, in a box.
     pub form: Box<ExprForm>,
 }
 

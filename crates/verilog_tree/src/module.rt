@@ -4,6 +4,7 @@ use cov_host::Sequence;
 /// A module (IEEE 1364-2001 clause 12.1).
 #[derive(Drop)]
 pub struct Module {
+    /// Its name.
     pub name: Named,
     /// Those of the header.
     pub params: Sequence<Param>,

@@ -14,6 +14,7 @@ use std::alloc::Global;
 pub struct Statement {
     /// Of its first token.
     pub place: Place,
+    /// Its form, in a box.
     pub form: Box<StatementForm>,
 }
 
@@ -21,18 +22,23 @@ pub struct Statement {
 #[derive(Drop)]
 #[cycle(statement)]
 pub enum StatementForm {
+    /// `begin .. end`.
     Block(Vec<Statement>),
+    /// `if (test) yes`, with `else no` where there is one.
     If {
         test: Expr,
         yes: Statement,
         no: Option<Statement>,
     },
+    /// `case (on) .. endcase`, or `casez`, or `casex`.
     Case {
         kind: CaseKind,
         on: Expr,
         arms: Vec<Arm>,
     },
+    /// A `for` loop.
     For(For),
+    /// `target = value` where `blocking` is true, else `target <= value`.
     Set {
         target: Expr,
         blocking: bool,
@@ -40,6 +46,7 @@ pub enum StatementForm {
     },
     /// A system task. Its arguments are dropped.
     Task,
+    /// A semicolon alone.
     Empty,
 }
 
@@ -47,7 +54,9 @@ pub enum StatementForm {
 #[derive(Drop)]
 #[cycle(statement)]
 pub struct Arm {
+    /// The labels, none for the `default`.
     pub labels: Vec<Expr>,
+    /// The statement of the arm.
     pub body: Statement,
 }
 
@@ -57,11 +66,17 @@ pub struct Arm {
 pub struct For {
     /// Of the `for`.
     pub place: Place,
+    /// The loop variable, where its first value is assigned.
     pub name: Expr,
+    /// The first value.
     pub first: Expr,
+    /// The condition.
     pub test: Expr,
+    /// What is assigned after each turn.
     pub target: Expr,
+    /// The value that it is assigned.
     pub step: Expr,
+    /// The statement of each turn.
     pub body: Statement,
 }
 

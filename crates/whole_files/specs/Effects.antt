@@ -8,22 +8,22 @@ pub record CountsUp (before after : Outside) : Type 0 where
   pub absences : before.absences ≤ after.absences
   pub mute : before.mute ≤ after.mute
 
--- nothing but what is being read has changed
+-- only what is being read has changed
 pub record OnlyReads (before after : Outside) : Type 0 where
   pub files : KeepsFiles before after
   pub output : KeepsOutput before after
   pub streams : KeepsStreams before after
   pub counts : CountsUp before after
 
--- the file is not among those that the host tells; where it tells none, an absence was counted
+-- the file is not among the known files of the host; where they are not known, an absence was counted
 abbrev pub IsMissing : List ℕ → Outside → Outside → Type 0
 IsMissing name before after = MatchOption before.files (IsCounted before.absences after.absences) (λ files. files name ≡ None)
 
--- where the files are told, the file that is being written is one of them
+-- where the files are known, the file that is being written is one of them
 abbrev pub HasTarget : Outside → Type 0
 HasTarget before = IfSome before.files (λ files. IsSomeAnd before.target (λ name. IsSome (files name)))
 
--- a front of the text stands more at the target's end, and every other file is as before
+-- a first part of the text was added at the target's end, and every other file is as before
 abbrev pub AppendsFront : Option (List ℕ) → List ℕ → Files → Files → Type 0
 AppendsFront target text old new = (count : ℕ) × AppendsTo target (take count text) old new
 

@@ -52,7 +52,7 @@ pub fn read_file<H: Host>(
     Ok(Bytes::from_vec(bytes))
 }
 
-/// So many bytes to read into.
+/// `count` bytes to read into.
 fn zeros(alloc: Global, count: usize) -> Result<Vec<u8>, AllocError>
     ensures { IfOk result (λ piece. vec_len piece ≡ count) }
 {

@@ -20,13 +20,13 @@ returns-in-Some c =
     let same : placed_bits q.bits p.bits (Some c.in-Some.low) ≡ placed_bits q.bits p.bits (whole_offset r i) = ap (placed_bits q.bits p.bits) (sym c.in-Some.is) ∙ c.part_offset.ensures q.bits p.bits a b ∙ ap (λ v. placed_bits q.bits p.bits (offset_option r (index v.signed v.bits))) c.value.ensures.value in
     let fits : SFits w64 c.in-Some.low = search rules in
     let low : ℤ = to_z w64 (of_z w64 c.in-Some.low) in
-    let whole : low ≡ c.in-Some.low = omega (arith, ints) in
+    let same_low : low ≡ c.in-Some.low = omega (arith, ints) in
     let placed = placed_is q p c.place.result low c.place.ensures.sound c.place.ensures.tight in
     let blame : c.if-is_whole.blame ≡ (if is_whole p then q.blame else p.blame) = elim c.if-is_whole.branch [
       | then-is_whole w ↦ w.blame-is ∙ w.blame-blame.ensures.value ∙ ap (λ t. if t then q.blame else p.blame) (sym (sym c.is_whole-2.ensures ∙ w.if-is_whole.true))
       | else-is_whole w ↦ w.blame-is ∙ w.blame-blame-else-is_whole.ensures.value ∙ ap (λ t. if t then q.blame else p.blame) (sym (sym c.is_whole-2.ensures ∙ w.if-is_whole.false))
     ] in
-    c.blamed.ensures ∙ written_placed r i p q whole (Some c.in-Some.low) same c.place.result c.if-is_whole.blame (placed.0 ∙ ap (λ z. bits_over q.bits p.bits (neg_ℤ z)) whole) placed.1 blame
+    c.blamed.ensures ∙ written_placed r i p q whole (Some c.in-Some.low) same c.place.result c.if-is_whole.blame (placed.0 ∙ ap (λ z. bits_over q.bits p.bits (neg_ℤ z)) same_low) placed.1 blame
 
 pub returns-in-None : goal.returns-in-None
 returns-in-None c =

@@ -7,7 +7,7 @@ use Rattle.verilog_grammar.specs.Language.{verilog}
 use Rattle.verilog_grammar.specs.Verilog.{grammar}
 use Rattle.verilog_grammar.specs.Modules.{module_rule}
 use Rattle.verilog_grammar.proofs.Verilog.{tables, passes}
-use Rattle.verilog_parser.proofs.Listed.{many_fails}
+use Rattle.verilog_items.proofs.Listed.{many_fails}
 use Rattle.verilog_parser.proofs.module.each_module.Goals as goal
 
 pub more-preserved : goal.more-preserved

@@ -2,7 +2,7 @@ use Rattle.std.proofs.Common.{sym, ◌∙◌, map, ap}
 use Rattle.std.proofs.lemmas.Result.{err_from_is_err_and}
 use Rattle.verilog_tree.specs.View.{item_view}
 use Rattle.verilog_parser.proofs.Items.{items_begun, items_more, items_done, item_falls, items_fail}
-use Rattle.verilog_parser.proofs.Listed.{view_appended}
+use Rattle.verilog_items.proofs.Listed.{view_appended}
 use Rattle.verilog_parser.proofs.module.items.Goals as goal
 
 pub more-init : goal.more-init

@@ -1,6 +1,6 @@
 use Rattle.std.proofs.Common.{◌∙◌, ap}
 use Rattle.verilog_grammar.specs.Statements.{case_kind}
-use Rattle.verilog_parser.proofs.Statements.{kind_taken}
+use Rattle.verilog_expressions.proofs.Taken.{kind_taken}
 use Rattle.verilog_parser.proofs.statement.case_word.Goals as goal
 
 pub returns-clause-kind : goal.returns-clause-kind

@@ -1,0 +1,13 @@
+pub mod Choices
+pub mod Deepest
+pub mod Gives
+pub mod Grown
+pub mod LevelRules
+pub mod Levels
+pub mod Numbers
+pub mod Operators
+pub mod Others
+pub mod PushedDigits
+pub mod Selects
+pub mod Taking
+pub mod Taken

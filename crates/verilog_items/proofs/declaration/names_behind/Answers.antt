@@ -1,0 +1,27 @@
+use Rattle.std.proofs.Common.{◌++◌, sym, ◌∙◌}
+use Rattle.std.proofs.lemmas.Result.{err_from_is_err_and}
+use Rattle.verilog_grammar.specs.Parts.{name_rule}
+use Rattle.verilog_items.proofs.Listed.{nothing_yet, list_more, list_done, behind_falls, comma_fails, item_fails}
+use Rattle.verilog_items.proofs.declaration.names_behind.Goals as goal
+
+pub more-init : goal.more-init
+more-init c = nothing_yet _ _ c.new-all.ensures.items
+
+pub more-preserved : goal.more-preserved
+more-preserved c = list_more 0 name_rule _ _ _ _ _ _ _ _ c.in_ok-push.ensures.items (sym c.sees.ensures ∙ c.more-test.true) c.in_ok-take.ensures c.in_ok-next.ensures c.more.invariant
+
+pub more-smaller : goal.more-smaller
+more-smaller c = behind_falls 0 name_rule _ _ _ _ _ c.in_ok-take.ensures c.in_ok-next.ensures
+
+pub returns : goal.returns
+returns c = list_done 0 name_rule _ _ _ (sym c.sees.ensures ∙ c.more-test.false) c.more.invariant
+
+pub returns-in_err-take : goal.returns-in_err-take
+returns-in_err-take c =
+    let p = err_from_is_err_and c.from_residual.result c.from_residual.ensures.1 in
+    rw (p.1, p.2) (comma_fails ◌++◌ 0 name_rule _ _ _ _ (sym c.sees.ensures ∙ c.more-test.true) c.in_err-take.ensures c.more.invariant)
+
+pub returns-in_err-next : goal.returns-in_err-next
+returns-in_err-next c =
+    let p = err_from_is_err_and c.from_residual-in_err-next.result c.from_residual-in_err-next.ensures.1 in
+    rw (p.1, p.2) (item_fails ◌++◌ 0 name_rule _ _ _ _ _ _ (sym c.sees.ensures ∙ c.more-test.true) c.in_ok-take.ensures c.in_err-next.ensures c.more.invariant)
