@@ -33,7 +33,7 @@ pub struct Points {
     pub toggles: Vec<IndexPoint>,
     /// The state machines in the instances of the design.
     pub machines: Vec<Machine>,
-    /// The states and arcs of these machines.
+    /// The states and arcs of these machines, in their order.
     pub states: Vec<MachinePoint>,
     /// The points of words, in their order.
     pub words: Vec<IndexPoint>,

@@ -55,20 +55,21 @@ pub(crate) static MACHINE_CASES: &[Case] = &[
     },
 ];
 
-/// A design whose machines are refused: its name, its source, its machine, and the fault.
+/// What a list is refused for.
+#[derive(Clone, Copy, PartialEq, Eq)]
+pub(crate) enum FaultKind {
+    NoState,
+    SameState,
+    TooManyStates,
+}
+
+/// A design whose machines are refused: its name, its source, its machine, and the fault with the name that it has.
 pub(crate) struct FaultCase {
     pub(crate) name: &'static str,
     pub(crate) text: &'static str,
     pub(crate) machine: Machine,
-    pub(crate) fault: Fault,
-}
-
-/// What a list is refused for, with the name that the fault has.
-#[derive(Clone, Copy, PartialEq, Eq)]
-pub(crate) enum Fault {
-    NoState(&'static str),
-    SameState(&'static str),
-    TooManyStates(&'static str),
+    pub(crate) kind: FaultKind,
+    pub(crate) detail: &'static str,
 }
 
 pub(crate) static FAULT_CASES: &[FaultCase] = &[
@@ -76,42 +77,49 @@ pub(crate) static FAULT_CASES: &[FaultCase] = &[
         name: "states-equal-in-width-of-variable",
         text: "module ff(input clk, input a, output reg q);\n  parameter A = 0, B = 2;\n  always @(posedge clk)\n    if (a) q <= 1; else q <= 0;\nendmodule\n",
         machine: ("ff", "q", &["A", "B"]),
-        fault: Fault::SameState("B"),
+        kind: FaultKind::SameState,
+        detail: "B",
     },
     FaultCase {
         name: "states-with-equal-values",
         text: "module ff(input clk, input a, output reg q);\n  parameter A = 1'b0, B = 1'b0;\n  always @(posedge clk)\n    if (a) q <= 1; else q <= 0;\nendmodule\n",
         machine: ("ff", "q", &["A", "B"]),
-        fault: Fault::SameState("B"),
+        kind: FaultKind::SameState,
+        detail: "B",
     },
     FaultCase {
         name: "states-second-parameter-unknown",
         text: "module ff(input clk, input a, output reg q);\n  parameter A = 0, B = 2;\n  always @(posedge clk)\n    if (a) q <= 1; else q <= 0;\nendmodule\n",
         machine: ("ff", "q", &["A", "Z"]),
-        fault: Fault::NoState("Z"),
+        kind: FaultKind::NoState,
+        detail: "Z",
     },
     FaultCase {
         name: "states-unknown-parameter",
         text: "module ff(input clk, input a, output reg q);\n  always @(posedge clk)\n    if (a) q <= 1; else q <= 0;\nendmodule\n",
         machine: ("ff", "q", &["UP", "DOWN"]),
-        fault: Fault::NoState("UP"),
+        kind: FaultKind::NoState,
+        detail: "UP",
     },
     FaultCase {
         name: "states-unknown-module",
         text: "module ff(input clk, input a, output reg q);\n  always @(posedge clk)\n    if (a) q <= 1; else q <= 0;\nendmodule\n",
         machine: ("gg", "q", &["UP", "DOWN"]),
-        fault: Fault::NoState("gg"),
+        kind: FaultKind::NoState,
+        detail: "gg",
     },
     FaultCase {
         name: "states-unknown-variable",
         text: "module ff(input clk, input a, output reg q);\n  always @(posedge clk)\n    if (a) q <= 1; else q <= 0;\nendmodule\n",
         machine: ("ff", "r", &["UP", "DOWN"]),
-        fault: Fault::NoState("r"),
+        kind: FaultKind::NoState,
+        detail: "r",
     },
     FaultCase {
         name: "states-one-name",
         text: "module ff(input clk, input a, output reg q);\n  always @(posedge clk)\n    if (a) q <= 1; else q <= 0;\nendmodule\n",
         machine: ("ff", "q", &["UP"]),
-        fault: Fault::TooManyStates("q"),
+        kind: FaultKind::TooManyStates,
+        detail: "q",
     },
 ];

@@ -1,7 +1,7 @@
 use crate::addresses::addresses;
 use crate::cases::{CASES, Case};
 use crate::designs::{design_of, states_of};
-use crate::machine_cases::{FAULT_CASES, Fault, FaultCase, MACHINE_CASES};
+use crate::machine_cases::{FAULT_CASES, FaultCase, FaultKind, MACHINE_CASES};
 use crate::visits::visits_of;
 use cov_host::Name;
 use cover_marks::Marks;
@@ -41,7 +41,8 @@ fn lists_the_points_of_the_example_cases_with_machines(rt: HostRuntime) {
 
 /// Whether the visits have the numbers from `first` on.
 fn are_visits_numbered(marks: &Marks, visits: &[Visit], first: usize) -> bool {
-    visits.iter().enumerate().all(|(place, visit)| marks.point(visit) as usize == first + place)
+    visits.iter().enumerate().all(|(place, visit)| (marks.point(visit) as usize).checked_sub(first)
+        == Some(place))
 }
 
 /// Whether the states and arcs have the numbers from `first` on.
@@ -58,7 +59,11 @@ fn are_numbered(alloc: Global, marks: &Marks, points: &Points) -> bool {
     let states = points.states.as_slice();
     are_visits_numbered(marks, visits.as_slice(), 0)
         && are_states_numbered(marks, states, visits.len())
-        && are_visits_numbered(marks, words.as_slice(), visits.len() + states.len())
+        && are_visits_numbered(
+            marks,
+            words.as_slice(),
+            visits.len().saturating_add(states.len()),
+        )
 }
 
 /// Whether each point of the case is found by its visit, or as a state or an arc.
@@ -93,12 +98,18 @@ fn finds_each_state_and_arc(rt: HostRuntime) {
 }
 
 /// Whether a fault is the one that is expected.
-fn is_fault(fault: &PointFault, expected: Fault) -> bool {
-    match (fault, expected) {
-        (PointFault::NoState(name), Fault::NoState(text))
-        | (PointFault::SameState(name), Fault::SameState(text))
-        | (PointFault::TooManyStates(name), Fault::TooManyStates(text)) => is_named(name, text),
-        _ => false,
+fn is_fault(fault: &PointFault, case: &FaultCase) -> bool {
+    match fault {
+        PointFault::NoState(name) => {
+            case.kind == FaultKind::NoState && is_named(name, case.detail)
+        }
+        PointFault::SameState(name) => {
+            case.kind == FaultKind::SameState && is_named(name, case.detail)
+        }
+        PointFault::TooManyStates(name) => {
+            case.kind == FaultKind::TooManyStates && is_named(name, case.detail)
+        }
+        PointFault::NoMemory | PointFault::TooManyPoints => false,
     }
 }
 
@@ -116,7 +127,7 @@ fn is_refused(alloc: Global, case: &FaultCase) -> bool {
     };
     match list(alloc, &design, &states) {
         Ok(_) => false,
-        Err(fault) => is_fault(&fault, case.fault),
+        Err(fault) => is_fault(&fault, case),
     }
 }
 
