@@ -14,5 +14,5 @@ returns-clause-shared c none other none' =
     let found = c.find_early.ensures.early in
     subst (λ o. IfSome o (λ trigger. (x : ℕ) → Contains c.find_early.new.self.early.items x ↔ IsEarlyBy w c.args.habit other trigger x)) c.in-Some.ensures.value
     (λ x.
-        let both = shared_early w c.args.habit c.args.process other c.in-Some.trigger none none' x in
-        (λ m. both.0 ((found x).0 m), λ e. (found x).1 (both.1 e)))
+    let both = shared_early w c.args.habit c.args.process other c.in-Some.trigger none none' x in
+    (λ m. both.0 ((found x).0 m), λ e. (found x).1 (both.1 e)))
