@@ -1,5 +1,5 @@
-//! Measures parts of the program that have no command of their own: `bench operators ROUNDS`, `bench points FILE TOP`,
-//! `bench ranking TABLES POINTS` or `bench wakes FILE STEPS`.
+//! Measures parts of the program that have no command of their own: `bench operators ROUNDS`, `bench points FILE TOP`
+//! or `bench ranking TABLES POINTS`.
 //!
 //! Nothing is proved of it except that it is safe and ends. `bench/README.md` has the commands and the figures.
 #![tactic(auto)]
@@ -9,7 +9,6 @@ mod points;
 mod ranking;
 mod tables;
 mod visits;
-mod wakes;
 
 use anyhow::Result;
 use std::env;
@@ -46,14 +45,13 @@ fn measure_by_two(
         "ranking" => {
             ranking::measure_all(rt, first.parse().unwrap_or(0), second.parse().unwrap_or(0))
         }
-        "wakes" => wakes::measure(rt, first, second.parse().unwrap_or(0)),
         _ => usage(rt),
     }
 }
 
 fn usage(rt: &impl Print) -> Result<()> {
     println!(rt;
-        "usage: bench operators ROUNDS | bench points FILE TOP | bench ranking TABLES POINTS | bench wakes FILE STEPS"
+        "usage: bench operators ROUNDS | bench points FILE TOP | bench ranking TABLES POINTS"
     )?;
     Ok(())
 }

@@ -2,8 +2,7 @@
 //!
 //! [`level_rows`] gives for each signal or memory the processes that each change of it wakes, [`edge_rows`] for each
 //! signal the processes that list an edge of it, and [`event_rows`] for each process its list of edges; [`transpose`]
-//! turns lists round. Each is proved to contain exactly what its definition says (`specs/Tables.antt`). The rows of
-//! what a process may write are those of `design_targets`.
+//! turns lists round. Each is proved to contain exactly what its definition says (`specs/Tables.antt`).
 #![tactic(auto)]
 
 mod edges;

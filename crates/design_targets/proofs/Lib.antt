@@ -1,4 +1,0 @@
-pub mod Constants
-pub mod Shapes
-pub mod Targets
-pub mod Lists
