@@ -1,0 +1,7 @@
+//! The run of a body on values that are partly known: each statement once, an undecided test both ways. No memory is taken.
+#![tactic(auto)]
+
+mod statement;
+mod ways;
+
+pub use statement::run_statement;
