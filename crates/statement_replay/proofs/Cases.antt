@@ -23,8 +23,8 @@ both_weigh test inside (arm labels s arms) = go (is_default labels) (both_weigh 
     go true h = omega (arith, h)
     go false h = omega (arith, h)
 
-second_more : (n : ℕ) (outer inner : List Around) (before : List Around) → AreSecond n outer before → inner ≡ before → AreSecond n outer inner
-second_more n outer inner before h e = subst (AreSecond n outer) (sym e) h
+second_more : (d : Design) (n : ℕ) (outer inner : List Around) (before : List Around) → AreSecond d n outer before → inner ≡ before → AreSecond d n outer inner
+second_more d n outer inner before h e = subst (AreSecond d n outer) (sym e) h
 
 -- from each state at the start, a state from which the rest of the arms goes to the end, once the open arms are closed
 pub record ArmsOn (kind : CaseKind) (on : Partly) (mode : Mode) (first : Option ℕ) (v : Scene) (queue : List KnownWrite) (Noted : List Mark → Type 0) (outer : List Around) (all : Arms) (inside : Mode) (now : Option ℕ) (w : Scene) (queued : List KnownWrite) (Now : List Mark → Type 0) (inner : List Around) (opened : ℕ) (rest : Arms) : Type 0 where

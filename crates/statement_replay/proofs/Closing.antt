@@ -11,18 +11,19 @@ use Rattle.statement_replay.specs.Open.{AreOpen, AreSecond, OpenArm, close}
 use Rattle.statement_replay.proofs.States.{joined_state}
 
 -- the innermost second branch
-pub record Innermost (n : ℕ) (outer inner : List Around) : Type 0 where
+pub record Innermost (d : Design) (n : ℕ) (outer inner : List Around) : Type 0 where
   pub test : ℕ
   pub left : Scene
   pub rest : List Around
   pub is : inner ≡ in_second test left ∷ rest
-  pub others : AreSecond (n - 1) outer rest
+  pub design : left.design ≡ d
+  pub others : AreSecond d (n - 1) outer rest
 
-pub innermost : (n : ℕ) (outer inner : List Around) → 0 < n → AreSecond n outer inner → Innermost n outer inner
-innermost zero outer inner l h = absurd (omega (arith, l))
-innermost (suc n) outer inner l h =
+pub innermost : (d : Design) (n : ℕ) (outer inner : List Around) → 0 < n → AreSecond d n outer inner → Innermost d n outer inner
+innermost d zero outer inner l h = absurd (omega (arith, l))
+innermost d (suc n) outer inner l h =
     let same : n ≡ suc n - 1 = omega arith in
-    record { test = h.0; left = h.1; rest = h.2; is = h.3; others = subst (λ k. AreSecond k outer h.2) same h.4 }
+    record { test = h.0; left = h.1; rest = h.2; is = h.3; design = h.4; others = subst (λ k. AreSecond d k outer h.2) same h.5 }
 
 -- from each state in which so many tests are open, what is to be once they are ended
 pub record ClosesOn (count : ℕ) (before : Scene) (queue : List KnownWrite) (around : List Around) (left : ℕ) (now : Scene) (queued : List KnownWrite) (inner : List Around) : Type 0 where

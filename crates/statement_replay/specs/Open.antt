@@ -17,10 +17,10 @@ abbrev pub close : Design → List OpenArm → State → State
 close d [] a = a
 close d (x ∷ xs) a = close d xs (joined_states d x.test x.left a)
 
--- so many second branches run, in these tests around
-abbrev pub AreSecond : ℕ → List Around → List Around → Type 0
-AreSecond zero outer inner = inner ≡ outer
-AreSecond (suc n) outer inner = (test : ℕ) × (left : Scene) × (rest : List Around) × (inner ≡ in_second test left ∷ rest) × AreSecond n outer rest
+-- so many second branches run on this design, in these tests around
+abbrev pub AreSecond : Design → ℕ → List Around → List Around → Type 0
+AreSecond d zero outer inner = inner ≡ outer
+AreSecond d (suc n) outer inner = (test : ℕ) × (left : Scene) × (rest : List Around) × (inner ≡ in_second test left ∷ rest) × (left.design ≡ d) × AreSecond d n outer rest
 
 -- the tests around are those of these arms
 abbrev pub AreOpen : Design → List OpenArm → List Around → List Around → Type 0

@@ -304,7 +304,7 @@ fn run_arm<B: Bodies, N: Notes>(
     requires scratch { 128 ≤ pieces.old.room }
     ensures state { (d : Design) (a : State) (blame : ℕ) → (is_whole on.now ≡ false → on.now.blame ≡ blame) → IsState d a run.first (B.scene store.old) (B.queued store.old) (λ ms. N.noted ms notes.old) → IsAfter d (λ others. arm_of d kind on.now.bits blame (terms_of (map term_view arm.now.labels.items)) (stmt_view arm.now.body) others run.mode a) run.mode (B.around store.old) (B.scene store.new) (B.queued store.new) (λ ms. N.noted ms notes.new) (B.around store.new) result }
     ensures design { (B.scene store.new).design ≡ (B.scene store.old).design }
-    ensures around { AreSecond (opened_by result) (B.around store.old) (B.around store.new) }
+    ensures around { AreSecond (B.scene store.old).design (opened_by result) (B.around store.old) (B.around store.new) }
     ensures rooms { Leaves (arm_logs (B.rooms store.old).takes (terms_of (map term_view arm.now.labels.items)) (stmt_view arm.now.body)) (arm_queues (terms_of (map term_view arm.now.labels.items)) (stmt_view arm.now.body)) (B.rooms store.old) (B.rooms store.new) }
     ensures pieces { pieces.new ≡ pieces.old }
 {

@@ -10,10 +10,10 @@ use body_calls::Bodies;
 
 /// Ends the second branches of so many undecided tests, the innermost first.
 pub(crate) fn end_tests<B: Bodies>(store: &mut B, count: usize)
-    requires { (outer : List Around) × AreSecond count outer (B.around store.old) }
+    requires { (outer : List Around) × AreSecond (B.scene store.old).design count outer (B.around store.old) }
     ensures state { (d : Design) (xs : List OpenArm) (outer : List Around) (a : State) (first : Option ℕ) → length xs ≡ count → AreOpen d xs outer (B.around store.old) → IsState d a first (B.scene store.old) (B.queued store.old) (λ ms. ms ≡ a.marks) → IsState d (close d xs a) first (B.scene store.new) (B.queued store.new) (λ ms. ms ≡ a.marks) }
     ensures design { (B.scene store.new).design ≡ (B.scene store.old).design }
-    ensures around { (outer : List Around) → AreSecond count outer (B.around store.old) → B.around store.new ≡ outer }
+    ensures around { (outer : List Around) → AreSecond (B.scene store.old).design count outer (B.around store.old) → B.around store.new ≡ outer }
     ensures rooms { Leaves 0 0 (B.rooms store.old) (B.rooms store.new) }
 {
     let mut left = count;

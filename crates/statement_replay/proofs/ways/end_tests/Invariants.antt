@@ -9,8 +9,8 @@ use Rattle.statement_replay.proofs.ways.end_tests.Given as goal
 abbrev pub invariant-loop-left : goal.invariant-loop-left
 invariant-loop-left g l =
     record {
-      open_tests : (outer : List Around) × AreSecond l.left outer (g.B.Bodies.around l.store);
-      second : (outer : List Around) → AreSecond l.count outer (g.B.Bodies.around l.fn.store) → AreSecond l.left outer (g.B.Bodies.around l.store);
+      open_tests : (outer : List Around) × AreSecond (g.B.Reads.scene l.fn.store).design l.left outer (g.B.Bodies.around l.store);
+      second : (outer : List Around) → AreSecond (g.B.Reads.scene l.fn.store).design l.count outer (g.B.Bodies.around l.fn.store) → AreSecond (g.B.Reads.scene l.fn.store).design l.left outer (g.B.Bodies.around l.store);
       design : (g.B.Reads.scene l.store).design ≡ (g.B.Reads.scene l.fn.store).design;
       rooms : Leaves 0 0 (g.B.Bodies.rooms l.fn.store) (g.B.Bodies.rooms l.store);
       state : ClosesOn l.count (g.B.Reads.scene l.fn.store) (g.B.Bodies.queued l.fn.store) (g.B.Bodies.around l.fn.store) l.left (g.B.Reads.scene l.store) (g.B.Bodies.queued l.store) (g.B.Bodies.around l.store);
