@@ -2,6 +2,5 @@
 #![tactic(auto)]
 
 mod statement;
-mod ways;
 
 pub use statement::run_statement;

@@ -11,35 +11,24 @@ ghost use Rattle.body_calls.specs.Rooms.{Leaves};
 ghost use Rattle.scene_laws.specs.At.{IsState};
 ghost use Rattle.assignments.specs.Takes.{HasRoom};
 ghost use Rattle.assignments.specs.Widths.{HasWidths};
-ghost use Rattle.statement_replay.specs.Views.{else_view};
-ghost use Rattle.statement_replay.specs.Weights.{HasRoomFor, HasRoomForAll, LeavesBy, LeavesByAll, all_logs, all_queues, arm_logs, arm_queues, arms_logs, arms_queues, default_logs, default_queues, logs, queues};
+ghost use Rattle.open_tests.specs.Views.{else_view};
+ghost use Rattle.open_tests.specs.Weights.{HasRoomFor, HasRoomForAll, LeavesBy, LeavesByAll, all_logs, all_queues, arm_logs, arm_queues, arms_logs, arms_queues, default_logs, default_queues, logs, queues};
 ghost use Rattle.known_state.specs.Partly.{is_whole};
 ghost use Rattle.design_model.specs.Execution.{is_default};
 ghost use Rattle.body_calls.specs.Ways.{Around};
 ghost use Rattle.scene_laws.specs.Contexts.{AreArms, AreLabels};
-ghost use Rattle.statement_replay.specs.Arms.{IsAfter, arm_of, opened_by};
-ghost use Rattle.statement_replay.specs.Open.{AreSecond};
+ghost use Rattle.open_tests.specs.Arms.{IsAfter, arm_of, opened_by};
+ghost use Rattle.open_tests.specs.Open.{AreSecond};
 
-use crate::ways::end_tests;
 use assignments::{Piece, assign};
 use body_calls::Bodies;
 use case_labels::{matched, within};
 use design_model::{CaseArm, Stmt, StmtForm, Term};
 use four_state::CaseKind;
 use known_state::{Known, Maybe};
+use open_tests::{AfterArm, end_tests};
 use term_replay::{Notes, Progress, Spot, evaluate};
 use value_store::Queue;
-
-/// Where the run of a case is after an arm.
-enum AfterArm {
-    /// The arm is sure to match, and its body has run. This is then the first read that was not wholly sure.
-    Ran(Option<u32>),
-    /// The arm is sure not to match, and the next one is asked.
-    Next(Progress),
-    /// It is not decided whether the arm matches. Its body has run as the first branch, and the next arm is asked in the
-    /// second one.
-    Open(Progress),
-}
 
 /// Runs a statement on what the store knows. What is returned is the blame of the first read of the run that was not wholly
 /// sure. No part of an assignment is left in `pieces`, which is scratch room.
@@ -69,7 +58,7 @@ pub fn run_statement<B: Bodies, N: Notes>(
             test,
             yes,
             no,
-        } => run_if(store, *line, test, yes, no, run, pieces, notes),
+        } => run_if(store, *line, no, test, yes, run, pieces, notes),
         StmtForm::Case {
             line,
             kind,
@@ -148,9 +137,9 @@ fn run_else<B: Bodies, N: Notes>(
 fn run_if<B: Bodies, N: Notes>(
     store: &mut B,
     line: u32,
+    no: &Option<Stmt>,
     test: &Term,
     yes: &Stmt,
-    no: &Option<Stmt>,
     run: Progress,
     pieces: &mut Queue<Piece>,
     notes: &mut N,
@@ -172,7 +161,7 @@ fn run_if<B: Bodies, N: Notes>(
     match test.value.holds() {
         Maybe::Yes => run_statement(store, yes, run, pieces, notes),
         Maybe::No => run_else(store, no, run, pieces, notes),
-        Maybe::Unsure(thing) => run_both(store, thing, yes, no, run, pieces, notes),
+        Maybe::Unsure(thing) => run_both(store, thing, no, yes, run, pieces, notes),
     }
 }
 
@@ -181,8 +170,8 @@ fn run_if<B: Bodies, N: Notes>(
 fn run_both<B: Bodies, N: Notes>(
     store: &mut B,
     test: u32,
-    yes: &Stmt,
     no: &Option<Stmt>,
+    yes: &Stmt,
     run: Progress,
     pieces: &mut Queue<Piece>,
     notes: &mut N,

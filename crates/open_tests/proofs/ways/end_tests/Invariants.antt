@@ -1,9 +1,9 @@
 use Rattle.std.proofs.Common.{List, ◌≡◌}
 use Rattle.body_calls.specs.Rooms.{Leaves}
 use Rattle.body_calls.specs.Ways.{Around}
-use Rattle.statement_replay.specs.Open.{AreSecond}
-use Rattle.statement_replay.proofs.Closing.{ClosesOn}
-use Rattle.statement_replay.proofs.ways.end_tests.Given as goal
+use Rattle.open_tests.specs.Open.{AreSecond}
+use Rattle.open_tests.proofs.Closing.{ClosesOn}
+use Rattle.open_tests.proofs.ways.end_tests.Given as goal
 
 -- the tests that are open, and what the state is once they are ended
 abbrev pub invariant-loop-left : goal.invariant-loop-left

@@ -1,9 +1,9 @@
 use Rattle.std.proofs.Common.{List, arith, subst, sym, ◌-◌, ◌∙◌, ◌≡◌}
 use Rattle.body_calls.specs.Ways.{Around}
-use Rattle.statement_replay.specs.Open.{AreSecond}
-use Rattle.statement_replay.proofs.Closing.{Innermost, closes_end, closes_further, innermost}
-use Rattle.statement_replay.proofs.Weighing.{leaves_then}
-use Rattle.statement_replay.proofs.ways.end_tests.Goals as goal
+use Rattle.open_tests.specs.Open.{AreSecond}
+use Rattle.open_tests.proofs.Closing.{Innermost, closes_end, closes_further, innermost}
+use Rattle.open_tests.proofs.Weighing.{leaves_then}
+use Rattle.open_tests.proofs.ways.end_tests.Goals as goal
 
 pub loop-left-preserved : goal.loop-left-preserved
 loop-left-preserved g c =

@@ -12,7 +12,7 @@ use Rattle.design_model.specs.declared.tree.StmtForm.TheVariants.{rolls-Block, r
 use Rattle.design_model.specs.declared.tree.Target.{Target}
 use Rattle.design_model.specs.declared.tree.Term.{Term}
 use Rattle.value_store.specs.Rooms.{arm_view}
-use Rattle.statement_replay.specs.Views.{else_view}
+use Rattle.open_tests.specs.Views.{else_view}
 
 module _ (x : Stmt) where
   pub block_view : (v : Vec Stmt) → x.form.value ≡ form.Block v → stmt_view x ≡ t.block x.place (stmts_of (map stmt_view v.items))

@@ -6,7 +6,7 @@ use Rattle.body_calls.specs.Rooms.{Leaves, Rooms, takes_in}
 use Rattle.body_calls.specs.Ways.{Around}
 use Rattle.assignments.specs.Takes.{HasRoom, all_take, set_logs, set_queues, target_takes}
 use Rattle.assignments.proofs.Going.{takes_same}
-use Rattle.statement_replay.specs.Weights.{HasRoomFor, HasRoomForAll, LeavesBy, LeavesByAll, all_logs, all_queues, logs, queues, weigh, weigh_all}
+use Rattle.open_tests.specs.Weights.{HasRoomFor, HasRoomForAll, LeavesBy, LeavesByAll, all_logs, all_queues, logs, queues, weigh, weigh_all}
 
 pub leaves_none : (a : Rooms) → Leaves 0 0 a a
 leaves_none a = record { log = omega arith; takes = refl; queue = omega arith }

@@ -7,8 +7,8 @@ use Rattle.term_replay.specs.Stands.{Scene}
 use Rattle.body_calls.specs.Lvalues.{Like}
 use Rattle.body_calls.specs.Ways.{Around, in_second, joined_scene}
 use Rattle.scene_laws.specs.At.{IsState, scene_of}
-use Rattle.statement_replay.specs.Open.{AreOpen, AreSecond, OpenArm, close}
-use Rattle.statement_replay.proofs.States.{joined_state}
+use Rattle.open_tests.specs.Open.{AreOpen, AreSecond, OpenArm, close}
+use Rattle.open_tests.proofs.States.{joined_state}
 
 -- the innermost second branch
 pub record Innermost (d : Design) (n : ℕ) (outer inner : List Around) : Type 0 where

@@ -10,7 +10,7 @@ use Rattle.body_calls.specs.Ways.{Around}
 use Rattle.scene_laws.specs.At.{IsState}
 use Rattle.assignments.specs.Takes.{HasRoom}
 use Rattle.assignments.proofs.Going.{takes_same}
-use Rattle.statement_replay.specs.Weights.{HasRoomFor, HasRoomForAll, LeavesBy, LeavesByAll, all_logs, all_queues, logs, queues}
+use Rattle.open_tests.specs.Weights.{HasRoomFor, HasRoomForAll, LeavesBy, LeavesByAll, all_logs, all_queues, logs, queues}
 
 -- so much room is left for the rest of the statements
 pub record SpendsOn (outside inside : ℕ → ℕ) (before : Rooms) (all : Stmts) (now : Rooms) (rest : Stmts) : Type 0 where

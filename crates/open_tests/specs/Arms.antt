@@ -9,9 +9,9 @@ use Rattle.body_replay.specs.Replay.{Mark, Mode, State, decide, deeper, joined_s
 use Rattle.term_replay.specs.Stands.{Scene}
 use Rattle.body_calls.specs.Ways.{Around}
 use Rattle.scene_laws.specs.At.{IsState}
-use Rattle.statement_replay.specs.Open.{AreOpen, OpenArm}
-use Rattle.statement_replay.specs.declared.statement.AfterArm.{AfterArm}
-use Rattle.statement_replay.specs.declared.statement.AfterArm.TheVariants.{Next, Open, Ran}
+use Rattle.open_tests.specs.Open.{AreOpen, OpenArm}
+use Rattle.open_tests.specs.declared.after_arm.AfterArm.{AfterArm}
+use Rattle.open_tests.specs.declared.after_arm.AfterArm.TheVariants.{Next, Open, Ran}
 
 -- an arm, and then the others
 abbrev pub arm_of : Design → CaseKind → KnownBits → ℕ → Terms → Stmt → (Mode → State → State) → Mode → State → State
