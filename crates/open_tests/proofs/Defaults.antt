@@ -1,5 +1,6 @@
 -- The default arm of a case, one arm further.
-use Rattle.std.proofs.Common.{List, [], ap, arith, false, if◌then◌else◌, length, map, refl, sym, true, ℕ, ◌==◌, ◌≤◌, ◌∙◌, ◌∷◌, ◌≡◌}
+use Rattle.std.proofs.Common.{Bool, List, [], ap, arith, false, if◌then◌else◌, length, map, refl, sym, true, ℕ, ◌==◌, ◌≤◌, ◌∙◌, ◌∷◌, ◌≡◌}
+use Rattle.std.proofs.lemmas.Bool.{eqb-true}
 use Rattle.std.specs.Global.{Vec}
 use Rattle.std.specs.Prelude.{vec_len}
 use Rattle.design_model.specs.Design.{Design}
@@ -17,7 +18,11 @@ use Rattle.open_tests.proofs.Weighing.{leaves_inside, leaves_more, leaves_none, 
 -- an arm is the default just if it has no labels
 default_is : (xs : List Term) → is_default (terms_of (map term_view xs)) ≡ (length xs == 0)
 default_is [] = refl
-default_is (x ∷ xs) = refl
+default_is (x ∷ xs) = go (length (x ∷ xs) == 0) refl
+  where
+    go : (b : Bool) → (length (x ∷ xs) == 0) ≡ b → false ≡ b
+    go false e = refl
+    go true e = absurd (let bad = eqb-true (length (x ∷ xs)) 0 e in omega (arith, bad))
 
 pub no_labels : (v : Vec Term) → is_default (terms_of (map term_view v.items)) ≡ (vec_len v == 0)
 no_labels v =
