@@ -39,15 +39,14 @@ module _ (count : ℕ) (before : Scene) (queue : List KnownWrite) (around : List
     where
       step : (d : Design) (xs : List OpenArm) (outer : List Around) (a : State) (first : Option ℕ) (ys : List OpenArm) (b : State) → length ys ≡ left → AreOpen d ys outer inner → IsState d b first now queued (λ ms. ms ≡ a.marks) → close d ys b ≡ close d xs a → (zs : List OpenArm) × (b : State) × (length zs ≡ left - 1) × AreOpen d zs outer rest' × IsState d b first next more (λ ms. ms ≡ a.marks) × (close d zs b ≡ close d xs a)
       step d xs outer a first [] b n o k e = absurd (omega (arith, n, l))
-      step d xs outer a first (y ∷ ys) b n o k e =
-          (
-            ys,
-            joined_states d y.test y.left b,
-            omega (arith, n),
-            subst (AreOpen d ys outer) (sym (outer_is y.test o.0 o.1 o.2)) o.4,
-            let j = joined_state d y.test y.left b first o.0 now next queued (λ ms. ms ≡ a.marks) o.3 k (joined y.test o.0 o.1 o.2) in record { scene = j.scene; first = j.first; queue = same ∙ j.queue; noted = j.noted },
-            e,
-          )
+      step d xs outer a first (y ∷ ys) b n o k e = (
+        ys,
+        joined_states d y.test y.left b,
+        omega (arith, n),
+        subst (AreOpen d ys outer) (sym (outer_is y.test o.0 o.1 o.2)) o.4,
+        let j = joined_state d y.test y.left b first o.0 now next queued (λ ms. ms ≡ a.marks) o.3 k (joined y.test o.0 o.1 o.2) in record { scene = j.scene; first = j.first; queue = same ∙ j.queue; noted = j.noted },
+        e,
+      )
 
   pub closes_end : (now : Scene) (queued : List KnownWrite) (inner : List Around) (left : ℕ) → left ≡ 0 → ClosesOn count before queue around left now queued inner → (d : Design) (xs : List OpenArm) (outer : List Around) (a : State) (first : Option ℕ) → length xs ≡ count → AreOpen d xs outer around → IsState d a first before queue (λ ms. ms ≡ a.marks) → IsState d (close d xs a) first now queued (λ ms. ms ≡ a.marks)
   closes_end now queued inner left z h d xs outer a first n o k = let g = h.goes d xs outer a first n o k in go g.0 g.1 (g.2 ∙ z) g.4 g.5

@@ -64,7 +64,7 @@ pub fn run_statement<B: Bodies, N: Notes>(
             kind,
             on,
             arms,
-        } => run_case(store, *line, *kind, on, arms, run, pieces, notes),
+        } => run_case(store, *line, *kind, arms, on, run, pieces, notes),
         StmtForm::Turns { line, turns } => {
             notes.note(Spot::Line(*line), run.mode);
             run_all(store, turns, run, pieces, notes)
@@ -202,8 +202,8 @@ fn run_case<B: Bodies, N: Notes>(
     store: &mut B,
     line: u32,
     kind: CaseKind,
-    on: &Term,
     arms: &[CaseArm],
+    on: &Term,
     run: Progress,
     pieces: &mut Queue<Piece>,
     notes: &mut N,

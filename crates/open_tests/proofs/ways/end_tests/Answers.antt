@@ -12,7 +12,7 @@ loop-left-preserved g c =
     let some = c.loop-left-test.true in
     let d = (g.B.Reads.scene c.args.store.now).design in
     let one : (outer : List Around) → AreSecond d c.loop-left.left outer inner → AreSecond d (c.loop-left.left - 1) outer (g.B.Bodies.around c.end_test.new.self) =
-        λ outer k. let i = innermost d c.loop-left.left outer inner some k in subst (AreSecond d (c.loop-left.left - 1) outer) (sym (c.end_test.ensures.around i.test i.left i.rest i.is)) i.others in
+    λ outer k. let i = innermost d c.loop-left.left outer inner some k in subst (AreSecond d (c.loop-left.left - 1) outer) (sym (c.end_test.ensures.around i.test i.left i.rest i.is)) i.others in
     let i = innermost d c.loop-left.left h.open_tests.0 inner some h.open_tests.1 in
     record {
       open_tests = (h.open_tests.0, one h.open_tests.0 h.open_tests.1);

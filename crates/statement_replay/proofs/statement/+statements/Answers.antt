@@ -4,19 +4,20 @@ use Rattle.std.proofs.lemmas.List.{at_drop_all}
 use Rattle.known_state.specs.Maybe.{Holds}
 use Rattle.known_state.specs.declared.maybe.Maybe.TheVariants.{No, Yes}
 use Rattle.design_model.specs.Execution.{is_default}
-use Rattle.design_model.specs.Shape.{all_signed_of, are_bodies, is_alone, is_body, own_sign}
+use Rattle.design_model.specs.Shape.{all_signed_of, are_bodies, is_alone, is_arms, is_body, is_shaped, own_sign, own_width, widest_of}
 use Rattle.design_model.specs.Tree as tree
 use Rattle.design_model.specs.View.{arms_of, stmt_view, stmts_of, term_view, terms_of}
 use Rattle.design_model.specs.declared.tree.Stmt.{the_lemmas}
 use Rattle.body_replay.specs.Replay.{run, run_all, run_default}
 use Rattle.term_replay.specs.Questions.{answer_of}
+use Rattle.term_replay.specs.Stands.{IsInContext}
 use Rattle.term_replay.proofs.Contexts.{context_head, length-stands}
 use Rattle.value_store.specs.Queue.{Queue}
 use Rattle.value_store.specs.Rooms.{arm_view}
 use Rattle.body_calls.specs.Rooms.{Leaves, takes_in}
 use Rattle.scene_laws.specs.At.{IsState}
 use Rattle.scene_laws.specs.Contexts.{AreArms, AreLabels}
-use Rattle.scene_laws.proofs.BodyContexts.{first_body, first_labels, in_arms, in_select, later_arms}
+use Rattle.scene_laws.proofs.BodyContexts.{first_body, first_labels, in_arms, in_select, later_arms, widest_of_least}
 use Rattle.assignments.specs.Widths.{HasWidths}
 use Rattle.assignments.specs.declared.piece.Piece.{Piece}
 use Rattle.open_tests.specs.Arms.{opened_by}
@@ -29,7 +30,7 @@ use Rattle.open_tests.proofs.Defaults.{found_leaves, found_room, leaves_same, lo
 use Rattle.open_tests.proofs.Looping.{RunsOn, SpendsOn, runs_end, runs_further, spends_further, spends_room}
 use Rattle.open_tests.proofs.Sharing.{first_room, labelled_none, labelled_yes, no_leaves, no_room, only_room, open_room, second_room, sure_leaves, sure_room, test_rooms, yes_leaves, yes_room}
 use Rattle.open_tests.proofs.Views.{case_view, if_view, stmts_from}
-use Rattle.statement_replay.proofs.statement.+statements.Goals.{in-Next, in-Open}
+use Rattle.statement_replay.proofs.statement.+statements.Goals.{run_arms-in-Next, run_arms-in-Open}
 use Rattle.statement_replay.proofs.statement.+statements.Goals as goal
 
 pub run_statement-run_if-requires : goal.run_statement-run_if-requires
@@ -64,8 +65,6 @@ run_all-loop-stmt-preserved g t c =
     let next = stmts_from c.args.stmts.now c.loop-stmt.stmt-index x c.loop-stmt-test.true c.stmt-item.is in
     let both = and_parts (is_body v.design (stmt_view x)) (are_bodies v.design later) (ap (are_bodies v.design) (sym next) ∙ h.lawful) in
     let rooms = subst (SpendsOn (takes_in (g.B.Bodies.around c.args.store.now) (g.B.Bodies.rooms c.args.store.now)) (g.B.Bodies.rooms c.args.store.now).takes (g.B.Bodies.rooms c.args.store.now) all (g.B.Bodies.rooms c.loop-stmt.store)) next h.rooms in
-    let before = (λ ms. g.N.Notes.noted ms c.args.notes.now) in
-    let now = (λ ms. g.N.Notes.noted ms c.loop-stmt.notes) in
     record {
       lawful = both.1;
       design = c.run_statement-first.ensures.design ∙ h.design;
@@ -73,19 +72,17 @@ run_all-loop-stmt-preserved g t c =
       pieces = c.run_statement-first.ensures.pieces ∙ h.pieces;
       rooms = spends_further (g.B.Bodies.around c.args.store.now) (g.B.Bodies.rooms c.args.store.now) all (g.B.Bodies.rooms c.loop-stmt.store) (g.B.Bodies.rooms c.run_statement-first.new.store) (stmt_view x) later rooms (subst (λ r. LeavesBy (stmt_view x) r (g.B.Bodies.rooms c.loop-stmt.store) (g.B.Bodies.rooms c.run_statement-first.new.store)) h.around c.run_statement-first.ensures.rooms);
       state =
-          runs_further c.args.run.mode c.args.run.first v (g.B.Bodies.queued c.args.store.now) before all c.loop-stmt.first c.run_statement-first.result (g.B.Reads.scene c.loop-stmt.store) (g.B.Reads.scene c.run_statement-first.new.store) (g.B.Bodies.queued c.loop-stmt.store) (g.B.Bodies.queued c.run_statement-first.new.store) now (λ ms. g.N.Notes.noted ms c.run_statement-first.new.notes) (stmt_view x) later
-          (subst (RunsOn c.args.run.mode c.args.run.first v (g.B.Bodies.queued c.args.store.now) before all c.loop-stmt.first (g.B.Reads.scene c.loop-stmt.store) (g.B.Bodies.queued c.loop-stmt.store) now) next h.state)
+          runs_further c.args.run.mode c.args.run.first v (g.B.Bodies.queued c.args.store.now) (λ ms. g.N.Notes.noted ms c.args.notes.now) all c.loop-stmt.first c.run_statement-first.result (g.B.Reads.scene c.loop-stmt.store) (g.B.Reads.scene c.run_statement-first.new.store) (g.B.Bodies.queued c.loop-stmt.store) (g.B.Bodies.queued c.run_statement-first.new.store) (λ ms. g.N.Notes.noted ms c.loop-stmt.notes) (λ ms. g.N.Notes.noted ms c.run_statement-first.new.notes) (stmt_view x) later
+          (subst (RunsOn c.args.run.mode c.args.run.first v (g.B.Bodies.queued c.args.store.now) (λ ms. g.N.Notes.noted ms c.args.notes.now) all c.loop-stmt.first (g.B.Reads.scene c.loop-stmt.store) (g.B.Bodies.queued c.loop-stmt.store) (λ ms. g.N.Notes.noted ms c.loop-stmt.notes)) next h.state)
           (rw c.after.ensures at c.run_statement-first.ensures.state);
     }
 
 pub run_all-returns-clause-state : goal.run_all-returns-clause-state
 run_all-returns-clause-state g t c =
     let all = stmts_of (map stmt_view c.args.stmts.now) in
-    let before = (λ ms. g.N.Notes.noted ms c.args.notes.now) in
-    let now = (λ ms. g.N.Notes.noted ms c.loop-stmt.notes) in
     let end : stmts_of (map stmt_view (drop c.loop-stmt.stmt-index c.args.stmts.now)) ≡ tree.no_stmts = at_drop_all (λ ys. stmts_of (map stmt_view ys)) c.args.stmts.now c.loop-stmt.stmt-index (omega arith) in
-    runs_end c.args.run.mode c.args.run.first (g.B.Reads.scene c.args.store.now) (g.B.Bodies.queued c.args.store.now) before all c.loop-stmt.first (g.B.Reads.scene c.loop-stmt.store) (g.B.Bodies.queued c.loop-stmt.store) now
-    (subst (RunsOn c.args.run.mode c.args.run.first (g.B.Reads.scene c.args.store.now) (g.B.Bodies.queued c.args.store.now) before all c.loop-stmt.first (g.B.Reads.scene c.loop-stmt.store) (g.B.Bodies.queued c.loop-stmt.store) now) end c.loop-stmt.invariant.state)
+    runs_end c.args.run.mode c.args.run.first (g.B.Reads.scene c.args.store.now) (g.B.Bodies.queued c.args.store.now) (λ ms. g.N.Notes.noted ms c.args.notes.now) all c.loop-stmt.first (g.B.Reads.scene c.loop-stmt.store) (g.B.Bodies.queued c.loop-stmt.store) (λ ms. g.N.Notes.noted ms c.loop-stmt.notes)
+    (subst (RunsOn c.args.run.mode c.args.run.first (g.B.Reads.scene c.args.store.now) (g.B.Bodies.queued c.args.store.now) (λ ms. g.N.Notes.noted ms c.args.notes.now) all c.loop-stmt.first (g.B.Reads.scene c.loop-stmt.store) (g.B.Bodies.queued c.loop-stmt.store) (λ ms. g.N.Notes.noted ms c.loop-stmt.notes)) end c.loop-stmt.invariant.state)
 
 pub run_else-run_statement-requires : goal.run_else-run_statement-requires
 run_else-run_statement-requires g t c =
@@ -171,7 +168,14 @@ pub run_case-run_arms-requires : goal.run_case-run_arms-requires
 run_case-run_arms-requires g t c =
     let d = (g.B.Reads.scene c.args.store.now).design in
     let t = term_view c.args.on.now in
-    let wide = length-stands (g.B.Reads.scene c.args.store.now) c.args.run.first t c.evaluate-on.result.value c.evaluate-on.ensures.value ∙ (context_head d t (in_select d t (arms_of (map arm_view c.args.arms.now)) c.requires.lawful)).width in
+    let context : IsInContext d t =
+    record {
+      width = widest_of d (own_width d t) (arms_of (map arm_view c.args.arms.now));
+      signed = all_signed_of d (own_sign d t) (arms_of (map arm_view c.args.arms.now));
+      shaped = (and_parts (is_shaped d (widest_of d (own_width d t) (arms_of (map arm_view c.args.arms.now))) (all_signed_of d (own_sign d t) (arms_of (map arm_view c.args.arms.now))) t) (is_arms d (widest_of d (own_width d t) (arms_of (map arm_view c.args.arms.now))) (all_signed_of d (own_sign d t) (arms_of (map arm_view c.args.arms.now))) (arms_of (map arm_view c.args.arms.now))) c.requires.lawful).0;
+      narrow = widest_of_least d (own_width d t) (arms_of (map arm_view c.args.arms.now));
+    } in
+    let wide = length-stands (g.B.Reads.scene c.args.store.now) c.args.run.first t c.evaluate-on.result.value c.evaluate-on.ensures.value ∙ (context_head d t context).width in
     let arms = subst (λ w. AreArms d w (all_signed_of d (own_sign d t) (arms_of (map arm_view c.args.arms.now))) (arms_of (map arm_view c.args.arms.now))) (sym wide) (in_arms d t (arms_of (map arm_view c.args.arms.now)) c.requires.lawful) in
     λ κs k. (search (rules, the_lemmas), (k.0, (k.1, ((all_signed_of (g.B.Reads.scene c.args.store.now).design (own_sign (g.B.Reads.scene c.args.store.now).design (term_view c.args.on.now)) (arms_of (map arm_view c.args.arms.now)), arms), (c.requires.widths, (c.requires.room, (c.requires.none, c.requires.scratch)))))))
 
@@ -291,8 +295,7 @@ run_arms-run_default-first-requires g t c =
     let all = arms_of (map arm_view c.args.arms.now) in
     let end : arms_of (map arm_view (drop c.loop-arm.arm-index c.args.arms.now)) ≡ tree.no_arms = at_drop_all (λ ys. arms_of (map arm_view ys)) c.args.arms.now c.loop-arm.arm-index (omega arith) in
     let rooms = subst (ArmsSpend (g.B.Bodies.rooms c.args.store.now) all (g.B.Bodies.rooms c.loop-arm.store)) end h.rooms in
-    let arms = (length c.args.on.now.bits, (c.requires.lawful.0, subst (λ e. AreArms e (length c.args.on.now.bits) c.requires.lawful.0 all) (sym h.design) c.requires.lawful.1)) in
-    λ κs k. (search (rules, the_lemmas), (k.0, (k.1, (arms, (subst HasWidths (sym h.design) c.requires.widths, (default_room (g.B.Bodies.rooms c.args.store.now) all (g.B.Bodies.rooms c.loop-arm.store) c.requires.room rooms, (subst (λ (z : Queue Piece). z.items ≡ []) (sym h.pieces) c.requires.none, subst (λ (z : Queue Piece). 128 ≤ z.room) (sym h.pieces) c.requires.scratch)))))))
+    λ κs k. (search (rules, the_lemmas), (k.0, (k.1, ((length c.args.on.now.bits, c.requires.lawful.0, subst (λ e. AreArms e (length c.args.on.now.bits) c.requires.lawful.0 all) (sym h.design) c.requires.lawful.1), (subst HasWidths (sym h.design) c.requires.widths, (default_room (g.B.Bodies.rooms c.args.store.now) all (g.B.Bodies.rooms c.loop-arm.store) c.requires.room rooms, (subst (λ (z : Queue Piece). z.items ≡ []) (sym h.pieces) c.requires.none, subst (λ (z : Queue Piece). 128 ≤ z.room) (sym h.pieces) c.requires.scratch)))))))
 
 pub run_arms-end_tests-requires-2 : goal.run_arms-end_tests-requires-2
 run_arms-end_tests-requires-2 g t c =
@@ -374,17 +377,17 @@ run_arms-loop-arm-preserved g t c =
       design = c.run_arm.ensures.design ∙ h.design;
       pieces = c.run_arm.ensures.pieces ∙ h.pieces;
       few = elim c.match-run_arm.branch [
-        | in-Next w ↦ rw w.opened-is (omega (arith, few))
-        | in-Open w ↦ rw w.opened-is (omega (arith, few))
+        | run_arms-in-Next w ↦ rw w.opened-is (omega (arith, few))
+        | run_arms-in-Open w ↦ rw w.opened-is (omega (arith, few))
       ];
       open_tests = elim c.match-run_arm.branch [
-        | in-Next w ↦ rw w.opened-is (second_next (g.B.Reads.scene c.args.store.now).design (g.B.Reads.scene c.loop-arm.store).design c.loop-arm.opened (g.B.Bodies.around c.args.store.now) (g.B.Bodies.around c.loop-arm.store) (g.B.Bodies.around c.run_arm.new.store) h.open_tests (subst (λ r. AreSecond (g.B.Reads.scene c.loop-arm.store).design (opened_by r) (g.B.Bodies.around c.loop-arm.store) (g.B.Bodies.around c.run_arm.new.store)) w.in-Next.is c.run_arm.ensures.around))
-        | in-Open w ↦ rw w.opened-is (second_open (g.B.Reads.scene c.args.store.now).design (g.B.Reads.scene c.loop-arm.store).design c.loop-arm.opened (g.B.Bodies.around c.args.store.now) (g.B.Bodies.around c.loop-arm.store) (g.B.Bodies.around c.run_arm.new.store) h.design h.open_tests (subst (λ r. AreSecond (g.B.Reads.scene c.loop-arm.store).design (opened_by r) (g.B.Bodies.around c.loop-arm.store) (g.B.Bodies.around c.run_arm.new.store)) w.in-Open.is c.run_arm.ensures.around))
+        | run_arms-in-Next w ↦ rw w.opened-is (second_next (g.B.Reads.scene c.args.store.now).design (g.B.Reads.scene c.loop-arm.store).design c.loop-arm.opened (g.B.Bodies.around c.args.store.now) (g.B.Bodies.around c.loop-arm.store) (g.B.Bodies.around c.run_arm.new.store) h.open_tests (subst (λ r. AreSecond (g.B.Reads.scene c.loop-arm.store).design (opened_by r) (g.B.Bodies.around c.loop-arm.store) (g.B.Bodies.around c.run_arm.new.store)) w.in-Next.is c.run_arm.ensures.around))
+        | run_arms-in-Open w ↦ rw w.opened-is (second_open (g.B.Reads.scene c.args.store.now).design (g.B.Reads.scene c.loop-arm.store).design c.loop-arm.opened (g.B.Bodies.around c.args.store.now) (g.B.Bodies.around c.loop-arm.store) (g.B.Bodies.around c.run_arm.new.store) h.design h.open_tests (subst (λ r. AreSecond (g.B.Reads.scene c.loop-arm.store).design (opened_by r) (g.B.Bodies.around c.loop-arm.store) (g.B.Bodies.around c.run_arm.new.store)) w.in-Open.is c.run_arm.ensures.around))
       ];
       rooms = arm_further (g.B.Bodies.rooms c.args.store.now) all (g.B.Bodies.rooms c.loop-arm.store) (g.B.Bodies.rooms c.run_arm.new.store) labels body later rooms c.run_arm.ensures.rooms;
       state = elim c.match-run_arm.branch [
-        | in-Next w ↦ rw (w.now-is, w.opened-is) (arms_next c.args.kind c.args.on.now c.args.run.mode c.args.run.first (g.B.Reads.scene c.args.store.now) (g.B.Bodies.queued c.args.store.now) (λ ms. g.N.Notes.noted ms c.args.notes.now) (g.B.Bodies.around c.args.store.now) all c.loop-arm.now.mode c.loop-arm.now.first (g.B.Reads.scene c.loop-arm.store) (g.B.Reads.scene c.run_arm.new.store) (g.B.Bodies.queued c.loop-arm.store) (g.B.Bodies.queued c.run_arm.new.store) (λ ms. g.N.Notes.noted ms c.loop-arm.notes) (λ ms. g.N.Notes.noted ms c.run_arm.new.notes) (g.B.Bodies.around c.loop-arm.store) (g.B.Bodies.around c.run_arm.new.store) c.loop-arm.opened labels body later w.in-Next.next (subst (ArmsOn c.args.kind c.args.on.now c.args.run.mode c.args.run.first (g.B.Reads.scene c.args.store.now) (g.B.Bodies.queued c.args.store.now) (λ ms. g.N.Notes.noted ms c.args.notes.now) (g.B.Bodies.around c.args.store.now) all c.loop-arm.now.mode c.loop-arm.now.first (g.B.Reads.scene c.loop-arm.store) (g.B.Bodies.queued c.loop-arm.store) (λ ms. g.N.Notes.noted ms c.loop-arm.notes) (g.B.Bodies.around c.loop-arm.store) c.loop-arm.opened) next h.state) (subst (ArmRuns c.args.kind c.args.on.now labels body c.loop-arm.now.mode c.loop-arm.now.first (g.B.Reads.scene c.loop-arm.store) (g.B.Bodies.queued c.loop-arm.store) (λ ms. g.N.Notes.noted ms c.loop-arm.notes) (g.B.Bodies.around c.loop-arm.store) (g.B.Reads.scene c.run_arm.new.store) (g.B.Bodies.queued c.run_arm.new.store) (λ ms. g.N.Notes.noted ms c.run_arm.new.notes) (g.B.Bodies.around c.run_arm.new.store)) w.in-Next.is c.run_arm.ensures.state) (subst (λ r. AreSecond (g.B.Reads.scene c.loop-arm.store).design (opened_by r) (g.B.Bodies.around c.loop-arm.store) (g.B.Bodies.around c.run_arm.new.store)) w.in-Next.is c.run_arm.ensures.around))
-        | in-Open w ↦ rw (w.now-is, w.opened-is) (arms_open c.args.kind c.args.on.now c.args.run.mode c.args.run.first (g.B.Reads.scene c.args.store.now) (g.B.Bodies.queued c.args.store.now) (λ ms. g.N.Notes.noted ms c.args.notes.now) (g.B.Bodies.around c.args.store.now) all c.loop-arm.now.mode c.loop-arm.now.first (g.B.Reads.scene c.loop-arm.store) (g.B.Reads.scene c.run_arm.new.store) (g.B.Bodies.queued c.loop-arm.store) (g.B.Bodies.queued c.run_arm.new.store) (λ ms. g.N.Notes.noted ms c.loop-arm.notes) (λ ms. g.N.Notes.noted ms c.run_arm.new.notes) (g.B.Bodies.around c.loop-arm.store) (g.B.Bodies.around c.run_arm.new.store) c.loop-arm.opened labels body later w.in-Open.next (subst (ArmsOn c.args.kind c.args.on.now c.args.run.mode c.args.run.first (g.B.Reads.scene c.args.store.now) (g.B.Bodies.queued c.args.store.now) (λ ms. g.N.Notes.noted ms c.args.notes.now) (g.B.Bodies.around c.args.store.now) all c.loop-arm.now.mode c.loop-arm.now.first (g.B.Reads.scene c.loop-arm.store) (g.B.Bodies.queued c.loop-arm.store) (λ ms. g.N.Notes.noted ms c.loop-arm.notes) (g.B.Bodies.around c.loop-arm.store) c.loop-arm.opened) next h.state) (subst (ArmRuns c.args.kind c.args.on.now labels body c.loop-arm.now.mode c.loop-arm.now.first (g.B.Reads.scene c.loop-arm.store) (g.B.Bodies.queued c.loop-arm.store) (λ ms. g.N.Notes.noted ms c.loop-arm.notes) (g.B.Bodies.around c.loop-arm.store) (g.B.Reads.scene c.run_arm.new.store) (g.B.Bodies.queued c.run_arm.new.store) (λ ms. g.N.Notes.noted ms c.run_arm.new.notes) (g.B.Bodies.around c.run_arm.new.store)) w.in-Open.is c.run_arm.ensures.state))
+        | run_arms-in-Next w ↦ rw (w.now-is, w.opened-is) (arms_next c.args.kind c.args.on.now c.args.run.mode c.args.run.first (g.B.Reads.scene c.args.store.now) (g.B.Bodies.queued c.args.store.now) (λ ms. g.N.Notes.noted ms c.args.notes.now) (g.B.Bodies.around c.args.store.now) all c.loop-arm.now.mode c.loop-arm.now.first (g.B.Reads.scene c.loop-arm.store) (g.B.Reads.scene c.run_arm.new.store) (g.B.Bodies.queued c.loop-arm.store) (g.B.Bodies.queued c.run_arm.new.store) (λ ms. g.N.Notes.noted ms c.loop-arm.notes) (λ ms. g.N.Notes.noted ms c.run_arm.new.notes) (g.B.Bodies.around c.loop-arm.store) (g.B.Bodies.around c.run_arm.new.store) c.loop-arm.opened labels body later w.in-Next.next (subst (ArmsOn c.args.kind c.args.on.now c.args.run.mode c.args.run.first (g.B.Reads.scene c.args.store.now) (g.B.Bodies.queued c.args.store.now) (λ ms. g.N.Notes.noted ms c.args.notes.now) (g.B.Bodies.around c.args.store.now) all c.loop-arm.now.mode c.loop-arm.now.first (g.B.Reads.scene c.loop-arm.store) (g.B.Bodies.queued c.loop-arm.store) (λ ms. g.N.Notes.noted ms c.loop-arm.notes) (g.B.Bodies.around c.loop-arm.store) c.loop-arm.opened) next h.state) (subst (ArmRuns c.args.kind c.args.on.now labels body c.loop-arm.now.mode c.loop-arm.now.first (g.B.Reads.scene c.loop-arm.store) (g.B.Bodies.queued c.loop-arm.store) (λ ms. g.N.Notes.noted ms c.loop-arm.notes) (g.B.Bodies.around c.loop-arm.store) (g.B.Reads.scene c.run_arm.new.store) (g.B.Bodies.queued c.run_arm.new.store) (λ ms. g.N.Notes.noted ms c.run_arm.new.notes) (g.B.Bodies.around c.run_arm.new.store)) w.in-Next.is c.run_arm.ensures.state) (subst (λ r. AreSecond (g.B.Reads.scene c.loop-arm.store).design (opened_by r) (g.B.Bodies.around c.loop-arm.store) (g.B.Bodies.around c.run_arm.new.store)) w.in-Next.is c.run_arm.ensures.around))
+        | run_arms-in-Open w ↦ rw (w.now-is, w.opened-is) (arms_open c.args.kind c.args.on.now c.args.run.mode c.args.run.first (g.B.Reads.scene c.args.store.now) (g.B.Bodies.queued c.args.store.now) (λ ms. g.N.Notes.noted ms c.args.notes.now) (g.B.Bodies.around c.args.store.now) all c.loop-arm.now.mode c.loop-arm.now.first (g.B.Reads.scene c.loop-arm.store) (g.B.Reads.scene c.run_arm.new.store) (g.B.Bodies.queued c.loop-arm.store) (g.B.Bodies.queued c.run_arm.new.store) (λ ms. g.N.Notes.noted ms c.loop-arm.notes) (λ ms. g.N.Notes.noted ms c.run_arm.new.notes) (g.B.Bodies.around c.loop-arm.store) (g.B.Bodies.around c.run_arm.new.store) c.loop-arm.opened labels body later w.in-Open.next (subst (ArmsOn c.args.kind c.args.on.now c.args.run.mode c.args.run.first (g.B.Reads.scene c.args.store.now) (g.B.Bodies.queued c.args.store.now) (λ ms. g.N.Notes.noted ms c.args.notes.now) (g.B.Bodies.around c.args.store.now) all c.loop-arm.now.mode c.loop-arm.now.first (g.B.Reads.scene c.loop-arm.store) (g.B.Bodies.queued c.loop-arm.store) (λ ms. g.N.Notes.noted ms c.loop-arm.notes) (g.B.Bodies.around c.loop-arm.store) c.loop-arm.opened) next h.state) (subst (ArmRuns c.args.kind c.args.on.now labels body c.loop-arm.now.mode c.loop-arm.now.first (g.B.Reads.scene c.loop-arm.store) (g.B.Bodies.queued c.loop-arm.store) (λ ms. g.N.Notes.noted ms c.loop-arm.notes) (g.B.Bodies.around c.loop-arm.store) (g.B.Reads.scene c.run_arm.new.store) (g.B.Bodies.queued c.run_arm.new.store) (λ ms. g.N.Notes.noted ms c.run_arm.new.notes) (g.B.Bodies.around c.run_arm.new.store)) w.in-Open.is c.run_arm.ensures.state))
       ];
     }
 
@@ -492,7 +495,7 @@ run_default-loop-arm-preserved g t c =
       store = h.store;
       notes = h.notes;
       pieces = h.pieces;
-      lawful = (h.lawful.0, (h.lawful.1, later_arms d h.lawful.0 h.lawful.1 labels body later arms));
+      lawful = (h.lawful.0, h.lawful.1, later_arms d h.lawful.0 h.lawful.1 labels body later arms);
       logs = λ f. h.logs f ∙ logs_there labels body later rest next there f;
       queues = h.queues ∙ queues_there labels body later rest next there;
       state = λ e mode a. h.state e mode a ∙ run_there labels body later rest next there e mode a;
