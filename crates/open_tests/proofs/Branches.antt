@@ -1,15 +1,15 @@
 -- The forms of a statement, step by step: conditions, cases and arms.
-use Rattle.std.proofs.Common.{Bool, List, None, Option, Some, [], ap, ap₂, false, refl, subst, sym, true, ℕ, ◌∙◌, ◌∷◌, ◌≡◌}
+use Rattle.std.proofs.Common.{Bool, List, None, Option, Some, [], ap, false, refl, subst, sym, true, ℕ, ◌∙◌, ◌∷◌, ◌≡◌}
 use Rattle.four_state.specs.declared.operator.CaseKind.{CaseKind}
 use Rattle.known_state.specs.Maybe.{Holds}
-use Rattle.known_state.specs.Partly.{Partly, is_whole}
+use Rattle.known_state.specs.Partly.{Partly}
 use Rattle.known_state.specs.declared.maybe.Maybe.{Maybe}
 use Rattle.known_state.specs.declared.maybe.Maybe.TheVariants.{Yes, No, Unsure}
 use Rattle.design_model.specs.Design.{Design, nowhere}
 use Rattle.design_model.specs.Tree.{Arms, Stmt, Stmts, Term, Terms, branch, select}
 use Rattle.body_replay.specs.KnownBits.{holds, known_truth}
 use Rattle.body_replay.specs.Store.{KnownWrite, known_value}
-use Rattle.body_replay.specs.Replay.{Mark, Mode, State, again, blame_of, decide, deeper, evaluate_known, joined_states, label_first, label_marks, labels_blame, labels_match, line, reach, run, run_all, run_arms, run_default, see_labels}
+use Rattle.body_replay.specs.Replay.{Mark, Mode, State, again, blame_of, decide, deeper, evaluate_known, joined_states, label_first, label_marks, labels_blame, labels_match, reach, run, run_all, run_arms, run_default, see_labels}
 use Rattle.term_replay.specs.Noted.{Adds, in_this, mark_of, marks_of}
 use Rattle.term_replay.specs.Questions.{IsAnswer, answer_of, blame_in}
 use Rattle.term_replay.specs.Stands.{Scene, Stands, first_after}
@@ -19,8 +19,6 @@ use Rattle.body_calls.specs.Lvalues.{Like}
 use Rattle.body_calls.specs.Ways.{Around, in_second, joined_scene}
 use Rattle.scene_laws.specs.At.{IsState, scene_of}
 use Rattle.scene_laws.proofs.LikeScenes.{alike_value}
-use Rattle.open_tests.specs.Arms.{IsAfter, arm_of}
-use Rattle.open_tests.specs.Open.{AreOpen, OpenArm}
 use Rattle.open_tests.specs.declared.after_arm.AfterArm.TheVariants.{Next, Open, Ran}
 use Rattle.open_tests.proofs.Cases.{ArmRuns, IsBlamed}
 use Rattle.open_tests.proofs.LikeLabels.{labels_answer, labels_blamed, labels_state}

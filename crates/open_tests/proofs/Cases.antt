@@ -1,5 +1,5 @@
 -- The arms of a case, one arm further.
-use Rattle.std.proofs.Common.{Bool, List, Option, [], add-one, ap, arith, drop, drop-cons, false, get_or, if◌then◌else◌, length, map, refl, subst, suc, sym, true, zero, ℕ, ◌+◌, ◌<◌, ◌≤◌, ◌∙◌, ◌∷◌, ◌≡◌}
+use Rattle.std.proofs.Common.{Bool, List, Option, [], add-one, ap, arith, drop, drop-cons, false, get_or, if◌then◌else◌, length, map, refl, subst, suc, sym, true, ℕ, ◌+◌, ◌<◌, ◌≤◌, ◌∙◌, ◌∷◌, ◌≡◌}
 use Rattle.four_state.specs.declared.operator.CaseKind.{CaseKind}
 use Rattle.known_state.specs.Partly.{Partly, is_whole}
 use Rattle.design_model.specs.Design.{Design}
@@ -9,7 +9,7 @@ use Rattle.design_model.specs.View.{arms_of, stmt_view, term_view, terms_of}
 use Rattle.design_model.specs.declared.tree.CaseArm.{CaseArm}
 use Rattle.design_model.specs.declared.tree.StmtForm.TheFolds.{fold_out-CaseArm}
 use Rattle.body_replay.specs.Store.{KnownWrite}
-use Rattle.body_replay.specs.Replay.{Mark, Mode, State, joined_states, run_arms, run_default}
+use Rattle.body_replay.specs.Replay.{Mark, Mode, State, run_arms, run_default}
 use Rattle.term_replay.specs.Stands.{Scene}
 use Rattle.term_replay.specs.declared.evaluation.Progress.{Progress}
 use Rattle.value_store.specs.Rooms.{arm_view}
@@ -17,7 +17,7 @@ use Rattle.body_calls.specs.Rooms.{Leaves, Rooms}
 use Rattle.body_calls.specs.Ways.{Around}
 use Rattle.scene_laws.specs.At.{IsState}
 use Rattle.assignments.specs.Takes.{HasRoom, set_logs, set_queues}
-use Rattle.open_tests.specs.Arms.{IsAfter, arm_of, opened_by}
+use Rattle.open_tests.specs.Arms.{IsAfter, arm_of}
 use Rattle.open_tests.specs.Open.{AreOpen, AreSecond, OpenArm, close}
 use Rattle.open_tests.specs.Weights.{arm_logs, arm_queues, arms_logs, arms_queues, default_logs, default_queues, weigh, weigh_arms, weigh_default, weigh_labelled}
 use Rattle.open_tests.specs.declared.after_arm.AfterArm.{AfterArm}

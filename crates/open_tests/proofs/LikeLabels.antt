@@ -1,13 +1,12 @@
 -- The labels of an arm on scenes that are alike, and the state after they are evaluated.
-use Rattle.std.proofs.Common.{Bool, List, None, Option, Some, ap, ap₂, cond, false, if◌then◌else◌, refl, subst, sym, true, ℕ, ◌++◌, ◌∙◌, ◌∷◌, ◌≡◌}
-use Rattle.std.proofs.lemmas.Bool.{false≢true}
+use Rattle.std.proofs.Common.{Bool, List, None, Option, Some, ap, ap₂, false, if◌then◌else◌, refl, sym, true, ℕ, ◌++◌, ◌∙◌, ◌≡◌}
 use Rattle.four_state.specs.declared.operator.CaseKind.{CaseKind}
 use Rattle.known_state.specs.Partly.{Partly, is_whole}
 use Rattle.design_model.specs.Design.{Design}
 use Rattle.design_model.specs.Tree.{Terms, a_term, no_terms}
 use Rattle.body_replay.specs.KnownBits.{KnownBits, all_sure, known_match}
 use Rattle.body_replay.specs.Store.{Kept, KnownWrite, known_value}
-use Rattle.body_replay.specs.Replay.{Blames, Mark, Mode, State, after_first, after_label, blame_of, either, first_read, in_mode, label_first, label_marks, labels_blame, labels_match, see_labels, select_blame, term_marks, undecided}
+use Rattle.body_replay.specs.Replay.{Blames, Mark, Mode, State, after_first, after_label, blame_of, first_read, label_first, label_marks, labels_blame, labels_match, see_labels, select_blame, term_marks, undecided}
 use Rattle.body_replay.proofs.Answered.{same_sure}
 use Rattle.body_replay.proofs.Unsure.{match_none}
 use Rattle.term_replay.specs.Noted.{Adds, in_this}

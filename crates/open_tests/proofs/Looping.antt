@@ -1,16 +1,15 @@
 -- Statements one after the other.
-use Rattle.std.proofs.Common.{Bool, List, Option, ap, arith, refl, subst, sym, true, ℕ, ◌+◌, ◌≤◌, ◌∙◌, ◌∷◌, ◌≡◌}
+use Rattle.std.proofs.Common.{List, Option, ap, arith, refl, subst, ℕ, ◌+◌, ◌≤◌, ◌∙◌, ◌≡◌}
 use Rattle.design_model.specs.Design.{Design}
 use Rattle.design_model.specs.Tree.{Stmt, Stmts, a_stmt, no_stmts}
 use Rattle.body_replay.specs.Store.{KnownWrite}
 use Rattle.body_replay.specs.Replay.{Mark, Mode, State, run, run_all}
 use Rattle.term_replay.specs.Stands.{Scene}
-use Rattle.body_calls.specs.Rooms.{Leaves, Rooms, takes_in}
+use Rattle.body_calls.specs.Rooms.{Rooms, takes_in}
 use Rattle.body_calls.specs.Ways.{Around}
 use Rattle.scene_laws.specs.At.{IsState}
-use Rattle.assignments.specs.Takes.{HasRoom}
 use Rattle.assignments.proofs.Going.{takes_same}
-use Rattle.open_tests.specs.Weights.{HasRoomFor, HasRoomForAll, LeavesBy, LeavesByAll, all_logs, all_queues, logs, queues}
+use Rattle.open_tests.specs.Weights.{HasRoomFor, HasRoomForAll, LeavesBy, LeavesByAll, all_logs, all_queues, logs}
 
 -- so much room is left for the rest of the statements
 pub record SpendsOn (outside inside : ℕ → ℕ) (before : Rooms) (all : Stmts) (now : Rooms) (rest : Stmts) : Type 0 where

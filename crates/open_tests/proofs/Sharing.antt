@@ -1,5 +1,5 @@
 -- The room that the branches of a test and the arms of a case share.
-use Rattle.std.proofs.Common.{Bool, List, None, Option, Some, ap, arith, false, if◌then◌else◌, refl, subst, sym, true, ℕ, ◌+◌, ◌≤◌, ◌∙◌, ◌≡◌}
+use Rattle.std.proofs.Common.{List, None, Some, ap, arith, false, if◌then◌else◌, refl, true, ◌+◌, ◌≤◌, ◌∙◌, ◌≡◌}
 use Rattle.four_state.specs.declared.operator.CaseKind.{CaseKind}
 use Rattle.design_model.specs.Design.{Design}
 use Rattle.design_model.specs.Execution.{is_default}

@@ -1,14 +1,14 @@
 -- Where the run of a body is, step by step.
-use Rattle.std.proofs.Common.{Bool, List, None, Option, Some, [], ap, ap₂, false, map, refl, subst, sym, true, ℕ, ◌++◌, ◌∙◌, ◌∷◌, ◌≡◌}
+use Rattle.std.proofs.Common.{Bool, List, None, Option, [], ap, map, refl, subst, sym, ℕ, ◌++◌, ◌∙◌, ◌∷◌, ◌≡◌}
 use Rattle.known_state.specs.Maybe.{Holds}
-use Rattle.known_state.specs.Partly.{Partly, is_whole}
+use Rattle.known_state.specs.Partly.{Partly}
 use Rattle.known_state.specs.declared.maybe.Maybe.{Maybe}
 use Rattle.known_state.specs.declared.maybe.Maybe.TheVariants.{Yes, No, Unsure}
 use Rattle.design_model.specs.Design.{Design, nowhere}
 use Rattle.design_model.specs.Tree.{Stmt, Stmts, Term, branch}
-use Rattle.body_replay.specs.KnownBits.{all_sure, holds, known_truth}
+use Rattle.body_replay.specs.KnownBits.{holds, known_truth}
 use Rattle.body_replay.specs.Store.{KnownWrite, known_value}
-use Rattle.body_replay.specs.Replay.{Mark, Mode, State, again, blame_of, decide, deeper, evaluate_known, hit, in_mode, joined_states, line, reach, run, run_all}
+use Rattle.body_replay.specs.Replay.{Mark, Mode, State, again, blame_of, decide, evaluate_known, in_mode, joined_states, line, reach, run, run_all}
 use Rattle.body_replay.proofs.Answered as a
 use Rattle.body_replay.proofs.Answered.{holds_answer, same_sure}
 use Rattle.body_replay.proofs.Unsure.{holds_none, known_truth_none}
@@ -19,7 +19,7 @@ use Rattle.term_replay.proofs.Marking.{adds_same, hit_in}
 use Rattle.body_calls.specs.Lvalues.{Like}
 use Rattle.body_calls.specs.Ways.{joined_scene}
 use Rattle.scene_laws.specs.At.{IsState, scene_of}
-use Rattle.scene_laws.proofs.LikeScenes.{alike_first, alike_marks, alike_value, like_trans}
+use Rattle.scene_laws.proofs.LikeScenes.{alike_first, alike_marks, like_trans}
 use Rattle.scene_laws.proofs.LikeWays.{joined_like}
 
 module _ {S : Type 0} (noted : List Mark → S → Type 0) (d : Design) (s : State) (mode : Mode) (v : Scene) (queue : List KnownWrite) where

@@ -1,12 +1,10 @@
 -- Room that is taken step by step.
-use Rattle.std.proofs.Common.{Bool, List, ap, arith, false, if◌then◌else◌, refl, subst, sym, true, ℕ, ◌+◌, ◌≤◌, ◌∙◌, ◌∷◌, ◌≡◌, []}
-use Rattle.design_model.specs.Execution.{is_default}
-use Rattle.design_model.specs.Tree.{Arms, Stmt, Stmts, Target, Targets, a_stmt, a_target, all_of, arm, bits_of, block, branch, empty, no_arms, no_stmts, no_targets, select, set, several, turns, word_of}
+use Rattle.std.proofs.Common.{Bool, List, ap, arith, false, refl, true, ℕ, ◌+◌, ◌≤◌, ◌∙◌, ◌∷◌, ◌≡◌, []}
+use Rattle.design_model.specs.Tree.{Stmt, Stmts, Target, Targets, a_stmt, a_target, all_of, bits_of, block, branch, empty, no_stmts, no_targets, select, set, several, turns, word_of}
 use Rattle.body_calls.specs.Rooms.{Leaves, Rooms, takes_in}
 use Rattle.body_calls.specs.Ways.{Around}
-use Rattle.assignments.specs.Takes.{HasRoom, all_take, set_logs, set_queues, target_takes}
-use Rattle.assignments.proofs.Going.{takes_same}
-use Rattle.open_tests.specs.Weights.{HasRoomFor, HasRoomForAll, LeavesBy, LeavesByAll, all_logs, all_queues, logs, queues, weigh, weigh_all}
+use Rattle.assignments.specs.Takes.{HasRoom, all_take, set_logs, target_takes}
+use Rattle.open_tests.specs.Weights.{HasRoomFor, HasRoomForAll, LeavesBy, LeavesByAll, all_logs, all_queues, logs, queues}
 
 pub leaves_none : (a : Rooms) → Leaves 0 0 a a
 leaves_none a = record { log = omega arith; takes = refl; queue = omega arith }
