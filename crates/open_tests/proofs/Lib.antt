@@ -1,0 +1,10 @@
+pub mod Views
+pub mod States
+pub mod Weighing
+pub mod Sharing
+pub mod Looping
+pub mod Closing
+pub mod Cases
+pub mod LikeLabels
+pub mod Branches
+pub mod Defaults

@@ -1,0 +1,4 @@
+pub mod Views
+pub mod Weights
+pub mod Open
+pub mod Arms
