@@ -47,8 +47,10 @@ fn are_visits_numbered(marks: &Marks, visits: &[Visit], first: usize) -> bool {
 
 /// Whether the states and arcs have the numbers from `first` on.
 fn are_states_numbered(marks: &Marks, points: &[MachinePoint], first: usize) -> bool {
-    points.iter().enumerate().all(|(place, point)| marks.machine_point(*point) as usize
-        == first + place)
+    points.iter().enumerate().all(|(place, point)| (marks.machine_point(
+        *point,
+    ) as usize).checked_sub(first)
+        == Some(place))
 }
 
 /// Whether the points have the numbers from 0 on.
