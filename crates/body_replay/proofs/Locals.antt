@@ -12,7 +12,7 @@ use Rattle.design_model.specs.Design.{Design, cell, signal_at, memory_at, signal
 use Rattle.design_model.specs.Value.{head, range_of, offset_option, slide_offset, named_word, part_width}
 use Rattle.design_model.specs.Assignment.{signal_range, target_width, targets_width}
 use Rattle.design_model.specs.Mentions.{index_mentions, indexes_mention, mentions, mentions_any}
-use Rattle.design_model.specs.declared.point.NodeCase.TheVariants.{ValueFalse, ValueTrue}
+use Rattle.point_words.specs.declared.node_case.NodeCase.TheVariants.{ValueFalse, ValueTrue}
 use Rattle.body_replay.specs.KnownBits.{KnownBits, all_sure, choose_partly, copies_partly, extend_partly, known_match, known_truth, on_whole, select_option, whole_bits, unary_partly, unknown}
 use Rattle.body_replay.specs.Store.{Kept, KnownWrite, binary_of, choice_partly, join_words, known_joined, known_value, known_writes, known_writes_all, kept_word, may_name, option_kept, read_word, set_bits, words, write_bits, write_word}
 use Rattle.body_replay.specs.Replay.{Blames, Case, Mark, Spot, ask, blame_of, blame_of_all, choice_blame, first_read, first_of, first_reads, index_first, indexes_first, index_marks, indexes_marks, node_marks, note, one_case, term_marks, terms_marks, two_known, word_blame, word_marks, word_read, word_write, written_marks, all_written_marks}

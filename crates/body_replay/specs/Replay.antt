@@ -14,8 +14,8 @@ use Rattle.known_state.specs.Join.{join_bit}
 use Rattle.design_model.specs.Tree.{Term, number, signal, word, bit, part, slide, unary, binary, choice, concat, repeat, sign, Terms, no_terms, a_term, Target, all_of, bits_of, word_of, several, Targets, no_targets, a_target, Stmt, block, branch, select, turns, set, empty, Stmts, no_stmts, a_stmt, Arms, no_arms, arm}
 use Rattle.design_model.specs.Design.{Design, memory_at, signal_cells, a_signal, a_word}
 use Rattle.design_model.specs.Value.{head, named_word}
-use Rattle.design_model.specs.declared.point.NodeCase.{NodeCase}
-use Rattle.design_model.specs.declared.point.NodeCase.TheVariants.{ValueFalse, ValueTrue, LeftFalse, RightFalse, LeftTrue, RightTrue, BothFalse, FalseTrue, TrueFalse, BothTrue}
+use Rattle.point_words.specs.declared.node_case.NodeCase.{NodeCase}
+use Rattle.point_words.specs.declared.node_case.NodeCase.TheVariants.{ValueFalse, ValueTrue, LeftFalse, RightFalse, LeftTrue, RightTrue, BothFalse, FalseTrue, TrueFalse, BothTrue}
 use Rattle.design_model.specs.Execution.{Visit, at_line, at_node, reads, writes_word, is_default}
 use Rattle.body_replay.specs.KnownBits.{KnownBits, whole_bits, all_sure, on_whole, known_truth, holds, both, known_match}
 use Rattle.body_replay.specs.Store.{Kept, words, may_name, read_word, known_value, KnownWrite, keep_all, weaken, known_writes, set_bits}

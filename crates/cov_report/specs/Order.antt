@@ -6,7 +6,7 @@ use Rattle.coverage_db.specs.declared.address.SourceLine.{SourceLine}
 use Rattle.coverage_db.specs.declared.address.Subject.{Subject}
 use Rattle.coverage_db.specs.declared.address.Subject.TheVariants.{Line, Logic}
 use Rattle.coverage_db.specs.Order.{bytes_cmp, letter_rank, rule_cmp}
-use Rattle.coverage_db.specs.Words.{line_word_text, operator_text}
+use Rattle.point_words.specs.Words.{line_word_text, operator_text}
 
 -- by source, and then by line
 abbrev pub place_cmp : SourceLine → SourceLine → Ordering

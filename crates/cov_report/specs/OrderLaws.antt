@@ -9,7 +9,7 @@ use Rattle.std.proofs.lemmas.Cmp.{nat_list_cmp_total, lists_total, on_total, the
 use Rattle.coverage_db.specs.declared.address.Subject.{Subject}
 use Rattle.coverage_db.specs.declared.address.Subject.TheVariants.{Line, Logic, Toggle, State, Arc, Word}
 use Rattle.coverage_db.specs.Order.{bytes_cmp, index_cmp, rise_cmp, write_cmp}
-use Rattle.coverage_db.specs.Words.{line_word_text, node_case_rank, operator_text}
+use Rattle.point_words.specs.Words.{line_word_text, node_case_rank, operator_text}
 use Rattle.cov_report.specs.declared.block.Block.{Block}
 use Rattle.cov_report.specs.declared.counted.Counted.{Counted}
 use Rattle.cov_report.specs.Order.{subject_cmp}

@@ -1,6 +1,6 @@
 -- Slots in the tables of numbers.
 use Rattle.std.specs.Prelude.{◌+◌, ◌*◌, ℕ, Bool, List, length, map, slice_index_or}
-use Rattle.design_model.specs.declared.point.NodeCase.{NodeCase}
+use Rattle.point_words.specs.declared.node_case.NodeCase.{NodeCase}
 use Rattle.number_tables.specs.declared.slot.Slot.{Slot}
 use Rattle.text_points.specs.declared.points.LinePoint.{LinePoint}
 use Rattle.text_points.specs.declared.points.NodePoint.{NodePoint}

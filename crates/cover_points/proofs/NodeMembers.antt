@@ -10,13 +10,16 @@ use Rattle.design_model.specs.Design.{Design, In, no_instance, no_process, proce
 use Rattle.design_model.specs.Execution.{node_cases}
 use Rattle.design_model.specs.Lawful.{IsLawfulDesign, instance_of}
 use Rattle.design_model.specs.Points.{IsPoint}
-use Rattle.design_model.specs.declared.point.NodeCase.{NodeCase}
-use Rattle.design_model.specs.declared.point.NodeCase.TheVariants.{ValueFalse, ValueTrue, LeftFalse, RightFalse, LeftTrue, RightTrue, BothFalse, FalseTrue, TrueFalse, BothTrue}
+use Rattle.point_words.specs.declared.node_case.NodeCase.{NodeCase}
+use Rattle.point_words.specs.declared.node_case.NodeCase.TheVariants.{ValueFalse, ValueTrue, LeftFalse, RightFalse, LeftTrue, RightTrue, BothFalse, FalseTrue, TrueFalse, BothTrue}
 use Rattle.design_model.specs.declared.point.Point.{Point}
 use Rattle.design_model.specs.declared.point.Point.TheVariants.{Logic as logic_point}
 use Rattle.design_model.specs.Numbered.{NodeAt, counted_terms, node_at as numbered_node, node_text, nodes_in, nodes_of}
 use Rattle.design_model.specs.Value.{head}
-use Rattle.text_points.specs.Nodes.{cases_with, node_at, numbered_cases, operator_of, operator_text}
+use Rattle.point_words.specs.Words.{operator_text}
+use Rattle.text_points.specs.Nodes.{cases_with, node_at, numbered_cases}
+use Rattle.text_points.specs.Operators.{operator_of}
+use Rattle.text_points.proofs.OperatorTexts.{text_is}
 use Rattle.text_points.specs.declared.points.NodePoint.{NodePoint}
 use Rattle.cover_points.specs.Order.{bytes_cmp, case_rank, node_cmp, path_at}
 use Rattle.cover_points.specs.Texts.{each_from, node_view, owner, process_nodes}
@@ -49,21 +52,6 @@ node_is_of d x h =
     by_number j t k (Some n) e i =
         let c = in_map (node_at (owner j (process_at d j)) n (head t).place (operator_of t)) x (node_cases t) i in
         subst (IsNodeOf d) c.2 (record { instance_is = refl; term = t; counted = k; number_is = e; place_is = refl; operator_is = refl; case_in = c.1 })
-
--- a node is named by its operator
-text_is : (t : Term) → operator_text (operator_of t) ≡ node_text t
-text_is (number h n) = refl
-text_is (signal h s) = refl
-text_is (word h m i) = refl
-text_is (bit h t i) = refl
-text_is (part h t i j) = refl
-text_is (slide h t b w up) = refl
-text_is (unary h op t) = refl
-text_is (binary h op t u) = refl
-text_is (choice h c t u) = refl
-text_is (concat h ts) = refl
-text_is (repeat h n ts) = refl
-text_is (sign h s t) = refl
 
 -- a case of a node as a node in a text
 abbrev pub node_of : NodePoint → NodeAt

@@ -1,6 +1,5 @@
 pub mod Lines
 pub mod Splitting
-pub mod Finding
 pub mod Numbers
 pub mod PathSearch
 pub mod Lacking

@@ -18,7 +18,7 @@ use Rattle.coverage_db.specs.Fields.{◌>>=◌, split_last, fields_of, field_at,
 use Rattle.coverage_db.specs.Reading.{instance_of, is_thing, doubt_at, verdict_by, verdict_at, subject_at, point_of}
 use Rattle.coverage_db.specs.Table.{Rises, IsInstance, IsSubject, IsThingIn, IsVerdict, IsPoint, is_path}
 use Rattle.coverage_db.specs.Text.{index_text, rise_text, write_text, letter, subject_fields, path_at, verdict_text, point_line}
-use Rattle.coverage_db.specs.Words.{line_word_text, node_case_text, operator_text}
+use Rattle.point_words.specs.Words.{line_word_text, node_case_text, operator_text}
 use Rattle.coverage_db.proofs.Lacking.{is_visible, IsApart, space_apart, feed_apart, word_lacks, lacks_append, lacks_more, decimal_lacks, name_lacks, state_lacks, path_lacks}
 use Rattle.coverage_db.proofs.PathSearch.{by_path, instance_found}
 use Rattle.coverage_db.proofs.Splitting.{lacks, last_takes, last_again, fields_one, fields_more, fields_joined}

@@ -9,14 +9,14 @@ use Rattle.coverage_db.specs.declared.address.SourceLine.{SourceLine}
 use Rattle.coverage_db.specs.declared.address.Subject.{Subject}
 use Rattle.coverage_db.specs.declared.address.Subject.TheVariants.{Line, Logic, Toggle, State, Arc, Word}
 use Rattle.coverage_db.specs.declared.db.DbInstance.{DbInstance}
-use Rattle.coverage_db.specs.declared.line_word.LineWord.{LineWord}
-use Rattle.coverage_db.specs.declared.line_word.LineWord.TheVariants as line
-use Rattle.coverage_db.specs.declared.node_case.NodeCase.{NodeCase}
-use Rattle.coverage_db.specs.declared.node_case.NodeCase.TheVariants as case
-use Rattle.coverage_db.specs.declared.operator.Operator.{Operator}
-use Rattle.coverage_db.specs.declared.operator.Operator.TheVariants as operator
+use Rattle.point_words.specs.declared.line_word.LineWord.{LineWord}
+use Rattle.point_words.specs.declared.line_word.LineWord.TheVariants as line
+use Rattle.point_words.specs.declared.node_case.NodeCase.{NodeCase}
+use Rattle.point_words.specs.declared.node_case.NodeCase.TheVariants as case
+use Rattle.point_words.specs.declared.operator.Operator.{Operator}
+use Rattle.point_words.specs.declared.operator.Operator.TheVariants as operator
 use Rattle.coverage_db.specs.Same.{same_bit, same_index, same_place, same_subject, same_address, same_instance}
-use Rattle.coverage_db.specs.Words.{line_words, line_word_rank, node_cases, node_case_rank, operators, operator_rank}
+use Rattle.point_words.specs.Words.{line_words, line_word_rank, node_cases, node_case_rank, operators, operator_rank}
 
 line_word_ranked : (x : LineWord) → slice_get line_words (line_word_rank x) ≡ Some x
 line_word_ranked line.If = refl
@@ -28,16 +28,16 @@ line_word_same : (x y : LineWord) → eqb (line_word_rank x) (line_word_rank y) 
 line_word_same x y e = same_Some x y (sym (line_word_ranked x) ∙ ap (slice_get line_words) (eqb-true (line_word_rank x) (line_word_rank y) e) ∙ line_word_ranked y)
 
 node_case_ranked : (x : NodeCase) → slice_get node_cases (node_case_rank x) ≡ Some x
-node_case_ranked case.False = refl
-node_case_ranked case.True = refl
+node_case_ranked case.ValueFalse = refl
+node_case_ranked case.ValueTrue = refl
 node_case_ranked case.LeftFalse = refl
 node_case_ranked case.RightFalse = refl
 node_case_ranked case.LeftTrue = refl
 node_case_ranked case.RightTrue = refl
-node_case_ranked case.FalseFalse = refl
+node_case_ranked case.BothFalse = refl
 node_case_ranked case.FalseTrue = refl
 node_case_ranked case.TrueFalse = refl
-node_case_ranked case.TrueTrue = refl
+node_case_ranked case.BothTrue = refl
 
 node_case_same : (x y : NodeCase) → eqb (node_case_rank x) (node_case_rank y) ≡ true → x ≡ y
 node_case_same x y e = same_Some x y (sym (node_case_ranked x) ∙ ap (slice_get node_cases) (eqb-true (node_case_rank x) (node_case_rank y) e) ∙ node_case_ranked y)

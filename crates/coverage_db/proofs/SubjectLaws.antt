@@ -12,10 +12,11 @@ use Rattle.coverage_db.specs.Fields.{◌>>=◌, number_of, field_at, end_at, equ
 use Rattle.coverage_db.specs.Reading.{place_of, place_at, tested_at, index_at, choice_at, line_at, logic_at, toggle_at, arc_at, machine_at, word_at, subject_at}
 use Rattle.coverage_db.specs.Table.{IsSubject, IsSourceLine, is_state}
 use Rattle.coverage_db.specs.Text.{place_text, index_text, rise_text, write_text, letter}
-use Rattle.coverage_db.specs.Words.{line_word_text, line_word_of, node_case_text, node_case_of, operator_text, operator_of, can_have}
+use Rattle.point_words.specs.Words.{line_word_text, line_word_of, node_case_text, node_case_of, operator_text, operator_of, can_have}
 use Rattle.coverage_db.proofs.Numbers.{number_takes, number_again, decimal_plain}
 use Rattle.coverage_db.proofs.PathSearch.{same_path}
-use Rattle.coverage_db.proofs.WordLaws.{bind_some, line_word_takes, line_word_again, node_case_takes, node_case_again, operator_takes, operator_again, place_takes, place_again}
+use Rattle.point_words.proofs.WordLaws.{line_word_takes, line_word_again, node_case_takes, node_case_again, operator_takes, operator_again}
+use Rattle.coverage_db.proofs.WordLaws.{bind_some, place_takes, place_again}
 
 -- ---- one field
 

@@ -1,22 +1,20 @@
--- The words of the text, and places: what is read is spelled so, and what is spelled so is read.
+-- Places: what is read is spelled so, and what is spelled so is read. The words of points have visible bytes alone.
 use Rattle.std.proofs.Common.{◌≡◌, ℕ, ◌^◌, ◌<◌, Bool, true, List, [], ◌∷◌, ◌++◌, Option, Some, None, refl, sym, ap, subst, ◌∙◌, inl, inr, arith}
-use Rattle.std.specs.Prelude.{bytes_eq, decimal}
-use Rattle.std.specs.List.{find, list_all}
-use Rattle.std.proofs.lemmas.Bool.{cases_Bool}
+use Rattle.std.specs.Prelude.{decimal}
+use Rattle.std.specs.List.{list_all}
 use Rattle.std.proofs.lemmas.Option.{same_Some}
-use Rattle.std.proofs.lemmas.Slice.Eq.{bytes_eq-Decides}
 use Rattle.coverage_db.specs.declared.address.SourceLine.{SourceLine}
-use Rattle.coverage_db.specs.declared.line_word.LineWord.{LineWord}
-use Rattle.coverage_db.specs.declared.line_word.LineWord.TheVariants as line
-use Rattle.coverage_db.specs.declared.node_case.NodeCase.{NodeCase}
-use Rattle.coverage_db.specs.declared.node_case.NodeCase.TheVariants as case
-use Rattle.coverage_db.specs.declared.operator.Operator.{Operator}
-use Rattle.coverage_db.specs.declared.operator.Operator.TheVariants as operator
+use Rattle.point_words.specs.declared.line_word.LineWord.{LineWord}
+use Rattle.point_words.specs.declared.line_word.LineWord.TheVariants as line
+use Rattle.point_words.specs.declared.node_case.NodeCase.{NodeCase}
+use Rattle.point_words.specs.declared.node_case.NodeCase.TheVariants as case
+use Rattle.point_words.specs.declared.operator.Operator.{Operator}
+use Rattle.point_words.specs.declared.operator.Operator.TheVariants as operator
 use Rattle.coverage_db.specs.Fields.{◌>>=◌, split_first, number_of}
 use Rattle.coverage_db.specs.Reading.{place_of}
 use Rattle.coverage_db.specs.Table.{IsSourceLine}
 use Rattle.coverage_db.specs.Text.{place_text}
-use Rattle.coverage_db.specs.Words.{line_words, line_word_text, line_word_of, node_cases, node_case_text, node_case_of, operators, operator_text, operator_of}
+use Rattle.point_words.specs.Words.{line_word_text, node_case_text, operator_text}
 use Rattle.coverage_db.proofs.Lacking.{is_visible, decimal_lacks}
 use Rattle.coverage_db.proofs.Numbers.{number_takes, number_again}
 use Rattle.coverage_db.proofs.Splitting.{split_takes, split_again}
@@ -26,79 +24,7 @@ pub bind_some : {A B : Type 0} (o : Option A) (f : A → Option B) (y : B) → (
 bind_some None f y e = absurd cc
 bind_some (Some x) f y e = (x, refl, e)
 
-found_passes : {X : Type 0} (test : X → Bool) (items : List X) (item : X) → find test items ≡ Some item → test item ≡ true
-found_passes test [] item e = absurd cc
-found_passes test (x ∷ xs) item e =
-    elim (cases_Bool (test x)) [
-      | inl passes ↦ let same : Some x ≡ Some item = rw passes at e in subst (λ y. test y ≡ true) (same_Some x item same) passes
-      | inr other ↦ found_passes test xs item (rw other at e)
-    ]
-
 -- ---- words
-
-pub line_word_takes : (text : List ℕ) (word : LineWord) → line_word_of text ≡ Some word → text ≡ line_word_text word
-unfolding line_word_of
-line_word_takes text word e = sym ((bytes_eq-Decides (line_word_text word) text).0 (found_passes (λ w. bytes_eq (line_word_text w) text) line_words word e))
-
-pub node_case_takes : (text : List ℕ) (case : NodeCase) → node_case_of text ≡ Some case → text ≡ node_case_text case
-unfolding node_case_of
-node_case_takes text case e = sym ((bytes_eq-Decides (node_case_text case) text).0 (found_passes (λ w. bytes_eq (node_case_text w) text) node_cases case e))
-
-pub operator_takes : (text : List ℕ) (op : Operator) → operator_of text ≡ Some op → text ≡ operator_text op
-unfolding operator_of
-operator_takes text op e = sym ((bytes_eq-Decides (operator_text op) text).0 (found_passes (λ w. bytes_eq (operator_text w) text) operators op e))
-
-pub line_word_again : (word : LineWord) → line_word_of (line_word_text word) ≡ Some word
-unfolding line_word_of
-line_word_again line.If = refl
-line_word_again line.Case = refl
-line_word_again line.For = refl
-line_word_again line.Assign = refl
-
-pub node_case_again : (c : NodeCase) → node_case_of (node_case_text c) ≡ Some c
-unfolding node_case_of
-node_case_again case.False = refl
-node_case_again case.True = refl
-node_case_again case.LeftFalse = refl
-node_case_again case.RightFalse = refl
-node_case_again case.LeftTrue = refl
-node_case_again case.RightTrue = refl
-node_case_again case.FalseFalse = refl
-node_case_again case.FalseTrue = refl
-node_case_again case.TrueFalse = refl
-node_case_again case.TrueTrue = refl
-
-pub operator_again : (op : Operator) → operator_of (operator_text op) ≡ Some op
-unfolding operator_of
-operator_again operator.Value = refl
-operator_again operator.LogicalNot = refl
-operator_again operator.BitwiseNot = refl
-operator_again operator.ReduceNand = refl
-operator_again operator.ReduceNor = refl
-operator_again operator.And = refl
-operator_again operator.Or = refl
-operator_again operator.LogicalAnd = refl
-operator_again operator.LogicalOr = refl
-operator_again operator.Plus = refl
-operator_again operator.Minus = refl
-operator_again operator.Xor = refl
-operator_again operator.Xnor = refl
-operator_again operator.Nxor = refl
-operator_again operator.Multiply = refl
-operator_again operator.Divide = refl
-operator_again operator.Modulus = refl
-operator_again operator.ShiftLeft = refl
-operator_again operator.ShiftRight = refl
-operator_again operator.ArithmeticShiftLeft = refl
-operator_again operator.ArithmeticShiftRight = refl
-operator_again operator.LessThan = refl
-operator_again operator.LessOrEqual = refl
-operator_again operator.GreaterThan = refl
-operator_again operator.GreaterOrEqual = refl
-operator_again operator.Equal = refl
-operator_again operator.NotEqual = refl
-operator_again operator.CaseEqual = refl
-operator_again operator.CaseNotEqual = refl
 
 pub line_word_visible : (word : LineWord) → list_all is_visible (line_word_text word) ≡ true
 line_word_visible line.If = refl
@@ -107,16 +33,16 @@ line_word_visible line.For = refl
 line_word_visible line.Assign = refl
 
 pub node_case_visible : (c : NodeCase) → list_all is_visible (node_case_text c) ≡ true
-node_case_visible case.False = refl
-node_case_visible case.True = refl
+node_case_visible case.ValueFalse = refl
+node_case_visible case.ValueTrue = refl
 node_case_visible case.LeftFalse = refl
 node_case_visible case.RightFalse = refl
 node_case_visible case.LeftTrue = refl
 node_case_visible case.RightTrue = refl
-node_case_visible case.FalseFalse = refl
+node_case_visible case.BothFalse = refl
 node_case_visible case.FalseTrue = refl
 node_case_visible case.TrueFalse = refl
-node_case_visible case.TrueTrue = refl
+node_case_visible case.BothTrue = refl
 
 pub operator_visible : (op : Operator) → list_all is_visible (operator_text op) ≡ true
 operator_visible operator.Value = refl

@@ -7,7 +7,7 @@ use Rattle.std.specs.Cmp.Lexicographic.{slice_cmp}
 use Rattle.coverage_db.specs.declared.address.Address.{Address}
 use Rattle.coverage_db.specs.declared.address.Subject.{Subject}
 use Rattle.coverage_db.specs.declared.address.Subject.TheVariants.{Line, Logic, Toggle, State, Arc, Word}
-use Rattle.coverage_db.specs.Words.{node_case_rank}
+use Rattle.point_words.specs.Words.{node_case_rank}
 
 -- by the bytes
 abbrev pub bytes_cmp : List ℕ → List ℕ → Ordering

@@ -12,7 +12,7 @@ use Rattle.coverage_db.specs.declared.verdict.DbVerdict.{DbVerdict}
 use Rattle.coverage_db.specs.declared.verdict.DbVerdict.TheVariants.{Hit, Missed, Undetermined}
 use Rattle.coverage_db.specs.Fields.{◌>>=◌, split_first, split_last, fields_of, number_of, field_at, end_at, equals_at, number_at}
 use Rattle.coverage_db.specs.Table.{is_state}
-use Rattle.coverage_db.specs.Words.{line_word_of, operator_of, node_case_of, can_have}
+use Rattle.point_words.specs.Words.{line_word_of, operator_of, node_case_of, can_have}
 
 -- a source and its line, where there are this number of sources
 unfoldable pub place_of : ℕ → List ℕ → Option SourceLine

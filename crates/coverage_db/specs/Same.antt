@@ -6,7 +6,7 @@ use Rattle.coverage_db.specs.declared.address.Subject.{Subject}
 use Rattle.coverage_db.specs.declared.address.Subject.TheVariants.{Line, Logic, Toggle, State, Arc, Word}
 use Rattle.coverage_db.specs.declared.db.DbInstance.{DbInstance}
 use Rattle.coverage_db.specs.declared.db.DbPoint.{DbPoint}
-use Rattle.coverage_db.specs.Words.{line_word_rank, operator_rank, node_case_rank}
+use Rattle.point_words.specs.Words.{line_word_rank, operator_rank, node_case_rank}
 
 abbrev pub same_bit : Bool → Bool → Bool
 same_bit true b = b

@@ -15,7 +15,7 @@ use Rattle.coverage_db.specs.declared.db.DbPoint.{DbPoint}
 use Rattle.coverage_db.specs.declared.verdict.DbVerdict.{DbVerdict}
 use Rattle.coverage_db.specs.declared.verdict.DbVerdict.TheVariants.{Hit, Missed, Undetermined}
 use Rattle.coverage_db.specs.Order.{bytes_cmp, address_cmp}
-use Rattle.coverage_db.specs.Words.{can_have}
+use Rattle.point_words.specs.Words.{can_have}
 
 -- each item comes before the next one
 abbrev pub Rises : {T : Type 0} → (T → T → Ordering) → List T → Type 0

@@ -12,7 +12,7 @@ use Rattle.coverage_db.specs.declared.db.DbInstance.{DbInstance}
 use Rattle.coverage_db.specs.declared.db.DbPoint.{DbPoint}
 use Rattle.coverage_db.specs.declared.verdict.DbVerdict.{DbVerdict}
 use Rattle.coverage_db.specs.declared.verdict.DbVerdict.TheVariants.{Hit, Missed, Undetermined}
-use Rattle.coverage_db.specs.Words.{line_word_text, node_case_text, operator_text}
+use Rattle.point_words.specs.Words.{line_word_text, node_case_text, operator_text}
 
 -- a line ends in one line feed
 abbrev pub ended : List ℕ → List ℕ

@@ -1,6 +1,6 @@
 ghost use Rattle.std.specs.Prelude.{◌≡◌, ◌==◌, ◌&&◌, bytes_eq};
 ghost use Rattle.coverage_db.specs.Same.{same_address, same_subject, same_machine};
-ghost use Rattle.coverage_db.specs.Words.{node_case_rank, operator_rank};
+ghost use Rattle.point_words.specs.Words.{node_case_rank, operator_rank};
 
 use crate::{Address, NodeCase, Operator, Subject};
 use cov_host::Name;

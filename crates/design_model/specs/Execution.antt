@@ -14,8 +14,8 @@ use Rattle.design_model.specs.Tree.{Arms, Stmt, Stmts, Target, Targets, Term, Te
 use Rattle.design_model.specs.Design.{Design, Thing, a_signal, a_word, cells}
 use Rattle.design_model.specs.Value.{head, value, word_named}
 use Rattle.design_model.specs.Assignment.{target_width, target_writes}
-pub use Rattle.design_model.specs.declared.point.NodeCase.{NodeCase}
-pub use Rattle.design_model.specs.declared.point.NodeCase.TheVariants.{ValueFalse, ValueTrue, LeftFalse, RightFalse, LeftTrue, RightTrue, BothFalse, FalseTrue, TrueFalse, BothTrue}
+pub use Rattle.point_words.specs.declared.node_case.NodeCase.{NodeCase}
+pub use Rattle.point_words.specs.declared.node_case.NodeCase.TheVariants.{ValueFalse, ValueTrue, LeftFalse, RightFalse, LeftTrue, RightTrue, BothFalse, FalseTrue, TrueFalse, BothTrue}
 
 -- what an execution visits
 pub data Visit : Type 0 where

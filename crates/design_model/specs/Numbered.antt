@@ -8,8 +8,8 @@ use Rattle.four_state.specs.declared.operator.Unary.TheVariants.{BitwiseNot, Log
 use Rattle.design_model.specs.Tree.{Arms, Process, Stmt, Stmts, Term, a_stmt, arm, assign, binary, block, branch, clocked, comb, empty, no_arms, no_stmts, select, set, turns, unary}
 use Rattle.design_model.specs.Value.{head}
 use Rattle.design_model.specs.Mentions.{body_terms, index_terms, subterms}
-pub use Rattle.design_model.specs.declared.point.LineWord.{LineWord}
-pub use Rattle.design_model.specs.declared.point.LineWord.TheVariants.{If, Case, For, Assign}
+pub use Rattle.point_words.specs.declared.line_word.LineWord.{LineWord}
+pub use Rattle.point_words.specs.declared.line_word.LineWord.TheVariants.{If, Case, For, Assign}
 
 -- a line point in a text
 pub record LineAt : Type 0 where

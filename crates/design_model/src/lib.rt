@@ -37,7 +37,8 @@ pub use examples::{
     bit_of_word, memory_word, moving_input, steady_register, undumped_net, undumped_register,
 };
 pub use map::PartialMap;
-pub use point::{LineWord, NodeCase, Point};
+pub use point::Point;
+pub use point_words::{LineWord, NodeCase};
 pub use tree::{CaseArm, Form, Process, Stmt, StmtForm, Target, Term};
 
 /// The machine of a lawful design is lawful, so the laws of the event machine hold for it.

@@ -1,5 +1,6 @@
 use cov_host::{Name, Place};
 use four_state::Four;
+use point_words::{LineWord, NodeCase};
 
 /// A coverage point of a design.
 #[derive(Debug, Drop)]
@@ -76,38 +77,4 @@ pub enum Point {
         /// Whether the word is written, and else it is read.
         write: bool,
     },
-}
-
-/// What kind of statement a line point is. `casez` and `casex` are `Case`.
-#[derive(Clone, Copy, Debug, PartialEq, Eq)]
-pub enum LineWord {
-    If,
-    Case,
-    For,
-    Assign,
-}
-
-/// A case of a counted node, by the truths of its operands or of its own value.
-#[derive(Clone, Copy, Debug, PartialEq, Eq)]
-pub enum NodeCase {
-    /// `0`: the node's own value is false.
-    ValueFalse,
-    /// `1`: the node's own value is true.
-    ValueTrue,
-    /// `0-`: the left operand is false.
-    LeftFalse,
-    /// `-0`: the right operand is false.
-    RightFalse,
-    /// `1-`: the left operand is true.
-    LeftTrue,
-    /// `-1`: the right operand is true.
-    RightTrue,
-    /// `00`.
-    BothFalse,
-    /// `01`.
-    FalseTrue,
-    /// `10`.
-    TrueFalse,
-    /// `11`.
-    BothTrue,
 }

@@ -16,7 +16,7 @@ use Rattle.std.specs.Prelude.{true, false, List, [], ◌∷◌, map, Some, None,
 use Rattle.four_state.specs.declared.edge.Edge.TheVariants.{Pos}
 use Rattle.four_state.specs.declared.operator.Binary.TheVariants as binary
 use Rattle.four_state.specs.declared.operator.CaseKind.TheVariants as kind
-use Rattle.design_model.specs.declared.point.LineWord.TheVariants as word
+use Rattle.point_words.specs.declared.line_word.LineWord.TheVariants as word
 use Rattle.design_model.specs.Numbered.{line_at, lines_of}
 use Rattle.verilog_tree.specs.declared.item.When.TheVariants.{Edges}
 use Rattle.verilog_tree.specs.Tree.{literal, identifier, binary_operator, no_exprs, an_expr, sequential_block, if_statement, case_statement, assignment, no_statements, a_statement, no_items, case_item, port_item, net_item, variable_item, parameter_item, always_item, Module}

@@ -6,7 +6,7 @@
 use Rattle.std.proofs.Common.{◌≡◌, refl}
 use Rattle.std.specs.Prelude.{true, false, List, [], ◌∷◌, map, None, codes}
 use Rattle.four_state.specs.declared.edge.Edge.TheVariants.{Pos}
-use Rattle.design_model.specs.declared.point.LineWord.TheVariants as word
+use Rattle.point_words.specs.declared.line_word.LineWord.TheVariants as word
 use Rattle.design_model.specs.Numbered.{line_at, lines_of}
 use Rattle.verilog_tree.specs.declared.item.When.TheVariants.{Edges}
 use Rattle.verilog_tree.specs.Tree.{literal, identifier, if_statement, assignment, no_statements, a_statement, port_item, always_item, Module}

@@ -8,7 +8,7 @@
 use Rattle.std.proofs.Common.{◌≡◌, refl}
 use Rattle.std.specs.Prelude.{true, false, List, [], ◌∷◌, map, Some, None, codes}
 use Rattle.four_state.specs.declared.edge.Edge.TheVariants.{Pos}
-use Rattle.design_model.specs.declared.point.LineWord.TheVariants as word
+use Rattle.point_words.specs.declared.line_word.LineWord.TheVariants as word
 use Rattle.design_model.specs.Numbered.{line_at, lines_of}
 use Rattle.verilog_tree.specs.declared.item.When.TheVariants.{Edges}
 use Rattle.verilog_tree.specs.Tree.{literal, identifier, assignment, port_item, always_item, instance_item, Module}

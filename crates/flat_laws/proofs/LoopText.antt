@@ -23,7 +23,7 @@ use Rattle.std.specs.Prelude.{true, false, List, [], ◌∷◌, map, Some, None,
 use Rattle.four_state.specs.declared.edge.Edge.TheVariants.{Pos}
 use Rattle.four_state.specs.declared.operator.Binary.TheVariants as binary
 use Rattle.four_state.specs.declared.operator.Unary.TheVariants as unary
-use Rattle.design_model.specs.declared.point.LineWord.TheVariants as word
+use Rattle.point_words.specs.declared.line_word.LineWord.TheVariants as word
 use Rattle.design_model.specs.Numbered.{line_at, lines_of}
 use Rattle.verilog_tree.specs.declared.item.When.TheVariants.{Star, Edges}
 use Rattle.verilog_tree.specs.Tree.{literal, identifier, bit_select, part_select, indexed_part, unary_operator, binary_operator, conditional, concatenation, parentheses, no_exprs, an_expr, sequential_block, if_statement, for_loop, assignment, no_statements, a_statement, port_item, variable_item, integer_item, parameter_item, always_item, Module}

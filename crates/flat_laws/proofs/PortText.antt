@@ -21,7 +21,7 @@ use Rattle.std.proofs.Common.{◌≡◌, refl}
 use Rattle.std.specs.Prelude.{true, false, List, [], ◌∷◌, map, Some, None, codes}
 use Rattle.four_state.specs.declared.operator.Binary.TheVariants as binary
 use Rattle.four_state.specs.declared.operator.Unary.TheVariants as unary
-use Rattle.design_model.specs.declared.point.LineWord.TheVariants as word
+use Rattle.point_words.specs.declared.line_word.LineWord.TheVariants as word
 use Rattle.design_model.specs.Numbered.{line_at, lines_of}
 use Rattle.verilog_tree.specs.declared.item.When.TheVariants.{Names}
 use Rattle.verilog_tree.specs.Tree.{literal, identifier, bit_select, part_select, unary_operator, binary_operator, assignment, port_item, net_item, variable_item, parameter_item, continuous_item, always_item, instance_item, Module}

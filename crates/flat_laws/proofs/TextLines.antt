@@ -4,7 +4,7 @@ use Rattle.four_state.specs.Vector.{Vector}
 use Rattle.design_model.specs.Design.{In}
 use Rattle.design_model.specs.Numbered as law
 use Rattle.design_model.specs.Numbered.{LineAt, line_at}
-use Rattle.design_model.specs.declared.point.LineWord.TheVariants.{If, Case, For, Assign}
+use Rattle.point_words.specs.declared.line_word.LineWord.TheVariants.{If, Case, For, Assign}
 use Rattle.design_model.specs.Tree.{Stmt}
 use Rattle.verilog_tree.specs.Tree.{Statement, sequential_block, if_statement, case_statement, for_loop, assignment, system_task, null_statement, Statements, no_statements, a_statement, CaseItems, no_items, case_item}
 use Rattle.elab_const.specs.declared.width.Shape.{Shape}

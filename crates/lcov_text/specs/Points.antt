@@ -9,12 +9,12 @@ use Rattle.coverage_db.specs.declared.address.Subject.TheVariants.{Line, Logic, 
 use Rattle.coverage_db.specs.declared.db.Db.{Db}
 use Rattle.coverage_db.specs.declared.db.DbInstance.{DbInstance}
 use Rattle.coverage_db.specs.declared.db.DbPoint.{DbPoint}
-use Rattle.coverage_db.specs.declared.node_case.NodeCase.{NodeCase}
-use Rattle.coverage_db.specs.declared.node_case.NodeCase.TheVariants as node_case
-use Rattle.coverage_db.specs.declared.operator.Operator.{Operator}
+use Rattle.point_words.specs.declared.node_case.NodeCase.{NodeCase}
+use Rattle.point_words.specs.declared.node_case.NodeCase.TheVariants as node_case
+use Rattle.point_words.specs.declared.operator.Operator.{Operator}
 use Rattle.coverage_db.specs.Order.{bytes_cmp}
 use Rattle.coverage_db.specs.Same.{same_place}
-use Rattle.coverage_db.specs.Words.{node_case_rank, operator_text, operator_rank, is_and, is_or}
+use Rattle.point_words.specs.Words.{node_case_rank, operator_text, operator_rank, is_and, is_or}
 use Rattle.cov_report.specs.Gathered.{gathered}
 use Rattle.cov_report.specs.Report.{is_hit}
 use Rattle.lcov_text.specs.declared.traced.Part.{Part}
@@ -110,16 +110,16 @@ same_node _ _ = false
 
 -- the place of a case among those that its node has, from 0
 abbrev pub case_number : Operator → NodeCase → ℕ
-case_number operator node_case.False = 0
-case_number operator node_case.True = 1
+case_number operator node_case.ValueFalse = 0
+case_number operator node_case.ValueTrue = 1
 case_number operator node_case.LeftFalse = 0
 case_number operator node_case.RightFalse = 1
 case_number operator node_case.LeftTrue = 0
 case_number operator node_case.RightTrue = 1
-case_number operator node_case.FalseFalse = if is_or operator then 2 else 0
+case_number operator node_case.BothFalse = if is_or operator then 2 else 0
 case_number operator node_case.FalseTrue = 1
 case_number operator node_case.TrueFalse = 2
-case_number operator node_case.TrueTrue = if is_and operator then 2 else 3
+case_number operator node_case.BothTrue = if is_and operator then 2 else 3
 
 -- a line has no branch number
 abbrev pub branch_number : Option Branch → ℕ

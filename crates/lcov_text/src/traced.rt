@@ -201,9 +201,9 @@ fn case_number(operator: Operator, case: NodeCase) -> u8
     ensures { result ≡ case_number operator case }
 {
     match case {
-        NodeCase::False | NodeCase::LeftFalse | NodeCase::LeftTrue => 0,
-        NodeCase::True | NodeCase::RightFalse | NodeCase::RightTrue | NodeCase::FalseTrue => 1,
-        NodeCase::FalseFalse => {
+        NodeCase::ValueFalse | NodeCase::LeftFalse | NodeCase::LeftTrue => 0,
+        NodeCase::ValueTrue | NodeCase::RightFalse | NodeCase::RightTrue | NodeCase::FalseTrue => 1,
+        NodeCase::BothFalse => {
             if operator.can_have(NodeCase::LeftTrue) {
                 2
             } else {
@@ -211,7 +211,7 @@ fn case_number(operator: Operator, case: NodeCase) -> u8
             }
         }
         NodeCase::TrueFalse => 2,
-        NodeCase::TrueTrue => {
+        NodeCase::BothTrue => {
             if operator.can_have(NodeCase::LeftFalse) {
                 2
             } else {

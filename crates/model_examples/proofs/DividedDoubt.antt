@@ -16,7 +16,7 @@ use Rattle.four_state.specs.declared.truth.Truth.TheVariants.{True}
 use Rattle.design_model.specs.Tree.{Term, signal}
 use Rattle.design_model.specs.Design.{In, IsThing, a_signal, a_word, body_at, cell, signal_bits}
 use Rattle.design_model.specs.Value.{head, value}
-use Rattle.design_model.specs.declared.point.NodeCase.TheVariants.{ValueFalse, ValueTrue}
+use Rattle.point_words.specs.declared.node_case.NodeCase.TheVariants.{ValueFalse, ValueTrue}
 use Rattle.design_model.specs.Execution.{cases}
 use Rattle.design_model.specs.Reads.{Agrees, PartialMap}
 use Rattle.design_model.specs.Machine.{is_input_cell, machine}

@@ -14,10 +14,10 @@ use Rattle.design_model.specs.Mentions.{body_blocks, mentions}
 use Rattle.design_model.specs.Execution.{cases}
 use Rattle.design_model.specs.Paths.{paths}
 use Rattle.design_model.specs.Design.{In, IsThing, Thing, a_signal, a_word, body_at, cell, signal_bits}
-use Rattle.design_model.specs.declared.point.NodeCase.TheVariants.{ValueTrue}
+use Rattle.point_words.specs.declared.node_case.NodeCase.TheVariants.{ValueTrue}
 use Rattle.design_model.specs.Reads.{Agrees, HasValue, ReadsWithin, PartialMap, nothing_known}
 use Rattle.design_model.specs.Machine.{machine}
-use Rattle.design_model.specs.declared.point.LineWord.TheVariants.{Assign}
+use Rattle.point_words.specs.declared.line_word.LineWord.TheVariants.{Assign}
 use Rattle.design_model.specs.declared.point.Point.TheVariants.{Line as line_point, Logic as logic_point}
 use Rattle.design_model.specs.MayMove.{IsCleanAt}
 use Rattle.design_model.specs.Early.{IsEarlyAt}

@@ -4,7 +4,7 @@ use Rattle.event_machine.specs.Habit.{Free}
 use Rattle.four_state.specs.declared.operator.Binary.TheVariants.{BitwiseXor}
 use Rattle.design_model.specs.Tree.{all_of, binary, signal}
 use Rattle.design_model.specs.Design.{In, body_at}
-use Rattle.design_model.specs.declared.point.LineWord.TheVariants.{Assign}
+use Rattle.point_words.specs.declared.line_word.LineWord.TheVariants.{Assign}
 use Rattle.design_model.specs.Paths.{Path, PlacedAction, assigns, paths, reaches}
 use Rattle.design_model.specs.declared.point.Point.TheVariants.{Line as line_point}
 use Rattle.design_model.specs.Open.{HasAction, IsOpen, IsSurelyOpen, KnownAtEnd}

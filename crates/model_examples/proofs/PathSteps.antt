@@ -4,7 +4,7 @@ use Rattle.std.specs.List.{list_any}
 use Rattle.std.proofs.lemmas.Bool.{or_left, or_right}
 use Rattle.design_model.specs.Design.{In}
 use Rattle.design_model.specs.Execution.{node_visits}
-use Rattle.design_model.specs.declared.point.NodeCase.{NodeCase}
+use Rattle.point_words.specs.declared.node_case.NodeCase.{NodeCase}
 use Rattle.design_model.specs.Paths.{Action, Path, PlacedAction, assigns, compares, reaches, selects, tests}
 use Rattle.design_model.specs.Reads.{AllInside, PartialMap}
 

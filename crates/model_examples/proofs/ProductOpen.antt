@@ -16,7 +16,7 @@ use Rattle.design_model.specs.Tree.{Term, signal}
 use Rattle.design_model.specs.Design.{In, IsThing, a_signal, a_word, body_at, cell, signal_bits}
 use Rattle.design_model.specs.Value.{head, value}
 use Rattle.design_model.specs.Mentions.{body_blocks, mentions}
-use Rattle.design_model.specs.declared.point.NodeCase.TheVariants.{BothTrue, RightFalse}
+use Rattle.point_words.specs.declared.node_case.NodeCase.TheVariants.{BothTrue, RightFalse}
 use Rattle.design_model.specs.Reads.{Agrees, PartialMap}
 use Rattle.design_model.specs.Machine.{machine}
 use Rattle.design_model.specs.Run.{IsRun}

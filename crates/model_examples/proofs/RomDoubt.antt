@@ -6,7 +6,7 @@ use Rattle.event_machine.specs.Habit.{Free}
 use Rattle.four_state.specs.declared.bit.Bit.{Bit}
 use Rattle.four_state.specs.declared.bit.Bit.TheVariants.{One}
 use Rattle.design_model.specs.Design.{Thing, a_signal, a_word, body_at}
-use Rattle.design_model.specs.declared.point.NodeCase.TheVariants.{ValueTrue}
+use Rattle.point_words.specs.declared.node_case.NodeCase.TheVariants.{ValueTrue}
 use Rattle.design_model.specs.declared.point.Point.TheVariants.{Logic as logic_point}
 use Rattle.design_model.specs.Reads.{Agrees, HasValue, PartialMap, nothing_known}
 use Rattle.design_model.specs.Clear.{IsClearBy, IsClockedTarget, clear, clear_in, of_assigns, of_clean, of_comb, of_dump, of_unwoken}

@@ -17,7 +17,7 @@ use Rattle.four_state.specs.declared.operator.Binary.TheVariants.{BitwiseAnd}
 use Rattle.design_model.specs.Design.{In, IsThing, Thing, a_signal, a_word, body_at, cell, process_at, signal_bits}
 use Rattle.design_model.specs.Value.{head, value}
 use Rattle.design_model.specs.Mentions.{body_blocks, mentions}
-use Rattle.design_model.specs.declared.point.NodeCase.TheVariants.{BothTrue, RightFalse}
+use Rattle.point_words.specs.declared.node_case.NodeCase.TheVariants.{BothTrue, RightFalse}
 use Rattle.design_model.specs.Execution.{cases, execution}
 use Rattle.design_model.specs.Paths.{Path, paths, reaches, reads_signal_before_writing}
 use Rattle.design_model.specs.Reads.{Agrees, AllInside, HasValue, PartialMap}

@@ -12,7 +12,7 @@ use Rattle.four_state.specs.declared.operator.Binary.TheVariants.{Add}
 use Rattle.four_state.specs.declared.operator.CaseKind.TheVariants.{Exact}
 use Rattle.design_model.specs.Tree.{Term, a_stmt, a_term, all_of, arm, binary, block, branch, clocked, no_arms, no_stmts, no_terms, number, select, set, signal}
 use Rattle.design_model.specs.Design.{Design, a_signal, body_at}
-use Rattle.design_model.specs.declared.point.LineWord.TheVariants.{Assign}
+use Rattle.point_words.specs.declared.line_word.LineWord.TheVariants.{Assign}
 use Rattle.design_model.specs.declared.point.Point.{Point}
 use Rattle.design_model.specs.declared.point.Point.TheVariants.{Line as line_point}
 use Rattle.design_model.specs.Reads.{PartialMap}

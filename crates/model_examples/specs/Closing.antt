@@ -10,7 +10,7 @@ use Rattle.four_state.specs.declared.bit.Bit.TheVariants.{One, X, Zero}
 use Rattle.design_model.specs.Tree.{all_of, branch, comb, no_stmts, set, signal}
 use Rattle.design_model.specs.Design.{Design, In, body_at, cell}
 use Rattle.design_model.specs.Execution.{at_line, execution}
-use Rattle.design_model.specs.declared.point.LineWord.TheVariants.{Assign, If}
+use Rattle.point_words.specs.declared.line_word.LineWord.TheVariants.{Assign, If}
 use Rattle.design_model.specs.declared.point.Point.{Point}
 use Rattle.design_model.specs.declared.point.Point.TheVariants.{Line as line_point}
 use Rattle.design_model.specs.Run.{IsRun, Run}

@@ -12,9 +12,9 @@ use Rattle.four_state.specs.declared.edge.Edge.TheVariants.{Pos}
 use Rattle.four_state.specs.declared.operator.Unary.TheVariants.{BitwiseNot}
 use Rattle.design_model.specs.Tree.{Term, all_of, clocked, set, signal, unary}
 use Rattle.design_model.specs.Design.{Design, body_at, cell}
-use Rattle.design_model.specs.declared.point.LineWord.TheVariants.{Assign}
-use Rattle.design_model.specs.declared.point.NodeCase.{NodeCase}
-use Rattle.design_model.specs.declared.point.NodeCase.TheVariants.{ValueFalse, ValueTrue}
+use Rattle.point_words.specs.declared.line_word.LineWord.TheVariants.{Assign}
+use Rattle.point_words.specs.declared.node_case.NodeCase.{NodeCase}
+use Rattle.point_words.specs.declared.node_case.NodeCase.TheVariants.{ValueFalse, ValueTrue}
 use Rattle.design_model.specs.declared.point.Point.{Point}
 use Rattle.design_model.specs.declared.point.Point.TheVariants.{Line as line_point, Logic as logic_point}
 use Rattle.design_model.specs.Run.{IsRun, Run}

@@ -8,7 +8,7 @@ use Rattle.four_state.specs.declared.bit.Bit.TheVariants.{One, X, Zero}
 use Rattle.four_state.specs.declared.edge.Edge.TheVariants.{Pos}
 use Rattle.design_model.specs.Tree.{Term, a_stmt, all_of, bit, block, branch, clocked, no_stmts, set, signal}
 use Rattle.design_model.specs.Design.{Design, body_at, cell}
-use Rattle.design_model.specs.declared.point.LineWord.TheVariants.{Assign}
+use Rattle.point_words.specs.declared.line_word.LineWord.TheVariants.{Assign}
 use Rattle.design_model.specs.declared.point.Point.{Point}
 use Rattle.design_model.specs.declared.point.Point.TheVariants.{Line as line_point}
 use Rattle.design_model.specs.Shows.{BoundDump, Shows}

@@ -10,8 +10,8 @@ use Rattle.four_state.specs.declared.bit.Bit.TheVariants.{One, X, Zero}
 use Rattle.four_state.specs.declared.edge.Edge.TheVariants.{Pos}
 use Rattle.design_model.specs.Tree.{a_stmt, all_of, assign, branch, clocked, comb, no_stmts, set, signal}
 use Rattle.design_model.specs.Design.{Design, a_signal, body_at, cell}
-use Rattle.design_model.specs.declared.point.NodeCase.TheVariants.{ValueTrue}
-use Rattle.design_model.specs.declared.point.LineWord.TheVariants.{Assign, If}
+use Rattle.point_words.specs.declared.node_case.NodeCase.TheVariants.{ValueTrue}
+use Rattle.point_words.specs.declared.line_word.LineWord.TheVariants.{Assign, If}
 use Rattle.design_model.specs.Reads.{HasValue}
 use Rattle.design_model.specs.Shows.{BoundDump}
 use Rattle.design_model.specs.declared.point.Point.TheVariants.{Line as line_point, Logic as logic_point, Toggle as toggle_point}

@@ -8,7 +8,7 @@ use Rattle.four_state.specs.declared.bit.Bit.TheVariants.{One, X, Zero}
 use Rattle.four_state.specs.declared.operator.Binary.TheVariants.{BitwiseXor}
 use Rattle.design_model.specs.Tree.{all_of, binary, comb, set, signal}
 use Rattle.design_model.specs.Design.{Design, body_at}
-use Rattle.design_model.specs.declared.point.LineWord.TheVariants.{Assign}
+use Rattle.point_words.specs.declared.line_word.LineWord.TheVariants.{Assign}
 use Rattle.design_model.specs.Shows.{BoundDump}
 use Rattle.design_model.specs.declared.point.Point.{Point}
 use Rattle.design_model.specs.declared.point.Point.TheVariants.{Line as line_point}

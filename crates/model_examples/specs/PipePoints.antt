@@ -1,7 +1,7 @@
 -- What is open in the design of a register that the dump lacks, on the first of its dumps: of its gate, whose two operands are 1 from 5 on.
 use Rattle.event_machine.specs.Habit.{Free}
 use Rattle.design_model.specs.Design.{body_at}
-use Rattle.design_model.specs.declared.point.NodeCase.TheVariants.{BothTrue, RightFalse}
+use Rattle.point_words.specs.declared.node_case.NodeCase.TheVariants.{BothTrue, RightFalse}
 use Rattle.design_model.specs.Open.{IsOpen, IsReached, IsSurelyOpen, KnownAtEnd}
 use Rattle.design_model.specs.Pipe.{pipe, pipe_dump}
 use Rattle.model_examples.specs.Settling.{case_of}

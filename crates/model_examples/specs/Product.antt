@@ -11,8 +11,8 @@ use Rattle.four_state.specs.declared.operator.Binary.TheVariants.{BitwiseAnd}
 use Rattle.design_model.specs.Tree.{Term, all_of, binary, comb, set, signal}
 use Rattle.design_model.specs.Design.{Design, In, body_at, cell}
 use Rattle.design_model.specs.Execution.{at_node, execution}
-use Rattle.design_model.specs.declared.point.NodeCase.{NodeCase}
-use Rattle.design_model.specs.declared.point.NodeCase.TheVariants.{BothTrue, RightFalse}
+use Rattle.point_words.specs.declared.node_case.NodeCase.{NodeCase}
+use Rattle.point_words.specs.declared.node_case.NodeCase.TheVariants.{BothTrue, RightFalse}
 use Rattle.design_model.specs.declared.point.Point.{Point}
 use Rattle.design_model.specs.declared.point.Point.TheVariants.{Logic as logic_point}
 use Rattle.design_model.specs.Run.{IsRun, Run}

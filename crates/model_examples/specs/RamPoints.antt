@@ -2,7 +2,7 @@
 use Rattle.std.specs.Prelude.{false}
 use Rattle.event_machine.specs.Habit.{Free}
 use Rattle.design_model.specs.Design.{body_at}
-use Rattle.design_model.specs.declared.point.LineWord.TheVariants.{Assign}
+use Rattle.point_words.specs.declared.line_word.LineWord.TheVariants.{Assign}
 use Rattle.design_model.specs.declared.point.Point.{Point}
 use Rattle.design_model.specs.declared.point.Point.TheVariants.{Line as line_point, Word as word_point}
 use Rattle.design_model.specs.Open.{IsOpen, IsSurelyOpen, KnownOnEntry}

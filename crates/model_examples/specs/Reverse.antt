@@ -7,7 +7,7 @@ use Rattle.four_state.specs.declared.bit.Bit.TheVariants.{One, X, Zero}
 use Rattle.design_model.specs.Tree.{Term, a_stmt, bit, bits_of, comb, no_stmts, number, set, signal, turns}
 use Rattle.design_model.specs.Design.{Design, a_signal, body_at}
 use Rattle.design_model.specs.Clear.{bits_after}
-use Rattle.design_model.specs.declared.point.LineWord.TheVariants.{Assign, For}
+use Rattle.point_words.specs.declared.line_word.LineWord.TheVariants.{Assign, For}
 use Rattle.design_model.specs.declared.point.Point.TheVariants.{Line as line_point}
 use Rattle.design_model.specs.Execution.{at_line, execution, reads}
 use Rattle.design_model.specs.Paths.{each_writes_whole}

@@ -7,7 +7,7 @@ use Rattle.four_state.specs.declared.bit.Bit.{Bit}
 use Rattle.four_state.specs.declared.bit.Bit.TheVariants.{One, X, Zero}
 use Rattle.design_model.specs.Tree.{all_of, assign, signal, word}
 use Rattle.design_model.specs.Design.{Design, a_word}
-use Rattle.design_model.specs.declared.point.NodeCase.TheVariants.{ValueTrue}
+use Rattle.point_words.specs.declared.node_case.NodeCase.TheVariants.{ValueTrue}
 use Rattle.design_model.specs.declared.point.Point.TheVariants.{Logic as logic_point}
 use Rattle.design_model.specs.Reads.{HasValue}
 use Rattle.design_model.specs.Shows.{BoundDump}

@@ -5,9 +5,9 @@ use Rattle.std.specs.Prelude.{◌∷◌, if◌then◌else◌, ℕ, false, [], na
 use Rattle.event_machine.specs.Habit.{Free, Habit}
 use Rattle.four_state.specs.declared.bit.Bit.TheVariants.{One, X, Zero}
 use Rattle.design_model.specs.Design.{a_signal, body_at, cell}
-use Rattle.design_model.specs.declared.point.LineWord.TheVariants.{Assign}
-use Rattle.design_model.specs.declared.point.NodeCase.{NodeCase}
-use Rattle.design_model.specs.declared.point.NodeCase.TheVariants.{BothTrue, RightFalse}
+use Rattle.point_words.specs.declared.line_word.LineWord.TheVariants.{Assign}
+use Rattle.point_words.specs.declared.node_case.NodeCase.{NodeCase}
+use Rattle.point_words.specs.declared.node_case.NodeCase.TheVariants.{BothTrue, RightFalse}
 use Rattle.design_model.specs.declared.point.Point.{Point}
 use Rattle.design_model.specs.declared.point.Point.TheVariants.{Line as line_point, Logic as logic_point, Toggle as toggle_point}
 use Rattle.design_model.specs.Shows.{BoundDump}

@@ -9,7 +9,7 @@ use Rattle.four_state.specs.declared.bit.Bit.TheVariants.{One, X, Zero}
 use Rattle.four_state.specs.declared.edge.Edge.TheVariants.{Pos}
 use Rattle.design_model.specs.Tree.{all_of, clocked, set, signal}
 use Rattle.design_model.specs.Design.{Design, body_at, cell}
-use Rattle.design_model.specs.declared.point.LineWord.TheVariants.{Assign}
+use Rattle.point_words.specs.declared.line_word.LineWord.TheVariants.{Assign}
 use Rattle.design_model.specs.declared.point.Point.TheVariants.{Line as line_point}
 use Rattle.design_model.specs.Shows.{BoundDump, IsContradicted}
 use Rattle.design_model.specs.MayMove.{IsCleanAt}

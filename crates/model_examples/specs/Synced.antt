@@ -10,7 +10,7 @@ use Rattle.four_state.specs.declared.edge.Edge.TheVariants.{Neg, Pos}
 use Rattle.four_state.specs.declared.operator.Unary.TheVariants.{LogicalNot}
 use Rattle.design_model.specs.Tree.{Term, a_stmt, all_of, branch, clocked, no_stmts, set, signal, unary}
 use Rattle.design_model.specs.Design.{Design, body_at, cell}
-use Rattle.design_model.specs.declared.point.LineWord.TheVariants.{Assign}
+use Rattle.point_words.specs.declared.line_word.LineWord.TheVariants.{Assign}
 use Rattle.design_model.specs.declared.point.Point.{Point}
 use Rattle.design_model.specs.declared.point.Point.TheVariants.{Line as line_point}
 use Rattle.design_model.specs.Shows.{BoundDump}

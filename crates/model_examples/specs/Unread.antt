@@ -7,7 +7,7 @@ use Rattle.event_machine.specs.Habit.{Free, Habit}
 use Rattle.four_state.specs.declared.bit.Bit.{Bit}
 use Rattle.four_state.specs.declared.bit.Bit.TheVariants.{One, X, Zero}
 use Rattle.design_model.specs.Design.{a_word, body_at, cell}
-use Rattle.design_model.specs.declared.point.LineWord.TheVariants.{Assign, If}
+use Rattle.point_words.specs.declared.line_word.LineWord.TheVariants.{Assign, If}
 use Rattle.design_model.specs.declared.point.Point.{Point}
 use Rattle.design_model.specs.declared.point.Point.TheVariants.{Line as line_point, Word as word_point}
 use Rattle.design_model.specs.Reads.{HasValue}

@@ -1,5 +1,4 @@
 //! The addresses of points, a line each, as a database writes them.
-use crate::operators::{case_text, operator_text, word_text};
 use cov_host::{NoMemory, Place};
 use cover_points::{IndexPoint, MachinePoint, Points};
 use design_machines::Machine;
@@ -88,7 +87,7 @@ fn add_line(design: &Design, point: &LinePoint, lines: &mut Lines) -> Result<(),
     lines.field(path_of(design, point.instance))?;
     lines.number(point.line)?;
     lines.place(point.place)?;
-    lines.field(word_text(point.word).as_bytes())?;
+    lines.field(point.word.text().as_bytes())?;
     lines.end()
 }
 
@@ -97,8 +96,8 @@ fn add_node(design: &Design, point: &NodePoint, lines: &mut Lines) -> Result<(),
     lines.field(path_of(design, point.instance))?;
     lines.number(point.node)?;
     lines.place(point.place)?;
-    lines.field(operator_text(point.operator).as_bytes())?;
-    lines.field(case_text(point.case).as_bytes())?;
+    lines.field(point.operator.text().as_bytes())?;
+    lines.field(point.case.text().as_bytes())?;
     lines.end()
 }
 

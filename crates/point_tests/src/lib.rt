@@ -10,8 +10,6 @@ mod designs;
 #[cfg(test)]
 mod machine_cases;
 #[cfg(test)]
-mod operators;
-#[cfg(test)]
 mod tests;
 #[cfg(test)]
 mod visits;

@@ -14,8 +14,8 @@ use Rattle.four_state.specs.Vector.{fill}
 use Rattle.four_state.specs.Parts.{index}
 use Rattle.four_state.specs.Arithmetic.{natural}
 use Rattle.known_state.specs.Join.{joined}
-use Rattle.design_model.specs.declared.point.NodeCase.{NodeCase}
-use Rattle.design_model.specs.declared.point.NodeCase.TheVariants.{BothFalse, BothTrue, FalseTrue, LeftFalse, LeftTrue, RightFalse, RightTrue, TrueFalse, ValueFalse, ValueTrue}
+use Rattle.point_words.specs.declared.node_case.NodeCase.{NodeCase}
+use Rattle.point_words.specs.declared.node_case.NodeCase.TheVariants.{BothFalse, BothTrue, FalseTrue, LeftFalse, LeftTrue, RightFalse, RightTrue, TrueFalse, ValueFalse, ValueTrue}
 use Rattle.design_model.specs.declared.design.Memory.{Memory}
 use Rattle.design_model.specs.Design.{Design, cell, memory_at, no_memory, signal_cells, word_cells}
 use Rattle.design_model.specs.Tree.{Head, Term, Terms, a_term, binary, bit, choice, concat, no_terms, number, part, repeat, sign, signal, slide, unary, word}

@@ -7,7 +7,8 @@ use Rattle.design_model.specs.View.{form_step, term_view}
 use Rattle.design_model.specs.declared.tree.Term.{Term}
 use Rattle.design_model.specs.declared.tree.Form.TheOpen.{Form-F}
 use Rattle.design_model.specs.declared.tree.Form.TheFolds.{fold_out-Term, fold_out-Form}
-use Rattle.text_points.specs.Nodes.{cases_with, node_at, numbered_cases, operator_of}
+use Rattle.text_points.specs.Nodes.{cases_with, node_at, numbered_cases}
+use Rattle.text_points.specs.Operators.{operator_of}
 use Rattle.text_points.specs.declared.points.Owner.{Owner}
 
 step_head : (x : Form-F (t.Head → t.Term) t.Term) (h : t.Head) → head (form_step x h) ≡ h

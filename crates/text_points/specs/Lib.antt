@@ -1,3 +1,4 @@
 pub mod View
 pub mod Lines
+pub mod Operators
 pub mod Nodes

@@ -1,32 +1,19 @@
 -- The cases of the counted nodes of a process.
-use Rattle.std.specs.Prelude.{ℕ, List, [], ◌++◌, map, codes, Option, Some, None}
+use Rattle.std.specs.Prelude.{ℕ, List, [], ◌++◌, map, Option, Some, None}
 use Rattle.std.specs.List.{flat_map}
 use Rattle.cov_host.specs.declared.place.Place.{Place}
 use Rattle.design_model.specs.Execution.{node_cases}
-use Rattle.design_model.specs.declared.point.NodeCase.{NodeCase}
-use Rattle.design_model.specs.Numbered.{binary_text, unary_text}
+use Rattle.point_words.specs.declared.node_case.NodeCase.{NodeCase}
 use Rattle.design_model.specs.Mentions.{all_subterms, subterms}
 use Rattle.design_model.specs.Tree.{Term, binary, bit, choice, concat, number, part, repeat, sign, signal, slide, unary, word}
 use Rattle.design_model.specs.Value.{head}
-use Rattle.text_points.specs.declared.points.NodeOperator.{NodeOperator}
-use Rattle.text_points.specs.declared.points.NodeOperator.TheVariants.{Value, Unary, Binary}
+use Rattle.point_words.specs.declared.operator.Operator.{Operator}
+use Rattle.text_points.specs.Operators.{operator_of}
 use Rattle.text_points.specs.declared.points.NodePoint.{NodePoint}
 use Rattle.text_points.specs.declared.points.Owner.{Owner}
 
--- what names a node: its operator, or that it is a condition
-abbrev pub operator_of : Term → NodeOperator
-operator_of (unary h op t) = Unary op
-operator_of (binary h op t u) = Binary op
-operator_of _ = Value
-
--- the name of a node in the text
-abbrev pub operator_text : NodeOperator → List ℕ
-operator_text Value = codes "value"
-operator_text (Unary op) = unary_text op
-operator_text (Binary op) = binary_text op
-
 -- a case of a node by its number, place and operator
-abbrev pub node_at : Owner → ℕ → Place → NodeOperator → NodeCase → NodePoint
+abbrev pub node_at : Owner → ℕ → Place → Operator → NodeCase → NodePoint
 node_at o n p op c = record { instance = o.instance; node = n; case = c; process = o.process; place = p; operator = op }
 
 -- the cases of a term with this number, if it is a counted node

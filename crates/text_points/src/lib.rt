@@ -12,4 +12,5 @@ mod points;
 
 pub use lines::push_lines;
 pub use nodes::push_nodes;
-pub use points::{LinePoint, NodeOperator, NodePoint, Owner};
+pub use operators::operator_of;
+pub use points::{LinePoint, NodePoint, Owner};

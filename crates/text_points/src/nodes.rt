@@ -5,7 +5,8 @@ ghost use Rattle.std.specs.Prelude.{◌≡◌, ◌++◌, ◌∷◌, [], OnOk, ma
 ghost use Rattle.design_model.specs.Mentions.{all_body_terms, all_index_terms, all_subterms, arm_terms, body_terms, index_terms, subterms};
 ghost use Rattle.design_model.specs.Numbered.{counted_terms};
 ghost use Rattle.design_model.specs.View.{arms_of, process_view, stmt_view, stmts_of, target_view, targets_of, term_view, terms_of};
-ghost use Rattle.text_points.specs.Nodes.{cases_with, inner_terms, node_at, nodes_with, operator_of};
+ghost use Rattle.text_points.specs.Nodes.{cases_with, inner_terms, node_at, nodes_with};
+ghost use Rattle.text_points.specs.Operators.{operator_of};
 ghost use Rattle.text_points.specs.View.{arm_view};
 
 use crate::node_cases::node_cases;

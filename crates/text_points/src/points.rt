@@ -1,6 +1,6 @@
 use cov_host::Place;
 use design_model::{LineWord, NodeCase};
-use four_state::{Binary, Unary};
+use point_words::Operator;
 
 /// The process that a point belongs to.
 #[derive(Clone, Copy, Debug, PartialEq, Eq)]
@@ -39,15 +39,6 @@ pub struct NodePoint {
     pub process: u32,
     /// Of the first token of the node.
     pub place: Place,
-    /// The operator of the node.
-    pub operator: NodeOperator,
-}
-
-/// What names a counted node.
-#[derive(Clone, Copy, Debug, PartialEq, Eq)]
-pub enum NodeOperator {
-    /// The value of a condition that is no operator.
-    Value,
-    Unary(Unary),
-    Binary(Binary),
+    /// Its operator, or the value of a condition.
+    pub operator: Operator,
 }

@@ -1,6 +1,7 @@
 use Rattle.std.proofs.Common.{◌≡◌, ◌++◌, map, take}
 use Rattle.design_model.specs.View.{term_view}
-use Rattle.text_points.specs.Nodes.{node_at, operator_of}
+use Rattle.text_points.specs.Nodes.{node_at}
+use Rattle.text_points.specs.Operators.{operator_of}
 use Rattle.text_points.proofs.nodes.push_each.Given as goal
 
 abbrev pub invariant-loop-case : goal.invariant-loop-case

@@ -1,12 +1,12 @@
 -- The words of the database text.
 use Rattle.std.specs.Prelude.{ℕ, List, [], ◌∷◌, Option, codes, Bool, true, false, ◌||◌, bytes_eq}
 use Rattle.std.specs.List.{find}
-use Rattle.coverage_db.specs.declared.line_word.LineWord.{LineWord}
-use Rattle.coverage_db.specs.declared.line_word.LineWord.TheVariants as line
-use Rattle.coverage_db.specs.declared.node_case.NodeCase.{NodeCase}
-use Rattle.coverage_db.specs.declared.node_case.NodeCase.TheVariants as case
-use Rattle.coverage_db.specs.declared.operator.Operator.{Operator}
-use Rattle.coverage_db.specs.declared.operator.Operator.TheVariants as operator
+use Rattle.point_words.specs.declared.line_word.LineWord.{LineWord}
+use Rattle.point_words.specs.declared.line_word.LineWord.TheVariants as line
+use Rattle.point_words.specs.declared.node_case.NodeCase.{NodeCase}
+use Rattle.point_words.specs.declared.node_case.NodeCase.TheVariants as case
+use Rattle.point_words.specs.declared.operator.Operator.{Operator}
+use Rattle.point_words.specs.declared.operator.Operator.TheVariants as operator
 
 -- the kind of a statement
 abbrev pub line_word_text : LineWord → List ℕ
@@ -24,20 +24,20 @@ line_word_of text = find (λ word. bytes_eq (line_word_text word) text) line_wor
 
 -- the truths that a case asks of a node or of its operands
 abbrev pub node_case_text : NodeCase → List ℕ
-node_case_text case.False = codes "0"
-node_case_text case.True = codes "1"
+node_case_text case.ValueFalse = codes "0"
+node_case_text case.ValueTrue = codes "1"
 node_case_text case.LeftFalse = codes "0-"
 node_case_text case.RightFalse = codes "-0"
 node_case_text case.LeftTrue = codes "1-"
 node_case_text case.RightTrue = codes "-1"
-node_case_text case.FalseFalse = codes "00"
+node_case_text case.BothFalse = codes "00"
 node_case_text case.FalseTrue = codes "01"
 node_case_text case.TrueFalse = codes "10"
-node_case_text case.TrueTrue = codes "11"
+node_case_text case.BothTrue = codes "11"
 
 abbrev pub node_cases : List NodeCase
 node_cases =
-    case.False ∷ case.True ∷ case.LeftFalse ∷ case.RightFalse ∷ case.LeftTrue ∷ case.RightTrue ∷ case.FalseFalse ∷ case.FalseTrue ∷ case.TrueFalse ∷ case.TrueTrue ∷ []
+    case.ValueFalse ∷ case.ValueTrue ∷ case.LeftFalse ∷ case.RightFalse ∷ case.LeftTrue ∷ case.RightTrue ∷ case.BothFalse ∷ case.FalseTrue ∷ case.TrueFalse ∷ case.BothTrue ∷ []
 
 -- the case that a word names
 unfoldable pub node_case_of : List ℕ → Option NodeCase
@@ -45,16 +45,16 @@ node_case_of text = find (λ case. bytes_eq (node_case_text case) text) node_cas
 
 -- the place of a case in the order of point lines
 abbrev pub node_case_rank : NodeCase → ℕ
-node_case_rank case.False = 0
-node_case_rank case.True = 1
+node_case_rank case.ValueFalse = 0
+node_case_rank case.ValueTrue = 1
 node_case_rank case.LeftFalse = 2
 node_case_rank case.RightFalse = 3
 node_case_rank case.LeftTrue = 4
 node_case_rank case.RightTrue = 5
-node_case_rank case.FalseFalse = 6
+node_case_rank case.BothFalse = 6
 node_case_rank case.FalseTrue = 7
 node_case_rank case.TrueFalse = 8
-node_case_rank case.TrueTrue = 9
+node_case_rank case.BothTrue = 9
 
 -- the operator as it is written (IEEE 1364-2001 clause 4.1)
 abbrev pub operator_text : Operator → List ℕ
@@ -141,16 +141,16 @@ is_plain _ = true
 
 -- a node of the operator has the case
 abbrev pub can_have : Operator → NodeCase → Bool
-can_have op case.False = is_unary op
-can_have op case.True = is_unary op
+can_have op case.ValueFalse = is_unary op
+can_have op case.ValueTrue = is_unary op
 can_have op case.LeftFalse = is_and op
 can_have op case.RightFalse = is_and op
 can_have op case.LeftTrue = is_or op
 can_have op case.RightTrue = is_or op
-can_have op case.FalseFalse = is_or op || is_plain op
+can_have op case.BothFalse = is_or op || is_plain op
 can_have op case.FalseTrue = is_plain op
 can_have op case.TrueFalse = is_plain op
-can_have op case.TrueTrue = is_and op || is_plain op
+can_have op case.BothTrue = is_and op || is_plain op
 
 -- the place of a kind among all kinds
 abbrev pub line_word_rank : LineWord → ℕ

@@ -1,8 +1,8 @@
 use Rattle.std.proofs.Common.{sym, ◌∙◌, arith}
 use Rattle.std.specs.Prelude.{bytes_eq}
-use Rattle.coverage_db.specs.Words.{operator_text, operators}
-use Rattle.coverage_db.proofs.Finding.{find_on}
-use Rattle.coverage_db.proofs.operator.Operator.of_text.Goals as goal
+use Rattle.point_words.specs.Words.{operator_text, operators}
+use Rattle.point_words.proofs.Finding.{find_on}
+use Rattle.point_words.proofs.operator.Operator.of_text.Goals as goal
 
 pub loop-operator-preserved : goal.loop-operator-preserved
 loop-operator-preserved c =

@@ -1,10 +1,10 @@
 ghost use Rattle.std.specs.Prelude.{◌≡◌};
-ghost use Rattle.coverage_db.specs.Words.{operator_text, operator_of, can_have, is_unary, is_and, is_or, is_plain};
+ghost use Rattle.point_words.specs.Words.{operator_text, operator_of, can_have, is_unary, is_and, is_or, is_plain};
 
 use crate::NodeCase;
 
 /// The operator of a counted node as it is written (IEEE 1364-2001 clause 4.1), or the value of a condition.
-#[derive(Clone, Copy, PartialEq, Eq)]
+#[derive(Clone, Copy, Debug, PartialEq, Eq)]
 pub enum Operator {
     /// `value`: the condition of an `if` or a `?:` that is no operator.
     Value,
@@ -118,7 +118,7 @@ impl Operator {
 
     /// The operator that a field of the database text names.
     #[tactic(auto, unfolding(crate::specs::Words::operator_of))]
-    pub(crate) fn of_text(text: &[u8]) -> Option<Self>
+    pub fn of_text(text: &[u8]) -> Option<Self>
         ensures { result ≡ operator_of text.now }
     {
         for operator in &Operator::ALL {
@@ -135,12 +135,12 @@ impl Operator {
         ensures { result ≡ can_have self case }
     {
         match case {
-            NodeCase::False | NodeCase::True => self.is_unary(),
+            NodeCase::ValueFalse | NodeCase::ValueTrue => self.is_unary(),
             NodeCase::LeftFalse | NodeCase::RightFalse => self.is_and(),
             NodeCase::LeftTrue | NodeCase::RightTrue => self.is_or(),
-            NodeCase::FalseFalse => self.is_or() || self.is_plain(),
+            NodeCase::BothFalse => self.is_or() || self.is_plain(),
             NodeCase::FalseTrue | NodeCase::TrueFalse => self.is_plain(),
-            NodeCase::TrueTrue => self.is_and() || self.is_plain(),
+            NodeCase::BothTrue => self.is_and() || self.is_plain(),
         }
     }
 

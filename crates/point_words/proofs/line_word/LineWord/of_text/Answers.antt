@@ -1,8 +1,8 @@
 use Rattle.std.proofs.Common.{sym, ◌∙◌, arith}
 use Rattle.std.specs.Prelude.{bytes_eq}
-use Rattle.coverage_db.specs.Words.{line_word_text, line_words}
-use Rattle.coverage_db.proofs.Finding.{find_on}
-use Rattle.coverage_db.proofs.line_word.LineWord.of_text.Goals as goal
+use Rattle.point_words.specs.Words.{line_word_text, line_words}
+use Rattle.point_words.proofs.Finding.{find_on}
+use Rattle.point_words.proofs.line_word.LineWord.of_text.Goals as goal
 
 pub loop-word-preserved : goal.loop-word-preserved
 loop-word-preserved c =

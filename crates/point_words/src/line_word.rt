@@ -1,8 +1,8 @@
 ghost use Rattle.std.specs.Prelude.{◌≡◌};
-ghost use Rattle.coverage_db.specs.Words.{line_word_text, line_word_of};
+ghost use Rattle.point_words.specs.Words.{line_word_text, line_word_of};
 
 /// The kind of the statement of a line point (IEEE 1364-2001 clause 9).
-#[derive(Clone, Copy, PartialEq, Eq)]
+#[derive(Clone, Copy, Debug, PartialEq, Eq)]
 pub enum LineWord {
     If,
     /// `case`, `casez` or `casex`.
@@ -35,7 +35,7 @@ impl LineWord {
 
     /// The kind that a word of the database text names.
     #[tactic(auto, unfolding(crate::specs::Words::line_word_of))]
-    pub(crate) fn of_text(text: &[u8]) -> Option<Self>
+    pub fn of_text(text: &[u8]) -> Option<Self>
         ensures { result ≡ line_word_of text.now }
     {
         for word in &LineWord::ALL {

@@ -1,8 +1,8 @@
 use Rattle.std.proofs.Common.{sym, ◌∙◌, arith}
 use Rattle.std.specs.Prelude.{bytes_eq}
-use Rattle.coverage_db.specs.Words.{node_case_text, node_cases}
-use Rattle.coverage_db.proofs.Finding.{find_on}
-use Rattle.coverage_db.proofs.node_case.NodeCase.of_text.Goals as goal
+use Rattle.point_words.specs.Words.{node_case_text, node_cases}
+use Rattle.point_words.proofs.Finding.{find_on}
+use Rattle.point_words.proofs.node_case.NodeCase.of_text.Goals as goal
 
 pub loop-case-preserved : goal.loop-case-preserved
 loop-case-preserved c =

@@ -1,13 +1,13 @@
 ghost use Rattle.std.specs.Prelude.{◌≡◌};
-ghost use Rattle.coverage_db.specs.Words.{node_case_text, node_case_of, node_case_rank};
+ghost use Rattle.point_words.specs.Words.{node_case_text, node_case_of, node_case_rank};
 
 /// One case of a counted node: the truths of its operands, or of the node itself.
-#[derive(Clone, Copy, PartialEq, Eq)]
+#[derive(Clone, Copy, Debug, PartialEq, Eq)]
 pub enum NodeCase {
     /// `0`: the node itself is false.
-    False,
+    ValueFalse,
     /// `1`: the node itself is true.
-    True,
+    ValueTrue,
     /// `0-`: the left operand is false.
     LeftFalse,
     /// `-0`: the right operand is false.
@@ -17,22 +17,22 @@ pub enum NodeCase {
     /// `-1`: the right operand is true.
     RightTrue,
     /// `00`: both operands are false.
-    FalseFalse,
+    BothFalse,
     /// `01`: the left operand is false and the right one true.
     FalseTrue,
     /// `10`: the left operand is true and the right one false.
     TrueFalse,
     /// `11`: both operands are true.
-    TrueTrue,
+    BothTrue,
 }
 
 impl NodeCase {
     /// All cases, in the order of point lines.
     #[rattlefmt::skip]
     pub const ALL: [NodeCase; 10] = [
-        NodeCase::False, NodeCase::True,
+        NodeCase::ValueFalse, NodeCase::ValueTrue,
         NodeCase::LeftFalse, NodeCase::RightFalse, NodeCase::LeftTrue, NodeCase::RightTrue,
-        NodeCase::FalseFalse, NodeCase::FalseTrue, NodeCase::TrueFalse, NodeCase::TrueTrue,
+        NodeCase::BothFalse, NodeCase::FalseTrue, NodeCase::TrueFalse, NodeCase::BothTrue,
     ];
 
     /// The field of the database text.
@@ -40,22 +40,22 @@ impl NodeCase {
         ensures { result.now ≡ node_case_text self }
     {
         match self {
-            NodeCase::False => "0",
-            NodeCase::True => "1",
+            NodeCase::ValueFalse => "0",
+            NodeCase::ValueTrue => "1",
             NodeCase::LeftFalse => "0-",
             NodeCase::RightFalse => "-0",
             NodeCase::LeftTrue => "1-",
             NodeCase::RightTrue => "-1",
-            NodeCase::FalseFalse => "00",
+            NodeCase::BothFalse => "00",
             NodeCase::FalseTrue => "01",
             NodeCase::TrueFalse => "10",
-            NodeCase::TrueTrue => "11",
+            NodeCase::BothTrue => "11",
         }
     }
 
     /// The case that a field of the database text names.
     #[tactic(auto, unfolding(crate::specs::Words::node_case_of))]
-    pub(crate) fn of_text(text: &[u8]) -> Option<Self>
+    pub fn of_text(text: &[u8]) -> Option<Self>
         ensures { result ≡ node_case_of text.now }
     {
         for case in &NodeCase::ALL {
@@ -71,16 +71,16 @@ impl NodeCase {
         ensures { result ≡ node_case_rank self }
     {
         match self {
-            NodeCase::False => 0,
-            NodeCase::True => 1,
+            NodeCase::ValueFalse => 0,
+            NodeCase::ValueTrue => 1,
             NodeCase::LeftFalse => 2,
             NodeCase::RightFalse => 3,
             NodeCase::LeftTrue => 4,
             NodeCase::RightTrue => 5,
-            NodeCase::FalseFalse => 6,
+            NodeCase::BothFalse => 6,
             NodeCase::FalseTrue => 7,
             NodeCase::TrueFalse => 8,
-            NodeCase::TrueTrue => 9,
+            NodeCase::BothTrue => 9,
         }
     }
 }
