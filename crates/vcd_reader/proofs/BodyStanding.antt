@@ -31,20 +31,20 @@ pub record IsAnswered (kept : SaidRow) (answer : Answer Said) : Type 0 where
   pub is : answer ≡ Ok said
   pub same : IsSaid kept said
 
-gives_ok : (kept : SaidRow) (answer : Answer Said) → Gives (Ok kept) answer → IsAnswered kept answer
+pub gives_ok : (kept : SaidRow) (answer : Answer Said) → Gives (Ok kept) answer → IsAnswered kept answer
 gives_ok kept (Ok said) gives = record { said = said; is = refl; same = gives }
 gives_ok kept (Err f) gives = absurd gives
 
-gives_err : (f : DumpFault) (answer : Answer Said) → Gives (Err f) answer → answer ≡ Err f
+pub gives_err : (f : DumpFault) (answer : Answer Said) → Gives (Err f) answer → answer ≡ Err f
 gives_err f (Ok said) gives = absurd gives
 gives_err f (Err other) gives = ap (λ (g : DumpFault). let answer : Answer Said = Err g in answer) (sym gives)
 
 -- no word stands anywhere
-last_said-at : (table : List Code) (reading : BodyReading) (at other : ℕ) (word : List ℕ) → (0 < length word → at ≡ other) → last_said table reading at word ≡ last_said table reading other word
+pub last_said-at : (table : List Code) (reading : BodyReading) (at other : ℕ) (word : List ℕ) → (0 < length word → at ≡ other) → last_said table reading at word ≡ last_said table reading other word
 last_said-at table reading at other [] same = refl
 last_said-at table reading at other (byte ∷ word) same = ap (λ (k : ℕ). last_said table reading k (byte ∷ word)) (same (omega arith))
 
-after_body : (text word : List ℕ) (b : Body) → Stands text (body b) word → after (body b) (length text) word ≡ after_body_word b (last_said b.codes b.reading (length text - length word) word)
+pub after_body : (text word : List ℕ) (b : Body) → Stands text (body b) word → after (body b) (length text) word ≡ after_body_word b (last_said b.codes b.reading (length text - length word) word)
 after_body text [] b s = ap (λ (items : List Entry). body (record b { items = items })) (sym (append-nil b.items))
 after_body text (byte ∷ word) b s = with_room (body b) (record { at = length text - length (byte ∷ word); bytes = byte ∷ word }) (has_room text (byte ∷ word) (body b) s)
 

@@ -9,6 +9,7 @@ pub mod WordTests
 pub mod TextLemmas
 pub mod HeaderStanding
 pub mod BodyStanding
+pub mod WholeWords
 pub mod Splitting
 pub mod FaultLaws
 pub mod FaultNames

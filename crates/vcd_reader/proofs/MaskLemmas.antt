@@ -48,6 +48,18 @@ pub masks_none : AreMasksOf [] (record { ones = 0; strange = 0 })
 unfolding bits_of_masks
 masks_none = record { bits_are = refl; ones_inside = omega arith; strange_inside = omega arith }
 
+-- the masks of one bit
+pub one_place : (p : Bool) → digit p < 2 ^ 1
+one_place true = omega arith
+one_place false = omega arith
+
+pub one_bit : (bit : Bit) → bits_of_masks 1 (digit (is_one_or_z bit)) (digit (is_strange bit)) ≡ bit ∷ []
+unfolding bits_of_masks
+one_bit Zero = refl
+one_bit One = refl
+one_bit X = refl
+one_bit Z = refl
+
 -- a mask of fewer than 128 places
 pub below_127 : (mask k : ℕ) → mask < 2 ^ k → k ≤ 127 → mask < 2 ^ 127
 below_127 mask k within few = let more : 2 ^ k ≤ 2 ^ 127 = pow_mono few in omega (arith, more)

@@ -1,5 +1,7 @@
-ghost use Rattle.std.specs.Prelude.{◌≡◌, ◌<◌, ◌≤◌, ◌++◌, ◌∷◌, [], ℕ, Ok, true, false, List, None, length, OnOk, IfOk, IfErr};
-ghost use Rattle.vcd_reader.specs.Words.{is_white_space as is_space};
+ghost use Rattle.std.specs.Prelude.{◌≡◌, ◌<◌, ◌≤◌, ◌++◌, ◌∷◌, ◌+◌, [], ℕ, Ok, true, false, List, None, Some, take, length, OnOk, IfOk, IfErr, IfSome};
+ghost use Rattle.std.specs.List.{position};
+ghost use Rattle.vcd_reader.specs.Words.{is_white_space as is_space, IsBlack};
+ghost use Rattle.vcd_reader.specs.declared.word.Word.TheVariants as word_row;
 ghost use Rattle.vcd_reader.specs.Reading.{Body as SpecBody, body};
 ghost use Rattle.vcd_reader.specs.Body.{nothing};
 ghost use Rattle.vcd_reader.specs.Text.{Stands, HasFault, EndsWithFault, is_alone, is_lone, is_one_digit};
@@ -8,9 +10,9 @@ ghost use Rattle.vcd_reader.specs.Entries.{last_step};
 ghost use Rattle.vcd_reader.specs.declared.fault.DumpFault.TheVariants as dump_fault;
 
 use crate::codes::Codes;
-use crate::element::read_word;
+use crate::element::{read_kept, read_whole};
 use crate::entry::Entry;
-use crate::letters::{is_digit, is_white_space};
+use crate::letters::{is_digit, is_white_space, length_of_word};
 use crate::reading::{Begun, Reading};
 use crate::spelling::Spelling;
 use crate::word::Word;
@@ -18,6 +20,13 @@ use crate::{DumpFault, DumpKind, Item, Step};
 
 /// The longest dump, in bytes.
 const LONGEST: u64 = 1_099_511_627_776;
+
+/// What the front of a piece says, and how many bytes of the piece were used for it.
+#[derive(Clone, Copy)]
+pub(crate) struct Front {
+    pub(crate) says: Option<Entry>,
+    pub(crate) used: usize,
+}
 
 /// Reads the bytes of a body.
 #[derive(Drop)]
@@ -83,18 +92,76 @@ impl BodyReader {
         ensures ok { IfOk result (λ step. (text : List ℕ) (b : SpecBody) → BodyStands self.old text b → HasStepped step.item step.used self.new text piece.now b) }
         ensures fault { IfErr result (λ fault. (text : List ℕ) (b : SpecBody) → BodyStands self.old text b → HasFault (text ++ piece.now) fault) }
     {
-        for (place, byte) in piece.iter().enumerate() {
-            if let Some(entry) = self.read_byte(*byte)? {
+        let mut used = 0;
+        while used < piece.len() {
+            let (_, rest) = piece.split_at(used);
+            let front = self.read_front(rest)?;
+            used += front.used;
+            if let Some(entry) = front.says {
                 return Ok(Step {
                     item: entry.item(),
-                    used: place + 1,
+                    used,
                 });
             }
         }
         Ok(Step {
             item: Item::More,
-            used: piece.len(),
+            used,
         })
+    }
+
+    /// Reads what a piece begins with that is not empty: a whole word and the white space after it, or one byte of a
+    /// word of which a part was read before or is not in the piece.
+    fn read_front(&mut self, piece: &[u8]) -> Result<Front, DumpFault>
+        requires { 0 < length piece.now }
+        ensures some { IfOk result (λ front. 1 ≤ front.used) }
+        ensures within { IfOk result (λ front. front.used ≤ length piece.now) }
+        ensures ok { IfOk result (λ front. (text : List ℕ) (b : SpecBody) → BodyStands self.old text b → SaysNext front.says self.new (text ++ take front.used piece.now) b) }
+        ensures fault { IfErr result (λ fault. (text : List ℕ) (b : SpecBody) → BodyStands self.old text b → HasFault (text ++ piece.now) fault) }
+    {
+        match self.whole_word(piece) {
+            Some(length) => {
+                let (word, _) = piece.split_at(length);
+                let says = self.read_word(word)?;
+                Ok(Front {
+                    says,
+                    used: length + 1,
+                })
+            }
+            None => {
+                let says = self.read_byte(piece[0])?;
+                Ok(Front { says, used: 1 })
+            }
+        }
+    }
+
+    /// The length of the word that the piece begins with, where nothing of it was read before, white space comes after
+    /// it in the piece, and there is room for both.
+    fn whole_word(&self, piece: &[u8]) -> Option<usize>
+        ensures none { IfSome result (λ length. self.now.word ≡ word_row.None) }
+        ensures end { IfSome result (λ length. position is_space piece.now ≡ Some length) }
+        ensures room { IfSome result (λ length. self.now.at + length < 1099511627776) }
+    {
+        if !matches!(self.word, Word::None) {
+            return None;
+        }
+        let length = length_of_word(piece)?;
+        if (length as u64) < LONGEST - self.at {
+            Some(length)
+        } else {
+            None
+        }
+    }
+
+    /// Reads a whole word, or none, and a byte of white space, and gives what the word says.
+    fn read_word(&mut self, word: &[u8]) -> Result<Option<Entry>, DumpFault>
+        requires { self.old.at + length word.now < 1099511627776 }
+        ensures ok { IfOk result (λ says. (text : List ℕ) (space : ℕ) (b : SpecBody) → self.old.word ≡ word_row.None → IsBlack word.now → is_space space ≡ true → BodyStands self.old text b → SaysNext says self.new (text ++ (word.now ++ space ∷ [])) b) }
+        ensures fault { IfErr result (λ fault. (text : List ℕ) (space : ℕ) (b : SpecBody) → self.old.word ≡ word_row.None → IsBlack word.now → is_space space ≡ true → BodyStands self.old text b → HasFault (text ++ (word.now ++ space ∷ [])) fault) }
+    {
+        let says = read_whole(&self.codes, &mut self.reading, word, self.at)?;
+        self.at += word.len() as u64 + 1;
+        Ok(says)
     }
 
     /// Reads a byte, and gives what the word says that ends before it.
@@ -115,7 +182,7 @@ impl BodyReader {
         ensures ok { IfOk result (λ says. (text : List ℕ) (space : ℕ) (b : SpecBody) → is_space space ≡ true → BodyStands self.old text b → SaysNext says self.new (text ++ space ∷ []) b) }
         ensures fault { IfErr result (λ fault. (text : List ℕ) (space : ℕ) (b : SpecBody) → is_space space ≡ true → BodyStands self.old text b → HasFault (text ++ space ∷ []) fault) }
     {
-        let said = read_word(&self.codes, self.reading, &self.word, self.word_at)?;
+        let said = read_kept(&self.codes, self.reading, &self.word, self.word_at)?;
         check_room(self.at)?;
         self.reading = said.reading;
         self.word = Word::None;
@@ -145,7 +212,7 @@ impl BodyReader {
         if self.is_alone() {
             return Err(DumpFault::at(DumpKind::Truncated, self.at));
         }
-        let said = read_word(&self.codes, self.reading, &self.word, self.word_at)?;
+        let said = read_kept(&self.codes, self.reading, &self.word, self.word_at)?;
         if said.reading.has_begun() {
             return Err(DumpFault::at(DumpKind::Truncated, self.at));
         }

@@ -1,14 +1,17 @@
-ghost use Rattle.std.specs.Prelude.{◌≡◌, ◌<◌, ◌≤◌, ◌^◌, ◌+◌, min, ℕ, false, ◌&&◌, List, [], ◌∷◌, ◌++◌};
+ghost use Rattle.std.specs.Prelude.{◌≡◌, ◌<◌, ◌≤◌, ◌^◌, ◌+◌, min, ℕ, false, ◌&&◌, List, [], ◌∷◌, ◌++◌, length};
 ghost use Rattle.four_state.specs.declared.Bit.{Bit as SpecBit};
 ghost use Rattle.four_state.specs.Masks.{is_strange};
 ghost use Rattle.vcd_reader.specs.Values.{is_digit, digit_bit, value_bits};
 
-use crate::letters::is_digit;
+use crate::letters::{are_digits, begins_strange, is_digit, writes_one_or_z, writes_strange};
 use crate::masks::{Masks, is_strange};
 use four_state::{Bit, Four};
 
 /// The widest value that is kept, in bits.
 const WIDEST: u64 = 128;
+
+/// The most digits whose bits have room in masks of 64.
+const SHORT: usize = 64;
 
 /// More digits than any variable has bits.
 const MANY: u64 = 1 << 32;
@@ -42,6 +45,50 @@ impl Digits {
             masks: Masks::NONE,
             goes_on: false,
             are_digits: true,
+        }
+    }
+
+    /// One digit.
+    pub(crate) fn of_one(digit: u8) -> Self
+        ensures digits { AreDigitsOf result (digit ∷ []) }
+        ensures some { 0 < result.count }
+    {
+        Digits::new().with_byte(digit)
+    }
+
+    /// The digits of a word after its letter.
+    pub(crate) fn of(word: &[u8]) -> Self
+        ensures { AreDigitsOf result word.now }
+    {
+        if word.len() <= SHORT {
+            return Digits::of_short(word);
+        }
+        let mut digits = Digits::new();
+        for byte in word {
+            digits = digits.with_byte(*byte);
+        }
+        digits
+    }
+
+    /// The digits of a word whose bits have room in masks of 64.
+    fn of_short(word: &[u8]) -> Self
+        requires { length word.now ≤ 64 }
+        ensures { AreDigitsOf result word.now }
+    {
+        let mut ones: u64 = 0;
+        let mut strange: u64 = 0;
+        for byte in word {
+            ones = ones * 2 + u64::from(writes_one_or_z(*byte));
+            strange = strange * 2 + u64::from(writes_strange(*byte));
+        }
+        Digits {
+            count: word.len() as u64,
+            masks: Masks {
+                ones: u128::from(ones),
+                strange: u128::from(strange),
+            },
+            goes_on: begins_strange(word),
+            are_digits: are_digits(word),
         }
     }
 
@@ -126,4 +173,13 @@ fn digit_bit(digit: u8) -> Bit
         b'x' | b'X' => Bit::X,
         _ => Bit::Z,
     }
+}
+
+/// The value of one bit that a digit writes.
+pub(crate) fn bit_value(digit: u8) -> Four
+    ensures { result ≡ record { bits = value_bits 1 (digit ∷ []); signed = false } }
+{
+    let ones = u128::from(writes_one_or_z(digit));
+    let strange = u128::from(writes_strange(digit));
+    Four::make(1, false, ones, strange)
 }

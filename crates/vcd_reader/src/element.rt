@@ -1,6 +1,6 @@
 //! The words of the body (IEEE 1364-2001 clauses 18.2.1 and 18.2.2).
 
-ghost use Rattle.std.specs.Prelude.{◌≡◌, ◌<◌, ℕ, true, false, List, ◌∷◌, length, bytes_eq, if◌then◌else◌};
+ghost use Rattle.std.specs.Prelude.{◌≡◌, ◌<◌, ℕ, true, false, Ok, Err, List, [], ◌∷◌, length, bytes_eq, if◌then◌else◌, IfOk, IfErr};
 ghost use Rattle.vcd_reader.specs.Codes.{Code as SpecCode};
 ghost use Rattle.vcd_reader.specs.Answer.{unless};
 ghost use Rattle.vcd_reader.specs.Body.{BodyReading, is_back, new_time, time_fault, time_word, digits_word, dollar_word, scalar, change, saying, first_word, next_word, last_said, is_passed_letter, is_group_word, begins, said, comment, is_marker, has_begun};
@@ -10,7 +10,7 @@ ghost use Rattle.vcd_reader.specs.Header.{END};
 
 use crate::check::fault_if;
 use crate::codes::{Code, Codes};
-use crate::digits::Digits;
+use crate::digits::{Digits, bit_value};
 use crate::entry::Entry;
 use crate::keyword::END_WORD;
 use crate::letters::is_digit;
@@ -36,8 +36,8 @@ const DUMP_OFF: &[u8] = b"$dumpoff";
 
 const COMMENT: &[u8] = b"$comment";
 
-/// Reads the next word, which begins at this byte. Where there is no word, nothing is said.
-pub(crate) fn read_word(
+/// Reads the word of which this was kept, which begins at this byte. Where there is no word, nothing is said.
+pub(crate) fn read_kept(
     codes: &Codes,
     reading: Reading,
     word: &Word,
@@ -53,6 +53,55 @@ pub(crate) fn read_word(
         Word::Time(digits) => read_time(digits, at, reading.last),
         Word::Digits(digits) => read_digits(digits, at, reading.last),
         Word::Other(spelling) => read_other(codes, reading, spelling, at),
+    }
+}
+
+/// Reads the word of these bytes, which begins at this byte. Where there are none, nothing is said.
+pub(crate) fn read_whole(
+    codes: &Codes,
+    reading: &mut Reading,
+    word: &[u8],
+    at: u64,
+) -> Result<Option<Entry>, DumpFault>
+    ensures ok { IfOk result (λ says. (spec : BodyReading) → IsReading reading.old spec → Gives (Ok (record { says = says; reading = reading.new })) (last_said codes.now spec at word.now)) }
+    ensures fault { IfErr result (λ fault. (spec : BodyReading) → IsReading reading.old spec → Gives (Err fault) (last_said codes.now spec at word.now)) }
+{
+    match word {
+        [digit, code @ ..] if is_digit(*digit) && !reading.has_begun() => {
+            read_scalar(codes, *digit, code, at)
+        }
+        _ => {
+            let said = read_any(codes, *reading, word, at)?;
+            *reading = said.reading;
+            Ok(said.says)
+        }
+    }
+}
+
+/// Reads the word of these bytes, and says how reading goes on.
+fn read_any(codes: &Codes, reading: Reading, word: &[u8], at: u64) -> Result<Said, DumpFault>
+    ensures { (spec : BodyReading) → IsReading reading spec → Gives result (last_said codes.now spec at word.now) }
+{
+    if word.is_empty() {
+        return Ok(Said {
+            says: None,
+            reading,
+        });
+    }
+    match reading.begun {
+        Begun::Nothing => read_beginning(codes, word, at, reading.last),
+        Begun::Digits(_) | Begun::Passed | Begun::Comment => read_bytes(codes, reading, word, at),
+    }
+}
+
+/// Reads the word of these bytes, where nothing has begun.
+fn read_beginning(codes: &Codes, word: &[u8], at: u64, last: Option<u64>) -> Result<Said, DumpFault>
+    ensures { 0 < length word.now → Gives result (first_word codes.now word.now at last) }
+{
+    match word {
+        [b'#', digits @ ..] => read_time(&TimeDigits::of(digits), at, last),
+        [b'b' | b'B', digits @ ..] => read_digits(&Digits::of(digits), at, last),
+        _ => read_first(codes, word, at, last),
     }
 }
 
@@ -245,8 +294,27 @@ fn read_scalar(codes: &Codes, digit: u8, code: &[u8], at: u64) -> Result<Option<
     if code.is_empty() {
         return Err(DumpFault::at(DumpKind::BadChange, at));
     }
-    let digits = Digits::new().with_byte(digit);
-    read_change(codes, &digits, at, code, at)
+    if code.len() > LONGEST_CODE {
+        return Err(DumpFault::at(DumpKind::LongCode, at));
+    }
+    match codes.find(code) {
+        None => Err(DumpFault::at(DumpKind::UnknownCode, at)),
+        Some(code) => read_digit(code, digit, at),
+    }
+}
+
+/// The value of a code that one digit writes.
+fn read_digit(code: Code, digit: u8, at: u64) -> Result<Option<Entry>, DumpFault>
+    ensures { result ≡ value_for code (digit ∷ []) at }
+{
+    if code.size == 1 && code.is_read {
+        let value = bit_value(digit);
+        return Ok(Some(Entry::Value {
+            code: code.number,
+            value,
+        }));
+    }
+    read_value(code, &Digits::of_one(digit), at)
 }
 
 /// A word that should begin with a dollar sign.

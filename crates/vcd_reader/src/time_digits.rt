@@ -23,6 +23,17 @@ impl TimeDigits {
         is_decimal: true,
     };
 
+    /// The digits of a word after its `#`.
+    pub(crate) fn of(word: &[u8]) -> Self
+        ensures { IsTimeDigits result word.now }
+    {
+        let mut digits = TimeDigits::NONE;
+        for byte in word {
+            digits = digits.with_byte(*byte);
+        }
+        digits
+    }
+
     /// The digits with one byte more.
     pub(crate) fn with_byte(self, byte: u8) -> Self
         ensures { (word : List ℕ) → IsTimeDigits self word → IsTimeDigits result (word ++ byte ∷ []) }

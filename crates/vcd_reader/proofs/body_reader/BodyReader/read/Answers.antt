@@ -1,40 +1,52 @@
-use Rattle.std.proofs.Common.{ℕ, List, None, ◌++◌, take, ◌+◌, refl, subst, arith}
+use Rattle.std.proofs.Common.{◌≤◌, ℕ, List, None, ◌++◌, take, length, ◌+◌, sym, subst, arith, length-drop}
 use Rattle.std.proofs.lemmas.Result.{err_from_is_err_and}
 use Rattle.std.proofs.lemmas.List.{take_all}
-use Rattle.vcd_reader.specs.BodyStanding.{SaysNext}
-use Rattle.vcd_reader.proofs.HeaderStanding.{one_more}
-use Rattle.vcd_reader.proofs.BodyStanding.{read_none, says_then, fault_in_piece, has_entry}
+use Rattle.vcd_reader.specs.Reading.{Body}
+use Rattle.vcd_reader.specs.Entries.{item_of}
+use Rattle.vcd_reader.specs.BodyStanding.{BodyStands, SaysNext, HasStepped}
+use Rattle.vcd_reader.proofs.BodyStanding.{says_then, has_entry}
+use Rattle.vcd_reader.proofs.WholeWords.{further, fault_in_rest}
 use Rattle.vcd_reader.proofs.body_reader.BodyReader.read.Goals as goal
+use Rattle.vcd_reader.proofs.body_reader.BodyReader.read.Goals.{In_ok-front}
 
-pub loop-place-init : goal.loop-place-init
-loop-place-init c = λ text b s. read_none c.args.self.now text c.args.piece.now b s
+-- what the front of the rest says comes after the bytes that were used
+said : (c : In_ok-front) (text : List ℕ) (b : Body) → BodyStands c.args.self.now text b → SaysNext c.in_ok-front.front.says c.read_front.new.self (text ++ take (c.loop-used.used + c.in_ok-front.front.used) c.args.piece.now) b
+said c text b s =
+    let first = c.loop-used.invariant.says text b s in
+    let front = rw c.split_at.ensures.back at c.in_ok-front.ensures.ok in
+    let used = c.loop-used.used in
+    let more = c.in_ok-front.front.used in
+    says_then c.in_ok-front.front.says c.read_front.new.self (text ++ take (used + more) c.args.piece.now) b first.next first.said
+    (subst (λ (t : List ℕ). SaysNext c.in_ok-front.front.says c.read_front.new.self t first.next) (further text c.args.piece.now used more) (front (text ++ take used c.args.piece.now) first.next first.stands))
 
-pub returns-in_err-entry-clause-fault : goal.returns-in_err-entry-clause-fault
-returns-in_err-entry-clause-fault c =
+-- no more bytes are used than there are
+within : (c : In_ok-front) → c.loop-used.used + c.in_ok-front.front.used ≤ length c.args.piece.now
+within c = let few = rw c.split_at.ensures.back at c.in_ok-front.ensures.within in omega (arith, few, length-drop c.loop-used.used c.args.piece.now, c.loop-used-test.true)
+
+pub returns-in_err-front-clause-fault : goal.returns-in_err-front-clause-fault
+returns-in_err-front-clause-fault c =
     let fault = err_from_is_err_and c.from_residual.result c.from_residual.ensures.1 in
+    let refused = rw c.split_at.ensures.back at c.in_err-front.ensures.fault in
     rw (fault.1, fault.2) (λ text b s.
-    let first = c.loop-place.invariant text b s in
-    fault_in_piece text c.args.piece.now c.loop-place.place _ _ c.loop-place-test.true (c.in_err-entry.ensures.fault (text ++ take c.loop-place.place c.args.piece.now) first.next first.stands))
+    let first = c.loop-used.invariant.says text b s in
+    fault_in_rest text c.args.piece.now c.loop-used.used _ (refused (text ++ take c.loop-used.used c.args.piece.now) first.next first.stands))
 
 pub returns-in-Some-clause-ok : goal.returns-in-Some-clause-ok
 returns-in-Some-clause-ok c = λ text b s.
-    let first = c.loop-place.invariant text b s in
-    let second = c.in_ok-entry.ensures.ok (text ++ take c.loop-place.place c.args.piece.now) first.next first.stands in
-    let whole = subst (λ (t : List ℕ). SaysNext c.in_ok-entry.field-0 c.read_byte.new.self t first.next) (one_more text c.args.piece.now c.loop-place.place _ c.loop-place-test.true) second in
-    let said = says_then c.in_ok-entry.field-0 c.read_byte.new.self (text ++ take (c.loop-place.place + 1) c.args.piece.now) b first.next first.said whole in
-    rw c.item.ensures (has_entry c.in-Some.entry (c.loop-place.place + 1) c.read_byte.new.self text c.args.piece.now b
-    (record { at_least = omega arith; at_most = omega arith; next = subst (λ says. SaysNext says c.read_byte.new.self (text ++ take (c.loop-place.place + 1) c.args.piece.now) b) c.in-Some.is said }))
+    let at = (goal.at.returns-in-Some-clause-ok c).In_ok-front in
+    rw c.item.ensures (subst (λ e. HasStepped (item_of e) (c.loop-used.used + c.in_ok-front.front.used) c.read_front.new.self text c.args.piece.now b) (sym c.in-Some.entry-is) (has_entry c.in-Some.entry (c.loop-used.used + c.in_ok-front.front.used) c.read_front.new.self text c.args.piece.now b
+    (record { at_least = omega (arith, c.in_ok-front.ensures.some); at_most = within at; next = subst (λ says. SaysNext says c.read_front.new.self (text ++ take (c.loop-used.used + c.in_ok-front.front.used) c.args.piece.now) b) c.in-Some.is (said at text b s) })))
 
-pub loop-place-preserved : goal.loop-place-preserved
-loop-place-preserved c = λ text b s.
-    let first = c.loop-place.invariant text b s in
-    let second = c.in_ok-entry.ensures.ok (text ++ take c.loop-place.place c.args.piece.now) first.next first.stands in
-    let whole = subst (λ (t : List ℕ). SaysNext c.in_ok-entry.field-0 c.read_byte.new.self t first.next) (one_more text c.args.piece.now c.loop-place.place _ c.loop-place-test.true) second in
-    let said = says_then c.in_ok-entry.field-0 c.read_byte.new.self (text ++ take (c.loop-place.place + 1) c.args.piece.now) b first.next first.said whole in
-    subst (λ says. SaysNext says c.read_byte.new.self (text ++ take (c.loop-place.place + 1) c.args.piece.now) b) c.in_default.is said
+pub loop-used-preserved : goal.loop-used-preserved
+loop-used-preserved c =
+    let at = (goal.at.loop-used-preserved c).In_ok-front in
+    record {
+      within = within at;
+      says = λ text b s. subst (λ says. SaysNext says c.read_front.new.self (text ++ take (c.loop-used.used + c.in_ok-front.front.used) c.args.piece.now) b) c.in_default.is (said at text b s);
+    }
 
 pub returns-clause-ok : goal.returns-clause-ok
 returns-clause-ok c = λ text b s. record {
-  all = refl;
-  next = subst (λ (t : List ℕ). SaysNext None c.loop-place.self (text ++ t) b) (take_all c.loop-place.place c.args.piece.now c.loop-place-test.false) (c.loop-place.invariant text b s);
+  all = omega (arith, c.loop-used.invariant.within, c.loop-used-test.false);
+  next = subst (λ (t : List ℕ). SaysNext None c.loop-used.self (text ++ t) b) (take_all c.loop-used.used c.args.piece.now c.loop-used-test.false) (c.loop-used.invariant.says text b s);
 }
