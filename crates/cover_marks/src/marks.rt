@@ -1,5 +1,5 @@
-ghost use Rattle.std.specs.Prelude.{◌≡◌, ◌<◌, ◌≤◌, ◌++◌, ◌∷◌, [], ℕ, List, IfOk, length};
-ghost use Rattle.point_marks.specs.Marking.{IsMarked, IsVerdict, Marking, doubt_of, hit_of};
+ghost use Rattle.std.specs.Prelude.{◌≡◌, ◌<◌, ◌≤◌, ◌++◌, ◌∷◌, [], ℕ, List, IfOk, length, slice_index_or, slice_set};
+ghost use Rattle.point_marks.specs.Marking.{IsMarked, IsVerdict, Marking, doubt_of, hit_of, with_doubt};
 ghost use Rattle.point_marks.specs.declared.verdict.Doubt.{Doubt as TheDoubt};
 ghost use Rattle.cover_points.specs.Listed.{points_of};
 ghost use Rattle.cover_points.specs.Visits.{AreApart, AreOnce, ArePlaced, IsMachinePointAt, IsVisitOf};
@@ -54,6 +54,7 @@ impl Marks {
     pub fn hit(&mut self, point: u32)
         requires { point < length self.old.verdicts }
         ensures points { (points : ThePoints) → AreMarksOf points self.old → AreMarksOf points self.new }
+        ensures verdicts { self.new.verdicts ≡ slice_set self.old.verdicts point Verdict.Hit }
         ensures markings { (markings : List Marking) → IsMarked markings self.old.verdicts → IsMarked (markings ++ hit_of point ∷ []) self.new.verdicts }
     {
         self.verdicts.hit(point);
@@ -64,6 +65,7 @@ impl Marks {
     pub fn doubt(&mut self, point: u32, thing: u32, time: u64)
         requires { point < length self.old.verdicts }
         ensures points { (points : ThePoints) → AreMarksOf points self.old → AreMarksOf points self.new }
+        ensures verdicts { let doubt : TheDoubt = record { thing = thing; time = time } in self.new.verdicts ≡ slice_set self.old.verdicts point (with_doubt doubt (slice_index_or self.old.verdicts point Verdict.Missed)) }
         ensures markings { let doubt : TheDoubt = record { thing = thing; time = time } in (markings : List Marking) → IsMarked markings self.old.verdicts → IsMarked (markings ++ doubt_of point doubt ∷ []) self.new.verdicts }
     {
         self.verdicts.doubt(point, thing, time);
@@ -73,7 +75,8 @@ impl Marks {
     /// missed. It takes no memory.
     pub fn verdict(&self, point: u32) -> Verdict
         requires { point < length self.now.verdicts }
-        ensures { (markings : List Marking) → IsMarked markings self.now.verdicts → IsVerdict markings point result }
+        ensures value { result ≡ slice_index_or self.now.verdicts point Verdict.Missed }
+        ensures markings { (markings : List Marking) → IsMarked markings self.now.verdicts → IsVerdict markings point result }
     {
         self.verdicts.verdict(point)
     }

@@ -33,7 +33,7 @@ visit_of_key d (point.Word m i false) p spot (e, b) = visit_of_some (point.Word 
 
 module _ (d : Design) (ps : Points) (apart : AreApart ps) (once : AreOnce ps) where
   -- a key is one of one point
-  one_key : (key : replay.Key) (j k : ℕ) → j < length (points_of ps) → k < length (points_of ps) → replay.IsKeyOf d (point_at ps j) key → replay.IsKeyOf d (point_at ps k) key → j ≡ k
+  pub one_key : (key : replay.Key) (j k : ℕ) → j < length (points_of ps) → k < length (points_of ps) → replay.IsKeyOf d (point_at ps j) key → replay.IsKeyOf d (point_at ps k) key → j ≡ k
   one_key (replay.of_process p spot) j k l m a b = apart j k (visit_at p spot) (l, visit_of_key d (point_at ps j) p spot a) (m, visit_of_key d (point_at ps k) p spot b)
   one_key (replay.of_point y) j k l m a b = once j k l m (sym a ∙ b)
 
@@ -51,7 +51,7 @@ module _ (d : Design) (ps : Points) (apart : AreApart ps) (once : AreOnce ps) wh
     no_doubt None e = refl
     no_doubt (Some y) e = cc
 
-    same_doubt : (o : Option Doubted) (y : Doubt) → Some y ≡ doubt_of o → o ≡ Some (record { time = y.time; thing = y.thing })
+    pub same_doubt : (o : Option Doubted) (y : Doubt) → Some y ≡ doubt_of o → o ≡ Some (record { time = y.time; thing = y.thing })
     same_doubt None y e = cc
     same_doubt (Some z) y e =
         let same : y ≡ record { thing = z.thing; time = z.time } = cc in
