@@ -1,0 +1,67 @@
+//! Theorems of one closing step of the replay that its code needs phase by phase; there is no code.
+//!
+//! In a design without Clocked processes the Assigns and Combs start from what was known, where what is to be made anew is
+//! unknown and the dump's values are put in ([`settling_law`]). A process that watches nothing that may move is passed over
+//! ([`filter_law`]), and what is to be made anew are the targets of the others, in any order ([`loose_law`]). What may not
+//! move stays as it was at the start of the step, before and after each run ([`still_start_law`], [`still_run_law`]), since
+//! a process that runs moves what it drives ([`target_law`]). All that holds of the replay after a step holds until the next
+//! time that the dump lists ([`rest_law`]).
+#![tactic(auto)]
+
+ghost use Rattle.std.specs.Prelude.{◌≡◌, ◌↔◌, ◌<◌, ◌≤◌, ◌+◌, ◌++◌, ℕ, Bool, suc, true, [], List};
+ghost use Rattle.std.specs.List.{filter, list_any};
+ghost use Rattle.event_machine.specs.Cell.{Cell};
+ghost use Rattle.design_model.specs.Design.{Design, In, body_at};
+ghost use Rattle.design_model.specs.Mentions.{blocking_target};
+ghost use Rattle.design_model.specs.Shows.{BoundDump, IsListed, IsWindow};
+ghost use Rattle.design_model.specs.declared.point.Point.{Point};
+ghost use Rattle.model_laws.specs.Own.{HasKnownSelects};
+ghost use Rattle.body_replay.specs.Runs.{Runs};
+ghost use Rattle.replay_model.specs.Laws.{IsReplayOf, closing_at};
+ghost use Rattle.replay_model.specs.Stands.{Stands};
+ghost use Rattle.replay_model.specs.Sets.{AreSets, Sets};
+ghost use Rattle.replay_model.specs.Step.{Closing, Replay, Working, all_run, clocked_run, is_loose, is_touched, opened, run_all_settling, run_settling, settle_start};
+ghost use Rattle.replay_model.specs.Tables.{AreTables, Tables};
+ghost use Rattle.event_machine.specs.Habit.{Habit};
+ghost use Rattle.replay_steps.specs.Settling.{IsDumpStill, IsStillAt, MoveTargets, settled_start};
+
+/// Without Clocked processes the Assigns and Combs start from what was known at the start of the step.
+pub fn settling_law()
+    ensures clocked { (st : Closing) → st.tables.clocked ≡ [] → clocked_run st ≡ opened st }
+    ensures kept { (st : Closing) (c : Cell) → st.tables.clocked ≡ [] → (settle_start st (clocked_run st)).kept c ≡ (settled_start st).kept c }
+    ensures made { (st : Closing) (c : Cell) → st.tables.clocked ≡ [] → (settle_start st (clocked_run st)).made c ≡ (settled_start st).made c }
+{}
+
+/// A process that watches nothing that may move changes nothing.
+pub fn filter_law()
+    ensures { (st : Closing) (ordered : Bool) (ps : List ℕ) (w : Working) → run_all_settling st ordered ps w ≡ run_all_settling st ordered (filter (is_touched st) ps) w }
+{}
+
+/// What is to be made anew are the targets of the processes that watch something that may move.
+pub fn loose_law()
+    ensures { (st : Closing) (c : Cell) (woken : List ℕ) → ((p : ℕ) → In p woken ↔ (In p (st.tables.order ++ st.tables.last) × (is_touched st p ≡ true)))
+        → is_loose st c ≡ list_any (λ p. blocking_target st.design (body_at st.design p) c) woken }
+{}
+
+/// What may not move is as it was before the first of them runs.
+pub fn still_start_law()
+    ensures { (st : Closing) → st.tables.clocked ≡ [] → MoveTargets st → IsDumpStill st → IsStillAt st (settle_start st (clocked_run st)) }
+{}
+
+/// It stays so with each run, and so after all of them.
+pub fn still_run_law()
+    ensures one { (st : Closing) (ordered : Bool) (p : ℕ) (w : Working) → MoveTargets st → IsStillAt st w → IsStillAt st (run_settling st ordered p w) }
+    ensures all { (st : Closing) → st.tables.clocked ≡ [] → MoveTargets st → IsDumpStill st → IsStillAt st (all_run st) }
+{}
+
+/// A process that watches something that may move drives what may move.
+pub fn target_law()
+    ensures { (d : Design) (h : Habit) (dump : BoundDump) (run : Runs) (tables : Tables) (sets : Sets) (t : ℕ) (a : Replay) → AreTables d dump.bound tables → AreSets d h dump (suc t) sets
+        → MoveTargets (closing_at d dump run tables sets t a) }
+{}
+
+/// Over times that the dump does not list all stays that holds of the replay.
+pub fn rest_law()
+    ensures { (d : Design) (h : Habit) (dump : BoundDump) (run : Runs) (tables : Tables) (points : List Point) → IsReplayOf d h dump run tables points → HasKnownSelects d
+        → (t : ℕ) (n : ℕ) (a : Replay) → ((u : ℕ) → t < u → u ≤ t + n → IsWindow dump u × (IsListed dump u → ⊥)) → Stands d h dump tables points t a → Stands d h dump tables points (t + n) a }
+{}
