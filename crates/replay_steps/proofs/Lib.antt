@@ -1,2 +1,4 @@
 pub mod Settling
 pub mod Resting
+pub mod Blank
+pub mod Cells

@@ -5,24 +5,28 @@
 //! ([`filter_law`]), and what is to be made anew are the targets of the others, in any order ([`loose_law`]). What may not
 //! move stays as it was at the start of the step, before and after each run ([`still_start_law`], [`still_run_law`]), since
 //! a process that runs moves what it drives ([`target_law`]). All that holds of the replay after a step holds until the next
-//! time that the dump lists ([`rest_law`]).
+//! time that the dump lists ([`rest_law`]). Of what is no cell of the design nothing is ever known ([`blank_first_law`],
+//! [`blank_law`]; [`dump_cells_law`] and [`drives_cells_law`] give what they ask), so what two stores know is equal where they agree on the cells of the design.
 #![tactic(auto)]
 
-ghost use Rattle.std.specs.Prelude.{◌≡◌, ◌↔◌, ◌<◌, ◌≤◌, ◌+◌, ◌++◌, ℕ, Bool, suc, true, [], List};
+ghost use Rattle.std.specs.Prelude.{◌≡◌, ◌↔◌, ◌<◌, ◌≤◌, ◌+◌, ◌++◌, ℕ, Bool, suc, true, [], List, length};
 ghost use Rattle.std.specs.List.{filter, list_any};
-ghost use Rattle.event_machine.specs.Cell.{Cell};
+ghost use Rattle.event_machine.specs.Cell.{Cell, Values};
+ghost use Rattle.four_state.specs.declared.bit.Bit.{Bit};
 ghost use Rattle.design_model.specs.Design.{Design, In, body_at};
-ghost use Rattle.design_model.specs.Mentions.{blocking_target};
-ghost use Rattle.design_model.specs.Shows.{BoundDump, IsListed, IsWindow};
+ghost use Rattle.design_model.specs.Mentions.{blocking_target, body_blocks};
+ghost use Rattle.design_model.specs.Shows.{BoundDump, IsDumpOf, IsListed, IsWindow};
 ghost use Rattle.design_model.specs.declared.point.Point.{Point};
 ghost use Rattle.model_laws.specs.Own.{HasKnownSelects};
 ghost use Rattle.body_replay.specs.Runs.{Runs};
 ghost use Rattle.replay_model.specs.Laws.{IsReplayOf, closing_at};
 ghost use Rattle.replay_model.specs.Stands.{Stands};
+ghost use Rattle.replay_model.specs.Start.{started};
 ghost use Rattle.replay_model.specs.Sets.{AreSets, Sets};
 ghost use Rattle.replay_model.specs.Step.{Closing, Replay, Working, all_run, clocked_run, is_loose, is_touched, opened, run_all_settling, run_settling, settle_start};
 ghost use Rattle.replay_model.specs.Tables.{AreTables, Tables};
 ghost use Rattle.event_machine.specs.Habit.{Habit};
+ghost use Rattle.replay_steps.specs.Blank.{DrivesCells, HasDumpCells, IsBlank};
 ghost use Rattle.replay_steps.specs.Settling.{IsDumpStill, IsStillAt, MoveTargets, settled_start};
 
 /// Without Clocked processes the Assigns and Combs start from what was known at the start of the step.
@@ -64,4 +68,26 @@ pub fn target_law()
 pub fn rest_law()
     ensures { (d : Design) (h : Habit) (dump : BoundDump) (run : Runs) (tables : Tables) (points : List Point) → IsReplayOf d h dump run tables points → HasKnownSelects d
         → (t : ℕ) (n : ℕ) (a : Replay) → ((u : ℕ) → t < u → u ≤ t + n → IsWindow dump u × (IsListed dump u → ⊥)) → Stands d h dump tables points t a → Stands d h dump tables points (t + n) a }
+{}
+
+/// A dump of a design has cells of the design alone.
+pub fn dump_cells_law()
+    ensures { (d : Design) (dump : BoundDump) → IsDumpOf d dump → HasDumpCells d dump.bound }
+{}
+
+/// A process that drives signals alone drives cells of the design.
+pub fn drives_cells_law()
+    ensures { (d : Design) (p : ℕ) → ((x : ℕ) → body_blocks x (body_at d p) ≡ true → x < length d.signals) → DrivesCells d p }
+{}
+
+/// Where processes drive cells of the design, nothing is known of other cells after the first step.
+pub fn blank_first_law()
+    ensures { (d : Design) (bound : ℕ → Bool) (run : Runs) (tables : Tables) (new : Values Bit) → HasDumpCells d bound → ((p : ℕ) → DrivesCells d p) → IsBlank d (started d bound run tables new).kept }
+{}
+
+/// It stays so before the first run of a step, with each run, and after the step.
+pub fn blank_law()
+    ensures start { (st : Closing) → st.tables.clocked ≡ [] → HasDumpCells st.design st.bound → IsBlank st.design st.start.kept → IsBlank st.design (settle_start st (clocked_run st)).kept }
+    ensures one { (st : Closing) (ordered : Bool) (p : ℕ) (w : Working) → DrivesCells st.design p → IsBlank st.design w.kept → IsBlank st.design (run_settling st ordered p w).kept }
+    ensures all { (st : Closing) → st.tables.clocked ≡ [] → HasDumpCells st.design st.bound → ((p : ℕ) → DrivesCells st.design p) → IsBlank st.design st.start.kept → IsBlank st.design (all_run st).kept }
 {}
