@@ -24,7 +24,7 @@ module _ (d : Design) (x : Point) (n : Marking) where
   hit_stays (m ∷ ns) (inl h) = inl h
   hit_stays (m ∷ ns) (inr h) = inr (hit_stays ns h)
 
-  hit_more : (ns : List Marking) → IsKeyOf d x n.key → n.doubt ≡ None → IsHitMarked d x (ns ++ n ∷ [])
+  pub hit_more : (ns : List Marking) → IsKeyOf d x n.key → n.doubt ≡ None → IsHitMarked d x (ns ++ n ∷ [])
   hit_more [] key none = inl (key, none)
   hit_more (m ∷ ns) key none = inr (hit_more ns key none)
 
@@ -50,13 +50,13 @@ module _ (d : Design) (x : Point) (n : Marking) where
   first_more ns y h key doubt = (ns, n, [], refl, h, key, doubt)
 
   -- what is reported of others leaves the verdict
-  other_verdict : (ns : List Marking) (v : replay.Verdict) → (IsKeyOf d x n.key → ⊥) → IsVerdict d x ns v → IsVerdict d x (ns ++ n ∷ []) v
+  pub other_verdict : (ns : List Marking) (v : replay.Verdict) → (IsKeyOf d x n.key → ⊥) → IsVerdict d x ns v → IsVerdict d x (ns ++ n ∷ []) v
   other_verdict ns Hit other h = hit_stays ns h
   other_verdict ns (Undetermined y) other h = ((λ hit. elim (hit_split ns hit) [ inl before ↦ h.0 before | inr last ↦ other last.0 ]), first_stays ns y h.1)
   other_verdict ns Missed other h = unmarked_more ns h other
 
   -- a doubt leaves a hit and the first doubt
-  doubt_verdict : (ns : List Marking) (v : Verdict) (y : Doubt) → IsKeyOf d x n.key → n.doubt ≡ Some (record { time = y.time; thing = y.thing }) → IsVerdict d x ns (verdict_view v) → IsVerdict d x (ns ++ n ∷ []) (verdict_view (with_doubt y v))
+  pub doubt_verdict : (ns : List Marking) (v : Verdict) (y : Doubt) → IsKeyOf d x n.key → n.doubt ≡ Some (record { time = y.time; thing = y.thing }) → IsVerdict d x ns (verdict_view v) → IsVerdict d x (ns ++ n ∷ []) (verdict_view (with_doubt y v))
   doubt_verdict ns marks.Hit y key doubt h = hit_stays ns h
   doubt_verdict ns (marks.Undetermined z) y key doubt h = ((λ hit. elim (hit_split ns hit) [ inl before ↦ h.0 before | inr last ↦ absurd (let no : Some _ ≡ None = sym doubt ∙ last.1 in cc) ]), first_stays ns _ h.1)
   doubt_verdict ns marks.Missed y key doubt h = ((λ hit. elim (hit_split ns hit) [ inl before ↦ no_hit ns h before | inr last ↦ absurd (let no : Some _ ≡ None = sym doubt ∙ last.1 in cc) ]), first_more ns _ h key doubt)

@@ -6,7 +6,8 @@
 //!
 //! A list of verdicts that is right for what was reported stays so with one thing more: where that is a hit, the point's
 //! verdict becomes hit ([`hit_law`]); where it is a doubt, a point that was missed becomes undetermined
-//! ([`doubt_law`]); and where it is of no point of the list, nothing changes ([`no_point_law`]).
+//! ([`doubt_law`]); and where it is of no point of the list, nothing changes ([`no_point_law`]). What a step reports of the
+//! points on signals changes each verdict by what is reported of its own point ([`signals_law`]).
 #![tactic(auto)]
 
 ghost use Rattle.std.specs.Prelude.{◌≡◌, ◌<◌, ◌++◌, ◌∷◌, [], ℕ, List, None, Some, length, replicate, slice_set};
@@ -17,11 +18,13 @@ ghost use Rattle.cover_points.specs.declared.listing.Points.{Points};
 ghost use Rattle.design_model.specs.Design.{Design};
 ghost use Rattle.design_model.specs.declared.point.Point.{Point};
 ghost use Rattle.mark_laws.specs.Marked.{AreVerdicts, IsNoKey, verdict_at};
+ghost use Rattle.mark_laws.specs.Signals.{FollowNotes};
 ghost use Rattle.mark_laws.specs.Numbered.{AreNumbered, doubt_of, verdict_view, visit_at};
 ghost use Rattle.point_marks.specs.Marking.{IsVerdict, Marking, with_doubt};
 ghost use Rattle.point_marks.specs.declared.verdict.Doubt.{Doubt};
 ghost use Rattle.point_marks.specs.declared.verdict.Verdict.{Verdict};
 ghost use Rattle.point_marks.specs.declared.verdict.Verdict.TheVariants.{Hit, Missed};
+ghost use Rattle.replay_model.specs.Step.{Closing, all_point_notes};
 ghost use Rattle.replay_model.specs.Marks.{IsKeyOf, IsVerdict as IsReplayVerdict, Marking as Reported, of_process};
 
 /// Where each thing that a replay reports is a marking of the number of a point of which it is a key, the verdict by number is
@@ -46,6 +49,12 @@ pub fn doubt_law()
 /// Something is reported of no point of the list.
 pub fn no_point_law()
     ensures { (d : Design) (ps : Points) (ns : List Reported) (n : Reported) (vs : List Verdict) → AreVerdicts d ps ns vs → IsNoKey d ps n.key → AreVerdicts d ps (ns ++ n ∷ []) vs }
+{}
+
+/// The points on signals are reported at the end of a step.
+pub fn signals_law()
+    ensures { (st : Closing) (ps : Points) (ns : List Reported) (before after : List Verdict) → AreOnce ps → AreVerdicts st.design ps ns before → FollowNotes st ps before after
+        → AreVerdicts st.design ps (ns ++ all_point_notes st (points_of ps)) after }
 {}
 
 /// Nothing is reported, and no point is marked.
