@@ -1,18 +1,19 @@
 #!/usr/bin/env python3
 """Scores generated dumps with 100 and with 100,000 variables, and prints how fast.
 
-    bench/dump.py PROGRAM [MEGABYTES]
+    bench/dump.py PROGRAM [MEGABYTES [READER]]
 
 For each dump: seconds of `covered score`, megabytes a second, the ratio to a plain pass over the same bytes (`wc -l`)
 and to `vcd2fst` of the Debian package gtkwave where it is installed, and the resident memory for the dump and for one
-of a quarter of its length. The least of three runs counts, and all are of the same file.
+of a quarter of its length; and, with READER, which is `crates/dump_bench/out/dump_bench`, the same for the reader of
+dumps alone. Seconds are processor time, since other work on the machine changes it less than the time of the clock. The
+least of three runs counts, and all are of the same file.
 """
 import os
 import random
 import shutil
 import sys
 import tempfile
-import time
 
 INPUTS = 100
 
@@ -64,8 +65,7 @@ def write_dump(path, variables, size):
 
 
 def run(words):
-    """Returns the seconds that the command took and its greatest resident memory in kilobytes."""
-    start = time.perf_counter()
+    """Returns the processor seconds that the command took and its greatest resident memory in kilobytes."""
     child = os.fork()
     if child == 0:
         with open(os.devnull, "w", encoding="ascii") as none:
@@ -74,7 +74,7 @@ def run(words):
     _, status, used = os.wait4(child, 0)
     if status:
         sys.exit(f"{words[0]} ended with {os.waitstatus_to_exitcode(status)}")
-    return time.perf_counter() - start, used.ru_maxrss
+    return used.ru_utime + used.ru_stime, used.ru_maxrss
 
 
 def least(words):
@@ -82,7 +82,7 @@ def least(words):
     return min(seconds for seconds, _ in runs), max(memory for _, memory in runs)
 
 
-def measure(program, folder, variables, megabytes):
+def measure(program, folder, variables, megabytes, reader):
     source, dump, short, out = (f"{folder}/{name}" for name in ("wide.v", "long.vcd", "short.vcd", "wide.db"))
     write_source(source)
     write_dump(dump, variables, megabytes * 1_000_000)
@@ -92,20 +92,27 @@ def measure(program, folder, variables, megabytes):
     _, short_memory = run([*score, short])
     plain, _ = least(["wc", "-l", dump])
     size = os.path.getsize(dump) / 1_000_000
-    print(f"{variables} variables, {size:.0f} MB: {seconds:.2f} s, {size / seconds:.0f} MB/s, "
-          f"{seconds / plain:.1f} times `wc -l`, {memory} kB resident ({short_memory} kB for a quarter of it)")
-    if shutil.which("vcd2fst"):
-        other, _ = least(["vcd2fst", dump, f"{folder}/long.fst"])
-        print(f"  {seconds / other:.2f} times vcd2fst ({other:.2f} s)")
+    other = least(["vcd2fst", dump, f"{folder}/long.fst"])[0] if shutil.which("vcd2fst") else None
+    print(f"{variables} variables, {size:.0f} MB: {figures(size, seconds, plain, other)}, "
+          f"{memory} kB resident ({short_memory} kB for a quarter of it)")
+    if reader:
+        print(f"  the reader alone: {figures(size, least([reader, dump])[0], plain, other)}")
+
+
+def figures(size, seconds, plain, other):
+    """The speed, and the ratios to the other programs."""
+    text = f"{seconds:.2f} s, {size / seconds:.0f} MB/s, {seconds / plain:.1f} times `wc -l`"
+    return text if other is None else f"{text}, {seconds / other:.2f} times vcd2fst"
 
 
 def main():
     if len(sys.argv) < 2:
         sys.exit(__doc__)
     megabytes = int(sys.argv[2]) if len(sys.argv) > 2 else 200
+    reader = os.path.abspath(sys.argv[3]) if len(sys.argv) > 3 else None
     with tempfile.TemporaryDirectory() as folder:
         for variables in (100, 100_000):
-            measure(os.path.abspath(sys.argv[1]), folder, variables, megabytes)
+            measure(os.path.abspath(sys.argv[1]), folder, variables, megabytes, reader)
 
 
 if __name__ == "__main__":
