@@ -1,12 +1,12 @@
 -- A run leaves what is to blame for each signal and memory that its body does not assign.
-use Rattle.std.proofs.Common.{Bool, List, None, Option, Some, [], ap, ap₂, eq-eqb, false, if◌then◌else◌, map, refl, subst, sym, true, ℕ, ◌&&◌, ◌==◌, ◌||◌, ◌∙◌, ◌∷◌, ◌≡◌}
+use Rattle.std.proofs.Common.{Bool, List, None, Option, Some, [], ap, ap₂, eq-eqb, false, if◌then◌else◌, map, refl, subst, sym, true, ℕ, ◌&&◌, ◌||◌, ◌∙◌, ◌∷◌, ◌≡◌}
 use Rattle.std.specs.List.{list_all, range_with_len}
 use Rattle.std.proofs.lemmas.Bool.{or_parts}
 use Rattle.event_machine.specs.Cell.{Cell}
 use Rattle.four_state.specs.declared.bit.Bit.{Bit}
 use Rattle.known_state.specs.Join.{join_bit}
 use Rattle.known_state.proofs.Cases.{same_bit_refl}
-use Rattle.design_model.specs.Design.{Design, cell, signal_at, signal_cells}
+use Rattle.design_model.specs.Design.{Design, cell, signal_at}
 use Rattle.design_model.specs.Mentions.{body_assigns, some_target_names, target_names}
 use Rattle.design_model.specs.Tree.{Stmt, Target, Targets, Term, a_target, all_of, bits_of, no_targets, several, word_of}
 use Rattle.design_model.proofs.Execution.{each_fails, each_gives}

@@ -4,7 +4,6 @@ use Rattle.std.specs.Prelude.{nat_lt}
 use Rattle.std.specs.List.{range_with_len}
 use Rattle.std.proofs.lemmas.Bool.{false_from_ne_true, true≢false}
 use Rattle.std.proofs.Math.Path.{fun_ext}
-use Rattle.event_machine.specs.Cell.{Cell}
 use Rattle.four_state.specs.declared.bit.Bit.{Bit}
 use Rattle.design_model.specs.Design.{Design, cell, signal_at, signal_cells}
 use Rattle.design_model.specs.Mentions.{body_assigns}
@@ -15,10 +14,10 @@ use Rattle.body_replay.specs.Replay.{Mark, State, run, started}
 use Rattle.body_replay.specs.Runs.{own_store}
 use Rattle.body_replay.specs.Store.{Kept, KnownWrite}
 use Rattle.term_replay.specs.Stands.{Scene}
-use Rattle.body_calls.specs.Lvalues.{Like, is_sure_signal}
+use Rattle.body_calls.specs.Lvalues.{is_sure_signal}
 use Rattle.body_calls.specs.Own.{IsOwn, IsOwnOutside, is_in}
 use Rattle.body_calls.specs.Under.{Under, kept_with}
-use Rattle.scene_laws.specs.At.{IsState, flat, scene_of}
+use Rattle.scene_laws.specs.At.{IsState, flat}
 use Rattle.block_runs.specs.Met.{met}
 use Rattle.block_runs.proofs.Blames.{IsLeft, run_left}
 use Rattle.block_runs.proofs.Queued.{after_queue, run_passes}

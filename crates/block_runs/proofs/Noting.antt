@@ -7,7 +7,6 @@ use Rattle.body_replay.specs.Replay.{Mark}
 use Rattle.term_replay.specs.Noted.{mark_of}
 use Rattle.term_replay.specs.declared.notes.Spot.{Spot}
 use Rattle.block_runs.specs.Notes.{note_of}
-use Rattle.block_runs.specs.declared.notes.Doubt.{Doubt}
 
 -- no mark is noted yet
 pub none_noted : (how : c.Certainty) (earlier : List Note) → earlier ++ notes_of how [] ≡ earlier

@@ -1,5 +1,4 @@
 -- The run of a block on a store, as the definition of a run has it.
-use Rattle.std.specs.Prelude.{ℕ}
 use Rattle.design_model.specs.Design.{body}
 use Rattle.design_model.specs.Tree.{Process}
 use Rattle.body_replay.specs.Contract.{Outcome, outcome}

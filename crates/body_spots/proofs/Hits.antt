@@ -1,5 +1,5 @@
 -- Hits that a sink takes, one after the other.
-use Rattle.std.proofs.Common.{List, Option, [], add-one, drop, drop-cons, get_or, length, map, refl, sym, ℕ, ◌+◌, ◌++◌, ◌<◌, ◌∷◌, ◌≡◌}
+use Rattle.std.proofs.Common.{List, [], map, sym, ◌++◌}
 use Rattle.std.proofs.lemmas.List.{map-append}
 use Rattle.body_replay.specs.Replay.{Mark, Spot, hit}
 use Rattle.term_replay.specs.Noted.{Adds}

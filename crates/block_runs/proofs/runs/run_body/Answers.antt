@@ -1,10 +1,10 @@
-use Rattle.std.proofs.Common.{ap, arith, subst, sym, ◌++◌, ◌∙◌, ◌≡◌}
+use Rattle.std.proofs.Common.{ap, subst, sym, ◌++◌, ◌∙◌}
 use Rattle.design_model.specs.Design.{body}
 use Rattle.design_model.specs.View.{process_view}
-use Rattle.body_replay.specs.Contract.{Outcome, outcome, strong_outcome}
+use Rattle.body_replay.specs.Contract.{Outcome}
 use Rattle.body_replay.specs.Runs.{own_store}
 use Rattle.scene_laws.specs.At.{flat}
-use Rattle.block_runs.specs.Met.{met, outcome_on}
+use Rattle.block_runs.specs.Met.{met}
 use Rattle.block_runs.specs.Notes.{AddsNotes, way_of}
 use Rattle.block_runs.proofs.Ways.{strong_is}
 use Rattle.block_runs.proofs.runs.run_body.Goals as goal

@@ -6,7 +6,7 @@ use Rattle.body_replay.specs.Replay.{Mark}
 use Rattle.block_runs.specs.Notes.{way_of}
 use Rattle.block_runs.proofs.Noting.{none_noted}
 use Rattle.block_runs.proofs.Queued.{after_queue}
-use Rattle.block_runs.proofs.Evaluated.{begins, begun, is_kept, left, marks_noted, owned, same_design, writes_queued}
+use Rattle.block_runs.proofs.Evaluated.{begins, begun, is_kept, left, marks_noted, owned, writes_queued}
 use Rattle.block_runs.proofs.strong.run_strong.Goals as goal
 
 pub returns-clause-kept : goal.returns-clause-kept

@@ -1,4 +1,4 @@
-use Rattle.std.proofs.Common.{◌+◌, ◌-◌, map}
+use Rattle.std.proofs.Common.{◌-◌, map}
 use Rattle.std.specs.List.{range_with_len}
 use Rattle.body_replay.specs.Replay.{hit}
 use Rattle.term_replay.specs.Noted.{Adds, access_spot}
