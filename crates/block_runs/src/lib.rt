@@ -4,11 +4,13 @@
 
 mod by_way;
 mod certainty;
+mod laws;
 mod notes;
 mod process;
 mod runs;
 mod strong;
 
 pub use certainty::Certainty;
+pub use laws::outcomes_law;
 pub use notes::{BlockNotes, Doubt};
 pub use runs::run_body;
