@@ -5,7 +5,7 @@ pub enum Certainty {
     Clean { time: u64 },
     /// It runs, and notes nothing.
     Quiet,
-    /// It runs, but only if this thing has changed, which is not sure: what it may visit is in doubt by that.
+    /// It runs if this thing has changed, which is not sure: what it may visit is in doubt by the thing.
     Perhaps { time: u64, thing: u32 },
     /// It may run any number of times, on any values: each write of its text may be made, and all that it may visit is in
     /// doubt by this thing.

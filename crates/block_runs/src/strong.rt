@@ -23,8 +23,8 @@ use body_calls::Bodies;
 use design_model::Process;
 use value_store::Queue;
 
-/// Runs the body of a process on what bodies read, and notes its marks in this way. What its assignments are to blame for is
-/// left as it is.
+/// Runs the body of a process on what bodies read, and notes its marks in this way. What it assigns has the blames of the run
+/// afterwards.
 pub(crate) fn run_strong<B: Bodies, N: BlockNotes>(
     store: &mut B,
     process: &Process,
