@@ -1,0 +1,5 @@
+pub mod Queued
+pub mod Blames
+pub mod Evaluated
+pub mod Noting
+pub mod Ways
