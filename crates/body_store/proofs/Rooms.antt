@@ -58,7 +58,7 @@ module _ (l : LogState) (v : Signals) (s : ℕ) where
 
 -- ---- where no test is around
 
-no_tests_by : (scene : Readings → Scene) (now : Readings) (ts : List Test) (l : LogState) → l.tests ≡ ts → is_inside ts ≡ false → tests_by scene (around l now) ≡ []
+pub no_tests_by : (scene : Readings → Scene) (now : Readings) (ts : List Test) (l : LogState) → l.tests ≡ ts → is_inside ts ≡ false → tests_by scene (around l now) ≡ []
 no_tests_by scene now [] l e out = ap (λ y. tests_by scene (around (record l { tests = y }) now)) e
 no_tests_by scene now (t ∷ ts) l e out = absurd (false≢true (sym out))
 

@@ -6,3 +6,6 @@ pub mod Made
 pub mod Premises
 pub mod Scenes
 pub mod Updates
+pub mod Veils
+pub mod Views
+pub mod Laws

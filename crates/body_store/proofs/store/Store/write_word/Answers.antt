@@ -3,7 +3,7 @@ use Rattle.known_state.specs.Partly.{Partly}
 use Rattle.design_model.specs.View.{design_view}
 use Rattle.body_replay.specs.KnownBits.{KnownBits}
 use Rattle.body_replay.specs.Store.{keep_all, write_word}
-use Rattle.memory_rebuild.specs.Words.{StandsFor}
+use Rattle.memory_rebuild.specs.Words.{StandsFor, count}
 use Rattle.value_store.specs.Signals.{read_at}
 use Rattle.body_calls.specs.Lvalues.{Like, written}
 use Rattle.body_calls.specs.declared.lvalue.Lvalue.TheVariants.{Word}
@@ -31,8 +31,8 @@ invariant_of-self c =
     let place = place_is s.design.now s.signals rs x new s.fits c.requires.place.0 c.len.result c.len.ensures in
     let before : StandsFor d k x old.words = subst (λ r. StandsFor d k x r.words) (sym was) (memory_stands d s.signals rs at x s.fits c.requires.place.0) in
     let after : StandsFor d (keep_all k (write_word d x c.args.index.now.signed c.args.index.now.bits c.args.part.now.bits)) x c.write.new.self = subst (λ (ps : KnownBits). StandsFor d (keep_all k (write_word d x c.args.index.now.signed c.args.index.now.bits ps)) x c.write.new.self) (ap (λ (q : Partly). q.bits) c.signed_as-value.ensures) (c.write.ensures.stands d k x before) in
-    let fits = word_fits s.design.now s.signals rs x new s.fits c.requires.place.0 _ (c.write.ensures.shape ∙ ap (λ r. r.words.shape) was) after in
-    record { fits = subst (λ i. FitsDesign s.design.now.signals s.design.now.memories s.signals (set rs i new)) place fits; logged = s.logged; sized = s.sized; taken = s.taken }
+    let fits = word_fits s.design.now s.signals rs x new s.fits c.requires.place.0 _ (c.write.ensures.shape ∙ ap (λ r. r.words.shape) was) (c.write.ensures.size ∙ ap (λ r. count r.words.shape) was) after in
+    record { fits = subst (λ i. FitsDesign s.design.now.signals s.design.now.memories s.signals (set rs i new)) place fits; logged = s.logged; sized = s.sized; taken = s.taken; veiled = s.veiled }
 
 pub returns-clause-scene : goal.returns-clause-scene
 returns-clause-scene c =
