@@ -80,8 +80,16 @@ impl Rebuilt {
         ensures at_least { 1 ≤ self.now.shape.width }
         ensures at_most { self.now.shape.width ≤ 128 }
         ensures widths { HaveWidth self.now }
+        ensures size { length self.now.words ≡ count self.now.shape }
     {
         self.shape
+    }
+
+    /// How many words there are.
+    pub fn len(&self) -> usize
+        ensures { result ≡ count self.now.shape }
+    {
+        self.shape.count()
     }
 
     /// What an index reads (IEEE 1364-2001, clause 4.2.2): the word that it names, x where it names none, and where it
@@ -113,6 +121,8 @@ impl Rebuilt {
         requires width { length value.now.bits ≡ self.old.shape.width }
         requires sign { value.now.signed ≡ self.old.shape.signed }
         ensures shape { self.new.shape ≡ self.old.shape }
+        ensures size_before { length self.old.words ≡ count self.old.shape }
+        ensures size { length self.new.words ≡ count self.old.shape }
         ensures words { (i : ℕ) → IsIndex self.old.shape i → word_at self.new i ≡ word_after self.old index.now value.now.bits certain i }
         ensures sound { (v : ℕ → List Bit) (is bs : List Bit) → AllowsWords self.old v → AllAllow index.now.bits is → AllAllow value.now.bits bs → AllowsWords self.new (true_words v (named_by self.old.shape index.now.signed is) bs) }
         ensures not_certain { certain ≡ false → (v : ℕ → List Bit) → AllowsWords self.old v → AllowsWords self.new v }
@@ -156,6 +166,7 @@ impl Rebuilt {
     pub fn written_places(&self) -> &[usize]
         ensures inside { All (λ place. place < count self.now.shape) result.now }
         ensures others { (place : ℕ) → place < count self.now.shape → (Contains result.now place → ⊥) → word_at self.now (least self.now.shape + place) ≡ unknown self.now.shape.width }
+        ensures few { length result.now ≤ count self.now.shape }
     {
         self.written.as_slice()
     }
@@ -167,6 +178,8 @@ impl Rebuilt {
         requires sign { value.now.signed ≡ self.old.shape.signed }
         ensures shape { self.new.shape ≡ self.old.shape }
         ensures words { (q : ℕ) → q < count self.old.shape → word_at self.new (least self.old.shape + q) ≡ (if place == q then value.now.bits else word_at self.old (least self.old.shape + q)) }
+        ensures size_before { length self.old.words ≡ count self.old.shape }
+        ensures size { length self.new.words ≡ count self.old.shape }
     {
         self.put_at(place, value, true);
     }
@@ -192,6 +205,8 @@ impl Rebuilt {
         requires sign { value.now.signed ≡ self.old.shape.signed }
         ensures shape { self.new.shape ≡ self.old.shape }
         ensures widths { HaveWidth self.old }
+        ensures size_before { length self.old.words ≡ count self.old.shape }
+        ensures size { length self.new.words ≡ count self.old.shape }
         ensures words { (q : ℕ) → q < count self.old.shape → word_at self.new (least self.old.shape + q) ≡ word_after self.old index.now value.now.bits certain (least self.old.shape + q) }
     {
         let shape = self.shape();
@@ -246,6 +261,8 @@ impl Rebuilt {
         ensures shape { self.new.shape ≡ self.old.shape }
         ensures word { word_at self.new (least self.old.shape + place) ≡ bits_left certain value.now.bits (word_at self.old (least self.old.shape + place)) }
         ensures others { (q : ℕ) → q < count self.old.shape → (q ≡ place → ⊥) → word_at self.new (least self.old.shape + q) ≡ word_at self.old (least self.old.shape + q) }
+        ensures size_before { length self.old.words ≡ count self.old.shape }
+        ensures size { length self.new.words ≡ count self.old.shape }
     {
         let word = self.words[place];
         if word.epoch == self.epoch {
@@ -266,6 +283,7 @@ impl Rebuilt {
         requires index { is_whole_value index.now ≡ false }
         ensures shape { self.new.shape ≡ self.old.shape }
         ensures words { (q : ℕ) → q < count self.old.shape → word_at self.new (least self.old.shape + q) ≡ word_after self.old index.now value.now.bits false (least self.old.shape + q) }
+        ensures size { length self.new.words ≡ count self.old.shape }
     {
         weaken(
             &self.shape,
