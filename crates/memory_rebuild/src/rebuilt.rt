@@ -123,6 +123,7 @@ impl Rebuilt {
         ensures shape { self.new.shape ≡ self.old.shape }
         ensures size_before { length self.old.words ≡ count self.old.shape }
         ensures size { length self.new.words ≡ count self.old.shape }
+        ensures widths_before { HaveWidth self.old }
         ensures words { (i : ℕ) → IsIndex self.old.shape i → word_at self.new i ≡ word_after self.old index.now value.now.bits certain i }
         ensures sound { (v : ℕ → List Bit) (is bs : List Bit) → AllowsWords self.old v → AllAllow index.now.bits is → AllAllow value.now.bits bs → AllowsWords self.new (true_words v (named_by self.old.shape index.now.signed is) bs) }
         ensures not_certain { certain ≡ false → (v : ℕ → List Bit) → AllowsWords self.old v → AllowsWords self.new v }

@@ -1,0 +1,6 @@
+pub mod Shapes
+pub mod Undone
+pub mod Merging
+pub mod Tests
+pub mod SeenSets
+pub mod Keeping
