@@ -9,7 +9,9 @@ use Rattle.wake_tables.specs.declared.tables.WakeTables.{WakeTables}
 use Rattle.early_sets.specs.declared.edges.Edges.{Edges}
 use Rattle.early_sets.specs.declared.rule.Rule.{Rule}
 use Rattle.early_sets.specs.Adds.{Adds, Extends}
+use Rattle.early_sets.specs.Once.{IsOnce}
 use Rattle.early_sets.specs.Reached.{IsItem, IsItemWhere, IsRowItem, IsTargetBy, IsTargetFrom, MayWakeBy, edges_at, is_apart}
+use Rattle.early_sets.proofs.Counting.{once_push}
 
 pub extends_none : (xs : List ℕ) → Extends xs xs
 extends_none xs = record { more = []; is = sym (append-nil xs) }
@@ -34,7 +36,7 @@ place_of xs x c = (c.0, c.1, get_or_default xs c.0 0 x c.1 ∙ c.2)
 
 -- nothing is put in
 pub none_added : (P : ℕ → Type 0) (xs : List ℕ) → ((x : ℕ) → P x → ⊥) → Adds P xs xs
-none_added P xs none = record { extends = extends_none xs; only = λ x c. inl c; all = λ x p. absurd (none x p) }
+none_added P xs none = record { extends = extends_none xs; only = λ x c. inl c; all = λ x p. absurd (none x p); once = λ o. o }
 
 -- one after the other
 pub both_added : (P Q : ℕ → Type 0) (xs ys zs : List ℕ) → Adds P xs ys → Adds Q ys zs → Adds (λ x. P x ⊎ Q x) xs zs
@@ -43,22 +45,24 @@ both_added P Q xs ys zs h k =
       extends = extends_chain xs ys zs h.extends k.extends;
       only = λ x c. ⊎_elim (λ b. ⊎_elim (λ a. inl a) (λ p. inr (inl p)) (h.only x b)) (λ q. inr (inr q)) (k.only x c);
       all = λ x. ⊎_elim (λ p. extends_has ys zs x k.extends (h.all x p)) (λ q. k.all x q);
+      once = λ o. k.once (h.once o);
     }
 
 -- the same, said otherwise
 pub same_added : (P Q : ℕ → Type 0) (xs ys : List ℕ) → ((x : ℕ) → P x → Q x) → ((x : ℕ) → Q x → P x) → Adds P xs ys → Adds Q xs ys
-same_added P Q xs ys to from h = record { extends = h.extends; only = λ x c. ⊎_elim (λ a. inl a) (λ p. inr (to x p)) (h.only x c); all = λ x q. h.all x (from x q) }
+same_added P Q xs ys to from h = record { extends = h.extends; only = λ x c. ⊎_elim (λ a. inl a) (λ p. inr (to x p)) (h.only x c); all = λ x q. h.all x (from x q); once = h.once }
 
 -- one number
-pub one_added : (xs ys : List ℕ) (n : ℕ) (r : Bool) → (r ≡ false → Contains xs n) → ys ≡ cond r (xs ++ n ∷ []) xs → Adds (λ x. n ≡ x) xs ys
+pub one_added : (xs ys : List ℕ) (n : ℕ) (r : Bool) → (r ≡ false) ↔ Contains xs n → ys ≡ cond r (xs ++ n ∷ []) xs → Adds (λ x. n ≡ x) xs ys
 one_added xs ys n true there is =
     record {
       extends = record { more = n ∷ []; is = is };
       only = λ x c. Contains-push_cases xs n x (subst (λ zs. Contains zs x) is c);
       all = λ x e. subst (λ zs. Contains zs x) (sym is) (subst (λ y. Contains (xs ++ n ∷ []) y) e (Contains-push xs n));
+      once = λ o. subst IsOnce (sym is) (once_push n xs o (λ c. both_ways true (there.1 c) refl));
     }
 one_added xs ys n false there is =
-    subst (λ zs. Adds (λ x. n ≡ x) xs zs) (sym is) (record { extends = extends_none xs; only = λ x c. inl c; all = λ x e. subst (λ y. Contains xs y) e (there refl) })
+    subst (λ zs. Adds (λ x. n ≡ x) xs zs) (sym is) (record { extends = extends_none xs; only = λ x c. inl c; all = λ x e. subst (λ y. Contains xs y) e (there.0 refl); once = λ o. o })
 
 -- a number that is not left out
 pub item_added : (n : ℕ) (except : Option ℕ) (xs ys : List ℕ) → is_apart except n ≡ true → Adds (λ x. n ≡ x) xs ys → Adds (IsItem n except) xs ys

@@ -1,4 +1,5 @@
 pub mod Membership
+pub mod Counting
 pub mod Adding
 pub mod Closing
 pub mod EarlyAdding

@@ -1,11 +1,13 @@
 //! What is early for a clean block before what it reaches is put in.
 
-ghost use Rattle.std.specs.Prelude.{◌≡◌, ◌<◌, length};
+ghost use Rattle.std.specs.Prelude.{◌≡◌, ◌<◌, ◌≤◌, ◌+◌, length};
+ghost use Rattle.std.specs.List.{sum_by};
 ghost use Rattle.early_sets.specs.Adds.{Adds};
 ghost use Rattle.early_sets.specs.Early.{IsEarlyInput, IsTriggerTarget, is_event_signal, is_free};
+ghost use Rattle.early_sets.specs.Turns.{process_turns};
 
-use crate::Habit;
 use crate::closure::{insert_row, insert_where};
+use crate::{Habit, Turns};
 use index_sets::IndexSet;
 use wake_tables::WakeTables;
 
@@ -29,19 +31,22 @@ fn is_free(tables: &WakeTables, habit: Habit, input: usize) -> bool
 }
 
 /// Puts in the inputs that change and may move before the block is evaluated, except the trigger.
-pub(crate) fn insert_inputs(
+pub(crate) fn insert_inputs<T: Turns>(
     tables: &WakeTables,
     habit: Habit,
     noted: &IndexSet,
     trigger: usize,
     early: &mut IndexSet,
+    turns: &mut T,
 )
     requires noted { noted.now.size ≡ tables.now.things }
     requires size { early.old.size ≡ tables.now.things }
     ensures size { early.new.size ≡ early.old.size }
     ensures adds { Adds (IsEarlyInput tables.now habit noted.now.items (length noted.now.items) trigger) early.old.items early.new.items }
+    ensures turns { T.counted turns.new ≤ T.counted turns.old + length noted.now.items }
 {
     for place in 0..noted.len() {
+        turns.count();
         let input = noted.get(place);
         let free = is_free(tables, habit, input);
         insert_where(free, input, Some(trigger), early);
@@ -49,25 +54,29 @@ pub(crate) fn insert_inputs(
 }
 
 /// Puts in the blocking targets of the processes that the trigger may wake, except those of the block and the trigger.
-pub(crate) fn insert_targets(
+pub(crate) fn insert_targets<T: Turns>(
     tables: &WakeTables,
     processes: &IndexSet,
     block: usize,
     trigger: usize,
     early: &mut IndexSet,
+    turns: &mut T,
 )
     requires processes { processes.now.size ≡ tables.now.processes }
     requires size { early.old.size ≡ tables.now.things }
     ensures size { early.new.size ≡ early.old.size }
     ensures adds { Adds (IsTriggerTarget tables.now processes.now.items (length processes.now.items) block trigger) early.old.items early.new.items }
+    ensures turns { T.counted turns.new ≤ T.counted turns.old + sum_by (process_turns tables.now) processes.now.items }
 {
     for place in 0..processes.len() {
+        turns.count();
         let process = processes.get(place);
         insert_row(
             process != block,
             tables.blocking.row(process),
             Some(trigger),
             early,
+            turns,
         );
     }
 }

@@ -12,9 +12,11 @@ mod early;
 mod edges;
 mod habit;
 mod rule;
+mod turns;
 mod wakes;
 
 pub use edges::Edges;
 pub use habit::Habit;
 pub(crate) use rule::Rule;
+pub use turns::{TurnCount, Turns, Uncounted};
 pub use wakes::Wakes;

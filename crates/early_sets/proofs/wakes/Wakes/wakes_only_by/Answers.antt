@@ -3,4 +3,4 @@ use Rattle.early_sets.proofs.EventRows.{signal_below}
 use Rattle.early_sets.proofs.wakes.Wakes.wakes_only_by.Goals as goal
 
 pub can_wake_by-requires : goal.can_wake_by-requires
-can_wake_by-requires c = signal_below c.args.self.now.tables c.args.process c.loop-edge.edge-index c.row-edge-items.result.now (Pos, 0) c.row-edge-items.ensures c.loop-edge-test.true
+can_wake_by-requires g c = signal_below c.args.self.now.tables c.args.process c.loop-edge.edge-index c.row-edge-items.result.now (Pos, 0) c.row-edge-items.ensures c.loop-edge-test.true

@@ -1,0 +1,5 @@
+pub mod Constants
+pub mod Shapes
+pub mod Targets
+pub mod Lists
+pub mod OneBit
