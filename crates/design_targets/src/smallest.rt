@@ -59,7 +59,8 @@ fn one_x() -> Known
 pub(crate) struct Unnoted;
 
 impl Notes for Unnoted {
-    ghost noted = { λ _ _. ⊤ };
+    ghost Start = { Unit {0} };
+    ghost noted = { λ _ _ _. ⊤ };
 
     fn note(&mut self, _spot: Spot, _doubt: Option<u32>) {}
 }
