@@ -8,11 +8,11 @@ use Rattle.design_model.specs.declared.design.Signal.{Signal}
 use Rattle.design_model.specs.Design.{Design, no_memory}
 use Rattle.body_replay.specs.Replay.{Blames}
 use Rattle.body_replay.specs.Store.{Kept}
-use Rattle.memory_rebuild.specs.Words.{IsIndex, StandsFor, word_at}
+use Rattle.memory_rebuild.specs.Words.{count, IsIndex, StandsFor, word_at}
 use Rattle.value_store.specs.Signals.{Signals, kept_at}
 use Rattle.value_store.specs.Held.{HoldsSignals, IsSignal, with_kept}
 use Rattle.value_store.proofs.Held.{one_kept}
-use Rattle.body_store.specs.declared.memory.StoredMemory.{StoredMemory}
+use Rattle.word_log.specs.declared.memory.StoredMemory.{StoredMemory}
 use Rattle.body_store.specs.Ended.{ended, settled}
 use Rattle.body_store.specs.Fitting.{FitsDesign, FitsMemory, memory_in}
 use Rattle.body_store.specs.Held.{HoldsMemories, IsMemory}
@@ -65,7 +65,7 @@ module _ (ss : List Signal) (ms : List Memory) (v : Signals) (rs : List StoredMe
       here i l q =
           let old : FitsMemory (get_or ms i no_memory) (length ss + i) (memory_in rs i) = fits.each i l in
           let is : (memory_in rs i).words ≡ (memory_in (set rs p new) i).words = ap (λ j. (memory_in rs j).words) q ∙ sym words ∙ sym (ap (λ r. r.words) (ap (memory_in (set rs p new)) q ∙ now)) in
-          record { shape = ap (λ w. w.shape) (sym is) ∙ old.shape; widths = subst (λ w. (j : ℕ) → IsIndex w.shape j → length (word_at w j) ≡ w.shape.width) is old.widths }
+          record { shape = ap (λ w. w.shape) (sym is) ∙ old.shape; widths = subst (λ w. (j : ℕ) → IsIndex w.shape j → length (word_at w j) ≡ w.shape.width) is old.widths; size = subst (λ w. length w.words ≡ count w.shape) is old.size }
 
       there : (i : ℕ) → i < length ms → (i ≡ p → ⊥) → FitsMemory (get_or ms i no_memory) (length ss + i) (memory_in (set rs p new) i)
       there i l ne = subst (FitsMemory (get_or ms i no_memory) (length ss + i)) (sym (get_or-set_other rs p i new no_stored ne)) (fits.each i l)

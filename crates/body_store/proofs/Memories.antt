@@ -13,11 +13,11 @@ use Rattle.design_model.specs.Design.{Design, cell, is_memory, memory_at, no_mem
 use Rattle.design_model.specs.View.{design_view}
 use Rattle.body_replay.specs.KnownBits.{KnownBits}
 use Rattle.body_replay.specs.Store.{Kept, keep_all, write_word}
-use Rattle.memory_rebuild.specs.Words.{IsIndex, KnownWords, StandsFor, word_at}
+use Rattle.memory_rebuild.specs.Words.{IsIndex, KnownWords, StandsFor, count, word_at}
 use Rattle.value_store.specs.Signals.{Signals}
 use Rattle.body_calls.specs.Lvalues.{Like, written}
 use Rattle.body_calls.specs.declared.lvalue.Lvalue.TheVariants.{Word}
-use Rattle.body_store.specs.declared.memory.StoredMemory.{StoredMemory}
+use Rattle.word_log.specs.declared.memory.StoredMemory.{StoredMemory}
 use Rattle.body_store.specs.Fitting.{FitsDesign, FitsMemory, memory_in}
 use Rattle.body_store.specs.Made.{unknown_memory}
 use Rattle.body_store.specs.Scenes.{kept_by, scene_with}
@@ -58,8 +58,8 @@ module _ (D : m.Design) (v : Signals) (rs : List StoredMemory) (x : ℕ) (new : 
   at_other i e = get_or-set_other rs place i new no_stored (λ same. let s : (place == i) ≡ true = eq-eqb place i (sym same) in absurd (false≢true (sym e ∙ s)))
 
   -- it still has the shapes of the design
-  pub word_fits : (k : Kept) → new.words.shape ≡ (memory_in rs place).words.shape → StandsFor (design_view D) k x new.words → FitsDesign D.signals D.memories v (set rs place new)
-  word_fits k shape stands =
+  pub word_fits : (k : Kept) → new.words.shape ≡ (memory_in rs place).words.shape → length new.words.words ≡ count (memory_in rs place).words.shape → StandsFor (design_view D) k x new.words → FitsDesign D.signals D.memories v (set rs place new)
+  word_fits k shape size stands =
       record {
         shapes = fits.shapes;
         signals = fits.signals;
@@ -71,7 +71,7 @@ module _ (D : m.Design) (v : Signals) (rs : List StoredMemory) (x : ℕ) (new : 
       here i l e =
           let old : FitsMemory (get_or D.memories i no_memory) (n + i) (memory_in rs i) = fits.each i l in
           let now : memory_in (set rs place new) i ≡ new = ap (memory_in (set rs place new)) e ∙ at_place in
-          subst (FitsMemory (get_or D.memories i no_memory) (n + i)) (sym now) (record { shape = shape ∙ ap (λ j. (memory_in rs j).words.shape) (sym e) ∙ old.shape; widths = stands_wide (design_view D) k x new.words stands })
+          subst (FitsMemory (get_or D.memories i no_memory) (n + i)) (sym now) (record { shape = shape ∙ ap (λ j. (memory_in rs j).words.shape) (sym e) ∙ old.shape; widths = stands_wide (design_view D) k x new.words stands; size = size ∙ ap count (sym shape) })
 
       there : (i : ℕ) → i < length D.memories → (i ≡ place → ⊥) → FitsMemory (get_or D.memories i no_memory) (n + i) (memory_in (set rs place new) i)
       there i l ne = subst (FitsMemory (get_or D.memories i no_memory) (n + i)) (sym (get_or-set_other rs place i new no_stored ne)) (fits.each i l)

@@ -3,20 +3,18 @@ use Rattle.std.specs.Prelude.{◌≡◌, ◌+◌, ◌<◌, ℕ, List, length, ma
 use Rattle.design_model.specs.declared.design.Memory.{Memory}
 use Rattle.design_model.specs.declared.design.Signal.{Signal}
 use Rattle.design_model.specs.Design.{no_memory}
-use Rattle.memory_rebuild.specs.Words.{IsIndex, word_at}
+use Rattle.memory_rebuild.specs.Words.{IsIndex, count, word_at}
 use Rattle.value_store.specs.Signals as s
 use Rattle.value_store.specs.Signals.{Signals}
-use Rattle.body_store.specs.declared.memory.StoredMemory.{StoredMemory}
-use Rattle.body_store.specs.Made.{shape_of, unknown_memory}
+use Rattle.word_log.specs.declared.memory.StoredMemory.{StoredMemory}
+pub use Rattle.word_log.specs.Memories.{memory_in}
+use Rattle.word_log.specs.Memories.{shape_of}
 
--- what is held of the memory with this place in the list of memories
-abbrev pub memory_in : List StoredMemory → ℕ → StoredMemory
-memory_in rs i = slice_index_or rs i (unknown_memory no_memory 0)
-
--- the words have the shape of this memory, with this number
+-- the words have the shape of this memory, with this number, and are as many
 pub record FitsMemory (x : Memory) (m : ℕ) (r : StoredMemory) : Type 0 where
   pub shape : r.words.shape ≡ shape_of x m
   pub widths : (i : ℕ) → IsIndex r.words.shape i → length (word_at r.words i) ≡ r.words.shape.width
+  pub size : length r.words.words ≡ count r.words.shape
 
 -- there are as many signals and memories as a design with these has, of their shapes
 pub record FitsDesign (ss : List Signal) (ms : List Memory) (v : Signals) (rs : List StoredMemory) : Type 0 where

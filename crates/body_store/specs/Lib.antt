@@ -5,4 +5,5 @@ pub mod Held
 pub mod Made
 pub mod Premises
 pub mod Scenes
+pub mod Tests
 pub mod Updates

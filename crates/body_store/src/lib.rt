@@ -13,7 +13,6 @@ mod end;
 mod flush;
 mod kept;
 mod laws;
-mod memory;
 mod reads;
 mod store;
 mod unknown;
@@ -21,6 +20,6 @@ mod update;
 mod write;
 
 pub use laws::premises_law;
-pub use memory::StoredMemory;
 pub use store::{Store, StoreRoom};
 pub use update::Update;
+pub use word_log::StoredMemory;

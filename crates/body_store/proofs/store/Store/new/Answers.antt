@@ -1,11 +1,13 @@
-use Rattle.std.proofs.Common.{ap, map, subst, sym, ◌∙◌}
+use Rattle.std.proofs.Common.{[], ap, map, subst, sym, ◌∙◌}
 use Rattle.design_model.specs.View.{design_view}
 use Rattle.value_store.specs.Signals.{shape_of, unknown_signals}
+use Rattle.word_log.specs.Logs as w
 use Rattle.body_store.specs.Made.{AreUnknown}
+use Rattle.body_store.specs.Tests.{seconds}
 use Rattle.body_store.proofs.Blank.{made_store}
 use Rattle.body_store.specs.Updates.{are_taken}
 use Rattle.body_store.proofs.Fit.{new_fits}
-use Rattle.body_store.proofs.Tests.{new_logged}
+use Rattle.body_store.proofs.Tests.{new_logged, new_words_logged}
 use Rattle.body_store.proofs.store.Store.new.Goals as goal
 
 pub invariant_of-result : goal.invariant_of-result
@@ -20,6 +22,12 @@ invariant_of-result c =
       fits = fits;
       logged = new_logged v c.in_ok-log.log c.len-2.result c.args.room.log c.in_ok-log.ensures (c.len-2.ensures ∙ sym fits.signals);
       sized = ap (λ l. l.depth) c.in_ok-log.ensures ∙ sym (ap (λ l. l.room) c.in_ok-log.ensures);
+      words_logged = new_words_logged c.in_ok-memories.memories.items c.in_ok-words.words c.args.room.log (c.in_ok-words.ensures ∙ ap (λ rs. record { done = []; undone = []; tests = []; room = c.args.room.log; depth = c.args.room.log; sizes = w.sizes_of rs }) c.as_slice-3.ensures.value);
+      tests = record {
+        word_depth = ap (λ q. q.depth) c.in_ok-words.ensures ∙ sym (ap (λ q. q.room) c.in_ok-words.ensures);
+        room = ap (λ q. q.room) c.in_ok-words.ensures ∙ sym (ap (λ l. l.room) c.in_ok-log.ensures);
+        branches = ap (λ q. seconds q.tests) c.in_ok-words.ensures ∙ sym (ap (λ l. seconds l.tests) c.in_ok-log.ensures);
+      };
       taken = ap (λ q. are_taken (design_view c.args.design.now) q.items) c.in_ok-updates.ensures;
     }
 
