@@ -63,9 +63,9 @@ queued_same : (mode : Mode) (certain : Bool) (ws : List KnownWrite) → certain 
 queued_same None certain ws e = ap (λ t. if_certain t ws) e
 queued_same (Some b) certain ws e = ap (λ t. if_certain t ws) e
 
-module _ {S : Type 0} (noted : List Mark → S → Type 0) (d : Design) (a : State) (mode : Mode) (n : ℕ) (blocking certain : Bool) (x : Target) (t : Term) (v after : Scene) (first next last : Option ℕ) (queue now : List KnownWrite) (xs : List Piece) (r : Partly) (n0 n1 n2 n3 n4 : S) where
+module _ {T S : Type 0} (noted : T → List Mark → S → Type 0) (start : T) (d : Design) (a : State) (mode : Mode) (n : ℕ) (blocking certain : Bool) (x : Target) (t : Term) (v after : Scene) (first next last : Option ℕ) (queue now : List KnownWrite) (xs : List Piece) (r : Partly) (n0 n1 n2 n3 n4 : S) where
   pub assigned_state :
-      IsState d a first v queue (λ ms. noted ms n0)
+      IsState d a first v queue (λ ms. noted start ms n0)
       → Adds noted n0 (record { spot = line n; doubt = mode } ∷ []) n1
       → next ≡ index_first v.design v.kept v.blames first x
       → Adds noted n1 (in_this mode (index_marks v.design v.kept v.blames first x)) n2
@@ -77,7 +77,7 @@ module _ {S : Type 0} (noted : List Mark → S → Type 0) (d : Design) (a : Sta
       → ((u : Scene) (sure : Bool) (thing : ℕ) → blame_option (is_whole r) r.blame ≡ blame_option sure thing → Like u v → Like (made blocking xs (extend_partly (widths xs) r.signed r.bits) sure thing u) after)
       → certain ≡ not (is_some mode)
       → now ≡ queued_by blocking certain v.design xs (extend_partly (widths xs) r.signed r.bits) queue
-      → IsState d (run_set d mode n blocking x t a) last after now (λ ms. noted ms n4)
+      → IsState d (run_set d mode n blocking x t a) last after now (λ ms. noted start ms n4)
   assigned_state h noting index_is indexing located stands last_is evaluating writing making sure_is queueing =
       go blocking making queueing
     where
@@ -124,8 +124,8 @@ module _ {S : Type 0} (noted : List Mark → S → Type 0) (d : Design) (a : Sta
           ap₂ (λ p q. ((hit (line n) ∷ []) ++ p) ++ q ++ pieces_marks v.design xs) (alike_index_marks s v l x a.first first h.first) (alike_marks s v l f1 next t next_is)
           ∙ ap (λ p. ((hit (line n) ∷ []) ++ index_marks d a.kept a.blames a.first x) ++ term_marks d a.kept a.blames f1 t ++ p) (ap (λ e. pieces_marks e xs) l.design ∙ sym (marks_are s a.first x xs pieces))
 
-      marked : noted (a.marks ++ map (in_mode mode) (set_marks d n x t a)) n4
-      marked = subst (λ ms. noted (a.marks ++ map (in_mode mode) ms) n4) marks_same (all_marks.added a.marks h.noted)
+      marked : noted start (a.marks ++ map (in_mode mode) (set_marks d n x t a)) n4
+      marked = subst (λ ms. noted start (a.marks ++ map (in_mode mode) ms) n4) marks_same (all_marks.added start a.marks h.noted)
 
       sure : Bool
       sure = all_sure (known_value d a.kept t)
@@ -138,7 +138,7 @@ module _ {S : Type 0} (noted : List Mark → S → Type 0) (d : Design) (a : Sta
           let is : is_whole r ≡ sure = sym (same_sure r.bits) ∙ ap all_sure value.bits in
           same_option (is_whole r) sure r.blame thing is (λ u. value.blame (is ∙ u))
 
-      go : (b : Bool) → ((u : Scene) (sure : Bool) (thing : ℕ) → blame_option (is_whole r) r.blame ≡ blame_option sure thing → Like u v → Like (made b xs ps sure thing u) after) → now ≡ queued_by b certain v.design xs ps queue → IsState d (run_set d mode n b x t a) last after now (λ ms. noted ms n4)
+      go : (b : Bool) → ((u : Scene) (sure : Bool) (thing : ℕ) → blame_option (is_whole r) r.blame ≡ blame_option sure thing → Like u v → Like (made b xs ps sure thing u) after) → now ≡ queued_by b certain v.design xs ps queue → IsState d (run_set d mode n b x t a) last after now (λ ms. noted start ms n4)
       go true making queueing =
           record {
             scene = subst (λ bits. Like (record { design = d; kept = keep_all a.kept (known_writes d a.kept x bits); blames = set_blames d x t a }) after) ps_is

@@ -6,3 +6,4 @@ pub mod Locating
 pub mod Cutting
 pub mod LikeTargets
 pub mod Assigned
+pub mod Lawful

@@ -37,9 +37,10 @@ pub fn assign<B: Bodies, N: Notes>(
     requires room { HasRoom (set_logs (takes_in (B.around store.old) (B.rooms store.old)) blocking (target_view target.now)) (set_queues blocking (target_view target.now)) (B.rooms store.old) }
     requires none { pieces.old.items ≡ [] }
     requires scratch { 128 ≤ pieces.old.room }
-    ensures state { (d : Design) (a : State) → IsState d a run.first (B.scene store.old) (B.queued store.old) (λ ms. N.noted ms notes.old) → IsState d (run_set d run.mode line blocking (target_view target.now) (term_view value.now) a) result (B.scene store.new) (B.queued store.new) (λ ms. N.noted ms notes.new) }
+    ensures state { (start : N.Start) (d : Design) (a : State) → IsState d a run.first (B.scene store.old) (B.queued store.old) (λ ms. N.noted start ms notes.old) → IsState d (run_set d run.mode line blocking (target_view target.now) (term_view value.now) a) result (B.scene store.new) (B.queued store.new) (λ ms. N.noted start ms notes.new) }
     ensures design { (B.scene store.new).design ≡ (B.scene store.old).design }
     ensures around { B.around store.new ≡ B.around store.old }
+    ensures under { B.under store.new ≡ B.under store.old }
     ensures rooms { Leaves (set_logs (takes_in (B.around store.old) (B.rooms store.old)) blocking (target_view target.now)) (set_queues blocking (target_view target.now)) (B.rooms store.old) (B.rooms store.new) }
     ensures pieces { pieces.new ≡ pieces.old }
 {

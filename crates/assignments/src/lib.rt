@@ -3,11 +3,13 @@
 #![tactic(auto)]
 
 mod assignment;
+mod laws;
 mod parts;
 mod piece;
 mod target;
 
 pub use assignment::assign;
-pub use parts::{note_written, queue_pieces, write_pieces};
+pub use laws::widths_law;
+pub use parts::{at_width, cut, make, note_written, queue_pieces, total_width, write_pieces};
 pub use piece::Piece;
 pub use target::locate;

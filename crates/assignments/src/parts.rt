@@ -46,7 +46,7 @@ fn note_piece<R: Reads, N: Notes>(reads: &R, piece: &Piece, mode: Option<u32>, n
 }
 
 /// So many bits of a value, from this one up.
-fn cut(value: &Known, low: u8, width: u8) -> Known
+pub fn cut(value: &Known, low: u8, width: u8) -> Known
     requires some { 1 ≤ width }
     requires inside { low + width ≤ length value.now.bits }
     ensures bits { result.bits ≡ drop low (take (low + width) value.now.bits) }
@@ -68,6 +68,7 @@ pub fn write_pieces<B: Bodies>(store: &mut B, pieces: &[Piece], value: &Known, b
     ensures design { (B.scene store.new).design ≡ (B.scene store.old).design }
     ensures queued { B.queued store.new ≡ B.queued store.old }
     ensures around { B.around store.new ≡ B.around store.old }
+    ensures under { B.under store.new ≡ B.under store.old }
     ensures rooms { Leaves (pieces_take (takes_in (B.around store.old) (B.rooms store.old)) pieces.now) 0 (B.rooms store.old) (B.rooms store.new) }
 {
     let mut left = value.width();
@@ -86,6 +87,7 @@ pub fn queue_pieces<B: Bodies>(store: &mut B, pieces: &[Piece], value: &Known, c
     ensures scene { B.scene store.new ≡ B.scene store.old }
     ensures queued { B.queued store.new ≡ B.queued store.old ++ if_certain certain (pieces_writes (B.scene store.old).design pieces.now value.now.bits) }
     ensures around { B.around store.new ≡ B.around store.old }
+    ensures under { B.under store.new ≡ B.under store.old }
     ensures rooms { Leaves 0 (length pieces.now) (B.rooms store.old) (B.rooms store.new) }
 {
     let mut left = value.width();
@@ -97,7 +99,7 @@ pub fn queue_pieces<B: Bodies>(store: &mut B, pieces: &[Piece], value: &Known, c
 }
 
 /// How many bits the parts have together.
-fn total_width(pieces: &[Piece]) -> u8
+pub fn total_width(pieces: &[Piece]) -> u8
     requires { widths pieces.now ≤ 128 }
     ensures { result ≡ widths pieces.now }
 {
@@ -120,7 +122,7 @@ fn unsure_blame(value: &Known) -> Option<u32>
 }
 
 /// The value of an assignment at the width of its target, by its own sign (IEEE 1364-2001, clause 4.5).
-fn at_width(value: &Known, width: u8) -> Known
+pub fn at_width(value: &Known, width: u8) -> Known
     requires at_least { 1 ≤ width }
     requires at_most { width ≤ 128 }
     ensures { result.bits ≡ extend_partly width value.now.signed value.now.bits }
@@ -154,6 +156,7 @@ pub fn make<B: Bodies>(
     ensures design { (B.scene store.new).design ≡ (B.scene store.old).design }
     ensures queued { B.queued store.new ≡ queued_by blocking certain (B.scene store.old).design pieces.now (extend_partly (widths pieces.now) value.now.signed value.now.bits) (B.queued store.old) }
     ensures around { B.around store.new ≡ B.around store.old }
+    ensures under { B.under store.new ≡ B.under store.old }
     ensures rooms { Leaves (if blocking then pieces_take (takes_in (B.around store.old) (B.rooms store.old)) pieces.now else 0) (if blocking then 0 else length pieces.now) (B.rooms store.old) (B.rooms store.new) }
 {
     let width = total_width(pieces);

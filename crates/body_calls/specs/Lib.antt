@@ -1,3 +1,5 @@
 pub mod Lvalues
 pub mod Ways
 pub mod Rooms
+pub mod Under
+pub mod Own

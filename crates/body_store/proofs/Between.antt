@@ -1,5 +1,5 @@
 -- What the calls between runs keep of what is known of the cells.
-use Rattle.std.proofs.Common.{◌≡◌, ◌≢◌, ℕ, ◌+◌, ◌-◌, ◌*◌, ◌<◌, ◌≤◌, ◌==◌, Bool, true, false, if◌then◌else◌, List, [], ◌∷◌, length, map, set, refl, sym, ap, ap₂, subst, ◌∙◌, arith, get_or-set_same, get_or-set_other, length-set, inl, ne_eqb, ⊎_elim}
+use Rattle.std.proofs.Common.{◌≡◌, ◌≢◌, ℕ, ◌+◌, ◌-◌, ◌*◌, ◌<◌, ◌≤◌, ◌==◌, Bool, true, false, if◌then◌else◌, List, [], ◌∷◌, length, map, refl, sym, ap, ap₂, subst, ◌∙◌, arith, length-set, inl, ne_eqb, ⊎_elim}
 use Rattle.std.specs.List.{range_with_len}
 use Rattle.std.proofs.lemmas.Bool.{cases_eq}
 use Rattle.std.proofs.lemmas.Bool.Decides.{nat_tests}
@@ -23,11 +23,10 @@ use Rattle.body_calls.specs.Lvalues.{if_certain}
 use Rattle.write_log.specs.Entries.{Fits}
 use Rattle.write_log.specs.Logs.{IsLogOf, LogState}
 use Rattle.word_log.specs.declared.memory.StoredMemory.{StoredMemory}
-use Rattle.body_store.specs.Fitting.{FitsDesign, memory_in}
+use Rattle.body_store.specs.Fitting.{FitsDesign}
 use Rattle.body_store.specs.Held.{HoldsMemories, IsMemory}
 use Rattle.body_store.specs.Made.{unblamed}
 use Rattle.body_store.proofs.Fit.{among_memories, from_memories}
-use Rattle.body_store.proofs.Memories.{no_stored}
 use Rattle.body_store.proofs.Inside.{Inside, inside_misses, inside_part, inside_weaken, inside_whole, is_below}
 
 -- ---- the shapes stay
@@ -63,14 +62,14 @@ stands_missed d k ws m r h s =
     }
 
 -- writes to a signal leave the memories
-pub memories_left : (d : Design) (k : Kept) (e : Blames) (rs : List StoredMemory) (s : ℕ) (at : ℕ → Bool) (ws : List KnownWrite) → s < length d.signals → Inside s at ws → HoldsMemories d k e rs → HoldsMemories d (keep_all k ws) e rs
-memories_left d k e rs s at ws l inside h =
+pub memories_left : (d : Design) (k : Kept) (e : Blames) (n : ℕ) (held : ℕ → StoredMemory) (s : ℕ) (at : ℕ → Bool) (ws : List KnownWrite) → s < length d.signals → Inside s at ws → HoldsMemories d k e n held → HoldsMemories d (keep_all k ws) e n held
+memories_left d k e n held s at ws l inside h =
     record {
       count = h.count;
       each = λ i b.
-          let old : IsMemory d k e (length d.signals + i) (memory_in rs i) = h.each i b in
+          let old : IsMemory d k e (length d.signals + i) (held i) = h.each i b in
           let other : (s == length d.signals + i) ≡ false = grind (arith, nat_tests, l) in
-          record { words = stands_missed d k ws (length d.signals + i) (memory_in rs i).words (λ j. inside_misses s at ws (cell (length d.signals + i) j) inside (inl other)) old.words; blame = old.blame; wrote = old.wrote };
+          record { words = stands_missed d k ws (length d.signals + i) (held i).words (λ j. inside_misses s at ws (cell (length d.signals + i) j) inside (inl other)) old.words; blame = old.blame; wrote = old.wrote };
     }
 
 -- writes to a memory leave the signals
@@ -100,52 +99,51 @@ pub same_either : (certain : Bool) (ws : List KnownWrite) → (if certain then w
 same_either true ws = refl
 same_either false ws = refl
 
-module _ (d : Design) (k : Kept) (v w : Signals) (rs : List StoredMemory) (s : ℕ) (certain : Bool) (l : s < length d.signals) (signals : HoldsSignals d k itself v) (memories : HoldsMemories d k unblamed rs) where
-  pub whole_kept : (p : Partly) (bits : KnownBits) → length p.bits ≡ (signal_at d s).width → p.bits ≡ bits → w ≡ with_kept v s (updated certain s p (kept_at v s)) → HoldsSignals d (keep_all k (if_certain certain (writes_of (signal_cells d s) bits))) itself w × HoldsMemories d (keep_all k (if_certain certain (writes_of (signal_cells d s) bits))) unblamed rs
+module _ (d : Design) (k : Kept) (v w : Signals) (n : ℕ) (mems : ℕ → StoredMemory) (s : ℕ) (certain : Bool) (l : s < length d.signals) (signals : HoldsSignals d k itself v) (memories : HoldsMemories d k unblamed n mems) where
+  pub whole_kept : (p : Partly) (bits : KnownBits) → length p.bits ≡ (signal_at d s).width → p.bits ≡ bits → w ≡ with_kept v s (updated certain s p (kept_at v s)) → HoldsSignals d (keep_all k (if_certain certain (writes_of (signal_cells d s) bits))) itself w × HoldsMemories d (keep_all k (if_certain certain (writes_of (signal_cells d s) bits))) unblamed n mems
   whole_kept p bits size same is =
       let ws = if_certain certain (writes_of (signal_cells d s) bits) in
       let law : HoldsSignals d (keep_all k (held.if_certain certain (writes_of (signal_cells d s) p.bits))) itself (with_kept v s (updated certain s p (kept_at v s))) = update_law d k v s p certain l size signals in
       let writes : held.if_certain certain (writes_of (signal_cells d s) p.bits) ≡ ws = same_certain certain (writes_of (signal_cells d s) p.bits) ∙ ap (λ ps. if_certain certain (writes_of (signal_cells d s) ps)) same in (
         subst (λ y. HoldsSignals d (keep_all k ws) itself y) (sym is) (subst (λ us. HoldsSignals d (keep_all k us) itself (with_kept v s (updated certain s p (kept_at v s)))) writes law),
-        memories_left d k unblamed rs s (is_below (signal_at d s).width) ws l (certain_inside s (is_below (signal_at d s).width) (writes_of (signal_cells d s) bits) certain (inside_whole d s bits)) memories,
+        memories_left d k unblamed n mems s (is_below (signal_at d s).width) ws l (certain_inside s (is_below (signal_at d s).width) (writes_of (signal_cells d s) bits) certain (inside_whole d s bits)) memories,
       )
 
-  pub part_kept : (i p : Partly) → 1 ≤ length p.bits → w ≡ with_kept v s (updated certain s (part_written (shape_at v s).range i p (kept_at v s)) (kept_at v s)) → HoldsSignals d (keep_all k (if_certain certain (write_bits d s i.signed i.bits p.bits))) itself w × HoldsMemories d (keep_all k (if_certain certain (write_bits d s i.signed i.bits p.bits))) unblamed rs
+  pub part_kept : (i p : Partly) → 1 ≤ length p.bits → w ≡ with_kept v s (updated certain s (part_written (shape_at v s).range i p (kept_at v s)) (kept_at v s)) → HoldsSignals d (keep_all k (if_certain certain (write_bits d s i.signed i.bits p.bits))) itself w × HoldsMemories d (keep_all k (if_certain certain (write_bits d s i.signed i.bits p.bits))) unblamed n mems
   part_kept i p some is =
       let ws = if_certain certain (write_bits d s i.signed i.bits p.bits) in
       let law : HoldsSignals d (keep_all k (held.if_certain certain (write_bits d s i.signed i.bits p.bits))) itself (with_kept v s (updated certain s (part_written (shape_at v s).range i p (kept_at v s)) (kept_at v s))) = update_part_law d k v s i p certain l some signals in (
         subst (λ y. HoldsSignals d (keep_all k ws) itself y) (sym is) (subst (λ us. HoldsSignals d (keep_all k us) itself (with_kept v s (updated certain s (part_written (shape_at v s).range i p (kept_at v s)) (kept_at v s)))) (same_certain certain (write_bits d s i.signed i.bits p.bits)) law),
-        memories_left d k unblamed rs s (is_below (signal_at d s).width) ws l (certain_inside s (is_below (signal_at d s).width) (write_bits d s i.signed i.bits p.bits) certain (inside_part d s i.signed i.bits p.bits)) memories,
+        memories_left d k unblamed n mems s (is_below (signal_at d s).width) ws l (certain_inside s (is_below (signal_at d s).width) (write_bits d s i.signed i.bits p.bits) certain (inside_part d s i.signed i.bits p.bits)) memories,
       )
 
 -- ---- a word is set
 
 -- the words of a memory as they are held
-pub held_words : (d : Design) (k : Kept) (e : Blames) (rs : List StoredMemory) (m : ℕ) → is_memory d m ≡ true → HoldsMemories d k e rs → StandsFor d k m (memory_in rs (m - length d.signals)).words
-held_words d k e rs m is h =
+pub held_words : (d : Design) (k : Kept) (e : Blames) (n : ℕ) (held : ℕ → StoredMemory) (m : ℕ) → is_memory d m ≡ true → HoldsMemories d k e n held → StandsFor d k m (held (m - length d.signals)).words
+held_words d k e n held m is h =
     let from = from_memories d m is in
     let number : length d.signals + (m - length d.signals) ≡ m = omega (arith, from) in
-    subst (λ y. StandsFor d k y (memory_in rs (m - length d.signals)).words) number (h.each (m - length d.signals) (among_memories d m is)).words
+    subst (λ y. StandsFor d k y (held (m - length d.signals)).words) number (h.each (m - length d.signals) (among_memories d m is)).words
 
-pub memory_set : (d : Design) (k : Kept) (e : Blames) (rs : List StoredMemory) (m : ℕ) (new : StoredMemory) (at : ℕ → Bool) (ws : List KnownWrite) → is_memory d m ≡ true → Inside m at ws → HoldsMemories d k e rs → StandsFor d (keep_all k ws) m new.words → new.words.shape ≡ (memory_in rs (m - length d.signals)).words.shape → new.written ≡ (memory_in rs (m - length d.signals)).written → HoldsMemories d (keep_all k ws) e (set rs (m - length d.signals) new)
-memory_set d k e rs m new at ws is inside h stands shape flag =
-    record { count = length-set rs (m - length d.signals) new ∙ h.count; each = λ i l. ⊎_elim (λ q. here i l q) (λ ne. there i l ne) (cases_eq i (m - length d.signals)) }
+pub memory_set : (d : Design) (k : Kept) (e : Blames) (n n' : ℕ) (held held' : ℕ → StoredMemory) (m : ℕ) (at : ℕ → Bool) (ws : List KnownWrite) → is_memory d m ≡ true → Inside m at ws → HoldsMemories d k e n held → n' ≡ n → StandsFor d (keep_all k ws) m (held' (m - length d.signals)).words → (held' (m - length d.signals)).words.shape ≡ (held (m - length d.signals)).words.shape → (held' (m - length d.signals)).written ≡ (held (m - length d.signals)).written → ((i : ℕ) → (m - length d.signals == i) ≡ false → held' i ≡ held i) → HoldsMemories d (keep_all k ws) e n' held'
+memory_set d k e n n' held held' m at ws is inside h count stands shape flag others =
+    record { count = count ∙ h.count; each = λ i l. ⊎_elim (λ q. here i l q) (λ ne. there i l ne) (cases_eq i (m - length d.signals)) }
   where
-    here : (i : ℕ) → i < length d.memories → i ≡ m - length d.signals → IsMemory d (keep_all k ws) e (length d.signals + i) (memory_in (set rs (m - length d.signals) new) i)
+    here : (i : ℕ) → i < length d.memories → i ≡ m - length d.signals → IsMemory d (keep_all k ws) e (length d.signals + i) (held' i)
     here i l q =
         let from = from_memories d m is in
         let number : length d.signals + i ≡ m = omega (arith, from, q) in
-        let size : m - length d.signals < length rs = (let count = h.count in let among = among_memories d m is in omega (arith, count, among)) in
-        let now : memory_in (set rs (m - length d.signals) new) i ≡ new = ap (memory_in (set rs (m - length d.signals) new)) q ∙ get_or-set_same rs (m - length d.signals) new no_stored size in
-        let old : IsMemory d k e (length d.signals + i) (memory_in rs i) = h.each i l in
-        subst (IsMemory d (keep_all k ws) e (length d.signals + i)) (sym now)
-        (record { words = subst (λ y. StandsFor d (keep_all k ws) y new.words) (sym number) stands; blame = ap (λ y. y.blame) shape ∙ ap (λ j. (memory_in rs j).words.shape.blame) (sym q) ∙ old.blame; wrote = flag ∙ ap (λ j. (memory_in rs j).written) (sym q) ∙ old.wrote })
+        let old : IsMemory d k e (length d.signals + i) (held i) = h.each i l in
+        subst (λ j. IsMemory d (keep_all k ws) e (length d.signals + i) (held' j)) (sym q)
+        (record { words = subst (λ y. StandsFor d (keep_all k ws) y (held' (m - length d.signals)).words) (sym number) stands; blame = ap (λ y. y.blame) shape ∙ ap (λ j. (held j).words.shape.blame) (sym q) ∙ old.blame; wrote = flag ∙ ap (λ j. (held j).written) (sym q) ∙ old.wrote })
 
-    there : (i : ℕ) → i < length d.memories → (i ≡ m - length d.signals → ⊥) → IsMemory d (keep_all k ws) e (length d.signals + i) (memory_in (set rs (m - length d.signals) new) i)
+    there : (i : ℕ) → i < length d.memories → (i ≡ m - length d.signals → ⊥) → IsMemory d (keep_all k ws) e (length d.signals + i) (held' i)
     there i l ne =
         let from = from_memories d m is in
         let differ : m ≢ length d.signals + i = (λ q. ne (omega (arith, q))) in
         let other : (m == length d.signals + i) ≡ false = ne_eqb m (length d.signals + i) differ in
-        let old : IsMemory d k e (length d.signals + i) (memory_in rs i) = h.each i l in
-        subst (IsMemory d (keep_all k ws) e (length d.signals + i)) (sym (get_or-set_other rs (m - length d.signals) i new no_stored ne))
-        (record { words = stands_missed d k ws (length d.signals + i) (memory_in rs i).words (λ j. inside_misses m at ws (cell (length d.signals + i) j) inside (inl other)) old.words; blame = old.blame; wrote = old.wrote })
+        let away : (m - length d.signals == i) ≡ false = ne_eqb (m - length d.signals) i (λ q. ne (sym q)) in
+        let old : IsMemory d k e (length d.signals + i) (held i) = h.each i l in
+        subst (IsMemory d (keep_all k ws) e (length d.signals + i)) (sym (others i away))
+        (record { words = stands_missed d k ws (length d.signals + i) (held i).words (λ j. inside_misses m at ws (cell (length d.signals + i) j) inside (inl other)) old.words; blame = old.blame; wrote = old.wrote })

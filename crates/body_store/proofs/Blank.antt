@@ -6,12 +6,14 @@ use Rattle.std.specs.List.{range_with_len}
 use Rattle.std.specs.Option.{unwrap_or}
 use Rattle.std.proofs.lemmas.List.{get_or-map, get_or_append_left, get_or_push, length-map}
 use Rattle.std.proofs.lemmas.Bool.{cases_eq}
+use Rattle.std.proofs.Math.Path.{fun_ext}
 use Rattle.design_model.specs.declared.design.Memory.{Memory}
 use Rattle.design_model.specs.declared.design.Signal.{Signal}
 use Rattle.design_model.specs.Design.{Design, cell, memory_at, no_memory, no_signal, signal_at}
 use Rattle.body_replay.specs.Store.{Kept}
 use Rattle.body_replay.specs.Replay.{Blames}
 use Rattle.memory_rebuild.proofs.Laws.{unwritten_stands}
+use Rattle.memory_rebuild.specs.Words.{KnownWords, unwritten}
 use Rattle.value_store.specs.Signals.{Shape, Signals, kept_at, hidden_at, no_shape, no_value, shape_of, unknown_from, unknown_of, unknown_signals}
 use Rattle.value_store.specs.Held.{HoldsSignals, IsSignal}
 use Rattle.word_log.specs.declared.memory.StoredMemory.{StoredMemory}
@@ -19,6 +21,8 @@ use Rattle.body_store.specs.declared.store.Store.{Store}
 use Rattle.body_store.specs.Made as m
 use Rattle.body_store.specs.Made.{AreUnknown, nothing, unblamed, unknown_memory}
 use Rattle.body_store.specs.Held.{HoldsMemories, HoldsStore, IsMemory, ReadsSignals, ReadsStore}
+use Rattle.body_store.specs.Fitting.{memory_in}
+use Rattle.body_store.proofs.Veiling.{plain_memory}
 
 -- ---- the first memories of a list
 
@@ -35,6 +39,23 @@ one_filled n i xs rs ss a b is pushed made size f =
           (λ ne. let less : j < i = omega (arith, l, ne) in
           let count = f.count in
           ap (λ zs. get_or zs j r) pushed ∙ get_or_append_left rs (b ∷ []) r j (omega (arith, less, count)) ∙ f.each j r x less)
+          (cases_eq j i);
+    }
+
+-- the words of the first memories of a list
+pub record Blank (n i : ℕ) (xs : List Memory) (ws : List KnownWords) : Type 0 where
+  pub count : length ws ≡ i
+  pub each : (j : ℕ) (w : KnownWords) (x : Memory) → j < i → get_or ws j w ≡ unwritten (m.shape_of (get_or xs j x) (n + j))
+
+pub one_blank : (n i : ℕ) (xs : List Memory) (ws us : List KnownWords) (a : Memory) (b : KnownWords) → ((x : Memory) → a ≡ get_or xs i x) → us ≡ ws ++ b ∷ [] → b ≡ unwritten (m.shape_of a (n + i)) → length us ≡ i + 1 → Blank n i xs ws → Blank n (i + 1) xs us
+one_blank n i xs ws us a b is pushed made size f =
+    record {
+      count = size;
+      each = λ j w x l. ⊎_elim
+          (λ e. ap (λ zs. get_or zs j w) pushed ∙ ap (λ k. get_or (ws ++ b ∷ []) k w) e ∙ get_or_push ws b w i f.count ∙ made ∙ ap (λ y. unwritten (m.shape_of y (n + i))) (is x) ∙ ap (λ k. unwritten (m.shape_of (get_or xs k x) (n + k))) (sym e))
+          (λ ne. let less : j < i = omega (arith, l, ne) in
+          let count = f.count in
+          ap (λ zs. get_or zs j w) pushed ∙ get_or_append_left ws (b ∷ []) w j (omega (arith, less, count)) ∙ f.each j w x less)
           (cases_eq j i);
     }
 
@@ -73,6 +94,10 @@ pub unknown_holds : (d : Design) → HoldsSignals d nothing (λ x. x) (unknown_s
 unknown_holds d =
     record { shapes = refl; count = length-unknown 0 (map shape_of d.signals) ∙ length-map d.signals shape_of; each = unknown_signal d }
 
+-- none is shown or veiled
+pub none_shown : (d : Design) (v : Signals) → v ≡ unknown_signals (map shape_of d.signals) → (s : ℕ) → hidden_at v s ≡ None
+none_shown d v e s = ap (λ y. hidden_at y s) e ∙ none_hidden s (map shape_of d.signals)
+
 -- ---- memories of which nothing is known
 
 pub memory_is : (d : Design) (i : ℕ) → memory_at d (length d.signals + i) ≡ get_or d.memories i no_memory
@@ -91,23 +116,26 @@ unknown_is d i =
       wrote = refl;
     }
 
-pub unknown_memories : (d : Design) (rs : List StoredMemory) → AreUnknown (length d.signals) d.memories rs → HoldsMemories d nothing unblamed rs
+pub unknown_memories : (d : Design) (rs : List StoredMemory) → AreUnknown (length d.signals) d.memories rs → HoldsMemories d nothing unblamed (length rs) (memory_in rs)
 unknown_memories d rs a =
     record { count = a.count; each = λ i l. subst (IsMemory d nothing unblamed (length d.signals + i)) (sym (a.each i (unknown_memory no_memory 0) no_memory l)) (unknown_is d i) }
 
-pub unknown_store : (d : Design) (x : Store) → x.signals ≡ unknown_signals (map shape_of d.signals) → AreUnknown (length d.signals) d.memories x.memories.items → HoldsStore d nothing unblamed x
-unknown_store d x e a =
-    record { signals = subst (HoldsSignals d nothing (λ y. y)) (sym e) (unknown_holds d); memories = unknown_memories d x.memories.items a }
+pub unknown_store : (d : Design) (x : Store) → x.signals ≡ unknown_signals (map shape_of d.signals) → AreUnknown (length d.signals) d.memories x.memories.items → x.veils.veiled.items ≡ [] → HoldsStore d nothing unblamed x
+unknown_store d x e a none =
+    record {
+      signals = subst (HoldsSignals d nothing (λ y. y)) (sym e) (unknown_holds d);
+      memories = subst (HoldsMemories d nothing unblamed (length x.memories.items)) (fun_ext (λ i. sym (plain_memory x.veils x.memories.items none i))) (unknown_memories d x.memories.items a);
+    }
 
 pub unknown_read : (d : Design) (x : Store) → x.signals ≡ unknown_signals (map shape_of d.signals) → AreUnknown (length d.signals) d.memories x.memories.items → ReadsStore d nothing unblamed x
 unknown_read d x e a =
-    let h = unknown_store d x e a in
-    record { signals = plainly d nothing unblamed x.signals (λ s. ap (λ v. hidden_at v s) e ∙ none_hidden s (map shape_of d.signals)) h.signals; memories = h.memories }
+    let signals : HoldsSignals d nothing (λ y. y) x.signals = subst (HoldsSignals d nothing (λ y. y)) (sym e) (unknown_holds d) in
+    record { signals = plainly d nothing unblamed x.signals (none_shown d x.signals e) signals; memories = unknown_memories d x.memories.items a }
 
 -- ---- as a store is made
 
-pub made_store : (d : Design) (n : ℕ) (ss : List Signal) (ms : List Memory) (x : Store) → n ≡ length d.signals → ss ≡ d.signals → ms ≡ d.memories → x.signals ≡ unknown_signals (map shape_of ss) → AreUnknown n ms x.memories.items → HoldsStore d nothing unblamed x × ReadsStore d nothing unblamed x
-made_store d n ss ms x count signals memories e a =
+pub made_store : (d : Design) (n : ℕ) (ss : List Signal) (ms : List Memory) (x : Store) → n ≡ length d.signals → ss ≡ d.signals → ms ≡ d.memories → x.signals ≡ unknown_signals (map shape_of ss) → AreUnknown n ms x.memories.items → x.veils.veiled.items ≡ [] → HoldsStore d nothing unblamed x × ReadsStore d nothing unblamed x
+made_store d n ss ms x count signals memories e a none =
     let is : x.signals ≡ unknown_signals (map shape_of d.signals) = e ∙ ap (λ y. unknown_signals (map shape_of y)) signals in
     let all : AreUnknown (length d.signals) d.memories x.memories.items = subst (λ k. AreUnknown k d.memories x.memories.items) count (subst (λ y. AreUnknown n y x.memories.items) memories a) in
-    (unknown_store d x is all, unknown_read d x is all)
+    (unknown_store d x is all none, unknown_read d x is all)

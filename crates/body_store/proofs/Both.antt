@@ -29,7 +29,7 @@ use Rattle.word_log.specs.Logs.{IsWordLogOf, WordLogState}
 use Rattle.body_calls.specs.Lvalues.{Like}
 use Rattle.body_store.specs.Tests.{SameTests, log_room, seconds, word_room}
 use Rattle.body_store.specs.Bodies.{write_takes}
-use Rattle.body_store.specs.Fitting.{FitsDesign, FitsMemory}
+use Rattle.body_store.specs.Fitting.{FitsDesign, FitsWords}
 use Rattle.body_store.proofs.Branches.{WordsJoined}
 use Rattle.body_store.proofs.Fit.{among_memories, from_memories, in_memories}
 use Rattle.body_store.proofs.Tests.{seconds_around, seconds_of_words}
@@ -117,7 +117,7 @@ takes_words D v rs x fits is =
     let d : Design = design_view D in
     let from : length D.signals ≤ x = from_memories d x is in
     let no_signal : nat_lt x (length D.signals) ≡ false = grind (arith, nat_tests, from) in
-    let fit : FitsMemory (get_or D.memories (x - length D.signals) no_memory) (length D.signals + (x - length D.signals)) (memory_in rs (x - length D.signals)) = fits.each (x - length D.signals) (among_memories d x is) in
+    let fit : FitsWords (get_or D.memories (x - length D.signals) no_memory) (length D.signals + (x - length D.signals)) (memory_in rs (x - length D.signals)).words = fits.each (x - length D.signals) (among_memories d x is) in
     ap (λ t. if t then 1 else count (shape_of (memory_at d x) x) + 1) no_signal
     ∙ ap (λ y. count (shape_of y x) + 1) (in_memories d x is)
     ∙ ap (λ y. count y + 1) (sym fit.shape)

@@ -1,5 +1,5 @@
 -- A store once the run of a body has ended.
-use Rattle.std.proofs.Common.{◌≡◌, ℕ, ◌+◌, ◌<◌, ◌≤◌, ◌==◌, true, false, if◌then◌else◌, List, [], ◌∷◌, ◌++◌, length, set, refl, sym, ap, subst, ◌∙◌, arith, eq-eqb, get_or-set_same, get_or-set_other, length-set, ne_eqb, get_or, ⊎_elim}
+use Rattle.std.proofs.Common.{◌≡◌, ℕ, ◌+◌, ◌<◌, ◌≤◌, ◌==◌, true, false, if◌then◌else◌, List, [], ◌∷◌, ◌++◌, length, set, refl, sym, ap, subst, ◌∙◌, arith, eq-eqb, ne_eqb, get_or, ⊎_elim}
 use Rattle.std.proofs.lemmas.Bool.{cases_eq}
 use Rattle.std.proofs.lemmas.Bool.Decides.{nat_tests}
 use Rattle.known_state.specs.Partly.{with_blame}
@@ -8,15 +8,15 @@ use Rattle.design_model.specs.declared.design.Signal.{Signal}
 use Rattle.design_model.specs.Design.{Design, no_memory}
 use Rattle.body_replay.specs.Replay.{Blames}
 use Rattle.body_replay.specs.Store.{Kept}
-use Rattle.memory_rebuild.specs.Words.{count, IsIndex, StandsFor, word_at}
+use Rattle.memory_rebuild.specs.Words.{StandsFor}
 use Rattle.value_store.specs.Signals.{Signals, kept_at}
 use Rattle.value_store.specs.Held.{HoldsSignals, IsSignal, with_kept}
 use Rattle.value_store.proofs.Held.{one_kept}
 use Rattle.word_log.specs.declared.memory.StoredMemory.{StoredMemory}
 use Rattle.body_store.specs.Ended.{ended, settled}
-use Rattle.body_store.specs.Fitting.{FitsDesign, FitsMemory, memory_in}
+use Rattle.body_store.specs.Fitting.{FitsDesign, FitsWords, memory_in}
 use Rattle.body_store.specs.Held.{HoldsMemories, IsMemory}
-use Rattle.body_store.proofs.Memories.{no_stored}
+use Rattle.body_store.proofs.Memories.{fits_set}
 
 -- ---- a signal
 
@@ -28,12 +28,12 @@ signal_settled d k e v s l h =
     (λ x o. refl)
     (λ x o. ap (λ t. if t then x else e.blame x) o)
 
-pub memories_apart : (d : Design) (k : Kept) (e : Blames) (rs : List StoredMemory) (s : ℕ) → s < length d.signals → HoldsMemories d k e rs → HoldsMemories d k (settled s e) rs
-memories_apart d k e rs s l h =
+pub memories_apart : (d : Design) (k : Kept) (e : Blames) (n : ℕ) (held : ℕ → StoredMemory) (s : ℕ) → s < length d.signals → HoldsMemories d k e n held → HoldsMemories d k (settled s e) n held
+memories_apart d k e n held s l h =
     record {
       count = h.count;
       each = λ i b.
-          let old : IsMemory d k e (length d.signals + i) (memory_in rs i) = h.each i b in
+          let old : IsMemory d k e (length d.signals + i) (held i) = h.each i b in
           let other : (s == length d.signals + i) ≡ false = grind (arith, nat_tests, l) in
           record { words = old.words; blame = old.blame ∙ sym (ap (λ t. if t then length d.signals + i else e.blame (length d.signals + i)) other); wrote = old.wrote ∙ sym (ap (λ t. if t then false else e.wrote (length d.signals + i)) other) };
     }
@@ -51,50 +51,34 @@ signals_apart d k e v m l h =
           record { bits = old.bits; blamed = λ u. old.blamed u ∙ sym (ap (λ t. if t then s else e.blame s) other) };
     }
 
-module _ (ss : List Signal) (ms : List Memory) (v : Signals) (rs : List StoredMemory) (p : ℕ) (new : StoredMemory) (fits : FitsDesign ss ms v rs) (inside : p < length ms) (words : new.words ≡ (memory_in rs p).words) where
-  size : p < length rs
-  size = let count = fits.memories in omega (arith, inside, count)
+-- a flag of a memory says nothing of its shape
+pub flag_fits : (ss : List Signal) (ms : List Memory) (v : Signals) (rs : List StoredMemory) (p : ℕ) (new : StoredMemory) → FitsDesign ss ms v rs → new.words ≡ (memory_in rs p).words → FitsDesign ss ms v (set rs p new)
+flag_fits ss ms v rs p new fits words =
+    fits_set ss ms v rs p new fits (λ l. subst (FitsWords (get_or ms p no_memory) (length ss + p)) (sym words) (fits.each p l))
 
-  now : memory_in (set rs p new) p ≡ new
-  now = get_or-set_same rs p new no_stored size
+-- a memory is to blame for itself, and counts as not written
+pub memory_settled : (d : Design) (k : Kept) (e : Blames) (n n' : ℕ) (held held' : ℕ → StoredMemory) (p : ℕ) → HoldsMemories d k e n held → n' ≡ n → (p < length d.memories → (held p).words.shape.blame ≡ length d.signals + p) → (held' p).words ≡ (held p).words → (held' p).written ≡ false → ((i : ℕ) → (p == i) ≡ false → held' i ≡ held i) → HoldsMemories d k (settled (length d.signals + p) e) n' held'
+memory_settled d k e n n' held held' p h count own words flag others =
+    record { count = count ∙ h.count; each = λ i l. ⊎_elim (λ q. here i l q) (λ ne. there i l ne) (cases_eq i p) }
+  where
+    here : (i : ℕ) → i < length d.memories → i ≡ p → IsMemory d k (settled (length d.signals + p) e) (length d.signals + i) (held' i)
+    here i l q =
+        let old : IsMemory d k e (length d.signals + i) (held i) = h.each i l in
+        let same : (length d.signals + p == length d.signals + i) ≡ true = eq-eqb _ _ (ap (λ j. length d.signals + j) (sym q)) in
+        let is : (held' i).words ≡ (held i).words = ap (λ j. (held' j).words) q ∙ words ∙ ap (λ j. (held j).words) (sym q) in
+        record {
+          words = subst (StandsFor d k (length d.signals + i)) (sym is) old.words;
+          blame = ap (λ w. w.shape.blame) is ∙ ap (λ j. (held j).words.shape.blame) q ∙ own (subst (λ j. j < length d.memories) q l) ∙ ap (λ j. length d.signals + j) (sym q) ∙ sym (ap (λ t. if t then length d.signals + i else e.blame (length d.signals + i)) same);
+          wrote = ap (λ j. (held' j).written) q ∙ flag ∙ sym (ap (λ t. if t then false else e.wrote (length d.signals + i)) same);
+        }
 
-  pub flag_fits : FitsDesign ss ms v (set rs p new)
-  flag_fits = record { shapes = fits.shapes; signals = fits.signals; memories = length-set rs p new ∙ fits.memories; each = λ i l. ⊎_elim (λ q. here i l q) (λ ne. there i l ne) (cases_eq i p) }
-    where
-      here : (i : ℕ) → i < length ms → i ≡ p → FitsMemory (get_or ms i no_memory) (length ss + i) (memory_in (set rs p new) i)
-      here i l q =
-          let old : FitsMemory (get_or ms i no_memory) (length ss + i) (memory_in rs i) = fits.each i l in
-          let is : (memory_in rs i).words ≡ (memory_in (set rs p new) i).words = ap (λ j. (memory_in rs j).words) q ∙ sym words ∙ sym (ap (λ r. r.words) (ap (memory_in (set rs p new)) q ∙ now)) in
-          record { shape = ap (λ w. w.shape) (sym is) ∙ old.shape; widths = subst (λ w. (j : ℕ) → IsIndex w.shape j → length (word_at w j) ≡ w.shape.width) is old.widths; size = subst (λ w. length w.words ≡ count w.shape) is old.size }
-
-      there : (i : ℕ) → i < length ms → (i ≡ p → ⊥) → FitsMemory (get_or ms i no_memory) (length ss + i) (memory_in (set rs p new) i)
-      there i l ne = subst (FitsMemory (get_or ms i no_memory) (length ss + i)) (sym (get_or-set_other rs p i new no_stored ne)) (fits.each i l)
-
-  pub memory_settled : (d : Design) (k : Kept) (e : Blames) → d.signals ≡ ss → d.memories ≡ ms → new.written ≡ false → HoldsMemories d k e rs → HoldsMemories d k (settled (length d.signals + p) e) (set rs p new)
-  memory_settled d k e same_signals same_memories flag h =
-      record { count = length-set rs p new ∙ h.count; each = λ i l. ⊎_elim (λ q. here i l q) (λ ne. there i l ne) (cases_eq i p) }
-    where
-      here : (i : ℕ) → i < length d.memories → i ≡ p → IsMemory d k (settled (length d.signals + p) e) (length d.signals + i) (memory_in (set rs p new) i)
-      here i l q =
-          let old : IsMemory d k e (length d.signals + i) (memory_in rs i) = h.each i l in
-          let fit : FitsMemory (get_or ms i no_memory) (length ss + i) (memory_in rs i) = fits.each i (subst (λ y. i < length y) same_memories l) in
-          let at : memory_in (set rs p new) i ≡ new = ap (memory_in (set rs p new)) q ∙ now in
-          let is : (memory_in rs i).words ≡ new.words = ap (λ j. (memory_in rs j).words) q ∙ sym words in
-          let same : (length d.signals + p == length d.signals + i) ≡ true = eq-eqb _ _ (ap (λ j. length d.signals + j) (sym q)) in
-          let number : length ss + i ≡ length d.signals + i = ap (λ y. length y + i) (sym same_signals) in
-          subst (IsMemory d k (settled (length d.signals + p) e) (length d.signals + i)) (sym at)
-          (record {
-            words = subst (StandsFor d k (length d.signals + i)) is old.words;
-            blame = ap (λ w. w.shape.blame) (sym is) ∙ ap (λ y. y.blame) fit.shape ∙ number ∙ sym (ap (λ t. if t then length d.signals + i else e.blame (length d.signals + i)) same);
-            wrote = flag ∙ sym (ap (λ t. if t then false else e.wrote (length d.signals + i)) same);
-          })
-
-      there : (i : ℕ) → i < length d.memories → (i ≡ p → ⊥) → IsMemory d k (settled (length d.signals + p) e) (length d.signals + i) (memory_in (set rs p new) i)
-      there i l ne =
-          let old : IsMemory d k e (length d.signals + i) (memory_in rs i) = h.each i l in
-          let other : (length d.signals + p == length d.signals + i) ≡ false = ne_eqb _ _ (λ q. ne (omega (arith, q))) in
-          subst (IsMemory d k (settled (length d.signals + p) e) (length d.signals + i)) (sym (get_or-set_other rs p i new no_stored ne))
-          (record { words = old.words; blame = old.blame ∙ sym (ap (λ t. if t then length d.signals + i else e.blame (length d.signals + i)) other); wrote = old.wrote ∙ sym (ap (λ t. if t then false else e.wrote (length d.signals + i)) other) })
+    there : (i : ℕ) → i < length d.memories → (i ≡ p → ⊥) → IsMemory d k (settled (length d.signals + p) e) (length d.signals + i) (held' i)
+    there i l ne =
+        let old : IsMemory d k e (length d.signals + i) (held i) = h.each i l in
+        let other : (length d.signals + p == length d.signals + i) ≡ false = ne_eqb _ _ (λ q. ne (omega (arith, q))) in
+        let away : (p == i) ≡ false = ne_eqb p i (λ q. ne (sym q)) in
+        subst (IsMemory d k (settled (length d.signals + p) e) (length d.signals + i)) (sym (others i away))
+        (record { words = old.words; blame = old.blame ∙ sym (ap (λ t. if t then length d.signals + i else e.blame (length d.signals + i)) other); wrote = old.wrote ∙ sym (ap (λ t. if t then false else e.wrote (length d.signals + i)) other) })
 
 -- ---- in order
 

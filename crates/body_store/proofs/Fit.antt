@@ -11,7 +11,7 @@ use Rattle.design_model.specs.declared.design.Signal.{Signal}
 use Rattle.design_model.specs.Design.{Design, is_memory, memory_at, no_memory, no_signal, signal_at, signal_cells}
 use Rattle.body_replay.specs.KnownBits.{KnownBits, unknown}
 use Rattle.memory_rebuild.specs.declared.shape.Shape.{Shape}
-use Rattle.memory_rebuild.specs.Words.{HaveWidth, IsIndex, KnownWords, StandsFor, count, least, unwritten, word_at}
+use Rattle.memory_rebuild.specs.Words.{HaveWidth, IsIndex, KnownWords, StandsFor, count, least, unwritten}
 use Rattle.value_store.specs.Signals as s
 use Rattle.value_store.specs.Signals.{SameUnder, Signals, no_shape, shape_at, unknown_signals}
 use Rattle.word_log.specs.declared.memory.StoredMemory.{StoredMemory}
@@ -19,7 +19,7 @@ use Rattle.word_log.specs.Logs.{IsWordLogOf, WordLogState}
 use Rattle.word_log.specs.Memories.{SameShapes, word_in}
 use Rattle.word_log.proofs.Shapes.{all_under, sizes_same}
 use Rattle.body_store.specs.Made.{AreUnknown, shape_of, unknown_memory}
-use Rattle.body_store.specs.Fitting.{FitsDesign, FitsMemory, memory_in}
+use Rattle.body_store.specs.Fitting.{FitsDesign, FitsWords, memory_in}
 use Rattle.body_store.specs.Scenes.{kept_by}
 use Rattle.body_store.proofs.Blank.{length-unknown}
 use Rattle.body_store.proofs.Rows.{signal_row, stands_here}
@@ -31,12 +31,12 @@ same_past zero k x = refl
 same_past (suc n) zero x = refl
 same_past (suc n) (suc k) x = same_past n k x
 
--- each word has the width of the memory's words
-abbrev AreWide : KnownWords → Type 0
-AreWide r = (i : ℕ) → IsIndex r.shape i → length (word_at r i) ≡ r.shape.width
-
 unwritten_widths : (x : Shape) → HaveWidth (unwritten x)
 unwritten_widths x i = ap length (same_past (count x) (i - least x) (unknown x.width)) ∙ length-replicate x.width None
+
+pub blank_fits : (x : Memory) (m : ℕ) → FitsWords x m (unwritten (shape_of x m))
+blank_fits x m =
+    record { shape = refl; widths = λ i inside. unwritten_widths (shape_of x m) i; size = length-replicate (count (shape_of x m)) (unknown x.width) }
 
 pub new_fits : (ss : List Signal) (ms : List Memory) (v : Signals) (rs : List StoredMemory) → v ≡ unknown_signals (map s.shape_of ss) → AreUnknown (length ss) ms rs → FitsDesign ss ms v rs
 new_fits ss ms v rs e a =
@@ -46,7 +46,7 @@ new_fits ss ms v rs e a =
       memories = a.count;
       each = λ i l.
           let is : memory_in rs i ≡ unknown_memory (get_or ms i no_memory) (length ss + i) = a.each i (unknown_memory no_memory 0) no_memory l in
-          record { shape = ap (λ r. r.words.shape) is; size = subst (λ r. length r.words.words ≡ count r.words.shape) (sym is) (length-replicate (count (shape_of (get_or ms i no_memory) (length ss + i))) (unknown (get_or ms i no_memory).width)); widths = subst AreWide (sym (ap (λ r. r.words) is)) (λ j inside. unwritten_widths (shape_of (get_or ms i no_memory) (length ss + i)) j) };
+          subst (FitsWords (get_or ms i no_memory) (length ss + i)) (sym (ap (λ r. r.words) is)) (blank_fits (get_or ms i no_memory) (length ss + i));
     }
 
 -- ---- a signal
@@ -79,7 +79,7 @@ in_memories d m h = ap (λ t. if t then get_or d.memories (m - length d.signals)
 pub memory_stands : (d : Design) (v : Signals) (rs : List StoredMemory) (at : ℕ → Partly) (m : ℕ) → FitsDesign d.signals d.memories v rs → is_memory d m ≡ true → StandsFor d (kept_by (length d.signals) at (λ i. (memory_in rs i).words)) m (memory_in rs (m - length d.signals)).words
 memory_stands d v rs at m f h =
     let n = length d.signals in
-    let fit : FitsMemory (get_or d.memories (m - n) no_memory) (n + (m - n)) (memory_in rs (m - n)) = f.each (m - n) (among_memories d m h) in
+    let fit : FitsWords (get_or d.memories (m - n) no_memory) (n + (m - n)) (memory_in rs (m - n)).words = f.each (m - n) (among_memories d m h) in
     let is : get_or d.memories (m - n) no_memory ≡ memory_at d m = sym (in_memories d m h) in
     stands_here n at (λ i. (memory_in rs i).words) d m (memory_in rs (m - n)).words (from_memories d m h) refl
     (ap (λ y. y.first) fit.shape ∙ ap (λ y. y.first) is) (ap (λ y. y.last) fit.shape ∙ ap (λ y. y.last) is) (ap (λ y. y.width) fit.shape ∙ ap (λ y. y.width) is) fit.widths
@@ -90,7 +90,7 @@ flag_is d m b h = sym (ap (λ t. t && b) (and_parts (nat_le (length d.signals) m
 -- ---- what both branches of a test leave has the shapes of the design
 
 -- each word is as wide as the memory's words
-wide_word : (x : Memory) (m : ℕ) (r : StoredMemory) → FitsMemory x m r → (q : ℕ) → length (word_in r q) ≡ r.words.shape.width
+wide_word : (x : Memory) (m : ℕ) (r : StoredMemory) → FitsWords x m r.words → (q : ℕ) → length (word_in r q) ≡ r.words.shape.width
 wide_word x m r f q = ⊎_elim listed past (cases_lt q (count r.words.shape))
   where
     listed : q < count r.words.shape → length (word_in r q) ≡ r.words.shape.width
@@ -133,7 +133,7 @@ both_fit ss ms v v' rs rs' u s f =
       signals = u.count ∙ f.signals;
       memories = s.count ∙ f.memories;
       each = λ i l.
-          let old : FitsMemory (get_or ms i no_memory) (length ss + i) (memory_in rs i) = f.each i l in
+          let old : FitsWords (get_or ms i no_memory) (length ss + i) (memory_in rs i).words = f.each i l in
           record {
             shape = s.shape i ∙ old.shape;
             widths = λ j inside. s.widths i (j - least (memory_in rs' i).words.shape) ∙ wide_word (get_or ms i no_memory) (length ss + i) (memory_in rs i) old (j - least (memory_in rs' i).words.shape) ∙ ap (λ x. x.width) (sym (s.shape i));

@@ -16,3 +16,9 @@ pub mod Signs
 pub mod Tests
 pub mod Words
 pub mod Writes
+pub mod Veiling
+pub mod Shown
+pub mod Holding
+pub mod NewVeils
+pub mod KeptWords
+pub mod ViewLaws

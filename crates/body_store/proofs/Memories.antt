@@ -9,6 +9,8 @@ use Rattle.std.proofs.lemmas.List.{get_or_read, length-map}
 use Rattle.std.proofs.lemmas.List.FromFn.{length-map-range_with_len}
 use Rattle.known_state.specs.Partly.{Partly}
 use Rattle.design_model.specs.declared.design.Design as m
+use Rattle.design_model.specs.declared.design.Memory.{Memory}
+use Rattle.design_model.specs.declared.design.Signal.{Signal}
 use Rattle.design_model.specs.Design.{Design, cell, is_memory, memory_at, no_memory}
 use Rattle.design_model.specs.View.{design_view}
 use Rattle.body_replay.specs.KnownBits.{KnownBits}
@@ -18,7 +20,7 @@ use Rattle.value_store.specs.Signals.{Signals}
 use Rattle.body_calls.specs.Lvalues.{Like, written}
 use Rattle.body_calls.specs.declared.lvalue.Lvalue.TheVariants.{Word}
 use Rattle.word_log.specs.declared.memory.StoredMemory.{StoredMemory}
-use Rattle.body_store.specs.Fitting.{FitsDesign, FitsMemory, memory_in}
+use Rattle.body_store.specs.Fitting.{FitsDesign, FitsWords, memory_in}
 use Rattle.body_store.specs.Made.{unknown_memory}
 use Rattle.body_store.specs.Scenes.{kept_by, scene_with}
 use Rattle.body_store.proofs.Fit.{among_memories, from_memories, memory_stands}
@@ -36,10 +38,26 @@ or_false true = refl
 or_false false = refl
 
 -- words that stand for a memory are as wide as its words
-stands_wide : (d : Design) (k : Kept) (x : ℕ) (r : KnownWords) → StandsFor d k x r → (i : ℕ) → IsIndex r.shape i → length (word_at r i) ≡ r.shape.width
+pub stands_wide : (d : Design) (k : Kept) (x : ℕ) (r : KnownWords) → StandsFor d k x r → (i : ℕ) → IsIndex r.shape i → length (word_at r i) ≡ r.shape.width
 stands_wide d k x r h i inside =
     let f : ℕ → Cell = λ j. cell x (i * (memory_at d x).width + j) in
     ap length (h.words i inside) ∙ length-map (map f (range_with_len 0 (memory_at d x).width)) k ∙ length-map-range_with_len f 0 (memory_at d x).width ∙ sym h.width
+
+-- another one of the memories
+pub fits_set : (ss : List Signal) (ms : List Memory) (v : Signals) (rs : List StoredMemory) (p : ℕ) (new : StoredMemory) → FitsDesign ss ms v rs → (p < length ms → FitsWords (get_or ms p no_memory) (length ss + p) new.words) → FitsDesign ss ms v (set rs p new)
+fits_set ss ms v rs p new fits here =
+    record { shapes = fits.shapes; signals = fits.signals; memories = length-set rs p new ∙ fits.memories; each = λ i l. ⊎_elim (λ e. at i l e) (λ ne. there i l ne) (cases_eq i p) }
+  where
+    at : (i : ℕ) → i < length ms → i ≡ p → FitsWords (get_or ms i no_memory) (length ss + i) (memory_in (set rs p new) i).words
+    at i l e =
+        let inside : p < length rs = (let count = fits.memories in omega (arith, l, e, count)) in
+        let now : memory_in (set rs p new) p ≡ new = get_or-set_same rs p new no_stored inside in
+        subst (λ j. FitsWords (get_or ms j no_memory) (length ss + j) (memory_in (set rs p new) j).words) (sym e)
+        (subst (λ r. FitsWords (get_or ms p no_memory) (length ss + p) r.words) (sym now) (here (subst (λ j. j < length ms) e l)))
+
+    there : (i : ℕ) → i < length ms → (i ≡ p → ⊥) → FitsWords (get_or ms i no_memory) (length ss + i) (memory_in (set rs p new) i).words
+    there i l ne =
+        subst (λ r. FitsWords (get_or ms i no_memory) (length ss + i) r.words) (sym (get_or-set_other rs p i new no_stored ne)) (fits.each i l)
 
 module _ (D : m.Design) (v : Signals) (rs : List StoredMemory) (x : ℕ) (new : StoredMemory) (fits : FitsDesign D.signals D.memories v rs) (is : is_memory (design_view D) x ≡ true) where
   abbrev n : ℕ
@@ -60,21 +78,8 @@ module _ (D : m.Design) (v : Signals) (rs : List StoredMemory) (x : ℕ) (new : 
   -- it still has the shapes of the design
   pub word_fits : (k : Kept) → new.words.shape ≡ (memory_in rs place).words.shape → length new.words.words ≡ count (memory_in rs place).words.shape → StandsFor (design_view D) k x new.words → FitsDesign D.signals D.memories v (set rs place new)
   word_fits k shape size stands =
-      record {
-        shapes = fits.shapes;
-        signals = fits.signals;
-        memories = length-set rs place new ∙ fits.memories;
-        each = λ i l. ⊎_elim (λ e. here i l e) (λ ne. there i l ne) (cases_eq i place);
-      }
-    where
-      here : (i : ℕ) → i < length D.memories → i ≡ place → FitsMemory (get_or D.memories i no_memory) (n + i) (memory_in (set rs place new) i)
-      here i l e =
-          let old : FitsMemory (get_or D.memories i no_memory) (n + i) (memory_in rs i) = fits.each i l in
-          let now : memory_in (set rs place new) i ≡ new = ap (memory_in (set rs place new)) e ∙ at_place in
-          subst (FitsMemory (get_or D.memories i no_memory) (n + i)) (sym now) (record { shape = shape ∙ ap (λ j. (memory_in rs j).words.shape) (sym e) ∙ old.shape; widths = stands_wide (design_view D) k x new.words stands; size = size ∙ ap count (sym shape) })
-
-      there : (i : ℕ) → i < length D.memories → (i ≡ place → ⊥) → FitsMemory (get_or D.memories i no_memory) (n + i) (memory_in (set rs place new) i)
-      there i l ne = subst (FitsMemory (get_or D.memories i no_memory) (n + i)) (sym (get_or-set_other rs place i new no_stored ne)) (fits.each i l)
+      fits_set D.signals D.memories v rs place new fits
+      (λ l. record { shape = shape ∙ (fits.each place l).shape; widths = stands_wide (design_view D) k x new.words stands; size = size ∙ ap count (sym shape) })
 
   module _ (at : ℕ → Partly) (index : Partly) (ps : KnownBits) (some : 1 ≤ (memory_at (design_view D) x).width) (flag : new.written ≡ true) where
     abbrev d : Design

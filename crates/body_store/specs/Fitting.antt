@@ -3,7 +3,7 @@ use Rattle.std.specs.Prelude.{◌≡◌, ◌+◌, ◌<◌, ℕ, List, length, ma
 use Rattle.design_model.specs.declared.design.Memory.{Memory}
 use Rattle.design_model.specs.declared.design.Signal.{Signal}
 use Rattle.design_model.specs.Design.{no_memory}
-use Rattle.memory_rebuild.specs.Words.{IsIndex, count, word_at}
+use Rattle.memory_rebuild.specs.Words.{IsIndex, KnownWords, count, word_at}
 use Rattle.value_store.specs.Signals as s
 use Rattle.value_store.specs.Signals.{Signals}
 use Rattle.word_log.specs.declared.memory.StoredMemory.{StoredMemory}
@@ -11,14 +11,14 @@ pub use Rattle.word_log.specs.Memories.{memory_in}
 use Rattle.word_log.specs.Memories.{shape_of}
 
 -- the words have the shape of this memory, with this number, and are as many
-pub record FitsMemory (x : Memory) (m : ℕ) (r : StoredMemory) : Type 0 where
-  pub shape : r.words.shape ≡ shape_of x m
-  pub widths : (i : ℕ) → IsIndex r.words.shape i → length (word_at r.words i) ≡ r.words.shape.width
-  pub size : length r.words.words ≡ count r.words.shape
+pub record FitsWords (x : Memory) (m : ℕ) (w : KnownWords) : Type 0 where
+  pub shape : w.shape ≡ shape_of x m
+  pub widths : (i : ℕ) → IsIndex w.shape i → length (word_at w i) ≡ w.shape.width
+  pub size : length w.words ≡ count w.shape
 
 -- there are as many signals and memories as a design with these has, of their shapes
 pub record FitsDesign (ss : List Signal) (ms : List Memory) (v : Signals) (rs : List StoredMemory) : Type 0 where
   pub shapes : v.shapes ≡ map s.shape_of ss
   pub signals : length v.kept ≡ length ss
   pub memories : length rs ≡ length ms
-  pub each : (i : ℕ) → i < length ms → FitsMemory (slice_index_or ms i no_memory) (length ss + i) (memory_in rs i)
+  pub each : (i : ℕ) → i < length ms → FitsWords (slice_index_or ms i no_memory) (length ss + i) (memory_in rs i).words

@@ -1,5 +1,5 @@
 -- When what a store holds is what is known of the cells of a design, as it is kept and as bodies read it.
-use Rattle.std.specs.Prelude.{◌≡◌, ◌+◌, ◌<◌, ℕ, List, length, map}
+use Rattle.std.specs.Prelude.{◌≡◌, ◌+◌, ◌<◌, ℕ, length, map}
 use Rattle.design_model.specs.Design.{Design}
 use Rattle.body_replay.specs.Store.{Kept}
 use Rattle.body_replay.specs.Replay.{Blames}
@@ -9,6 +9,7 @@ use Rattle.value_store.specs.Held.{HoldsSignals, IsSignal}
 use Rattle.word_log.specs.declared.memory.StoredMemory.{StoredMemory}
 use Rattle.body_store.specs.declared.store.Store.{Store}
 use Rattle.body_store.specs.Fitting.{memory_in}
+use Rattle.body_store.specs.Veils.{kept_memory}
 
 -- the words are those of memory m, as they are known, with its blame and whether the run has written it
 pub record IsMemory (d : Design) (k : Kept) (e : Blames) (m : ℕ) (r : StoredMemory) : Type 0 where
@@ -16,10 +17,10 @@ pub record IsMemory (d : Design) (k : Kept) (e : Blames) (m : ℕ) (r : StoredMe
   pub blame : r.words.shape.blame ≡ e.blame m
   pub wrote : r.written ≡ e.wrote m
 
--- the memories are those of the design, as they are known
-pub record HoldsMemories (d : Design) (k : Kept) (e : Blames) (rs : List StoredMemory) : Type 0 where
-  pub count : length rs ≡ length d.memories
-  pub each : (i : ℕ) → i < length d.memories → IsMemory d k e (length d.signals + i) (memory_in rs i)
+-- so many memories, with these by their places, are those of the design, as they are known
+pub record HoldsMemories (d : Design) (k : Kept) (e : Blames) (n : ℕ) (at : ℕ → StoredMemory) : Type 0 where
+  pub count : n ≡ length d.memories
+  pub each : (i : ℕ) → i < length d.memories → IsMemory d k e (length d.signals + i) (at i)
 
 -- what bodies read of each signal is what is known of it
 pub record ReadsSignals (d : Design) (k : Kept) (e : Blames) (v : Signals) : Type 0 where
@@ -30,9 +31,9 @@ pub record ReadsSignals (d : Design) (k : Kept) (e : Blames) (v : Signals) : Typ
 -- the store keeps what is known of the cells of the design, with these blames
 pub record HoldsStore (d : Design) (k : Kept) (e : Blames) (x : Store) : Type 0 where
   pub signals : HoldsSignals d k e.blame x.signals
-  pub memories : HoldsMemories d k e x.memories.items
+  pub memories : HoldsMemories d k e (length x.memories.items) (kept_memory x.veils x.memories.items)
 
 -- what bodies read of the store is what is known of the cells of the design, with these blames
 pub record ReadsStore (d : Design) (k : Kept) (e : Blames) (x : Store) : Type 0 where
   pub signals : ReadsSignals d k e x.signals
-  pub memories : HoldsMemories d k e x.memories.items
+  pub memories : HoldsMemories d k e (length x.memories.items) (memory_in x.memories.items)

@@ -7,3 +7,6 @@ pub mod Premises
 pub mod Scenes
 pub mod Tests
 pub mod Updates
+pub mod Veils
+pub mod Views
+pub mod Laws

@@ -1,5 +1,5 @@
 -- What a store holds before anything is known.
-use Rattle.std.specs.Prelude.{◌≡◌, ℕ, ◌+◌, ◌<◌, ◌≤◌, false, List, length, slice_index_or, None}
+use Rattle.std.specs.Prelude.{◌≡◌, ℕ, ◌+◌, ◌<◌, ◌≤◌, ◌==◌, false, if◌then◌else◌, List, length, slice_index_or, None}
 use Rattle.design_model.specs.declared.design.Memory.{Memory}
 use Rattle.body_replay.specs.Store.{Kept}
 use Rattle.body_replay.specs.Replay.{Blames}
@@ -13,6 +13,14 @@ nothing c = None
 -- each signal and memory is to blame for itself, and the run has written no memory
 abbrev pub unblamed : Blames
 unblamed = record { blame = λ x. x; wrote = λ m. false }
+
+-- nothing is known of the cells of this signal or memory
+abbrev pub without : ℕ → Kept → Kept
+without t k c = if t == c.thing then None else k c
+
+-- each signal and memory is to blame for itself, and the same memories are written
+abbrev pub itself_to_blame : Blames → Blames
+itself_to_blame e = record e { blame = λ x. x }
 
 -- a word has 1 to 128 bits
 abbrev pub HasWordWidth : Memory → Type 0

@@ -5,12 +5,15 @@ use write_log::common_law;
 
 impl<'a> Bodies for Store<'a> {
     ghost use Rattle.body_store.specs.Bodies.{around_of, queued_of, rooms_of};
+    ghost use Rattle.body_store.specs.Views.{under_of};
 
     ghost queued = { queued_of };
 
     ghost around = { around_of };
 
     ghost rooms = { rooms_of };
+
+    ghost under = { under_of };
 
     fn write(&mut self, to: &Lvalue, part: &Known, blame: Option<u32>) {
         match *to {

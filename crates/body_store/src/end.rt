@@ -1,6 +1,6 @@
 //! The end of the run of a body.
 
-ghost use Rattle.std.specs.Prelude.{◌≡◌, true};
+ghost use Rattle.std.specs.Prelude.{◌≡◌, [], true};
 ghost use Rattle.std.specs.List.{All};
 ghost use Rattle.design_model.specs.Design.{is_number};
 ghost use Rattle.design_model.specs.View.{design_view};
@@ -11,6 +11,7 @@ ghost use Rattle.body_store.specs.Ended.{ended, settled};
 use crate::Store;
 
 impl<'a> Store<'a> {
+    ghost use Rattle.body_store.specs.Bodies.{around_of, rooms_of};
     ghost use Rattle.body_store.specs.Held.{HoldsStore};
 
     /// A run has ended, in which bodies wrote no other signals and memories than these: each of them is to blame for itself
@@ -19,6 +20,8 @@ impl<'a> Store<'a> {
         requires { All (λ x. is_number (design_view self.old.design.now) x ≡ true) written.now }
         ensures design { self.new.design ≡ self.old.design }
         ensures updates { self.new.updates ≡ self.old.updates }
+        ensures around { around_of self.old ≡ [] → around_of self.new ≡ [] }
+        ensures rooms { rooms_of self.new ≡ rooms_of self.old }
         ensures kept { (k : Kept) (e : Blames) → HoldsStore (design_view self.old.design.now) k e self.old → HoldsStore (design_view self.old.design.now) k (ended written.now e) self.new }
     {
         for thing in written {
@@ -31,6 +34,8 @@ impl<'a> Store<'a> {
         requires { is_number (design_view self.old.design.now) thing ≡ true }
         ensures design { self.new.design ≡ self.old.design }
         ensures updates { self.new.updates ≡ self.old.updates }
+        ensures around { around_of self.old ≡ [] → around_of self.new ≡ [] }
+        ensures rooms { rooms_of self.new ≡ rooms_of self.old }
         ensures kept { (k : Kept) (e : Blames) → HoldsStore (design_view self.old.design.now) k e self.old → HoldsStore (design_view self.old.design.now) k (settled thing e) self.new }
     {
         if (thing as usize) < self.signals.len() {

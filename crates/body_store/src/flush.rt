@@ -9,7 +9,7 @@ use crate::{Store, Update};
 use body_calls::Lvalue;
 
 impl<'a> Store<'a> {
-    ghost use Rattle.body_store.specs.Bodies.{queued_of};
+    ghost use Rattle.body_store.specs.Bodies.{around_of, queued_of, rooms_of};
     ghost use Rattle.body_store.specs.Held.{HoldsStore};
     ghost use Rattle.body_store.specs.Made.{unblamed};
     ghost use Rattle.body_store.specs.Updates.{update_writes};
@@ -18,6 +18,8 @@ impl<'a> Store<'a> {
     fn make(&mut self, update: &Update)
         requires { Takes (design_view self.old.design.now) update.now.to (length update.now.value.bits) }
         ensures design { self.new.design ≡ self.old.design }
+        ensures around { around_of self.old ≡ [] → around_of self.new ≡ [] }
+        ensures rooms { rooms_of self.new ≡ rooms_of self.old }
         ensures updates { self.new.updates ≡ self.old.updates }
         ensures kept { (k : Kept) → HoldsStore (design_view self.old.design.now) k unblamed self.old → HoldsStore (design_view self.old.design.now) (keep_all k (update_writes (design_view self.old.design.now) update.now)) unblamed self.new }
     {
@@ -36,6 +38,8 @@ impl<'a> Store<'a> {
     /// itself before, it is so after.
     pub fn flush(&mut self)
         ensures design { self.new.design ≡ self.old.design }
+        ensures around { around_of self.old ≡ [] → around_of self.new ≡ [] }
+        ensures rooms { rooms_of self.new ≡ record (rooms_of self.old) { queue = self.old.updates.room } }
         ensures kept { (k : Kept) → HoldsStore (design_view self.old.design.now) k unblamed self.old → HoldsStore (design_view self.old.design.now) (keep_all k (queued_of self.old)) unblamed self.new }
         ensures queued { queued_of self.new ≡ [] }
     {

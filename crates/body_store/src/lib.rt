@@ -6,20 +6,26 @@
 //!
 //! While a body runs it calls the store by two traits: [`term_replay::Reads`] and [`body_calls::Bodies`]. After a run
 //! [`Store::end_run`] makes each signal to blame for itself again, and [`Store::flush`] makes what the run has queued.
+//!
+//! [`Store::show`] and [`Store::veil`] put something else in the place of what is kept, which bodies read until
+//! [`Store::plain`]: what is kept stays, also where a body writes what is shown or veiled (`specs/Views.antt`).
 #![tactic(auto)]
 
 mod bodies;
 mod end;
 mod flush;
+mod forget;
 mod kept;
 mod laws;
 mod reads;
+mod showing;
 mod store;
 mod unknown;
 mod update;
+mod veils;
 mod write;
 
-pub use laws::premises_law;
+pub use laws::{premises_law, views_law};
 pub use store::{Store, StoreRoom};
 pub use update::Update;
 pub use word_log::StoredMemory;

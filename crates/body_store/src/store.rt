@@ -1,4 +1,4 @@
-ghost use Rattle.std.specs.Prelude.{◌≡◌, ◌+◌, ◌≤◌, IfOk, length, true};
+ghost use Rattle.std.specs.Prelude.{◌≡◌, ◌+◌, ◌≤◌, ℕ, [], IfOk, false, length, true};
 ghost use Rattle.std.specs.List.{All};
 ghost use Rattle.design_model.specs.View.{design_view};
 ghost use Rattle.value_store.specs.Signals.{HasWidth};
@@ -7,8 +7,10 @@ ghost use Rattle.word_log.specs.Logs.{IsWordLogOf};
 ghost use Rattle.body_store.specs.Tests.{SameTests};
 ghost use Rattle.body_store.specs.Fitting.{FitsDesign};
 ghost use Rattle.body_store.specs.Updates.{are_taken};
+ghost use Rattle.body_store.specs.Veils.{FitsVeils};
 
 use crate::unknown::memories;
+use crate::veils::Veils;
 use crate::{StoredMemory, Update};
 use cov_host::NoMemory;
 use design_model::Design;
@@ -42,15 +44,20 @@ pub struct Store<'a> {
     pub(crate) words: WordLog,
     /// The updates that nonblocking assignments have queued, in order.
     pub(crate) updates: Queue<Update>,
+    /// The memories that are veiled, and what is kept of those.
+    pub(crate) veils: Veils,
     ghost fits: { FitsDesign design.now.signals design.now.memories signals memories.items },
     ghost logged: { IsLogOf signals log },
     ghost sized: { log.depth ≡ log.room },
     ghost words_logged: { IsWordLogOf memories.items words },
     ghost tests: { SameTests log words },
     ghost taken: { are_taken (design_view design.now) updates.items ≡ true },
+    ghost veiled: { FitsVeils (length design.now.signals) design.now.memories veils },
 }
 
 impl<'a> Store<'a> {
+    ghost use Rattle.body_store.specs.Bodies.{around_of, queued_of, rooms_of};
+    ghost use Rattle.body_store.specs.Views.{hides};
     ghost use Rattle.body_store.specs.Made.{HasWordWidth, nothing, unblamed};
     ghost use Rattle.body_store.specs.Held.{HoldsStore, ReadsStore};
 
@@ -63,6 +70,12 @@ impl<'a> Store<'a> {
         requires few_memories { length design.now.memories ≤ 262144 }
         ensures holds { IfOk result (λ made. HoldsStore (design_view design.now) nothing unblamed made) }
         ensures reads { IfOk result (λ made. ReadsStore (design_view design.now) nothing unblamed made) }
+        ensures design { IfOk result (λ made. made.design.now ≡ design.now) }
+        ensures queued { IfOk result (λ made. queued_of made ≡ []) }
+        ensures around { IfOk result (λ made. around_of made ≡ []) }
+        ensures hides { IfOk result (λ made. (x : ℕ) → hides made x ≡ false) }
+        ensures log { IfOk result (λ made. (rooms_of made).log ≡ room.log) }
+        ensures queue { IfOk result (λ made. (rooms_of made).queue ≡ room.updates) }
     {
         let signals = Signals::new(alloc, design.signals.as_slice())?;
         let memories = memories(
@@ -73,6 +86,11 @@ impl<'a> Store<'a> {
         let log = Log::new(alloc, design.signals.len(), room.log, room.log)?;
         let words = WordLog::new(alloc, memories.as_slice(), room.log, room.log)?;
         let updates = Queue::new(alloc, room.updates)?;
+        let veils = Veils::new(
+            alloc,
+            design.memories.as_slice(),
+            design.signals.len() as u32,
+        )?;
         Ok(Store {
             design,
             signals,
@@ -80,6 +98,7 @@ impl<'a> Store<'a> {
             log,
             words,
             updates,
+            veils,
         })
     }
 }

@@ -37,6 +37,7 @@ impl<'a> Store<'a> {
     ghost use Rattle.body_calls.specs.Rooms.{Leaves, takes_in};
     ghost use Rattle.body_store.specs.Scenes.{scene_of};
     ghost use Rattle.body_store.specs.Bodies.{around_of, rooms_of};
+    ghost use Rattle.body_store.specs.Views.{under_of};
 
     /// Bodies read this value of a signal from now on.
     fn assign(&mut self, signal: u32, value: Known)
@@ -48,6 +49,7 @@ impl<'a> Store<'a> {
         ensures updates { self.new.updates ≡ self.old.updates }
         ensures around { around_of self.new ≡ around_of self.old }
         ensures rooms { Leaves (takes_in (around_of self.old) (rooms_of self.old) signal) 0 (rooms_of self.old) (rooms_of self.new) }
+        ensures under { under_of self.new ≡ under_of self.old }
         ensures reads { (x : ℕ) → read_at self.new.signals x ≡ (if signal == x then value else read_at self.old.signals x) }
     {
         self.log.assign(&mut self.signals, signal, value);
@@ -61,6 +63,7 @@ impl<'a> Store<'a> {
         ensures updates { self.new.updates ≡ self.old.updates }
         ensures around { around_of self.new ≡ around_of self.old }
         ensures rooms { Leaves (takes_in (around_of self.old) (rooms_of self.old) signal) 0 (rooms_of self.old) (rooms_of self.new) }
+        ensures under { under_of self.new ≡ under_of self.old }
         ensures scene { Like (written (Signal signal) part.now.bits blame (scene_of self.old)) (scene_of self.new) }
     {
         let old = self.signals.read(signal);
@@ -76,6 +79,7 @@ impl<'a> Store<'a> {
         ensures updates { self.new.updates ≡ self.old.updates }
         ensures around { around_of self.new ≡ around_of self.old }
         ensures rooms { Leaves (takes_in (around_of self.old) (rooms_of self.old) signal) 0 (rooms_of self.old) (rooms_of self.new) }
+        ensures under { under_of self.new ≡ under_of self.old }
         ensures scene { Like (written (Part signal low.now) part.now.bits blame (scene_of self.old)) (scene_of self.new) }
     {
         let old = self.signals.read(signal);
@@ -92,6 +96,7 @@ impl<'a> Store<'a> {
         ensures updates { self.new.updates ≡ self.old.updates }
         ensures around { around_of self.new ≡ around_of self.old }
         ensures rooms { Leaves (takes_in (around_of self.old) (rooms_of self.old) memory) 0 (rooms_of self.old) (rooms_of self.new) }
+        ensures under { under_of self.new ≡ under_of self.old }
         ensures scene { Like (written (Word memory index.now) part.now.bits None (scene_of self.old)) (scene_of self.new) }
     {
         let place = memory as usize - self.signals.len();

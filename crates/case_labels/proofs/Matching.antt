@@ -68,7 +68,7 @@ module _ (v : Scene) (kind : CaseKind) (on : Partly) where
   BlamedSoFar No first all now rest = blames first all ≡ blames now rest
   BlamedSoFar (Unsure thing) first all now rest = thing ≡ blames first all
 
-  module _ {S : Type 0} (noted : List Mark → S → Type 0) (mode : Mode) (first : Option ℕ) (all : t.Terms) (before : S) where
+  module _ {T S : Type 0} (noted : T → List Mark → S → Type 0) (mode : Mode) (first : Option ℕ) (all : t.Terms) (before : S) where
     -- the labels so far, and the rest, are all
     pub record MatchesOn (inside : Mode) (so_far : Option ℕ) (m : Maybe) (rest : t.Terms) (now : S) : Type 0 where
       pub answer : matches all ≡ with_rest m (matches rest)

@@ -74,12 +74,12 @@ module _ (d : Design) (a : State) (v : Scene) (h : Like (scene_of d a) v) (kind 
   labels_blamed first q = ap (λ f. labels_blame v.design kind on.bits on.blame v.kept v.blames f ts) q ∙ over (λ e k. labels_blame e kind on.bits on.blame k v.blames a.first ts) ∙ like.blame
 
   -- the labels are evaluated
-  pub labels_state : {S : Type 0} (noted : List Mark → S → Type 0) (mode : Mode) (queue : List KnownWrite) (first last : Option ℕ) (before after : S) → last ≡ label_first v.design kind on.bits v.kept v.blames ts first → Adds noted before (in_this mode (label_marks v.design kind on.bits on.blame v.kept v.blames ts first)) after → IsState d a first v queue (λ ms. noted ms before) → IsState d (see_labels d mode kind on.bits blame ts a) last v queue (λ ms. noted ms after)
-  labels_state noted mode queue first last before after e adds s =
+  pub labels_state : {T S : Type 0} (noted : T → List Mark → S → Type 0) (start : T) (mode : Mode) (queue : List KnownWrite) (first last : Option ℕ) (before after : S) → last ≡ label_first v.design kind on.bits v.kept v.blames ts first → Adds noted before (in_this mode (label_marks v.design kind on.bits on.blame v.kept v.blames ts first)) after → IsState d a first v queue (λ ms. noted start ms before) → IsState d (see_labels d mode kind on.bits blame ts a) last v queue (λ ms. noted start ms after)
+  labels_state noted start mode queue first last before after e adds s =
       let marks : label_marks v.design kind on.bits on.blame v.kept v.blames ts first ≡ label_marks d kind on.bits blame a.kept a.blames ts a.first = ap (λ f. label_marks v.design kind on.bits on.blame v.kept v.blames ts f) s.first ∙ over (λ e k. label_marks e kind on.bits on.blame k v.blames ts a.first) ∙ like.marks in
       record {
         scene = s.scene;
         first = e ∙ ap (label_first v.design kind on.bits v.kept v.blames ts) s.first ∙ over (λ e k. label_first e kind on.bits k v.blames ts a.first) ∙ like.first;
         queue = s.queue;
-        noted = (adds_same noted before after _ _ (ap (in_this mode) marks) adds).added a.marks s.noted;
+        noted = (adds_same noted before after _ _ (ap (in_this mode) marks) adds).added start a.marks s.noted;
       }

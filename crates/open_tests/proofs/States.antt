@@ -22,20 +22,20 @@ use Rattle.scene_laws.specs.At.{IsState, scene_of}
 use Rattle.scene_laws.proofs.LikeScenes.{alike_first, alike_marks, like_trans}
 use Rattle.scene_laws.proofs.LikeWays.{joined_like}
 
-module _ {S : Type 0} (noted : List Mark → S → Type 0) (d : Design) (s : State) (mode : Mode) (v : Scene) (queue : List KnownWrite) where
+module _ {T S : Type 0} (noted : T → List Mark → S → Type 0) (start : T) (d : Design) (s : State) (mode : Mode) (v : Scene) (queue : List KnownWrite) where
   -- a statement is reached
-  pub reach_state : (n : ℕ) (first : Option ℕ) (before after : S) → Adds noted before (record { spot = line n; doubt = mode } ∷ []) after → IsState d s first v queue (λ ms. noted ms before) → IsState d (reach mode n s) first v queue (λ ms. noted ms after)
+  pub reach_state : (n : ℕ) (first : Option ℕ) (before after : S) → Adds noted before (record { spot = line n; doubt = mode } ∷ []) after → IsState d s first v queue (λ ms. noted start ms before) → IsState d (reach mode n s) first v queue (λ ms. noted start ms after)
   reach_state n first before after adds h =
-      record { scene = h.scene; first = h.first; queue = h.queue; noted = (adds_same noted before after _ _ (ap (λ m. m ∷ []) (sym (hit_in mode (line n)))) adds).added s.marks h.noted }
+      record { scene = h.scene; first = h.first; queue = h.queue; noted = (adds_same noted before after _ _ (ap (λ m. m ∷ []) (sym (hit_in mode (line n)))) adds).added start s.marks h.noted }
 
   -- a term is evaluated
-  pub evaluate_state : (t : Term) (first last : Option ℕ) (before after : S) → last ≡ first_after v first t → Adds noted before (in_this mode (marks_of v first t)) after → IsState d s first v queue (λ ms. noted ms before) → IsState d (evaluate_known d mode t s) last v queue (λ ms. noted ms after)
+  pub evaluate_state : (t : Term) (first last : Option ℕ) (before after : S) → last ≡ first_after v first t → Adds noted before (in_this mode (marks_of v first t)) after → IsState d s first v queue (λ ms. noted start ms before) → IsState d (evaluate_known d mode t s) last v queue (λ ms. noted start ms after)
   evaluate_state t first last before after e adds h =
       record {
         scene = h.scene;
         first = e ∙ alike_first (scene_of d s) v h.scene s.first first t h.first;
         queue = h.queue;
-        noted = subst (λ ms. noted (s.marks ++ map (in_mode mode) ms) after) (alike_marks (scene_of d s) v h.scene s.first first t h.first) (adds.added s.marks h.noted);
+        noted = subst (λ ms. noted start (s.marks ++ map (in_mode mode) ms) after) (alike_marks (scene_of d s) v h.scene s.first first t h.first) (adds.added start s.marks h.noted);
       }
 
 same_answer : (m : Maybe) → answer_of m ≡ a.answer_of m

@@ -45,9 +45,10 @@ pub fn run_statement<B: Bodies, N: Notes>(
     requires room { HasRoomFor (stmt_view stmt.now) (B.around store.old) (B.rooms store.old) }
     requires none { pieces.old.items ≡ [] }
     requires scratch { 128 ≤ pieces.old.room }
-    ensures state { (d : Design) (a : State) → IsState d a run.first (B.scene store.old) (B.queued store.old) (λ ms. N.noted ms notes.old) → IsState d (run_of d (stmt_view stmt.now) run.mode a) result (B.scene store.new) (B.queued store.new) (λ ms. N.noted ms notes.new) }
+    ensures state { (start : N.Start) (d : Design) (a : State) → IsState d a run.first (B.scene store.old) (B.queued store.old) (λ ms. N.noted start ms notes.old) → IsState d (run_of d (stmt_view stmt.now) run.mode a) result (B.scene store.new) (B.queued store.new) (λ ms. N.noted start ms notes.new) }
     ensures design { (B.scene store.new).design ≡ (B.scene store.old).design }
     ensures around { B.around store.new ≡ B.around store.old }
+    ensures under { B.under store.new ≡ B.under store.old }
     ensures rooms { LeavesBy (stmt_view stmt.now) (B.around store.old) (B.rooms store.old) (B.rooms store.new) }
     ensures pieces { pieces.new ≡ pieces.old }
 {
@@ -93,9 +94,10 @@ fn run_all<B: Bodies, N: Notes>(
     requires room { HasRoomForAll (stmts_of (map stmt_view stmts.now)) (B.around store.old) (B.rooms store.old) }
     requires none { pieces.old.items ≡ [] }
     requires scratch { 128 ≤ pieces.old.room }
-    ensures state { (d : Design) (a : State) → IsState d a run.first (B.scene store.old) (B.queued store.old) (λ ms. N.noted ms notes.old) → IsState d (run_all_of d (stmts_of (map stmt_view stmts.now)) run.mode a) result (B.scene store.new) (B.queued store.new) (λ ms. N.noted ms notes.new) }
+    ensures state { (start : N.Start) (d : Design) (a : State) → IsState d a run.first (B.scene store.old) (B.queued store.old) (λ ms. N.noted start ms notes.old) → IsState d (run_all_of d (stmts_of (map stmt_view stmts.now)) run.mode a) result (B.scene store.new) (B.queued store.new) (λ ms. N.noted start ms notes.new) }
     ensures design { (B.scene store.new).design ≡ (B.scene store.old).design }
     ensures around { B.around store.new ≡ B.around store.old }
+    ensures under { B.under store.new ≡ B.under store.old }
     ensures rooms { LeavesByAll (stmts_of (map stmt_view stmts.now)) (B.around store.old) (B.rooms store.old) (B.rooms store.new) }
     ensures pieces { pieces.new ≡ pieces.old }
 {
@@ -120,9 +122,10 @@ fn run_else<B: Bodies, N: Notes>(
     requires room { HasRoomForAll (else_view branch.now) (B.around store.old) (B.rooms store.old) }
     requires none { pieces.old.items ≡ [] }
     requires scratch { 128 ≤ pieces.old.room }
-    ensures state { (d : Design) (a : State) → IsState d a run.first (B.scene store.old) (B.queued store.old) (λ ms. N.noted ms notes.old) → IsState d (run_all_of d (else_view branch.now) run.mode a) result (B.scene store.new) (B.queued store.new) (λ ms. N.noted ms notes.new) }
+    ensures state { (start : N.Start) (d : Design) (a : State) → IsState d a run.first (B.scene store.old) (B.queued store.old) (λ ms. N.noted start ms notes.old) → IsState d (run_all_of d (else_view branch.now) run.mode a) result (B.scene store.new) (B.queued store.new) (λ ms. N.noted start ms notes.new) }
     ensures design { (B.scene store.new).design ≡ (B.scene store.old).design }
     ensures around { B.around store.new ≡ B.around store.old }
+    ensures under { B.under store.new ≡ B.under store.old }
     ensures rooms { LeavesByAll (else_view branch.now) (B.around store.old) (B.rooms store.old) (B.rooms store.new) }
     ensures pieces { pieces.new ≡ pieces.old }
 {
@@ -149,9 +152,10 @@ fn run_if<B: Bodies, N: Notes>(
     requires room { HasRoomFor (t.branch nowhere line (term_view test.now) (stmt_view yes.now) (else_view no.now)) (B.around store.old) (B.rooms store.old) }
     requires none { pieces.old.items ≡ [] }
     requires scratch { 128 ≤ pieces.old.room }
-    ensures state { (d : Design) (a : State) → IsState d a run.first (B.scene store.old) (B.queued store.old) (λ ms. N.noted ms notes.old) → IsState d (run_of d (t.branch nowhere line (term_view test.now) (stmt_view yes.now) (else_view no.now)) run.mode a) result (B.scene store.new) (B.queued store.new) (λ ms. N.noted ms notes.new) }
+    ensures state { (start : N.Start) (d : Design) (a : State) → IsState d a run.first (B.scene store.old) (B.queued store.old) (λ ms. N.noted start ms notes.old) → IsState d (run_of d (t.branch nowhere line (term_view test.now) (stmt_view yes.now) (else_view no.now)) run.mode a) result (B.scene store.new) (B.queued store.new) (λ ms. N.noted start ms notes.new) }
     ensures design { (B.scene store.new).design ≡ (B.scene store.old).design }
     ensures around { B.around store.new ≡ B.around store.old }
+    ensures under { B.under store.new ≡ B.under store.old }
     ensures rooms { LeavesBy (t.branch nowhere line (term_view test.now) (stmt_view yes.now) (else_view no.now)) (B.around store.old) (B.rooms store.old) (B.rooms store.new) }
     ensures pieces { pieces.new ≡ pieces.old }
 {
@@ -181,9 +185,10 @@ fn run_both<B: Bodies, N: Notes>(
     requires room { HasRoom (1 + logs (B.rooms store.old).takes (B.rooms store.old).takes (stmt_view yes.now) + all_logs (B.rooms store.old).takes (B.rooms store.old).takes (else_view no.now)) (queues (stmt_view yes.now) + all_queues (else_view no.now)) (B.rooms store.old) }
     requires none { pieces.old.items ≡ [] }
     requires scratch { 128 ≤ pieces.old.room }
-    ensures state { (d : Design) (a : State) → IsState d a run.first (B.scene store.old) (B.queued store.old) (λ ms. N.noted ms notes.old) → IsState d (decide d run.mode test (run_of d (stmt_view yes.now)) (run_all_of d (else_view no.now)) None a) result (B.scene store.new) (B.queued store.new) (λ ms. N.noted ms notes.new) }
+    ensures state { (start : N.Start) (d : Design) (a : State) → IsState d a run.first (B.scene store.old) (B.queued store.old) (λ ms. N.noted start ms notes.old) → IsState d (decide d run.mode test (run_of d (stmt_view yes.now)) (run_all_of d (else_view no.now)) None a) result (B.scene store.new) (B.queued store.new) (λ ms. N.noted start ms notes.new) }
     ensures design { (B.scene store.new).design ≡ (B.scene store.old).design }
     ensures around { B.around store.new ≡ B.around store.old }
+    ensures under { B.under store.new ≡ B.under store.old }
     ensures rooms { Leaves (1 + logs (B.rooms store.old).takes (B.rooms store.old).takes (stmt_view yes.now) + all_logs (B.rooms store.old).takes (B.rooms store.old).takes (else_view no.now)) (queues (stmt_view yes.now) + all_queues (else_view no.now)) (B.rooms store.old) (B.rooms store.new) }
     ensures pieces { pieces.new ≡ pieces.old }
 {
@@ -213,9 +218,10 @@ fn run_case<B: Bodies, N: Notes>(
     requires room { HasRoomFor (t.select nowhere line kind (term_view on.now) (arms_of (map arm_view arms.now))) (B.around store.old) (B.rooms store.old) }
     requires none { pieces.old.items ≡ [] }
     requires scratch { 128 ≤ pieces.old.room }
-    ensures state { (d : Design) (a : State) → IsState d a run.first (B.scene store.old) (B.queued store.old) (λ ms. N.noted ms notes.old) → IsState d (run_of d (t.select nowhere line kind (term_view on.now) (arms_of (map arm_view arms.now))) run.mode a) result (B.scene store.new) (B.queued store.new) (λ ms. N.noted ms notes.new) }
+    ensures state { (start : N.Start) (d : Design) (a : State) → IsState d a run.first (B.scene store.old) (B.queued store.old) (λ ms. N.noted start ms notes.old) → IsState d (run_of d (t.select nowhere line kind (term_view on.now) (arms_of (map arm_view arms.now))) run.mode a) result (B.scene store.new) (B.queued store.new) (λ ms. N.noted start ms notes.new) }
     ensures design { (B.scene store.new).design ≡ (B.scene store.old).design }
     ensures around { B.around store.new ≡ B.around store.old }
+    ensures under { B.under store.new ≡ B.under store.old }
     ensures rooms { LeavesBy (t.select nowhere line kind (term_view on.now) (arms_of (map arm_view arms.now))) (B.around store.old) (B.rooms store.old) (B.rooms store.new) }
     ensures pieces { pieces.new ≡ pieces.old }
 {
@@ -248,9 +254,10 @@ fn run_arms<B: Bodies, N: Notes>(
     requires room { HasRoom (arms_logs (B.rooms store.old).takes (arms_of (map arm_view arms.now))) (arms_queues (arms_of (map arm_view arms.now))) (B.rooms store.old) }
     requires none { pieces.old.items ≡ [] }
     requires scratch { 128 ≤ pieces.old.room }
-    ensures state { (d : Design) (a : State) (blame : ℕ) → (is_whole on.now ≡ false → on.now.blame ≡ blame) → IsState d a run.first (B.scene store.old) (B.queued store.old) (λ ms. N.noted ms notes.old) → IsState d (run_arms_of d kind on.now.bits blame (arms_of (map arm_view arms.now)) (run_default_of d (arms_of (map arm_view arms.now))) run.mode a) result (B.scene store.new) (B.queued store.new) (λ ms. N.noted ms notes.new) }
+    ensures state { (start : N.Start) (d : Design) (a : State) (blame : ℕ) → (is_whole on.now ≡ false → on.now.blame ≡ blame) → IsState d a run.first (B.scene store.old) (B.queued store.old) (λ ms. N.noted start ms notes.old) → IsState d (run_arms_of d kind on.now.bits blame (arms_of (map arm_view arms.now)) (run_default_of d (arms_of (map arm_view arms.now))) run.mode a) result (B.scene store.new) (B.queued store.new) (λ ms. N.noted start ms notes.new) }
     ensures design { (B.scene store.new).design ≡ (B.scene store.old).design }
     ensures around { B.around store.new ≡ B.around store.old }
+    ensures under { B.under store.new ≡ B.under store.old }
     ensures rooms { Leaves (arms_logs (B.rooms store.old).takes (arms_of (map arm_view arms.now))) (arms_queues (arms_of (map arm_view arms.now))) (B.rooms store.old) (B.rooms store.new) }
     ensures pieces { pieces.new ≡ pieces.old }
 {
@@ -291,9 +298,10 @@ fn run_arm<B: Bodies, N: Notes>(
     requires room { HasRoom (arm_logs (B.rooms store.old).takes (terms_of (map term_view arm.now.labels.items)) (stmt_view arm.now.body)) (arm_queues (terms_of (map term_view arm.now.labels.items)) (stmt_view arm.now.body)) (B.rooms store.old) }
     requires none { pieces.old.items ≡ [] }
     requires scratch { 128 ≤ pieces.old.room }
-    ensures state { (d : Design) (a : State) (blame : ℕ) → (is_whole on.now ≡ false → on.now.blame ≡ blame) → IsState d a run.first (B.scene store.old) (B.queued store.old) (λ ms. N.noted ms notes.old) → IsAfter d (λ others. arm_of d kind on.now.bits blame (terms_of (map term_view arm.now.labels.items)) (stmt_view arm.now.body) others run.mode a) run.mode (B.around store.old) (B.scene store.new) (B.queued store.new) (λ ms. N.noted ms notes.new) (B.around store.new) result }
+    ensures state { (start : N.Start) (d : Design) (a : State) (blame : ℕ) → (is_whole on.now ≡ false → on.now.blame ≡ blame) → IsState d a run.first (B.scene store.old) (B.queued store.old) (λ ms. N.noted start ms notes.old) → IsAfter d (λ others. arm_of d kind on.now.bits blame (terms_of (map term_view arm.now.labels.items)) (stmt_view arm.now.body) others run.mode a) run.mode (B.around store.old) (B.scene store.new) (B.queued store.new) (λ ms. N.noted start ms notes.new) (B.around store.new) result }
     ensures design { (B.scene store.new).design ≡ (B.scene store.old).design }
     ensures around { AreSecond (B.scene store.old).design (opened_by result) (B.around store.old) (B.around store.new) }
+    ensures under { B.under store.new ≡ B.under store.old }
     ensures rooms { Leaves (arm_logs (B.rooms store.old).takes (terms_of (map term_view arm.now.labels.items)) (stmt_view arm.now.body)) (arm_queues (terms_of (map term_view arm.now.labels.items)) (stmt_view arm.now.body)) (B.rooms store.old) (B.rooms store.new) }
     ensures pieces { pieces.new ≡ pieces.old }
 {
@@ -326,9 +334,10 @@ fn run_default<B: Bodies, N: Notes>(
     requires room { HasRoom (default_logs (B.rooms store.old).takes (arms_of (map arm_view arms.now))) (default_queues (arms_of (map arm_view arms.now))) (B.rooms store.old) }
     requires none { pieces.old.items ≡ [] }
     requires scratch { 128 ≤ pieces.old.room }
-    ensures state { (d : Design) (a : State) → IsState d a run.first (B.scene store.old) (B.queued store.old) (λ ms. N.noted ms notes.old) → IsState d (run_default_of d (arms_of (map arm_view arms.now)) run.mode a) result (B.scene store.new) (B.queued store.new) (λ ms. N.noted ms notes.new) }
+    ensures state { (start : N.Start) (d : Design) (a : State) → IsState d a run.first (B.scene store.old) (B.queued store.old) (λ ms. N.noted start ms notes.old) → IsState d (run_default_of d (arms_of (map arm_view arms.now)) run.mode a) result (B.scene store.new) (B.queued store.new) (λ ms. N.noted start ms notes.new) }
     ensures design { (B.scene store.new).design ≡ (B.scene store.old).design }
     ensures around { B.around store.new ≡ B.around store.old }
+    ensures under { B.under store.new ≡ B.under store.old }
     ensures rooms { Leaves (default_logs (B.rooms store.old).takes (arms_of (map arm_view arms.now))) (default_queues (arms_of (map arm_view arms.now))) (B.rooms store.old) (B.rooms store.new) }
     ensures pieces { pieces.new ≡ pieces.old }
 {

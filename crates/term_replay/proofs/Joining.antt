@@ -184,14 +184,14 @@ goes_further v first all now next x rest p q r g sp e bits blame = record {
         rw (f, u) (sym (blame u ∙ ap (λ g. if g then p.blame else q.blame) f))
 
 -- what the sink takes of the rest makes it take all
-pub record TellsOn {S : Type 0} (noted : List Mark → S → Type 0) (mode : Mode) (before : S) (all : List Mark) (now : S) (rest : List Mark) : Type 0 where
+pub record TellsOn {T S : Type 0} (noted : T → List Mark → S → Type 0) (mode : Mode) (before : S) (all : List Mark) (now : S) (rest : List Mark) : Type 0 where
   pub goes : (after : S) → Adds noted now (in_this mode rest) after → Adds noted before (in_this mode all) after
 
-pub tells_start : {S : Type 0} (noted : List Mark → S → Type 0) (mode : Mode) (before : S) (all : List Mark) → TellsOn noted mode before all before all
+pub tells_start : {T S : Type 0} (noted : T → List Mark → S → Type 0) (mode : Mode) (before : S) (all : List Mark) → TellsOn noted mode before all before all
 tells_start noted mode before all = record { goes = λ after a. a }
 
-pub tells_further : {S : Type 0} (noted : List Mark → S → Type 0) (mode : Mode) (before : S) (all : List Mark) (now next : S) (ms rest : List Mark) → TellsOn noted mode before all now (ms ++ rest) → Adds noted now (in_this mode ms) next → TellsOn noted mode before all next rest
+pub tells_further : {T S : Type 0} (noted : T → List Mark → S → Type 0) (mode : Mode) (before : S) (all : List Mark) (now next : S) (ms rest : List Mark) → TellsOn noted mode before all now (ms ++ rest) → Adds noted now (in_this mode ms) next → TellsOn noted mode before all next rest
 tells_further noted mode before all now next ms rest g a = record { goes = λ after b. g.goes after (adds_more noted mode now next after ms rest a b) }
 
-pub tells_end : {S : Type 0} (noted : List Mark → S → Type 0) (mode : Mode) (before : S) (all : List Mark) (now : S) → TellsOn noted mode before all now [] → Adds noted before (in_this mode all) now
+pub tells_end : {T S : Type 0} (noted : T → List Mark → S → Type 0) (mode : Mode) (before : S) (all : List Mark) (now : S) → TellsOn noted mode before all now [] → Adds noted before (in_this mode all) now
 tells_end noted mode before all now g = g.goes now (adds_none noted now)

@@ -11,12 +11,12 @@ use Rattle.body_replay.specs.Replay.{Case, Mark, Mode, Spot, case_mark, case_mar
 use Rattle.term_replay.specs.Noted.{Adds, in_this}
 use Rattle.term_replay.specs.Questions.{IsAnswer, answer_of, blame_in}
 
-module _ {S : Type 0} (noted : List Mark → S → Type 0) where
+module _ {T S : Type 0} (noted : T → List Mark → S → Type 0) where
   pub adds_none : (s : S) → Adds noted s [] s
-  adds_none s = record { added = λ earlier h. subst (λ z. noted z s) (sym (append-nil earlier)) h }
+  adds_none s = record { added = λ start earlier h. subst (λ z. noted start z s) (sym (append-nil earlier)) h }
 
   pub adds_both : (s t u : S) (ms ns : List Mark) → Adds noted s ms t → Adds noted t ns u → Adds noted s (ms ++ ns) u
-  adds_both s t u ms ns a b = record { added = λ earlier h. subst (λ z. noted z u) (append_assoc earlier ms ns) (b.added (earlier ++ ms) (a.added earlier h)) }
+  adds_both s t u ms ns a b = record { added = λ start earlier h. subst (λ z. noted start z u) (append_assoc earlier ms ns) (b.added start (earlier ++ ms) (a.added start earlier h)) }
 
   pub adds_same : (s t : S) (ms ns : List Mark) → ms ≡ ns → Adds noted s ms t → Adds noted s ns t
   adds_same s t ms ns e a = subst (λ z. Adds noted s z t) e a

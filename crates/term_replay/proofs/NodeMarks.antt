@@ -103,7 +103,7 @@ marks_are v first (t.concat h ts) = refl
 marks_are v first (t.repeat h n ts) = refl
 marks_are v first (t.sign h g y) = refl
 
-module _ {S : Type 0} (noted : List Mark → S → Type 0) (v : Scene) (mode : Mode) (first : Option ℕ) where
+module _ {T S : Type 0} (noted : T → List Mark → S → Type 0) (v : Scene) (mode : Mode) (first : Option ℕ) where
   -- a term that is no operator with two operands
   pub seen_own : (x : t.Term) (r : Partly) (s m u : S) → known_cases v.design v.kept v.blames first x ≡ own_cases (known_value v.design v.kept x) (blame_of v.design v.kept v.blames first x) → Stands v first x r → Adds noted s (in_this mode (inner_marks v first x)) m → Adds noted m (in_this mode (node_marks (head x).node (own_cases r.bits r.blame))) u → Adds noted s (in_this mode (marks_of v first x)) u
   seen_own x r s m u is a inner own =

@@ -39,7 +39,7 @@ words_from r m low high is el eh =
     let b : high + 1 - low ≡ max m.first m.last - min m.first m.last + 1 = omega (arith, a, eh, is.first, is.last) in
     ap₂ range_with_len a b
 
-module _ {S : Type 0} (noted : List Mark → S → Type 0) where
+module _ {T S : Type 0} (noted : T → List Mark → S → Type 0) where
   -- one word more
   pub adds_word : (at : ℕ → Spot) (may : ℕ → Bool) (low word thing : ℕ) (s t u : S) (n : ℕ) → word ≡ low + n → Adds noted s (perhaps_marks at may (range_with_len low n) thing) t → Adds noted t (if may word then doubted (at word) thing ∷ [] else []) u → Adds noted s (perhaps_marks at may (range_with_len low (n + 1)) thing) u
   adds_word at may low word thing s t u n e a b =

@@ -26,7 +26,7 @@ arm_context d x y e c = subst (IsInContext d) e c
 pub arm_value : (v : Scene) (first : Option ℕ) (x y : t.Term) (r : Partly) → x ≡ y → Stands v first y r → Stands v first x r
 arm_value v first x y r e a = subst (λ z. Stands v first z r) (sym e) a
 
-pub arm_notes : {S : Type 0} (noted : List Mark → S → Type 0) (v : Scene) (mode : Mode) (first : Option ℕ) (x y : t.Term) (s u : S) → x ≡ y → Adds noted s (in_this mode (marks_of v first y)) u → Adds noted s (in_this mode (marks_of v first x)) u
+pub arm_notes : {T S : Type 0} (noted : T → List Mark → S → Type 0) (v : Scene) (mode : Mode) (first : Option ℕ) (x y : t.Term) (s u : S) → x ≡ y → Adds noted s (in_this mode (marks_of v first y)) u → Adds noted s (in_this mode (marks_of v first x)) u
 arm_notes noted v mode first x y s u e a = subst (λ z. Adds noted s (in_this mode (marks_of v first z)) u) (sym e) a
 
 -- a value with another name
@@ -43,7 +43,7 @@ two_first v first x y p q e f = f ∙ ap (λ o. first_after v o y) e
 pub three_first : (v : Scene) (first : Option ℕ) (x y z : t.Term) (p q r : Option ℕ) → p ≡ first_after v first x → q ≡ first_after v p y → r ≡ first_after v q z → r ≡ first_after v (first_after v (first_after v first x) y) z
 three_first v first x y z p q r e f g = g ∙ ap (λ o. first_after v o z) (two_first v first x y p q e f)
 
-module _ {S : Type 0} (noted : List Mark → S → Type 0) (v : Scene) (mode : Mode) (first : Option ℕ) (x y : t.Term) where
+module _ {T S : Type 0} (noted : T → List Mark → S → Type 0) (v : Scene) (mode : Mode) (first : Option ℕ) (x y : t.Term) where
   pub two_marks : (p : Option ℕ) (s m u : S) → p ≡ first_after v first x → Adds noted s (in_this mode (marks_of v first x)) m → Adds noted m (in_this mode (marks_of v p y)) u → Adds noted s (in_this mode (marks_of v first x ++ marks_of v (first_after v first x) y)) u
   two_marks p s m u e a b = adds_more noted mode s m u (marks_of v first x) (marks_of v (first_after v first x) y) a (subst (λ o. Adds noted m (in_this mode (marks_of v o y)) u) e b)
 

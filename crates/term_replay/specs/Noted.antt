@@ -30,9 +30,9 @@ abbrev pub access_spot : Access → ℕ → ℕ → r.Spot
 access_spot Read m i = r.word_read m i
 access_spot Write m i = r.word_write m i
 
--- whatever marks the sink took before, it has then taken these too
-pub record Adds {S : Type 0} (noted : List Mark → S → Type 0) (before : S) (marks : List Mark) (after : S) : Type 0 where
-  pub added : (earlier : List Mark) → noted earlier before → noted (earlier ++ marks) after
+-- whatever marks the sink took since any start, it has then taken these too
+pub record Adds {T S : Type 0} (noted : T → List Mark → S → Type 0) (before : S) (marks : List Mark) (after : S) : Type 0 where
+  pub added : (start : T) (earlier : List Mark) → noted start earlier before → noted start (earlier ++ marks) after
 
 -- the marks as they count in this mode: in a branch of an undecided test each is a doubt by that test
 abbrev pub in_this : Mode → List Mark → List Mark

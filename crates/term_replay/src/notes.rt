@@ -40,9 +40,12 @@ impl Access {
 
 /// Takes what a run notes, in order: that a spot is hit, or that it may be hit and which thing is to blame for that.
 pub trait Notes {
-    /// The sink may have taken these marks, in order, since it was made. A sink need not keep the marks: that of a
+    /// What is known of a sink when a run starts: what a table of verdicts was given before, for example.
+    ghost Start: { Type 0 };
+
+    /// The sink may have taken these marks, in order, since this start. A sink need not keep the marks: that of a
     /// table of verdicts says which verdicts these marks give.
-    ghost noted: { List Mark → Self → Type 0 };
+    ghost noted: { Start → List Mark → Self → Type 0 };
 
     /// A spot is hit where `doubt` is None, else it may be hit, and this thing is to blame. It takes no memory.
     fn note(&mut self, spot: Spot, doubt: Option<u32>)

@@ -8,3 +8,4 @@ pub mod Left
 pub mod Held
 pub mod Counted
 pub mod Fitted
+pub mod Showing

@@ -81,7 +81,7 @@ fn with_arms(arms: &[CaseArm], count: usize) -> usize
 
 /// The number so far, and the parts of a target.
 #[cycle(targets)]
-pub(crate) fn with_target(target: &Target, count: usize) -> usize
+fn with_target(target: &Target, count: usize) -> usize
     ensures { result ≡ as_usize (count + target_parts (target_view target.now)) }
 {
     match target {

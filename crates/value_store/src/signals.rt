@@ -1,4 +1,4 @@
-ghost use Rattle.std.specs.Prelude.{◌≡◌, ◌<◌, ◌==◌, ◌≤◌, ◌↔◌, ℕ, IfOk, IsTrue, None, Some, if◌then◌else◌, length, map, slice_set};
+ghost use Rattle.std.specs.Prelude.{◌≡◌, ◌<◌, ◌==◌, ◌≤◌, ◌↔◌, ◌||◌, ℕ, IfOk, IsTrue, None, Some, false, if◌then◌else◌, is_some, length, map, slice_set};
 ghost use Rattle.std.specs.List.{All};
 ghost use Rattle.known_state.specs.Partly.{with_blame};
 ghost use Rattle.value_store.specs.Signals.{HasShape, HasWidth, SameUnder, assigned, hidden_at, kept_at, read_at, shape_at, shape_of, unknown_from, unknown_of, unknown_signals};
@@ -183,7 +183,9 @@ impl Signals {
     /// kept stays.
     pub fn forget(&mut self)
         requires { length self.old.kept ≤ 65536 }
-        ensures { self.new ≡ record self.old { kept = unknown_from 0 self.old.shapes } }
+        ensures value { self.new ≡ record self.old { kept = unknown_from 0 self.old.shapes } }
+        ensures each { (x : ℕ) → x < length self.old.kept → kept_at self.new x ≡ unknown_of (shape_at self.old x) x }
+        ensures count { length self.new.kept ≡ length self.old.kept }
     {
         forget(self.slots.as_mut_slice());
     }
@@ -192,7 +194,9 @@ impl Signals {
     pub fn show(&mut self, signal: u32, value: Known)
         requires place { signal < length self.old.kept }
         requires shape { HasShape (shape_at self.old signal) value }
-        ensures { self.new ≡ record self.old { hidden = slice_set self.old.hidden signal (Some value) } }
+        ensures value { self.new ≡ record self.old { hidden = slice_set self.old.hidden signal (Some value) } }
+        ensures reads { (x : ℕ) → read_at self.new x ≡ (if signal == x then value else read_at self.old x) }
+        ensures hides { (x : ℕ) → is_some (hidden_at self.new x) ≡ ((signal == x) || is_some (hidden_at self.old x)) }
     {
         let slot = &mut self.slots[signal as usize];
         slot.shown = value;
@@ -202,7 +206,9 @@ impl Signals {
     /// Bodies read unknown bits of a signal, which is to blame for itself, until `plain`.
     pub fn veil(&mut self, signal: u32)
         requires { signal < length self.old.kept }
-        ensures { self.new ≡ record self.old { hidden = slice_set self.old.hidden signal (Some (unknown_of (shape_at self.old signal) signal)) } }
+        ensures value { self.new ≡ record self.old { hidden = slice_set self.old.hidden signal (Some (unknown_of (shape_at self.old signal) signal)) } }
+        ensures reads { (x : ℕ) → read_at self.new x ≡ (if signal == x then unknown_of (shape_at self.old signal) signal else read_at self.old x) }
+        ensures hides { (x : ℕ) → is_some (hidden_at self.new x) ≡ ((signal == x) || is_some (hidden_at self.old x)) }
     {
         let kept = self.signal(signal);
         self.show(
@@ -213,7 +219,9 @@ impl Signals {
 
     /// Nothing is shown or veiled any more.
     pub fn plain(&mut self)
-        ensures { self.new ≡ record self.old { hidden = map (λ x. None) self.old.hidden } }
+        ensures value { self.new ≡ record self.old { hidden = map (λ x. None) self.old.hidden } }
+        ensures reads { (x : ℕ) → read_at self.new x ≡ kept_at self.old x }
+        ensures hides { (x : ℕ) → is_some (hidden_at self.new x) ≡ false }
     {
         if self.epoch == u64::MAX {
             rewind(self.slots.as_mut_slice());

@@ -49,7 +49,7 @@ make-requires-clause-room g c =
     rw items (target_room (takes_in (g.B.Bodies.around c.args.store.now) (g.B.Bodies.rooms c.args.store.now)) c.args.blocking v c.args.run.first (target_view c.args.target.now) l.pieces (g.B.Bodies.rooms c.args.store.now) l.are c.requires.room)
 
 pub returns-clause-state : goal.returns-clause-state
-returns-clause-state g c = λ d a h.
+returns-clause-state g c = λ start d a h.
     let v = g.B.Reads.scene c.args.store.now in
     let l = c.locate-first.ensures.pieces in
     let one : c.as_slice.result.now ≡ l.pieces = c.as_slice.ensures ∙ ap (λ (q : Queue Piece). q.items) l.added ∙ ap (λ xs. xs ++ l.pieces) c.requires.none in
@@ -60,7 +60,7 @@ returns-clause-state g c = λ d a h.
     let writing = rw one at c.note_written.ensures in
     let scene = rw two at c.make.ensures.scene in
     let queued = rw two at c.make.ensures.queued in
-    assigned_state g.N.Notes.noted d a c.args.run.mode c.args.line c.args.blocking c.is_none-certain.result (target_view c.args.target.now) (term_view c.args.value.now) v (g.B.Reads.scene c.make.new.store) c.args.run.first c.locate-first.result c.evaluate-found.result.first (g.B.Bodies.queued c.args.store.now) (g.B.Bodies.queued c.make.new.store) l.pieces c.evaluate-found.result.value c.args.notes.now c.note.new.self c.locate-first.new.notes c.evaluate-found.new.notes c.note_written.new.notes
+    assigned_state g.N.Notes.noted start d a c.args.run.mode c.args.line c.args.blocking c.is_none-certain.result (target_view c.args.target.now) (term_view c.args.value.now) v (g.B.Reads.scene c.make.new.store) c.args.run.first c.locate-first.result c.evaluate-found.result.first (g.B.Bodies.queued c.args.store.now) (g.B.Bodies.queued c.make.new.store) l.pieces c.evaluate-found.result.value c.args.notes.now c.note.new.self c.locate-first.new.notes c.evaluate-found.new.notes c.note_written.new.notes
     h c.note.ensures c.locate-first.ensures.first c.locate-first.ensures.notes l.are value first evaluating writing scene (other_flag _ _ c.is_none-certain.ensures) queued
 
 pub returns-clause-rooms : goal.returns-clause-rooms

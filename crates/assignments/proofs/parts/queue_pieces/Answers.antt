@@ -52,6 +52,7 @@ loop-piece-preserved g c =
           (c.queue.ensures.queued ∙ ap (λ v. g.B.Bodies.queued c.loop-piece.store ++ if_certain c.args.certain (lvalue_writes v.design x.to c.cut-part.result.bits)) h.scene)
           (subst (QueuesOn (g.B.Reads.scene c.args.store.now).design c.args.certain (g.B.Bodies.queued c.args.store.now) c.args.pieces.now c.args.value.now.bits (g.B.Bodies.queued c.loop-piece.store)) next h.queues);
       around = c.queue.ensures.around ∙ h.around;
+      under = c.queue.ensures.under ∙ h.under;
       rooms =
           places_further (g.B.Bodies.rooms c.args.store.now) c.args.pieces.now (g.B.Bodies.rooms c.loop-piece.store) (g.B.Bodies.rooms c.queue.new.self) x later
           (subst (PlacesOn (g.B.Bodies.rooms c.args.store.now) c.args.pieces.now (g.B.Bodies.rooms c.loop-piece.store)) next h.rooms)

@@ -12,5 +12,6 @@ invariant-loop-piece g l =
       scene : g.B.Reads.scene l.store ≡ g.B.Reads.scene l.fn.store;
       queues : QueuesOn (g.B.Reads.scene l.fn.store).design l.certain (g.B.Bodies.queued l.fn.store) l.pieces l.value.bits (g.B.Bodies.queued l.store) (drop l.piece-index l.pieces);
       around : g.B.Bodies.around l.store ≡ g.B.Bodies.around l.fn.store;
+      under : g.B.Bodies.under l.store ≡ g.B.Bodies.under l.fn.store;
       rooms : PlacesOn (g.B.Bodies.rooms l.fn.store) l.pieces (g.B.Bodies.rooms l.store) (drop l.piece-index l.pieces);
     }

@@ -63,6 +63,7 @@ loop-piece-preserved g c =
           (subst (WritesOn c.args.blame (g.B.Reads.scene c.args.store.now) c.args.pieces.now c.args.value.now.bits (g.B.Reads.scene c.loop-piece.store)) next h.writes);
       queued = c.write.ensures.queued ∙ h.queued;
       around = c.write.ensures.around ∙ h.around;
+      under = c.write.ensures.under ∙ h.under;
       rooms =
           logs_further (takes_in (g.B.Bodies.around c.args.store.now) (g.B.Bodies.rooms c.args.store.now)) (g.B.Bodies.rooms c.args.store.now) c.args.pieces.now (g.B.Bodies.rooms c.loop-piece.store) (g.B.Bodies.rooms c.write.new.self) x later _
           (ap (λ a. takes_in a (g.B.Bodies.rooms c.loop-piece.store) (written_thing x.to)) h.around ∙ ap (λ f. f (written_thing x.to)) (takes_same (g.B.Bodies.around c.args.store.now) (g.B.Bodies.rooms c.args.store.now) (g.B.Bodies.rooms c.loop-piece.store) h.rooms.same))

@@ -13,5 +13,6 @@ invariant-loop-piece g l =
       writes : WritesOn l.blame (g.B.Reads.scene l.fn.store) l.pieces l.value.bits (g.B.Reads.scene l.store) (drop l.piece-index l.pieces);
       queued : g.B.Bodies.queued l.store ≡ g.B.Bodies.queued l.fn.store;
       around : g.B.Bodies.around l.store ≡ g.B.Bodies.around l.fn.store;
+      under : g.B.Bodies.under l.store ≡ g.B.Bodies.under l.fn.store;
       rooms : LogsOn (takes_in (g.B.Bodies.around l.fn.store) (g.B.Bodies.rooms l.fn.store)) (g.B.Bodies.rooms l.fn.store) l.pieces (g.B.Bodies.rooms l.store) (drop l.piece-index l.pieces);
     }

@@ -18,6 +18,7 @@ loop-left-preserved g c =
       open_tests = (h.open_tests.0, one h.open_tests.0 h.open_tests.1);
       second = λ outer k. one outer (h.second outer k);
       design = (c.end_test.ensures.scene i.test i.left i.rest i.is).design ∙ i.design;
+      under = c.end_test.ensures.under ∙ h.under;
       rooms = leaves_then 0 0 0 0 _ _ _ h.rooms c.end_test.ensures.rooms;
       state =
           closes_further c.args.count (g.B.Reads.scene c.args.store.now) (g.B.Bodies.queued c.args.store.now) (g.B.Bodies.around c.args.store.now) c.loop-left.left (g.B.Reads.scene c.loop-left.store) (g.B.Reads.scene c.end_test.new.self) (g.B.Bodies.queued c.loop-left.store) (g.B.Bodies.queued c.end_test.new.self) inner i.test i.left i.rest (g.B.Bodies.around c.end_test.new.self) some i.is c.end_test.ensures.queued c.end_test.ensures.scene c.end_test.ensures.around h.state;

@@ -12,6 +12,7 @@ invariant-loop-left g l =
       open_tests : (outer : List Around) × AreSecond (g.B.Reads.scene l.fn.store).design l.left outer (g.B.Bodies.around l.store);
       second : (outer : List Around) → AreSecond (g.B.Reads.scene l.fn.store).design l.count outer (g.B.Bodies.around l.fn.store) → AreSecond (g.B.Reads.scene l.fn.store).design l.left outer (g.B.Bodies.around l.store);
       design : (g.B.Reads.scene l.store).design ≡ (g.B.Reads.scene l.fn.store).design;
+      under : g.B.Bodies.under l.store ≡ g.B.Bodies.under l.fn.store;
       rooms : Leaves 0 0 (g.B.Bodies.rooms l.fn.store) (g.B.Bodies.rooms l.store);
       state : ClosesOn l.count (g.B.Reads.scene l.fn.store) (g.B.Bodies.queued l.fn.store) (g.B.Bodies.around l.fn.store) l.left (g.B.Reads.scene l.store) (g.B.Bodies.queued l.store) (g.B.Bodies.around l.store);
     }

@@ -21,9 +21,10 @@ invariant-run_all-loop-stmt g l =
       lawful : are_bodies (g.B.Reads.scene l.fn.store).design (stmts_of (map stmt_view (drop l.stmt-index l.stmts))) ≡ true;
       design : (g.B.Reads.scene l.store).design ≡ (g.B.Reads.scene l.fn.store).design;
       around : g.B.Bodies.around l.store ≡ g.B.Bodies.around l.fn.store;
+      under : g.B.Bodies.under l.store ≡ g.B.Bodies.under l.fn.store;
       pieces : l.pieces ≡ l.fn.pieces;
       rooms : SpendsOn (takes_in (g.B.Bodies.around l.fn.store) (g.B.Bodies.rooms l.fn.store)) (g.B.Bodies.rooms l.fn.store).takes (g.B.Bodies.rooms l.fn.store) (stmts_of (map stmt_view l.stmts)) (g.B.Bodies.rooms l.store) (stmts_of (map stmt_view (drop l.stmt-index l.stmts)));
-      state : RunsOn l.fn.run.mode l.fn.run.first (g.B.Reads.scene l.fn.store) (g.B.Bodies.queued l.fn.store) (λ ms. g.N.Notes.noted ms l.fn.notes) (stmts_of (map stmt_view l.stmts)) l.first (g.B.Reads.scene l.store) (g.B.Bodies.queued l.store) (λ ms. g.N.Notes.noted ms l.notes) (stmts_of (map stmt_view (drop l.stmt-index l.stmts)));
+      state : (start : g.N.Notes.Start) → RunsOn l.fn.run.mode l.fn.run.first (g.B.Reads.scene l.fn.store) (g.B.Bodies.queued l.fn.store) (λ ms. g.N.Notes.noted start ms l.fn.notes) (stmts_of (map stmt_view l.stmts)) l.first (g.B.Reads.scene l.store) (g.B.Bodies.queued l.store) (λ ms. g.N.Notes.noted start ms l.notes) (stmts_of (map stmt_view (drop l.stmt-index l.stmts)));
     }
 
 -- the arms so far, in the second branches of those that are open, and the rest are all
@@ -32,11 +33,12 @@ invariant-run_arms-loop-arm g l =
     record {
       lawful : (signed : Bool) × AreArms (g.B.Reads.scene l.fn.store).design (length l.on.bits) signed (arms_of (map arm_view (drop l.arm-index l.arms)));
       design : (g.B.Reads.scene l.store).design ≡ (g.B.Reads.scene l.fn.store).design;
+      under : g.B.Bodies.under l.store ≡ g.B.Bodies.under l.fn.store;
       pieces : l.pieces ≡ l.fn.pieces;
       few : l.opened ≤ l.arm-index;
       open_tests : AreSecond (g.B.Reads.scene l.fn.store).design l.opened (g.B.Bodies.around l.fn.store) (g.B.Bodies.around l.store);
       rooms : ArmsSpend (g.B.Bodies.rooms l.fn.store) (arms_of (map arm_view l.arms)) (g.B.Bodies.rooms l.store) (arms_of (map arm_view (drop l.arm-index l.arms)));
-      state : ArmsOn l.kind l.on l.fn.run.mode l.fn.run.first (g.B.Reads.scene l.fn.store) (g.B.Bodies.queued l.fn.store) (λ ms. g.N.Notes.noted ms l.fn.notes) (g.B.Bodies.around l.fn.store) (arms_of (map arm_view l.arms)) l.now.mode l.now.first (g.B.Reads.scene l.store) (g.B.Bodies.queued l.store) (λ ms. g.N.Notes.noted ms l.notes) (g.B.Bodies.around l.store) l.opened (arms_of (map arm_view (drop l.arm-index l.arms)));
+      state : (start : g.N.Notes.Start) → ArmsOn l.kind l.on l.fn.run.mode l.fn.run.first (g.B.Reads.scene l.fn.store) (g.B.Bodies.queued l.fn.store) (λ ms. g.N.Notes.noted start ms l.fn.notes) (g.B.Bodies.around l.fn.store) (arms_of (map arm_view l.arms)) l.now.mode l.now.first (g.B.Reads.scene l.store) (g.B.Bodies.queued l.store) (λ ms. g.N.Notes.noted start ms l.notes) (g.B.Bodies.around l.store) l.opened (arms_of (map arm_view (drop l.arm-index l.arms)));
     }
 
 -- the default is one of the rest

@@ -25,6 +25,7 @@ invariant_of-self c =
       words_logged = subst (w.IsWordLogOf x.memories.items) (sym f) (record { sizes = x.words_logged.sizes; done = x.words_logged.done; undone = x.words_logged.undone });
       tests = begun_same x.log c.begin_test.new.self x.words c.begin_test-2.new.self (record { done = length x.log.done; undone = length x.log.undone; second = false; test = c.args.test }) (record { done = length x.words.done; undone = length x.words.undone; second = false; test = c.args.test }) refl x.tests e f;
       taken = x.taken;
+      veiled = x.veiled;
     }
 
 pub returns-clause-around : goal.returns-clause-around

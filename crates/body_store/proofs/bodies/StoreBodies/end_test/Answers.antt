@@ -69,6 +69,7 @@ invariant_of-self c =
       words_logged = subst (λ ys. w.IsWordLogOf ys c.end_test-2.new.self) (sym (whole a)) t.fits;
       tests = changed_same x.log c.end_test.new.self x.words c.end_test-2.new.self (reads_of c.end_test.new.signals) new x.tests s.room t.room t.depth branches;
       taken = x.taken;
+      veiled = x.veiled;
     }
 
 pub returns-clause-scene : goal.returns-clause-scene

@@ -65,6 +65,7 @@ invariant_of-self c =
       words_logged = subst (λ ys. w.IsWordLogOf ys c.second_branch-2.new.self) (sym (whole a)) t.fits;
       tests = changed_same x.log c.second_branch.new.self x.words c.second_branch-2.new.self (reads_of c.second_branch.new.signals) new x.tests s.room t.room t.depth branches;
       taken = x.taken;
+      veiled = x.veiled;
     }
 
 pub returns-clause-scene : goal.returns-clause-scene

@@ -1,7 +1,9 @@
+use Rattle.std.proofs.Common.{◌≡◌, ◌-◌, ap₂, ◌∙◌}
 use Rattle.std.proofs.Common.{◌<◌, ◌≤◌, ap, get_or, length, subst, take, ◌∙◌, arith}
 use Rattle.std.proofs.lemmas.List.{take_all}
 use Rattle.design_model.specs.View.{design_view}
 use Rattle.body_replay.specs.Store.{Kept, keep_all}
+use Rattle.body_calls.specs.Rooms.{Rooms}
 use Rattle.body_store.specs.Held.{HoldsStore}
 use Rattle.body_store.specs.Made.{unblamed}
 use Rattle.body_store.specs.Updates.{queued_writes, update_writes}
@@ -25,6 +27,8 @@ loop-place-preserved c =
     record {
       design = c.make.ensures.design ∙ l.invariant.design;
       updates = c.make.ensures.updates ∙ l.invariant.updates;
+      around = λ none. c.make.ensures.around (l.invariant.around none);
+      rooms = c.make.ensures.rooms ∙ l.invariant.rooms;
       kept = λ k h.
           let before = l.invariant.kept k h in
           let made = subst (λ y. (b : Kept) → HoldsStore (design_view y.now) b unblamed l.self → HoldsStore (design_view y.now) (keep_all b (update_writes (design_view y.now) u)) unblamed c.make.new.self) l.invariant.design c.make.ensures.kept in
@@ -39,3 +43,14 @@ returns-clause-kept c = λ k h.
     let all : length x.updates.items ≤ l.place = (let size = ap (λ q. length q.items) l.invariant.updates in let end = ap length c.as_slice-place-end.ensures in omega (arith, size, end)) in
     let before : HoldsStore d (keep_all k (queued_writes d x.updates.items)) unblamed l.self = subst (λ us. HoldsStore d (keep_all k (queued_writes d us)) unblamed l.self) (take_all l.place x.updates.items all) (l.invariant.kept k h) in
     record { signals = before.signals; memories = before.memories }
+
+pub returns-clause-around : goal.returns-clause-around
+returns-clause-around c = c.loop-place.invariant.around
+
+pub returns-clause-rooms : goal.returns-clause-rooms
+returns-clause-rooms c =
+    let l = c.loop-place in
+    let x = c.args.self.now in
+    let all : x.updates.room - 0 ≡ x.updates.room = omega arith in
+    let queue : c.clear.new.self.room - length c.clear.new.self.items ≡ x.updates.room = ap (λ q. q.room - length q.items) c.clear.ensures ∙ ap (λ q. q.room - 0) l.invariant.updates ∙ all in
+    ap₂ (λ (r : Rooms) n. record { log = r.log; takes = r.takes; queue = n }) l.invariant.rooms queue

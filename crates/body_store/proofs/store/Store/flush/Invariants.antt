@@ -1,6 +1,7 @@
-use Rattle.std.proofs.Common.{◌≡◌, take}
+use Rattle.std.proofs.Common.{◌≡◌, [], take}
 use Rattle.design_model.specs.View.{design_view}
 use Rattle.body_replay.specs.Store.{Kept, keep_all}
+use Rattle.body_store.specs.Bodies.{around_of, rooms_of}
 use Rattle.body_store.specs.Held.{HoldsStore}
 use Rattle.body_store.specs.Made.{unblamed}
 use Rattle.body_store.specs.Updates.{queued_writes}
@@ -12,5 +13,7 @@ invariant-loop-place l =
     record {
       design : l.self.design ≡ l.fn.self.design;
       updates : l.self.updates ≡ l.fn.self.updates;
+      around : around_of l.fn.self ≡ [] → around_of l.self ≡ [];
+      rooms : rooms_of l.self ≡ rooms_of l.fn.self;
       kept : (k : Kept) → HoldsStore (design_view l.fn.self.design.now) k unblamed l.fn.self → HoldsStore (design_view l.fn.self.design.now) (keep_all k (queued_writes (design_view l.fn.self.design.now) (take l.place l.fn.self.updates.items))) unblamed l.self;
     }

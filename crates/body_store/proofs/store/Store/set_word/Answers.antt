@@ -1,65 +1,63 @@
-use Rattle.std.proofs.Common.{◌-◌, ap, length, set, subst, sym, ◌∙◌}
-use Rattle.known_state.specs.Partly.{Partly}
+use Rattle.std.proofs.Common.{◌≡◌, ◌-◌, ◌<◌, ap, length, subst, sym, ◌∙◌}
 use Rattle.design_model.specs.Design.{memory_at}
 use Rattle.design_model.specs.View.{design_view}
+use Rattle.body_replay.specs.KnownBits.{KnownBits}
 use Rattle.body_replay.specs.Store.{keep_all, write_word}
-use Rattle.memory_rebuild.specs.Words.{StandsFor, count}
-use Rattle.value_store.specs.Signals.{read_at}
-use Rattle.word_log.specs.Logs.{IsWordLogOf}
+use Rattle.memory_rebuild.specs.Words.{StandsFor, cell_writes}
+use Rattle.value_store.specs.Held.{HoldsSignals, itself}
 use Rattle.body_calls.specs.Lvalues.{if_certain}
-use Rattle.word_log.specs.declared.memory.StoredMemory.{StoredMemory}
-use Rattle.body_store.specs.Fitting.{FitsDesign, memory_in}
 use Rattle.body_store.specs.Held.{HoldsMemories}
 use Rattle.body_store.specs.Made.{unblamed}
-use Rattle.body_store.specs.Scenes.{kept_by}
-use Rattle.body_store.proofs.Between.{certain_inside, held_words, memory_set, same_either, signals_left}
-use Rattle.body_store.proofs.Fit.{fit_shapes, from_memories, logged_too, memory_stands}
-use Rattle.body_store.proofs.Memories.{place_is, stored_is, word_fits}
+use Rattle.body_store.specs.Veils.{SameButWords, kept_memory, kept_words}
+use Rattle.body_store.proofs.Between.{certain_inside, held_words, signals_left}
+use Rattle.body_store.proofs.Fit.{among_memories, from_memories, in_memories}
+use Rattle.body_store.proofs.Holding.{around_closed}
+use Rattle.body_store.proofs.KeptWords.{kept_fits, word_kept}
 use Rattle.body_store.proofs.Words.{inside_words, is_in_word}
 use Rattle.body_store.proofs.store.Store.set_word.Goals as goal
 
-pub invariant_of-self : goal.invariant_of-self
-invariant_of-self c =
-    let s = c.args.self.now in
-    let d = design_view s.design.now in
-    let x = c.args.memory in
-    let rs = s.memories.items in
-    let k = kept_by (length s.design.now.signals) (read_at s.signals) (λ i. (memory_in rs i).words) in
-    let old = c.index_mut-stored.result.now in
-    let new : StoredMemory = record { words = c.write.new.self; written = old.written } in
-    let was = stored_is s.design.now s.signals rs x new s.fits c.requires.place c.len.result old c.len.ensures c.index_mut-stored.ensures.value in
-    let place = place_is s.design.now s.signals rs x new s.fits c.requires.place c.len.result c.len.ensures in
-    let before : StandsFor d k x old.words = subst (λ r. StandsFor d k x r.words) (sym was) (memory_stands d s.signals rs (read_at s.signals) x s.fits c.requires.place) in
-    let fits = word_fits s.design.now s.signals rs x new s.fits c.requires.place _ (c.write.ensures.shape ∙ ap (λ r. r.words.shape) was) (c.write.ensures.size ∙ ap (λ r. count r.words.shape) was) (c.write.ensures.stands d k x before) in
+pub write_kept-requires : goal.write_kept-requires
+write_kept-requires c =
+    let x = c.args.self.now in
+    let d = design_view x.design.now in
+    let m = c.args.memory in
+    let n = length x.design.now.signals in
+    let rs = x.memories.items in
+    let same : m - c.len.result ≡ m - n = ap (λ z. m - z) (c.len.ensures ∙ x.fits.signals) in
+    let among = among_memories d m c.requires.place in
+    let fit = kept_fits x.design.now.signals x.design.now.memories x.signals rs x.veils x.fits x.veiled (m - n) among in
     record {
-      fits = subst (λ i. FitsDesign s.design.now.signals s.design.now.memories s.signals (set rs i new)) place fits;
-      logged = s.logged;
-      sized = s.sized;
-      words_logged = subst (λ i. IsWordLogOf (set rs i new) s.words) place (logged_too rs (set rs (x - length s.design.now.signals) new) s.words (fit_shapes s.design.now.signals s.design.now.memories s.signals s.signals rs (set rs (x - length s.design.now.signals) new) s.fits fits) s.words_logged);
-      tests = s.tests;
-      taken = s.taken;
+      place = subst (λ q. q < length x.design.now.memories) (sym same) among;
+      width = ap (λ q. length q.bits) c.signed_as-value.ensures ∙ c.requires.width ∙ ap (λ y. y.width) (in_memories d m c.requires.place) ∙ sym (ap (λ y. y.width) fit.shape) ∙ ap (λ q. (kept_words x.veils rs q).shape.width) (sym same);
+      sign = ap (λ q. q.signed) c.signed_as-value.ensures ∙ c.are_signed-signed.ensures ∙ ap (λ q. (kept_words x.veils rs q).shape.signed) (sym same);
     }
+
+pub returns-clause-around : goal.returns-clause-around
+returns-clause-around c = λ none. around_closed c.args.self.now c.write_kept.new.self c.write_kept.ensures.log none
 
 pub returns-clause-kept : goal.returns-clause-kept
 returns-clause-kept c = λ k h.
-    let s = c.args.self.now in
-    let d = design_view s.design.now in
-    let x = c.args.memory in
+    let x = c.args.self.now in
+    let y = c.write_kept.new.self in
+    let d = design_view x.design.now in
+    let m = c.args.memory in
     let i = c.args.index.now in
-    let rs = s.memories.items in
-    let old = c.index_mut-stored.result.now in
-    let new : StoredMemory = record { words = c.write.new.self; written = old.written } in
-    let ws = if_certain c.args.certain (write_word d x i.signed i.bits c.args.value.now.bits) in
-    let inside = certain_inside x (is_in_word (memory_at d x)) (write_word d x i.signed i.bits c.args.value.now.bits) c.args.certain (inside_words d x i.signed i.bits c.args.value.now.bits) in
-    let was = stored_is s.design.now s.signals rs x new s.fits c.requires.place c.len.result old c.len.ensures c.index_mut-stored.ensures.value in
-    let place = place_is s.design.now s.signals rs x new s.fits c.requires.place c.len.result c.len.ensures in
-    let before : StandsFor d k x old.words = subst (λ r. StandsFor d k x r.words) (sym was) (held_words d k unblamed rs x c.requires.place h.memories) in
-    let after : StandsFor d (keep_all k ws) x c.write.new.self =
-    subst (λ us. StandsFor d (keep_all k us) x c.write.new.self)
-    (same_either c.args.certain (write_word d x i.signed i.bits c.signed_as-value.result.bits) ∙ ap (λ (q : Partly). if_certain c.args.certain (write_word d x i.signed i.bits q.bits)) c.signed_as-value.ensures)
-    (c.write.ensures.stands d k x before) in
-    let memories = memory_set d k unblamed rs x new (is_in_word (memory_at d x)) ws c.requires.place inside h.memories after (c.write.ensures.shape ∙ ap (λ r. r.words.shape) was) (ap (λ r. r.written) was) in
+    let n = length x.design.now.signals in
+    let rs = x.memories.items in
+    let us = y.memories.items in
+    let same : m - c.len.result ≡ m - n = ap (λ z. m - z) (c.len.ensures ∙ x.fits.signals) in
+    let ps = c.signed_as-value.result.bits in
+    let bits = ap (λ q. q.bits) c.signed_as-value.ensures in
+    let ws = if_certain c.args.certain (write_word d m i.signed i.bits c.args.value.now.bits) in
+    let inside = certain_inside m (is_in_word (memory_at d m)) (write_word d m i.signed i.bits c.args.value.now.bits) c.args.certain (inside_words d m i.signed i.bits c.args.value.now.bits) in
+    let before : StandsFor d k m (kept_words x.veils rs (m - n)) = held_words d k unblamed (length rs) (kept_memory x.veils rs) m c.requires.place h.memories in
+    let after : StandsFor d (keep_all k (cell_writes d m i ps c.args.certain)) m (kept_words y.veils us (m - n)) =
+    subst (λ q. StandsFor d (keep_all k (cell_writes d m i ps c.args.certain)) m (kept_words y.veils us q)) same
+    (c.write_kept.ensures.here d k m (subst (λ q. StandsFor d k m (kept_words x.veils rs q)) (sym same) before)) in
+    let others : SameButWords (m - n) x.veils rs y.veils us = subst (λ q. SameButWords q x.veils rs y.veils us) same c.write_kept.ensures.others in
+    let shape : (kept_words y.veils us (m - n)).shape ≡ (kept_words x.veils rs (m - n)).shape = subst (λ q. (kept_words y.veils us q).shape ≡ (kept_words x.veils rs q).shape) same c.write_kept.ensures.shape in
     record {
-      signals = signals_left d k (λ y. y) s.signals x (is_in_word (memory_at d x)) ws (from_memories d x c.requires.place) inside h.signals;
-      memories = subst (λ j. HoldsMemories d (keep_all k ws) unblamed (set rs j new)) place memories;
+      signals = subst (HoldsSignals d (keep_all k ws) itself) (sym c.write_kept.ensures.signals) (signals_left d k itself x.signals m (is_in_word (memory_at d m)) ws (from_memories d m c.requires.place) inside h.signals);
+      memories = subst (λ (qs : KnownBits). HoldsMemories d (keep_all k (if_certain c.args.certain (write_word d m i.signed i.bits qs))) unblamed (length us) (kept_memory y.veils us)) bits
+          (word_kept d k unblamed x.veils y.veils rs us m i ps c.args.certain c.requires.place h.memories others shape after);
     }
