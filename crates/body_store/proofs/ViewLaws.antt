@@ -1,6 +1,7 @@
 -- What bodies read of a store and what is kept of it, by one another.
-use Rattle.std.proofs.Common.{◌≡◌, ℕ, ◌+◌, ◌-◌, ◌<◌, Bool, true, false, if◌then◌else◌, is_some, length, Option, Some, None, refl, sym, ap, ap₂, subst, ◌∙◌, arith}
+use Rattle.std.proofs.Common.{◌≡◌, ℕ, ◌+◌, ◌-◌, ◌<◌, Bool, true, false, if◌then◌else◌, is_some, [], ◌∷◌, length, Option, Some, None, refl, sym, ap, ap₂, subst, ◌∙◌, arith}
 use Rattle.std.specs.Prelude.{nat_lt}
+use Rattle.std.specs.List.{flat_map}
 use Rattle.std.specs.Option.{unwrap_or}
 use Rattle.std.proofs.Math.Path.{fun_ext}
 use Rattle.std.proofs.lemmas.Bool.{false≢true}
@@ -9,7 +10,8 @@ use Rattle.event_machine.specs.Cell.{Cell}
 use Rattle.known_state.specs.Partly.{Partly}
 use Rattle.design_model.specs.View.{design_view}
 use Rattle.body_replay.specs.Runs.{seen_of}
-use Rattle.body_replay.specs.Store.{Kept}
+use Rattle.body_replay.specs.Store.{Kept, keep_all}
+use Rattle.body_replay.proofs.Writes.{keep_append}
 use Rattle.memory_rebuild.specs.Words.{KnownWords}
 use Rattle.term_replay.specs.Stands.{Scene}
 use Rattle.value_store.specs.Signals.{hidden_at, kept_at, read_at}
@@ -18,7 +20,7 @@ use Rattle.body_calls.specs.Under.{kept_with}
 use Rattle.body_store.specs.declared.store.Store.{Store}
 use Rattle.body_store.specs.Fitting.{memory_in}
 use Rattle.body_store.specs.Held.{IsMemory}
-use Rattle.body_store.specs.Laws.{PlainLaw, SeenLaw, UnderLaw}
+use Rattle.body_store.specs.Laws.{FlushLaw, PlainLaw, SeenLaw, UnderLaw}
 use Rattle.body_store.specs.Scenes.{bit_at, scene_of, signal_count, word_bit}
 use Rattle.body_store.specs.Veils.{is_veiled, kept_words, under_at}
 use Rattle.body_store.specs.Views.{kept_scene, under_of, view_of}
@@ -117,3 +119,7 @@ plain_law d k e x none h =
             subst (IsMemory d k e (length d.signals + i)) (ap (λ t. record { words = if t then under_at x.veils i else (memory_in x.memories.items i).words; written = (memory_in x.memories.items i).written }) plain) (h.memories.each i l);
       };
     }
+
+pub flush_law : FlushLaw
+flush_law k [] = refl
+flush_law k (ws ∷ queue) = flush_law (keep_all k ws) queue ∙ sym (keep_append k ws (flat_map (λ vs. vs) queue))

@@ -1,9 +1,10 @@
 -- What bodies read of a store and what is kept of it, by one another.
-use Rattle.std.specs.Prelude.{◌≡◌, ℕ, false}
+use Rattle.std.specs.Prelude.{◌≡◌, ℕ, false, List}
+use Rattle.std.specs.List.{flat_map}
 use Rattle.design_model.specs.Design.{Design}
-use Rattle.body_replay.specs.Replay.{Blames}
+use Rattle.body_replay.specs.Replay.{Blames, flush}
 use Rattle.body_replay.specs.Runs.{seen_of}
-use Rattle.body_replay.specs.Store.{Kept}
+use Rattle.body_replay.specs.Store.{Kept, KnownWrite, keep_all}
 use Rattle.body_calls.specs.Under.{kept_with}
 use Rattle.body_store.specs.declared.store.Store.{Store}
 use Rattle.body_store.specs.Held.{HoldsStore, ReadsStore}
@@ -21,3 +22,7 @@ UnderLaw = (x : Store) → kept_with (under_of x) (scene_of x) ≡ kept_scene x
 -- where nothing is shown or veiled bodies read what is kept
 abbrev pub PlainLaw : Type 0
 PlainLaw = (d : Design) (k : Kept) (e : Blames) (x : Store) → ((t : ℕ) → hides x t ≡ false) → HoldsStore d k e x → ReadsStore d k e x
+
+-- the writes that are queued one list after the other are made as those of one list
+abbrev pub FlushLaw : Type 0
+FlushLaw = (k : Kept) (queue : List (List KnownWrite)) → flush k queue ≡ keep_all k (flat_map (λ ws. ws) queue)

@@ -1,6 +1,6 @@
 //! What a store asks of a design, and what it keeps and shows.
 
-ghost use Rattle.body_store.specs.Laws.{PlainLaw, SeenLaw, UnderLaw};
+ghost use Rattle.body_store.specs.Laws.{FlushLaw, PlainLaw, SeenLaw, UnderLaw};
 ghost use Rattle.body_store.specs.Premises.{PremisesLaw};
 
 /// A lawful design meets what `Store::new` asks: each signal and each word has 1 to 128 bits, and there are few enough of
@@ -10,9 +10,11 @@ pub fn premises_law()
 {}
 
 /// What bodies read of a store is what the definition of a run reads of its view. What is kept is what bodies read, and under
-/// what is shown or veiled what a run leaves. Where nothing is shown or veiled bodies read what is kept.
+/// what is shown or veiled what a run leaves. Where nothing is shown or veiled bodies read what is kept. The writes that runs
+/// have queued one after the other are made as those of one list.
 pub fn views_law()
     ensures seen { SeenLaw }
     ensures under { UnderLaw }
     ensures plain { PlainLaw }
+    ensures flush { FlushLaw }
 {}
