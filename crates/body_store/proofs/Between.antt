@@ -22,7 +22,7 @@ use Rattle.value_store.proofs.Held.{update_law, update_part_law}
 use Rattle.body_calls.specs.Lvalues.{if_certain}
 use Rattle.write_log.specs.Entries.{Fits}
 use Rattle.write_log.specs.Logs.{IsLogOf, LogState}
-use Rattle.body_store.specs.declared.memory.StoredMemory.{StoredMemory}
+use Rattle.word_log.specs.declared.memory.StoredMemory.{StoredMemory}
 use Rattle.body_store.specs.Fitting.{FitsDesign}
 use Rattle.body_store.specs.Held.{HoldsMemories, IsMemory}
 use Rattle.body_store.specs.Made.{unblamed}

@@ -16,7 +16,7 @@ use Rattle.memory_rebuild.proofs.Laws.{unwritten_stands}
 use Rattle.memory_rebuild.specs.Words.{KnownWords, unwritten}
 use Rattle.value_store.specs.Signals.{Shape, Signals, kept_at, hidden_at, no_shape, no_value, shape_of, unknown_from, unknown_of, unknown_signals}
 use Rattle.value_store.specs.Held.{HoldsSignals, IsSignal}
-use Rattle.body_store.specs.declared.memory.StoredMemory.{StoredMemory}
+use Rattle.word_log.specs.declared.memory.StoredMemory.{StoredMemory}
 use Rattle.body_store.specs.declared.store.Store.{Store}
 use Rattle.body_store.specs.Made as m
 use Rattle.body_store.specs.Made.{AreUnknown, nothing, unblamed, unknown_memory}

@@ -12,7 +12,7 @@ use Rattle.memory_rebuild.specs.Words.{StandsFor}
 use Rattle.value_store.specs.Signals.{Signals, kept_at}
 use Rattle.value_store.specs.Held.{HoldsSignals, IsSignal, with_kept}
 use Rattle.value_store.proofs.Held.{one_kept}
-use Rattle.body_store.specs.declared.memory.StoredMemory.{StoredMemory}
+use Rattle.word_log.specs.declared.memory.StoredMemory.{StoredMemory}
 use Rattle.body_store.specs.Ended.{ended, settled}
 use Rattle.body_store.specs.Fitting.{FitsDesign, FitsWords, memory_in}
 use Rattle.body_store.specs.Held.{HoldsMemories, IsMemory}

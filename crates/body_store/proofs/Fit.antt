@@ -1,19 +1,23 @@
 -- What is read of a store that has the shapes of a design.
-use Rattle.std.proofs.Common.{◌≡◌, ℕ, zero, suc, ◌+◌, ◌-◌, ◌<◌, ◌≤◌, ◌&&◌, Bool, true, if◌then◌else◌, List, length, map, get_or, replicate, None, refl, sym, ap, subst, ◌∙◌, arith}
+use Rattle.std.proofs.Common.{◌≡◌, ℕ, zero, suc, ◌+◌, ◌-◌, ◌<◌, ◌≤◌, ◌&&◌, Bool, true, if◌then◌else◌, List, length, map, get_or, max, min, replicate, None, refl, sym, ap, subst, ◌∙◌, arith, ⊎_elim}
 use Rattle.std.specs.Prelude.{nat_le, nat_lt}
-use Rattle.std.proofs.lemmas.Bool.{and_parts}
+use Rattle.std.proofs.lemmas.Bool.{and_parts, cases_lt}
 use Rattle.std.proofs.lemmas.Bool.Decides.{nat_tests}
-use Rattle.std.proofs.lemmas.List.{get_or-map, length-map, length-replicate}
+use Rattle.std.proofs.Math.Nat.{le-max_left, min-le_left}
+use Rattle.std.proofs.lemmas.List.{get_or-map, get_or_past, length-map, length-replicate}
 use Rattle.known_state.specs.Partly.{Partly}
 use Rattle.design_model.specs.declared.design.Memory.{Memory}
 use Rattle.design_model.specs.declared.design.Signal.{Signal}
 use Rattle.design_model.specs.Design.{Design, is_memory, memory_at, no_memory, no_signal, signal_at, signal_cells}
 use Rattle.body_replay.specs.KnownBits.{KnownBits, unknown}
 use Rattle.memory_rebuild.specs.declared.shape.Shape.{Shape}
-use Rattle.memory_rebuild.specs.Words.{HaveWidth, KnownWords, StandsFor, count, least, unwritten}
+use Rattle.memory_rebuild.specs.Words.{HaveWidth, IsIndex, KnownWords, StandsFor, count, least, unwritten}
 use Rattle.value_store.specs.Signals as s
-use Rattle.value_store.specs.Signals.{Signals, no_shape, shape_at, unknown_signals}
-use Rattle.body_store.specs.declared.memory.StoredMemory.{StoredMemory}
+use Rattle.value_store.specs.Signals.{SameUnder, Signals, no_shape, shape_at, unknown_signals}
+use Rattle.word_log.specs.declared.memory.StoredMemory.{StoredMemory}
+use Rattle.word_log.specs.Logs.{IsWordLogOf, WordLogState}
+use Rattle.word_log.specs.Memories.{SameShapes, word_in}
+use Rattle.word_log.proofs.Shapes.{all_under, sizes_same}
 use Rattle.body_store.specs.Made.{AreUnknown, shape_of, unknown_memory}
 use Rattle.body_store.specs.Fitting.{FitsDesign, FitsWords, memory_in}
 use Rattle.body_store.specs.Scenes.{kept_by}
@@ -82,3 +86,57 @@ memory_stands d v rs at m f h =
 
 pub flag_is : (d : Design) (m : ℕ) (b : Bool) → is_memory d m ≡ true → b ≡ (nat_le (length d.signals) m && b)
 flag_is d m b h = sym (ap (λ t. t && b) (and_parts (nat_le (length d.signals) m) (nat_lt m (length d.signals + length d.memories)) h).0)
+
+-- ---- what both branches of a test leave has the shapes of the design
+
+-- each word is as wide as the memory's words
+wide_word : (x : Memory) (m : ℕ) (r : StoredMemory) → FitsWords x m r.words → (q : ℕ) → length (word_in r q) ≡ r.words.shape.width
+wide_word x m r f q = ⊎_elim listed past (cases_lt q (count r.words.shape))
+  where
+    listed : q < count r.words.shape → length (word_in r q) ≡ r.words.shape.width
+    listed l =
+        let h : Shape = r.words.shape in
+        let low : min h.first h.last ≤ h.first = min-le_left h.first h.last in
+        let high : h.first ≤ max h.first h.last = le-max_left h.first h.last in
+        let named : IsIndex h (least h + q) = (omega arith, omega (arith, l, low, high)) in
+        let place : q ≡ least h + q - least h = omega arith in
+        ap (λ j. length (get_or r.words.words j (unknown h.width))) place ∙ f.widths (least h + q) named
+
+    past : count r.words.shape ≤ q → length (word_in r q) ≡ r.words.shape.width
+    past l = let size = f.size in ap length (get_or_past r.words.words q (unknown r.words.shape.width) (omega (arith, l, size))) ∙ length-replicate r.words.shape.width None
+
+-- memories of the shapes of one design
+pub fit_shapes : (ss : List Signal) (ms : List Memory) (v v' : Signals) (rs rs' : List StoredMemory) → FitsDesign ss ms v rs → FitsDesign ss ms v' rs' → SameShapes rs rs'
+fit_shapes ss ms v v' rs rs' f g =
+    record {
+      count = g.memories ∙ sym f.memories;
+      shape = λ i. ⊎_elim (λ l. (g.each i l).shape ∙ sym (f.each i l).shape) (λ l. ap (λ r. r.words.shape) (gone i l)) (cases_lt i (length ms));
+      size = λ i. ⊎_elim (λ l. (g.each i l).size ∙ ap count ((g.each i l).shape ∙ sym (f.each i l).shape) ∙ sym (f.each i l).size) (λ l. ap (λ r. length r.words.words) (gone i l)) (cases_lt i (length ms));
+      widths = λ i q. ⊎_elim (λ l. wide_word (get_or ms i no_memory) (length ss + i) (memory_in rs' i) (g.each i l) q ∙ ap (λ x. x.width) ((g.each i l).shape ∙ sym (f.each i l).shape) ∙ sym (wide_word (get_or ms i no_memory) (length ss + i) (memory_in rs i) (f.each i l) q)) (λ l. ap (λ r. length (word_in r q)) (gone i l)) (cases_lt i (length ms));
+    }
+  where
+    gone : (i : ℕ) → length ms ≤ i → memory_in rs' i ≡ memory_in rs i
+    gone i l =
+        let here = f.memories in
+        let there = g.memories in
+        get_or_past rs' i (unknown_memory no_memory 0) (omega (arith, l, there)) ∙ sym (get_or_past rs i (unknown_memory no_memory 0) (omega (arith, l, here)))
+
+-- a log of the one is a log of the other
+pub logged_too : (rs rs' : List StoredMemory) (q : WordLogState) → SameShapes rs rs' → IsWordLogOf rs q → IsWordLogOf rs' q
+logged_too rs rs' q s f = record { sizes = f.sizes ∙ sym (sizes_same rs rs' s); done = all_under rs rs' q.done s f.done; undone = all_under rs rs' q.undone s f.undone }
+
+-- other values of the same shapes
+pub both_fit : (ss : List Signal) (ms : List Memory) (v v' : Signals) (rs rs' : List StoredMemory) → SameUnder v v' → SameShapes rs rs' → FitsDesign ss ms v rs → FitsDesign ss ms v' rs'
+both_fit ss ms v v' rs rs' u s f =
+    record {
+      shapes = u.shapes ∙ f.shapes;
+      signals = u.count ∙ f.signals;
+      memories = s.count ∙ f.memories;
+      each = λ i l.
+          let old : FitsWords (get_or ms i no_memory) (length ss + i) (memory_in rs i).words = f.each i l in
+          record {
+            shape = s.shape i ∙ old.shape;
+            widths = λ j inside. s.widths i (j - least (memory_in rs' i).words.shape) ∙ wide_word (get_or ms i no_memory) (length ss + i) (memory_in rs i) old (j - least (memory_in rs' i).words.shape) ∙ ap (λ x. x.width) (sym (s.shape i));
+            size = s.size i ∙ old.size ∙ ap count (sym (s.shape i));
+          };
+    }

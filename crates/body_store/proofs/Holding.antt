@@ -1,6 +1,6 @@
 -- What is kept of a store where what bodies read changes, and what a run leaves of it.
 use Rattle.std.proofs.Common.{◌≡◌, ℕ, ◌+◌, ◌-◌, ◌<◌, ◌==◌, ◌||◌, Bool, true, false, if◌then◌else◌, List, [], ◌∷◌, length, is_some, None, refl, sym, ap, ap₂, subst, ◌∙◌, arith}
-use Rattle.std.specs.Prelude.{nat_lt}
+use Rattle.std.specs.Prelude.{min, nat_lt}
 use Rattle.std.proofs.Math.Path.{fun_ext}
 use Rattle.std.proofs.lemmas.Bool.Decides.{nat_tests}
 use Rattle.event_machine.specs.Cell.{Cell}
@@ -8,7 +8,6 @@ use Rattle.known_state.specs.Partly.{Partly}
 use Rattle.design_model.specs.Design.{Design}
 use Rattle.body_replay.specs.Replay.{Blames}
 use Rattle.body_replay.specs.Store.{Kept}
-use Rattle.term_replay.specs.Stands.{Scene}
 use Rattle.value_store.specs.Signals.{SameUnder, Signals, hidden_at, kept_at}
 use Rattle.value_store.specs.Held.{HoldsSignals, IsSignal}
 use Rattle.write_log.specs.Entries.{has}
@@ -16,10 +15,12 @@ use Rattle.write_log.specs.Logs.{LogState, Readings, around, is_inside, reads_of
 use Rattle.write_log.specs.declared.entry.Test.{Test}
 use Rattle.body_calls.specs.Rooms.{Rooms}
 use Rattle.body_calls.specs.Under.{Under}
-use Rattle.body_store.specs.declared.memory.StoredMemory.{StoredMemory}
+use Rattle.word_log.specs.declared.memory.StoredMemory.{StoredMemory}
 use Rattle.body_store.specs.declared.store.Store.{Store}
 use Rattle.body_store.specs.declared.veils.Veils.{Veils}
-use Rattle.body_store.specs.Bodies.{around_of, log_room, rooms_of, tests_by}
+use Rattle.body_store.specs.Bodies.{around_of, rooms_of, write_takes}
+use Rattle.body_store.specs.Tests.{Reader, log_room, tests_by, word_room}
+use Rattle.word_log.specs.Logs as w
 use Rattle.body_store.specs.Fitting.{memory_in}
 use Rattle.body_store.specs.Held.{HoldsMemories, IsMemory}
 use Rattle.body_store.specs.Scenes.{bit_at, kept_by, scene_with, signal_count, word_bit}
@@ -43,23 +44,23 @@ memories_kept d k e n n' held held' count same h =
 
 -- ---- no test is around
 
-inside_by : (scene : Readings → Scene) (now : Readings) (ts : List Test) (l : LogState) → l.tests ≡ ts → tests_by scene (around (record l { tests = ts }) now) ≡ [] → is_inside ts ≡ false
-inside_by scene now [] l e none = refl
-inside_by scene now (t ∷ ts) l e none = absurd (let more = ap length none in omega (arith, more))
+inside_by : (scene : Reader) (now : Readings) (us : List w.Around) (ts : List Test) (l : LogState) → l.tests ≡ ts → tests_by scene (around (record l { tests = ts }) now) us ≡ [] → is_inside ts ≡ false
+inside_by scene now us [] l e none = refl
+inside_by scene now us (t ∷ ts) l e none = absurd (let more = ap length none in omega (arith, more))
 
-pub still_none : (scene scene' : Readings → Scene) (now now' : Readings) (l : LogState) → tests_by scene (around l now) ≡ [] → tests_by scene' (around l now') ≡ []
-still_none scene scene' now now' l none = no_tests_by scene' now' l.tests l refl (inside_by scene now l.tests l refl none)
+pub still_none : (scene scene' : Reader) (now now' : Readings) (us us' : List w.Around) (l : LogState) → tests_by scene (around l now) us ≡ [] → tests_by scene' (around l now') us' ≡ []
+still_none scene scene' now now' us us' l none = no_tests_by scene' now' us' l.tests l refl (inside_by scene now us l.tests l refl none)
 
 pub around_closed : (x y : Store) → y.log ≡ x.log → around_of x ≡ [] → around_of y ≡ []
 around_closed x y log none =
-    subst (λ l. tests_by (scene_with y.design.now y.memories.items) (around l (reads_of y.signals)) ≡ []) (sym log)
-    (still_none (scene_with x.design.now x.memories.items) (scene_with y.design.now y.memories.items) (reads_of x.signals) (reads_of y.signals) x.log none)
+    subst (λ l. tests_by (scene_with y.design.now) (around l (reads_of y.signals)) (w.around y.words y.memories.items) ≡ []) (sym log)
+    (still_none (scene_with x.design.now) (scene_with y.design.now) (reads_of x.signals) (reads_of y.signals) (w.around x.words x.memories.items) (w.around y.words y.memories.items) x.log none)
 
--- the room hangs on the design, the log and the queue
-pub rooms_left : (x y : Store) → y.design ≡ x.design → y.log ≡ x.log → y.updates ≡ x.updates → rooms_of y ≡ rooms_of x
-rooms_left x y design log updates =
-    ap₂ {C = Rooms} (λ b k. record { log = log_room k; takes = λ t. if nat_lt t (length b.now.signals) then 1 else k.room + 1; queue = y.updates.room - length y.updates.items }) design log
-    ∙ ap {B = Rooms} (λ q. record { log = log_room x.log; takes = λ t. if nat_lt t (signal_count x) then 1 else x.log.room + 1; queue = q.room - length q.items }) updates
+-- the room hangs on the design, the logs and the queue
+pub rooms_left : (x y : Store) → y.design ≡ x.design → y.log ≡ x.log → y.words ≡ x.words → y.updates ≡ x.updates → rooms_of y ≡ rooms_of x
+rooms_left x y design log words updates =
+    ap₂ {C = Rooms} (λ b k. record { log = min (log_room k) (word_room y.words); takes = write_takes b.now; queue = y.updates.room - length y.updates.items }) design log
+    ∙ ap₂ {C = Rooms} (λ k q. record { log = min (log_room x.log) (word_room k); takes = write_takes x.design.now; queue = q.room - length q.items }) words updates
 
 -- ---- what is shown or veiled
 

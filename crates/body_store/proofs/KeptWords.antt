@@ -21,7 +21,7 @@ use Rattle.value_store.specs.Signals.{Signals, kept_at, no_value}
 use Rattle.value_store.specs.Held.{HoldsSignals, IsSignal}
 use Rattle.write_log.specs.Entries.{has}
 use Rattle.body_calls.specs.Lvalues.{if_certain}
-use Rattle.body_store.specs.declared.memory.StoredMemory.{StoredMemory}
+use Rattle.word_log.specs.declared.memory.StoredMemory.{StoredMemory}
 use Rattle.body_store.specs.declared.veils.Veils.{Veils}
 use Rattle.body_store.specs.Ended.{settled}
 use Rattle.body_store.specs.Scenes.{kept_by}

@@ -1,6 +1,7 @@
 pub mod Alike
 pub mod Between
 pub mod Blank
+pub mod Both
 pub mod Branches
 pub mod Changed
 pub mod Ending

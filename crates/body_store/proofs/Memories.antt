@@ -19,7 +19,7 @@ use Rattle.memory_rebuild.specs.Words.{IsIndex, KnownWords, StandsFor, count, wo
 use Rattle.value_store.specs.Signals.{Signals}
 use Rattle.body_calls.specs.Lvalues.{Like, written}
 use Rattle.body_calls.specs.declared.lvalue.Lvalue.TheVariants.{Word}
-use Rattle.body_store.specs.declared.memory.StoredMemory.{StoredMemory}
+use Rattle.word_log.specs.declared.memory.StoredMemory.{StoredMemory}
 use Rattle.body_store.specs.Fitting.{FitsDesign, FitsWords, memory_in}
 use Rattle.body_store.specs.Made.{unknown_memory}
 use Rattle.body_store.specs.Scenes.{kept_by, scene_with}

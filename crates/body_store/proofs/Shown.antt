@@ -16,7 +16,7 @@ use Rattle.memory_rebuild.specs.Words.{KnownWords, count, least, unwritten, word
 use Rattle.term_replay.specs.Stands.{Scene}
 use Rattle.value_store.specs.Signals as s
 use Rattle.value_store.specs.Signals.{unknown_of}
-use Rattle.body_store.specs.declared.memory.StoredMemory.{StoredMemory}
+use Rattle.word_log.specs.declared.memory.StoredMemory.{StoredMemory}
 use Rattle.body_store.specs.Fitting.{memory_in}
 use Rattle.body_store.specs.Scenes.{bit_at, blames_by, has_index, kept_by, scene_with, word_bit}
 use Rattle.body_store.specs.Views.{showing, veiling}

@@ -7,7 +7,7 @@ use Rattle.memory_rebuild.specs.Words.{KnownWords, unwritten}
 use Rattle.design_model.specs.Design.{no_memory}
 use Rattle.write_log.specs.Entries.{has}
 use Rattle.write_log.proofs.Joins.{contains_has, has_append, has_contains}
-use Rattle.body_store.specs.declared.memory.StoredMemory.{StoredMemory}
+use Rattle.word_log.specs.declared.memory.StoredMemory.{StoredMemory}
 use Rattle.body_store.specs.declared.veils.Veils.{Veils}
 use Rattle.body_store.specs.Fitting.{memory_in}
 use Rattle.body_store.specs.Made.{shape_of, unknown_memory}

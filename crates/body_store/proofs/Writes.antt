@@ -21,7 +21,7 @@ use Rattle.value_store.specs.Signals.{Shape, Signals, read_at, shape_at}
 use Rattle.value_store.proofs.Left.{bits_after, joined_self, part_left}
 use Rattle.body_calls.specs.Lvalues.{Like, written}
 use Rattle.body_calls.specs.declared.lvalue.Lvalue.TheVariants.{Part, Signal}
-use Rattle.body_store.specs.declared.memory.StoredMemory.{StoredMemory}
+use Rattle.word_log.specs.declared.memory.StoredMemory.{StoredMemory}
 use Rattle.body_store.specs.Fitting.{memory_in}
 use Rattle.body_store.specs.Scenes.{blames_by, kept_by, scene_with}
 use Rattle.body_store.proofs.Alike.{like_one}

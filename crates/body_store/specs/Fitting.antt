@@ -6,12 +6,9 @@ use Rattle.design_model.specs.Design.{no_memory}
 use Rattle.memory_rebuild.specs.Words.{IsIndex, KnownWords, count, word_at}
 use Rattle.value_store.specs.Signals as s
 use Rattle.value_store.specs.Signals.{Signals}
-use Rattle.body_store.specs.declared.memory.StoredMemory.{StoredMemory}
-use Rattle.body_store.specs.Made.{shape_of, unknown_memory}
-
--- what is held of the memory with this place in the list of memories
-abbrev pub memory_in : List StoredMemory → ℕ → StoredMemory
-memory_in rs i = slice_index_or rs i (unknown_memory no_memory 0)
+use Rattle.word_log.specs.declared.memory.StoredMemory.{StoredMemory}
+pub use Rattle.word_log.specs.Memories.{memory_in}
+use Rattle.word_log.specs.Memories.{shape_of}
 
 -- the words have the shape of this memory, with this number, and are as many
 pub record FitsWords (x : Memory) (m : ℕ) (w : KnownWords) : Type 0 where

@@ -6,7 +6,7 @@ use Rattle.body_replay.specs.Replay.{Blames}
 use Rattle.memory_rebuild.specs.Words.{StandsFor}
 use Rattle.value_store.specs.Signals.{Signals, read_at, shape_of}
 use Rattle.value_store.specs.Held.{HoldsSignals, IsSignal}
-use Rattle.body_store.specs.declared.memory.StoredMemory.{StoredMemory}
+use Rattle.word_log.specs.declared.memory.StoredMemory.{StoredMemory}
 use Rattle.body_store.specs.declared.store.Store.{Store}
 use Rattle.body_store.specs.Fitting.{memory_in}
 use Rattle.body_store.specs.Veils.{kept_memory}

@@ -5,6 +5,7 @@ pub mod Held
 pub mod Made
 pub mod Premises
 pub mod Scenes
+pub mod Tests
 pub mod Updates
 pub mod Veils
 pub mod Views

@@ -3,17 +3,8 @@ use Rattle.std.specs.Prelude.{◌≡◌, ℕ, ◌+◌, ◌<◌, ◌≤◌, ◌==
 use Rattle.design_model.specs.declared.design.Memory.{Memory}
 use Rattle.body_replay.specs.Store.{Kept}
 use Rattle.body_replay.specs.Replay.{Blames}
-use Rattle.memory_rebuild.specs.declared.shape.Shape.{Shape}
-use Rattle.memory_rebuild.specs.Words.{unwritten}
-use Rattle.body_store.specs.declared.memory.StoredMemory.{StoredMemory}
-
--- the words of a memory of a design, blamed on this number
-abbrev pub shape_of : Memory → ℕ → Shape
-shape_of x m = record { first = x.first; last = x.last; width = x.width; signed = x.signed; blame = m }
-
--- the memory with this number, none of whose words is known, and which no run has written
-abbrev pub unknown_memory : Memory → ℕ → StoredMemory
-unknown_memory x m = record { words = unwritten (shape_of x m); written = false }
+use Rattle.word_log.specs.declared.memory.StoredMemory.{StoredMemory}
+pub use Rattle.word_log.specs.Memories.{shape_of, unknown_memory}
 
 -- nothing is known of any cell
 abbrev pub nothing : Kept

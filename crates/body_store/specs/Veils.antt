@@ -4,7 +4,7 @@ use Rattle.design_model.specs.declared.design.Memory.{Memory}
 use Rattle.design_model.specs.Design.{no_memory}
 use Rattle.memory_rebuild.specs.Words.{KnownWords, unwritten}
 use Rattle.write_log.specs.Entries.{has}
-use Rattle.body_store.specs.declared.memory.StoredMemory.{StoredMemory}
+use Rattle.word_log.specs.declared.memory.StoredMemory.{StoredMemory}
 use Rattle.body_store.specs.declared.veils.Veils.{Veils}
 use Rattle.body_store.specs.Fitting.{FitsWords, memory_in}
 use Rattle.body_store.specs.Made.{shape_of}

@@ -33,15 +33,18 @@ impl<'a> Bodies for Store<'a> {
 
     fn begin_test(&mut self, test: u32) {
         self.log.begin_test(test);
+        self.words.begin_test(test);
     }
 
     fn second_branch(&mut self) {
         self.log.second_branch(&mut self.signals);
+        self.words.second_branch(self.memories.as_mut_slice());
     }
 
     fn end_test(&mut self) {
         common_law();
         self.signals.fitting();
         self.log.end_test(&mut self.signals);
+        self.words.end_test(self.memories.as_mut_slice());
     }
 }

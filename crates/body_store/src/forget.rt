@@ -50,6 +50,7 @@ impl<'a> Store<'a> {
         ensures design { self.new.design ≡ self.old.design }
         ensures signals { self.new.signals ≡ self.old.signals }
         ensures log { self.new.log ≡ self.old.log }
+        ensures words { self.new.words ≡ self.old.words }
         ensures updates { self.new.updates ≡ self.old.updates }
         ensures others { SameButWords place self.old.veils self.old.memories.items self.new.veils self.new.memories.items }
         ensures here { words_kept self.new.veils self.new.memories.items place ≡ unwritten (words_kept self.old.veils self.old.memories.items place).shape }

@@ -17,7 +17,6 @@ mod flush;
 mod forget;
 mod kept;
 mod laws;
-mod memory;
 mod reads;
 mod showing;
 mod store;
@@ -27,6 +26,6 @@ mod veils;
 mod write;
 
 pub use laws::{premises_law, views_law};
-pub use memory::StoredMemory;
 pub use store::{Store, StoreRoom};
 pub use update::Update;
+pub use word_log::StoredMemory;

@@ -84,6 +84,7 @@ impl<'a> Store<'a> {
         ensures design { self.new.design ≡ self.old.design }
         ensures signals { self.new.signals ≡ self.old.signals }
         ensures log { self.new.log ≡ self.old.log }
+        ensures words { self.new.words ≡ self.old.words }
         ensures updates { self.new.updates ≡ self.old.updates }
         ensures aside { IsAside place self.old.veils self.old.memories.items self.new.veils self.new.memories.items }
         ensures unknown { (memory_in self.new.memories.items place).words ≡ unwritten (memory_in self.new.memories.items place).words.shape }
@@ -98,6 +99,7 @@ impl<'a> Store<'a> {
         ensures design { self.new.design ≡ self.old.design }
         ensures signals { self.new.signals ≡ self.old.signals }
         ensures log { self.new.log ≡ self.old.log }
+        ensures words { self.new.words ≡ self.old.words }
         ensures updates { self.new.updates ≡ self.old.updates }
         ensures aside { IsAside place self.old.veils self.old.memories.items self.new.veils self.new.memories.items }
     {
@@ -112,6 +114,7 @@ impl<'a> Store<'a> {
         ensures design { self.new.design ≡ self.old.design }
         ensures signals { self.new.signals ≡ self.old.signals }
         ensures log { self.new.log ≡ self.old.log }
+        ensures words { self.new.words ≡ self.old.words }
         ensures updates { self.new.updates ≡ self.old.updates }
         ensures exchanged { Exchanged place self.old.veils self.old.memories.items self.new.veils self.new.memories.items }
     {

@@ -3,6 +3,8 @@ ghost use Rattle.std.specs.List.{All};
 ghost use Rattle.design_model.specs.View.{design_view};
 ghost use Rattle.value_store.specs.Signals.{HasWidth};
 ghost use Rattle.write_log.specs.Logs.{IsLogOf};
+ghost use Rattle.word_log.specs.Logs.{IsWordLogOf};
+ghost use Rattle.body_store.specs.Tests.{SameTests};
 ghost use Rattle.body_store.specs.Fitting.{FitsDesign};
 ghost use Rattle.body_store.specs.Updates.{are_taken};
 ghost use Rattle.body_store.specs.Veils.{FitsVeils};
@@ -14,12 +16,14 @@ use cov_host::NoMemory;
 use design_model::Design;
 use std::alloc::Global;
 use value_store::{Queue, Signals};
+use word_log::WordLog;
 use write_log::Log;
 
 /// How much the runs of bodies may log and queue.
 #[derive(Clone, Copy)]
 pub struct StoreRoom {
-    /// How many writes of signals a body may make inside of undecided tests, and how many such tests it may begin.
+    /// How much a body may log: one place for each undecided test that it begins, and inside of such tests one for each write
+    /// of a signal, and for each write of a memory one more than the memory has words.
     pub log: usize,
     /// How many parts of nonblocking assignments may wait for the flush.
     pub updates: usize,
@@ -34,8 +38,10 @@ pub struct Store<'a> {
     pub(crate) signals: Signals,
     /// What is known of the memories, in the design's order.
     pub(crate) memories: Vec<StoredMemory>,
-    /// The undecided tests around, and what their branches have overwritten.
+    /// The undecided tests around, and what their branches have overwritten of signals.
     pub(crate) log: Log,
+    /// What they have overwritten of the words of memories.
+    pub(crate) words: WordLog,
     /// The updates that nonblocking assignments have queued, in order.
     pub(crate) updates: Queue<Update>,
     /// The memories that are veiled, and what is kept of those.
@@ -43,6 +49,8 @@ pub struct Store<'a> {
     ghost fits: { FitsDesign design.now.signals design.now.memories signals memories.items },
     ghost logged: { IsLogOf signals log },
     ghost sized: { log.depth ≡ log.room },
+    ghost words_logged: { IsWordLogOf memories.items words },
+    ghost tests: { SameTests log words },
     ghost taken: { are_taken (design_view design.now) updates.items ≡ true },
     ghost veiled: { FitsVeils (length design.now.signals) design.now.memories veils },
 }
@@ -76,6 +84,7 @@ impl<'a> Store<'a> {
             design.signals.len() as u32,
         )?;
         let log = Log::new(alloc, design.signals.len(), room.log, room.log)?;
+        let words = WordLog::new(alloc, memories.as_slice(), room.log, room.log)?;
         let updates = Queue::new(alloc, room.updates)?;
         let veils = Veils::new(
             alloc,
@@ -87,6 +96,7 @@ impl<'a> Store<'a> {
             signals,
             memories,
             log,
+            words,
             updates,
             veils,
         })

@@ -88,7 +88,7 @@ impl<'a> Store<'a> {
         self.assign(signal, value);
     }
 
-    /// A blocking assignment writes a word of a memory. There is no room for that inside of undecided tests.
+    /// A blocking assignment writes a word of a memory.
     pub(crate) fn write_word(&mut self, memory: u32, index: &Known, part: &Known)
         requires place { Takes (design_view self.old.design.now) (Word memory index.now) (length part.now.bits) }
         requires room { takes_in (around_of self.old) (rooms_of self.old) memory ≤ (rooms_of self.old).log }
@@ -100,9 +100,9 @@ impl<'a> Store<'a> {
         ensures scene { Like (written (Word memory index.now) part.now.bits None (scene_of self.old)) (scene_of self.new) }
     {
         let place = memory as usize - self.signals.len();
-        let stored = &mut self.memories[place];
-        let value = signed_as(part, stored.words.shape().signed, memory);
-        stored.words.write(index, &value, true);
-        stored.written = true;
+        let signed = self.memories[place].words.shape().signed;
+        let value = signed_as(part, signed, memory);
+        self.words
+            .write(self.memories.as_mut_slice(), place, index, &value);
     }
 }

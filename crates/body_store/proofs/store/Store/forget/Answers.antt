@@ -38,6 +38,7 @@ loop-place-preserved c =
       design = e.design ∙ i.design;
       signals = e.signals ∙ i.signals;
       log = e.log ∙ i.log;
+      words_log = e.words ∙ i.words_log;
       updates = e.updates ∙ i.updates;
       count = e.others.count ∙ i.count;
       written = λ j. e.others.written j ∙ i.written j;
@@ -83,4 +84,4 @@ returns-clause-kept c = λ k e h.
 pub returns-clause-rooms : goal.returns-clause-rooms
 returns-clause-rooms c =
     let i = c.loop-place.invariant in
-    rooms_left c.args.self.now c.loop-place.self i.design i.log i.updates
+    rooms_left c.args.self.now c.loop-place.self i.design i.log i.words_log i.updates

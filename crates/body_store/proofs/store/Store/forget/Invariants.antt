@@ -11,6 +11,7 @@ invariant-loop-place l =
       design : l.self.design ≡ l.fn.self.design;
       signals : l.self.signals ≡ l.initial.self.signals;
       log : l.self.log ≡ l.fn.self.log;
+      words_log : l.self.words ≡ l.fn.self.words;
       updates : l.self.updates ≡ l.fn.self.updates;
       count : length l.self.memories.items ≡ length l.fn.self.memories.items;
       written : (i : ℕ) → (memory_in l.self.memories.items i).written ≡ (memory_in l.fn.self.memories.items i).written;

@@ -1,8 +1,10 @@
-use Rattle.std.proofs.Common.{◌≡◌, ◌+◌, ◌-◌, ap, arith, is_some, length, map, subst, sym, ◌∙◌}
+use Rattle.std.proofs.Common.{◌≡◌, ◌+◌, ◌-◌, [], ap, ap₂, arith, is_some, min, length, map, subst, sym, ◌∙◌}
 use Rattle.design_model.specs.View.{design_view}
 use Rattle.value_store.specs.Signals.{hidden_at, shape_of, unknown_signals}
 use Rattle.write_log.specs.Logs.{around, reads_of}
-use Rattle.body_store.specs.Bodies.{log_room, tests_by}
+use Rattle.std.proofs.Math.Nat.{min-eq_left}
+use Rattle.word_log.specs.Logs as w
+use Rattle.body_store.specs.Tests.{log_room, seconds, tests_by, word_room}
 use Rattle.body_store.specs.Scenes.{scene_with}
 use Rattle.body_store.specs.Veils.{FitsVeils}
 use Rattle.body_store.specs.Made.{AreUnknown}
@@ -10,7 +12,7 @@ use Rattle.body_store.proofs.Blank.{made_store, none_shown}
 use Rattle.body_store.proofs.Holding.{no_hides}
 use Rattle.body_store.specs.Updates.{are_taken}
 use Rattle.body_store.proofs.Fit.{new_fits}
-use Rattle.body_store.proofs.Tests.{new_logged}
+use Rattle.body_store.proofs.Tests.{new_logged, new_words_logged}
 use Rattle.body_store.proofs.store.Store.new.Goals as goal
 
 pub invariant_of-result : goal.invariant_of-result
@@ -25,8 +27,14 @@ invariant_of-result c =
       fits = fits;
       logged = new_logged v c.in_ok-log.log c.len-2.result c.args.room.log c.in_ok-log.ensures (c.len-2.ensures ∙ sym fits.signals);
       sized = ap (λ l. l.depth) c.in_ok-log.ensures ∙ sym (ap (λ l. l.room) c.in_ok-log.ensures);
+      words_logged = new_words_logged c.in_ok-memories.memories.items c.in_ok-words.words c.args.room.log (c.in_ok-words.ensures ∙ ap (λ rs. record { done = []; undone = []; tests = []; room = c.args.room.log; depth = c.args.room.log; sizes = w.sizes_of rs }) c.as_slice-3.ensures.value);
+      tests = record {
+        word_depth = ap (λ q. q.depth) c.in_ok-words.ensures ∙ sym (ap (λ q. q.room) c.in_ok-words.ensures);
+        room = ap (λ q. q.room) c.in_ok-words.ensures ∙ sym (ap (λ l. l.room) c.in_ok-log.ensures);
+        branches = ap (λ q. seconds q.tests) c.in_ok-words.ensures ∙ sym (ap (λ l. seconds l.tests) c.in_ok-log.ensures);
+      };
       taken = ap (λ q. are_taken (design_view c.args.design.now) q.items) c.in_ok-updates.ensures;
-      veiled = subst (λ n. FitsVeils n ms c.in_ok-veils.veils) c.len-3.ensures (subst (λ y. FitsVeils c.len-3.result y c.in_ok-veils.veils) c.as_slice-3.ensures c.in_ok-veils.ensures.fits);
+      veiled = subst (λ n. FitsVeils n ms c.in_ok-veils.veils) c.len-3.ensures (subst (λ y. FitsVeils c.len-3.result y c.in_ok-veils.veils) c.as_slice-4.ensures c.in_ok-veils.ensures.fits);
     }
 
 pub returns-clause-holds : goal.returns-clause-holds
@@ -45,9 +53,9 @@ returns-clause-hides c = λ x.
 
 pub returns-clause-around : goal.returns-clause-around
 returns-clause-around c =
-    ap (λ l. tests_by (scene_with c.args.design.now c.in_ok-memories.memories.items) (around l (reads_of c.in_ok-signals.signals))) c.in_ok-log.ensures
+    ap (λ l. tests_by (scene_with c.args.design.now) (around l (reads_of c.in_ok-signals.signals)) (w.around c.in_ok-words.words c.in_ok-memories.memories.items)) c.in_ok-log.ensures
 
 pub returns-clause-log : goal.returns-clause-log
 returns-clause-log c =
     let room : c.args.room.log - (0 + 0 + 0) ≡ c.args.room.log = omega arith in
-    ap log_room c.in_ok-log.ensures ∙ room
+    ap₂ min (ap log_room c.in_ok-log.ensures ∙ room) (ap word_room c.in_ok-words.ensures ∙ room) ∙ min-eq_left (omega arith)

@@ -3,9 +3,10 @@ use Rattle.std.proofs.lemmas.List.{take_all}
 use Rattle.design_model.specs.View.{design_view}
 use Rattle.value_store.specs.Signals.{kept_at, read_at}
 use Rattle.write_log.specs.Entries.{has}
+use Rattle.word_log.specs.Logs as w
 use Rattle.write_log.specs.Logs.{around, reads_of}
 use Rattle.body_store.specs.declared.veils.Veils.{Veils}
-use Rattle.body_store.specs.Bodies.{tests_by}
+use Rattle.body_store.specs.Tests.{tests_by}
 use Rattle.body_store.specs.Fitting.{memory_in}
 use Rattle.body_store.specs.Scenes.{scene_with}
 use Rattle.body_store.specs.Veils.{kept_memory, kept_words, under_at}
@@ -31,6 +32,7 @@ loop-listed-preserved c =
       design = c.exchange.ensures.design ∙ i.design;
       signals = c.exchange.ensures.signals ∙ i.signals;
       log = c.exchange.ensures.log ∙ i.log;
+      words_log = c.exchange.ensures.words ∙ i.words_log;
       updates = c.exchange.ensures.updates ∙ i.updates;
       veiled = e.veiled ∙ i.veiled;
       count = e.count ∙ i.count;
@@ -57,9 +59,10 @@ pub returns-clause-around : goal.returns-clause-around
 returns-clause-around c = λ none.
     let x = c.args.self.now in
     let l = c.loop-listed in
-    let scene = scene_with l.self.design.now l.self.memories.items in
-    subst (λ k. tests_by scene (around k (reads_of c.plain.new.self)) ≡ []) (sym l.invariant.log)
-    (still_none (scene_with x.design.now x.memories.items) scene (reads_of x.signals) (reads_of c.plain.new.self) x.log none)
+    let scene = scene_with l.self.design.now in
+    let us = w.around l.self.words l.self.memories.items in
+    subst (λ k. tests_by scene (around k (reads_of c.plain.new.self)) us ≡ []) (sym l.invariant.log)
+    (still_none (scene_with x.design.now) scene (reads_of x.signals) (reads_of c.plain.new.self) (w.around x.words x.memories.items) us x.log none)
 
 pub returns-clause-reads : goal.returns-clause-reads
 returns-clause-reads c =

@@ -11,6 +11,7 @@ invariant-loop-listed l =
       design : l.self.design ≡ l.fn.self.design;
       signals : l.self.signals ≡ l.fn.self.signals;
       log : l.self.log ≡ l.fn.self.log;
+      words_log : l.self.words ≡ l.fn.self.words;
       updates : l.self.updates ≡ l.fn.self.updates;
       veiled : l.self.veils.veiled ≡ l.fn.self.veils.veiled;
       count : length l.self.memories.items ≡ length l.fn.self.memories.items;

@@ -1,5 +1,6 @@
 use Rattle.std.proofs.Common.{ap, length, ◌∙◌}
 use Rattle.design_model.specs.View.{design_view}
+use Rattle.word_log.specs.Logs as w
 use Rattle.write_log.specs.Logs.{reads_of}
 use Rattle.body_store.specs.Scenes.{scene_with}
 use Rattle.body_store.specs.Veils.{kept_memory}
@@ -17,4 +18,4 @@ returns-clause-kept c = λ k h.
 pub returns-clause-around : goal.returns-clause-around
 returns-clause-around c = λ none.
     let x = c.args.self.now in
-    still_none (scene_with x.design.now x.memories.items) (scene_with x.design.now x.memories.items) (reads_of x.signals) (reads_of c.update.new.self) x.log none
+    still_none (scene_with x.design.now) (scene_with x.design.now) (reads_of x.signals) (reads_of c.update.new.self) (w.around x.words x.memories.items) (w.around x.words x.memories.items) x.log none

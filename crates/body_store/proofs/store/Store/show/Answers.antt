@@ -1,5 +1,6 @@
 use Rattle.std.proofs.Common.{ap}
 use Rattle.value_store.specs.Signals.{read_at}
+use Rattle.word_log.specs.Logs as w
 use Rattle.write_log.specs.Logs.{reads_of}
 use Rattle.body_store.specs.Scenes.{scene_with}
 use Rattle.body_store.proofs.Holding.{still_none}
@@ -9,7 +10,7 @@ use Rattle.body_store.proofs.store.Store.show.Goals as goal
 pub returns-clause-around : goal.returns-clause-around
 returns-clause-around c = λ none.
     let x = c.args.self.now in
-    still_none (scene_with x.design.now x.memories.items) (scene_with x.design.now x.memories.items) (reads_of x.signals) (reads_of c.show.new.self) x.log none
+    still_none (scene_with x.design.now) (scene_with x.design.now) (reads_of x.signals) (reads_of c.show.new.self) (w.around x.words x.memories.items) (w.around x.words x.memories.items) x.log none
 
 pub returns-clause-reads : goal.returns-clause-reads
 returns-clause-reads c =

@@ -1,8 +1,9 @@
-use Rattle.std.proofs.Common.{◌+◌, ◌<◌, ap, arith, length, refl, subst, sym, ◌∙◌}
+use Rattle.std.proofs.Common.{◌+◌, ◌<◌, ap, arith, length, refl, set, subst, sym, ◌∙◌}
 use Rattle.std.specs.Vec.{with_item}
 use Rattle.memory_rebuild.specs.Words.{KnownWords, unwritten}
-use Rattle.body_store.specs.declared.memory.StoredMemory.{StoredMemory}
-use Rattle.body_store.specs.Fitting.{FitsWords}
+use Rattle.word_log.specs.declared.memory.StoredMemory.{StoredMemory}
+use Rattle.body_store.specs.Fitting.{FitsDesign, FitsWords}
+use Rattle.body_store.proofs.Fit.{fit_shapes, logged_too}
 use Rattle.body_store.proofs.KeptWords.{blank_again, kept_fits, kept_plain, kept_under, plain_set, under_set, veils_set}
 use Rattle.body_store.proofs.Memories.{fits_set}
 use Rattle.body_store.proofs.store.Store.smudge_words.Goals as goal
@@ -23,6 +24,8 @@ invariant_of-self c =
       fits = x.fits;
       logged = x.logged;
       sized = x.sized;
+      words_logged = x.words_logged;
+      tests = x.tests;
       taken = x.taken;
       veiled = veils_set n ms x.veils _ p c.smudge.new.self x.veiled refl refl (λ m. subst (FitsWords _ (n + p)) (sym c.smudge.ensures.value) (blank_again _ (n + p) old fit));
     }
@@ -40,10 +43,13 @@ invariant_of-self-else-is_veiled c =
     let is = kept_plain x.veils x.memories.items p old inside (sym c.is_veiled.ensures ∙ c.if-is_veiled.false) c.index_mut-else-is_veiled.ensures.value in
     let fit = subst (FitsWords _ (n + p)) is (kept_fits x.design.now.signals ms x.signals x.memories.items x.veils x.fits x.veiled p l) in
     let w = c.smudge-else-is_veiled in
+    let fits : FitsDesign x.design.now.signals ms x.signals (set x.memories.items p (record { words = w.new.self; written = old.written })) = fits_set x.design.now.signals ms x.signals x.memories.items p _ x.fits (λ m. subst (FitsWords _ (n + p)) (sym w.ensures.value) (blank_again _ (n + p) old.words fit)) in
     record {
-      fits = fits_set x.design.now.signals ms x.signals x.memories.items p _ x.fits (λ m. subst (FitsWords _ (n + p)) (sym w.ensures.value) (blank_again _ (n + p) old.words fit));
+      fits = fits;
       logged = x.logged;
       sized = x.sized;
+      words_logged = logged_too x.memories.items (set x.memories.items p (record { words = w.new.self; written = old.written })) x.words (fit_shapes x.design.now.signals ms x.signals x.signals x.memories.items (set x.memories.items p (record { words = w.new.self; written = old.written })) x.fits fits) x.words_logged;
+      tests = x.tests;
       taken = x.taken;
       veiled = x.veiled;
     }

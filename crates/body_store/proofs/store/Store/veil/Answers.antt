@@ -2,6 +2,7 @@ use Rattle.std.proofs.Common.{◌≡◌, ◌+◌, ◌-◌, ◌<◌, ap, ap₂, a
 use Rattle.design_model.specs.View.{design_view}
 use Rattle.value_store.specs.Held.{HoldsSignals}
 use Rattle.value_store.specs.Signals.{read_at, shape_at}
+use Rattle.word_log.specs.Logs as w
 use Rattle.write_log.specs.Logs.{reads_of}
 use Rattle.body_store.specs.Fitting.{memory_in}
 use Rattle.body_store.specs.Scenes.{scene_of, scene_with, word_bit}
@@ -14,7 +15,7 @@ use Rattle.body_store.proofs.store.Store.veil.Goals as goal
 pub returns-then-number-count-clause-around : goal.returns-then-number-count-clause-around
 returns-then-number-count-clause-around c = λ none.
     let x = c.args.self.now in
-    still_none (scene_with x.design.now x.memories.items) (scene_with x.design.now x.memories.items) (reads_of x.signals) (reads_of c.veil.new.self) x.log none
+    still_none (scene_with x.design.now) (scene_with x.design.now) (reads_of x.signals) (reads_of c.veil.new.self) (w.around x.words x.memories.items) (w.around x.words x.memories.items) x.log none
 
 pub returns-then-number-count-clause-reads : goal.returns-then-number-count-clause-reads
 returns-then-number-count-clause-reads c =

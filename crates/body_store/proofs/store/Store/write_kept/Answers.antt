@@ -1,12 +1,13 @@
-use Rattle.std.proofs.Common.{◌+◌, ◌<◌, arith, length, refl, subst, sym, ◌∙◌}
+use Rattle.std.proofs.Common.{◌+◌, ◌<◌, arith, length, refl, set, subst, sym, ◌∙◌}
 use Rattle.std.specs.Vec.{with_item}
 use Rattle.design_model.specs.View.{design_view}
 use Rattle.body_replay.specs.Store.{keep_all}
 use Rattle.memory_rebuild.specs.Words.{StandsFor, cell_writes}
-use Rattle.body_store.specs.declared.memory.StoredMemory.{StoredMemory}
+use Rattle.word_log.specs.declared.memory.StoredMemory.{StoredMemory}
 use Rattle.body_store.proofs.KeptWords.{kept_fits, kept_plain, kept_under, plain_set, under_set, veils_set, written_fits}
 use Rattle.body_store.proofs.Memories.{fits_set}
-use Rattle.body_store.specs.Fitting.{FitsWords}
+use Rattle.body_store.specs.Fitting.{FitsDesign, FitsWords}
+use Rattle.body_store.proofs.Fit.{fit_shapes, logged_too}
 use Rattle.body_store.proofs.store.Store.write_kept.Goals as goal
 
 pub invariant_of-self : goal.invariant_of-self
@@ -25,6 +26,8 @@ invariant_of-self c =
       fits = x.fits;
       logged = x.logged;
       sized = x.sized;
+      words_logged = x.words_logged;
+      tests = x.tests;
       taken = x.taken;
       veiled = veils_set n ms x.veils _ p c.write.new.self x.veiled refl refl
           (λ m. written_fits x.design.now p old c.write.new.self (λ k. keep_all k (cell_writes (design_view x.design.now) (n + p) c.args.index.now c.args.value.now.bits c.args.certain)) l fit c.write.ensures.shape c.write.ensures.size (λ k. c.write.ensures.stands (design_view x.design.now) k (n + p)));
@@ -43,11 +46,14 @@ invariant_of-self-else-is_veiled c =
     let is = kept_plain x.veils x.memories.items p old inside (sym c.is_veiled.ensures ∙ c.if-is_veiled.false) c.index_mut-else-is_veiled.ensures.value in
     let fit = subst (FitsWords _ (n + p)) is (kept_fits x.design.now.signals ms x.signals x.memories.items x.veils x.fits x.veiled p l) in
     let w = c.write-else-is_veiled in
+    let fits : FitsDesign x.design.now.signals ms x.signals (set x.memories.items p (record { words = w.new.self; written = old.written })) = fits_set x.design.now.signals ms x.signals x.memories.items p _ x.fits
+    (λ m. written_fits x.design.now p old.words w.new.self (λ k. keep_all k (cell_writes (design_view x.design.now) (n + p) c.args.index.now c.args.value.now.bits c.args.certain)) l fit w.ensures.shape w.ensures.size (λ k. w.ensures.stands (design_view x.design.now) k (n + p))) in
     record {
-      fits = fits_set x.design.now.signals ms x.signals x.memories.items p _ x.fits
-          (λ m. written_fits x.design.now p old.words w.new.self (λ k. keep_all k (cell_writes (design_view x.design.now) (n + p) c.args.index.now c.args.value.now.bits c.args.certain)) l fit w.ensures.shape w.ensures.size (λ k. w.ensures.stands (design_view x.design.now) k (n + p)));
+      fits = fits;
       logged = x.logged;
       sized = x.sized;
+      words_logged = logged_too x.memories.items (set x.memories.items p (record { words = w.new.self; written = old.written })) x.words (fit_shapes x.design.now.signals ms x.signals x.signals x.memories.items (set x.memories.items p (record { words = w.new.self; written = old.written })) x.fits fits) x.words_logged;
+      tests = x.tests;
       taken = x.taken;
       veiled = x.veiled;
     }
