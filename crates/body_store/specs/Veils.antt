@@ -32,7 +32,7 @@ pub record FitsVeils (n : ℕ) (ms : List Memory) (v : Veils) : Type 0 where
   pub each : (i : ℕ) → i < length ms → FitsWords (slice_index_or ms i no_memory) (n + i) (under_at v i)
   pub once : (i j : ℕ) → i < j → j < length v.veiled.items → slice_index v.veiled.items i ≡ slice_index v.veiled.items j → ⊥
 
--- what is kept of the memories of a store is the same but for the words of the one with this place
+-- what is kept of the memories of a store is the same, except the words of the one with this place
 pub record SameButWords (p : ℕ) (v : Veils) (rs : List StoredMemory) (v' : Veils) (rs' : List StoredMemory) : Type 0 where
   pub count : length rs' ≡ length rs
   pub written : (i : ℕ) → (memory_in rs' i).written ≡ (memory_in rs i).written
