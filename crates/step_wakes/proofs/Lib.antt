@@ -1,0 +1,5 @@
+pub mod DesignTables
+pub mod Few
+pub mod Fresh
+pub mod Missing
+pub mod Noting
