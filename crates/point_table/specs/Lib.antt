@@ -1,0 +1,4 @@
+pub mod Addresses
+pub mod Rows
+pub mod Verdicts
+pub mod Collected
