@@ -1,0 +1,11 @@
+//! The marks of the toggle points of signals, found by the places of bits.
+//!
+//! [`mark_places`] marks the points of the bits of a mask as hit, or as left open, and is proved to change the verdicts of
+//! these points so, and no others (`specs/Toggled.antt`). It takes no memory.
+#![tactic(auto)]
+
+mod index;
+mod places;
+
+pub use index::index_at;
+pub use places::{Toggling, mark_places};
