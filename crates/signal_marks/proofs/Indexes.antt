@@ -1,13 +1,10 @@
 -- The bit that a toggle point names.
-use Rattle.std.proofs.Common.{◌≡◌, ◌∙◌, ℕ, ◌+◌, ◌-◌, ◌<◌, ◌≤◌, Bool, true, false, if◌then◌else◌, nat_le, ℤ, pos, ◌-ℤ◌, Option, Some, None, refl, sym, ap, arith}
+use Rattle.std.proofs.Common.{◌≡◌, ◌∙◌, ℕ, ◌+◌, ◌-◌, ◌<◌, ◌≤◌, Bool, true, false, if◌then◌else◌, nat_le, pos, ◌-ℤ◌, Some, None, refl, ap, arith}
 use Rattle.std.proofs.lemmas.Bool.{lt-ltb}
 use Rattle.std.proofs.lemmas.Int.{ints}
 use Rattle.four_state.specs.Parts.{within}
-use Rattle.design_model.specs.declared.design.Range.{Range}
-use Rattle.design_model.specs.declared.design.Signal.{Signal}
 use Rattle.design_model.specs.Design.{Design, cell, signal_at}
 use Rattle.design_model.specs.Points.{indexed_cell, toggle_cell}
-use Rattle.design_model.specs.Value.{offset}
 use Rattle.signal_marks.specs.Toggled.{HasIndex, index_at}
 
 inside : (w i : ℕ) → i < w → within w (pos i) ≡ Some i

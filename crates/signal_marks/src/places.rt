@@ -1,6 +1,6 @@
 //! The points of the bits of a signal.
 
-ghost use Rattle.std.specs.Prelude.{◌≡◌, ◌≤◌, ℕ};
+ghost use Rattle.std.specs.Prelude.{◌≡◌, ◌≤◌, ℕ, None, Some};
 ghost use Rattle.four_state.specs.Masks.{is_set};
 ghost use Rattle.cover_points.specs.Visits.{IsVisitOf};
 ghost use Rattle.cover_points.specs.declared.listing.Points.{Points as ThePoints};
@@ -22,6 +22,30 @@ pub struct Toggling {
     pub rise: bool,
     /// The time of the step, where it is not sure that they toggle. They are hit where there is none.
     pub doubt: Option<u64>,
+}
+
+impl Toggling {
+    /// Bits that surely toggle so.
+    pub fn sure(signal: u32, rise: bool) -> Self
+        ensures { result ≡ record { signal = signal; rise = rise; doubt = None } }
+    {
+        Toggling {
+            signal,
+            rise,
+            doubt: None,
+        }
+    }
+
+    /// Bits that may toggle so at this time.
+    pub fn open(signal: u32, rise: bool, time: u64) -> Self
+        ensures { result ≡ record { signal = signal; rise = rise; doubt = Some time } }
+    {
+        Toggling {
+            signal,
+            rise,
+            doubt: Some(time),
+        }
+    }
 }
 
 /// Marks the points of the bits at the places of a mask. It takes no memory; where the mask is 0 it takes constant time,
