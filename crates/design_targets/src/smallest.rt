@@ -60,6 +60,7 @@ pub(crate) struct Unnoted;
 
 impl Notes for Unnoted {
     ghost Start = { Unit {0} };
+
     ghost noted = { λ _ _ _. ⊤ };
 
     fn note(&mut self, _spot: Spot, _doubt: Option<u32>) {}

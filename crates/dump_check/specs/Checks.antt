@@ -3,7 +3,7 @@ use Rattle.std.specs.Prelude.{◌≡◌, ◌<◌, ◌==◌, ◌++◌, if◌then�
 use Rattle.std.specs.List.{All, list_any}
 use Rattle.four_state.specs.Vector.{Vector}
 use Rattle.known_state.specs.Partly.{Partly, allows_bits}
-use Rattle.told_values.specs.Told.{value_of}
+use Rattle.code_values.specs.Values.{value_of}
 use Rattle.dump_check.specs.declared.order.Difference.{Difference}
 
 -- a number that all signals are below, and the signals in order

@@ -3,13 +3,13 @@ ghost use Rattle.std.specs.List.{All, Contains};
 ghost use Rattle.index_sets.specs.Rows.{row_at};
 ghost use Rattle.dump_check.specs.Checks.{AgreesAt, FitsAt, IsDifference, IsFirstDifference, last_of_each};
 
+use code_values::CodeValues;
 use cov_host::NoMemory;
 use four_state::Four;
 use index_sets::{IndexSet, Rows};
 use known_state::Known;
 use std::alloc::Global;
 use std::marker::Model;
-use told_values::ToldValues;
 
 /// A signal of which what was made differs from what the dump says, in a bit that is sure.
 #[derive(Clone, Copy, Debug, PartialEq, Eq)]
@@ -67,16 +67,16 @@ impl CheckOrder {
     pub fn first_difference(
         &self,
         codes: &[Option<u32>],
-        told: &ToldValues,
+        dump: &CodeValues,
         made: &[Known],
     ) -> Option<Difference>
-        requires { All (FitsAt codes.now told.now.last made.now) self.now.order }
-        ensures some { IfSome result (IsFirstDifference codes.now told.now.last made.now self.now.order) }
-        ensures none { IfNone result (All (AgreesAt codes.now told.now.last made.now) self.now.order) }
+        requires { All (FitsAt codes.now dump.now.last made.now) self.now.order }
+        ensures some { IfSome result (IsFirstDifference codes.now dump.now.last made.now self.now.order) }
+        ensures none { IfNone result (All (AgreesAt codes.now dump.now.last made.now) self.now.order) }
     {
         for place in (0..self.signals.len()).rev() {
             let signal = self.signals.get(place);
-            let found = compare(signal as u32, codes, told, made);
+            let found = compare(signal as u32, codes, dump, made);
             if found.is_some() {
                 return found;
             }
@@ -100,15 +100,15 @@ impl CheckOrder {
 fn compare(
     signal: u32,
     codes: &[Option<u32>],
-    told: &ToldValues,
+    dump: &CodeValues,
     made: &[Known],
 ) -> Option<Difference>
-    requires { FitsAt codes.now told.now.last made.now signal }
-    ensures some { IfSome result (λ found. (found.signal ≡ signal) × IsDifference codes.now told.now.last made.now found) }
-    ensures none { IfNone result (AgreesAt codes.now told.now.last made.now signal) }
+    requires { FitsAt codes.now dump.now.last made.now signal }
+    ensures some { IfSome result (λ found. (found.signal ≡ signal) × IsDifference codes.now dump.now.last made.now found) }
+    ensures none { IfNone result (AgreesAt codes.now dump.now.last made.now signal) }
 {
     let code = code_of(codes, signal)?;
-    let dumped = told.value(code)?;
+    let dumped = dump.value(code)?;
     let computed = made[signal as usize];
     if !computed.differs(&dumped) {
         return None;

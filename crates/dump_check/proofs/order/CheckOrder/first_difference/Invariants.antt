@@ -5,4 +5,4 @@ use Rattle.dump_check.proofs.order.CheckOrder.first_difference.Given as goal
 
 -- those before in the order agree
 abbrev pub invariant-loop-place : goal.invariant-loop-place
-invariant-loop-place l = All (AgreesAt l.codes l.told.last l.made) (reverse (drop l.place l.self-inside.signals.items))
+invariant-loop-place l = All (AgreesAt l.codes l.dump.last l.made) (reverse (drop l.place l.self-inside.signals.items))

@@ -10,7 +10,7 @@ use Rattle.four_state.specs.Vector.{Vector}
 use Rattle.four_state.proofs.PartLaws.{masks_at}
 use Rattle.index_sets.specs.Members.{Members}
 use Rattle.index_sets.specs.Rows.{row_at}
-use Rattle.told_values.specs.Told.{AddsChanged, AddsRow, AreTold, IsChanged, Told}
+use Rattle.code_values.specs.Values.{AddsChanged, AddsRow, AreChanged, IsChanged, Values}
 
 -- two vectors of the same masks
 pub same_vector : (v w : Vector) → mask_of is_one_or_z v.bits ≡ mask_of is_one_or_z w.bits → mask_of is_strange v.bits ≡ mask_of is_strange w.bits → length v.bits ≡ length w.bits → v.signed ≡ w.signed → v ≡ w
@@ -57,30 +57,30 @@ row_more row before now after i l h one s = (
 -- ---- codes
 
 -- the signals of the codes at these places are put in
-abbrev pub AddsSoFar : Told → List (List ℕ) → List ℕ → ℕ → List ℕ → List ℕ → Type 0
-AddsSoFar t signals told place before after = (s : ℕ) → Contains after s ↔ (Contains before s ⊎ ((k : ℕ) × (k < place) × (k < length told) × IsChanged t (get_or told k 0) × Contains (row_at signals (get_or told k 0)) s))
+abbrev pub AddsSoFar : Values → List (List ℕ) → List ℕ → ℕ → List ℕ → List ℕ → Type 0
+AddsSoFar t signals given place before after = (s : ℕ) → Contains after s ↔ (Contains before s ⊎ ((k : ℕ) × (k < place) × (k < length given) × IsChanged t (get_or given k 0) × Contains (row_at signals (get_or given k 0)) s))
 
-pub none_so_far : (t : Told) (signals : List (List ℕ)) (told xs : List ℕ) → AddsSoFar t signals told 0 xs xs
-none_so_far t signals told xs s = (λ c. inl c, ⊎_elim (λ c. c) (λ c. absurd (omega (arith, c.1))))
+pub none_so_far : (t : Values) (signals : List (List ℕ)) (given xs : List ℕ) → AddsSoFar t signals given 0 xs xs
+none_so_far t signals given xs s = (λ c. inl c, ⊎_elim (λ c. c) (λ c. absurd (omega (arith, c.1))))
 
-pub changed_more : (t : Told) (signals : List (List ℕ)) (told before now after : List ℕ) (place : ℕ) → place < length told → IsChanged t (get_or told place 0)
-    → AddsSoFar t signals told place before now → AddsRow (row_at signals (get_or told place 0)) now after → AddsSoFar t signals told (place + 1) before after
-changed_more t signals told before now after place l is h row s = (
+pub changed_more : (t : Values) (signals : List (List ℕ)) (given before now after : List ℕ) (place : ℕ) → place < length given → IsChanged t (get_or given place 0)
+    → AddsSoFar t signals given place before now → AddsRow (row_at signals (get_or given place 0)) now after → AddsSoFar t signals given (place + 1) before after
+changed_more t signals given before now after place l is h row s = (
   λ c. ⊎_elim (λ a. ⊎_elim (λ b. inl b) (λ b. inr (b.0, omega (arith, b.1), b.2, b.3, b.4)) ((h s).0 a)) (λ a. inr (place, omega arith, l, is, a)) ((row s).0 c),
-  ⊎_elim (λ a. (row s).1 (inl ((h s).1 (inl a)))) (λ a. ⊎_elim (λ m. (row s).1 (inl ((h s).1 (inr (a.0, m, a.2, a.3, a.4))))) (λ m. let e : a.0 ≡ place = omega (arith, a.1, m) in (row s).1 (inr (subst (λ k. Contains (row_at signals (get_or told k 0)) s) e a.4))) (cases_lt a.0 place)),
+  ⊎_elim (λ a. (row s).1 (inl ((h s).1 (inl a)))) (λ a. ⊎_elim (λ m. (row s).1 (inl ((h s).1 (inr (a.0, m, a.2, a.3, a.4))))) (λ m. let e : a.0 ≡ place = omega (arith, a.1, m) in (row s).1 (inr (subst (λ k. Contains (row_at signals (get_or given k 0)) s) e a.4))) (cases_lt a.0 place)),
 )
 
-pub same_more : (t : Told) (signals : List (List ℕ)) (told before now : List ℕ) (place : ℕ) → (IsChanged t (get_or told place 0) → ⊥)
-    → AddsSoFar t signals told place before now → AddsSoFar t signals told (place + 1) before now
-same_more t signals told before now place is h s = (
+pub same_more : (t : Values) (signals : List (List ℕ)) (given before now : List ℕ) (place : ℕ) → (IsChanged t (get_or given place 0) → ⊥)
+    → AddsSoFar t signals given place before now → AddsSoFar t signals given (place + 1) before now
+same_more t signals given before now place is h s = (
   λ c. ⊎_elim (λ b. inl b) (λ b. inr (b.0, omega (arith, b.1), b.2, b.3, b.4)) ((h s).0 c),
-  ⊎_elim (λ a. (h s).1 (inl a)) (λ a. ⊎_elim (λ m. (h s).1 (inr (a.0, m, a.2, a.3, a.4))) (λ m. let e : a.0 ≡ place = omega (arith, a.1, m) in absurd (is (subst (λ k. IsChanged t (get_or told k 0)) e a.3))) (cases_lt a.0 place)),
+  ⊎_elim (λ a. (h s).1 (inl a)) (λ a. ⊎_elim (λ m. (h s).1 (inr (a.0, m, a.2, a.3, a.4))) (λ m. let e : a.0 ≡ place = omega (arith, a.1, m) in absurd (is (subst (λ k. IsChanged t (get_or given k 0)) e a.3))) (cases_lt a.0 place)),
 )
 
-pub all_changed : (closed last : List (Option Vector)) (told : Members) (signals : List (List ℕ)) (before after : List ℕ) (place : ℕ) → AreTold closed last told → length told.items ≤ place
-    → AddsSoFar (record { closed = closed; last = last }) signals told.items place before after → AddsChanged (record { closed = closed; last = last }) signals before after
-all_changed closed last told signals before after place h end a s = (
-  λ c. ⊎_elim (λ b. inl b) (λ b. inr (get_or told.items b.0 0, b.3, b.4)) ((a s).0 c),
-  ⊎_elim (λ b. (a s).1 (inl b)) (λ b. ⊎_elim (λ c. let e : get_or told.items c.0 0 ≡ b.0 = get_or_default told.items c.0 0 b.0 c.1 ∙ c.2 in
+pub all_changed : (closed last : List (Option Vector)) (given : Members) (signals : List (List ℕ)) (before after : List ℕ) (place : ℕ) → AreChanged closed last given → length given.items ≤ place
+    → AddsSoFar (record { closed = closed; last = last }) signals given.items place before after → AddsChanged (record { closed = closed; last = last }) signals before after
+all_changed closed last given signals before after place h end a s = (
+  λ c. ⊎_elim (λ b. inl b) (λ b. inr (get_or given.items b.0 0, b.3, b.4)) ((a s).0 c),
+  ⊎_elim (λ b. (a s).1 (inl b)) (λ b. ⊎_elim (λ c. let e : get_or given.items c.0 0 ≡ b.0 = get_or_default given.items c.0 0 b.0 c.1 ∙ c.2 in
       (a s).1 (inr (c.0, omega (arith, c.1, end), c.1, subst (IsChanged (record { closed = closed; last = last })) (sym e) b.1, subst (λ x. Contains (row_at signals x) s) (sym e) b.2))) (λ e. absurd (b.1 e)) (h.others b.0)),
 )

@@ -1,6 +1,6 @@
 use Rattle.std.proofs.Common.{◌≡◌, ◌<◌, ℕ, false}
-use Rattle.told_values.specs.Told.{lacks_value}
-use Rattle.told_values.proofs.values.ToldValues.first_untold.Given as goal
+use Rattle.code_values.specs.Values.{lacks_value}
+use Rattle.code_values.proofs.values.CodeValues.first_missing.Given as goal
 
 -- none of the signals so far lacks a value
 abbrev pub invariant-loop-signal : goal.invariant-loop-signal

@@ -1,7 +1,7 @@
 ghost use Rattle.std.specs.Prelude.{◌≡◌, ◌≤◌, ◌<◌, ◌↔◌, ℕ, None, Some, false, IfNone, IfOk, IfSome, IsTrue, length, slice_set};
 ghost use Rattle.std.specs.List.{Contains};
 ghost use Rattle.index_sets.specs.Rows.{row_at};
-ghost use Rattle.told_values.specs.Told.{AddsChanged, AddsRow, IsChanged, IsFirstUntold, lacks_code, lacks_value, nothing_told, value_of};
+ghost use Rattle.code_values.specs.Values.{AddsChanged, AddsRow, IsChanged, IsFirstMissing, lacks_code, lacks_value, no_values, value_of};
 
 use cov_host::NoMemory;
 use four_state::Four;
@@ -9,40 +9,44 @@ use index_sets::{IndexSet, Rows};
 use std::alloc::Global;
 use std::marker::Model;
 
-/// The values of the codes of a dump: at the last closed step, and as they were told last.
+/// The values of the codes of a dump: at the last closed step, and as the dump gave them last.
 #[derive(Drop)]
-pub struct ToldValues {
+pub struct CodeValues {
     /// By code, at the last closed step. None where the code had no value yet.
     closed: Vec<Option<Four>>,
-    /// By code, as they were told last.
+    /// By code, as the dump gave them last.
     last: Vec<Option<Four>>,
     /// The codes that may have another value than at the last closed step.
-    told: IndexSet,
+    given: IndexSet,
 }
 
-impl Model for ToldValues {
-    ghost use Rattle.told_values.specs.Told.{AreTold, Told};
+impl Model for CodeValues {
+    ghost use Rattle.code_values.specs.Values.{AreChanged, Values};
 
-    ghost Value = { Told };
+    ghost Value = { Values };
 
     ghost view = { λ v. record { closed = v.closed.items; last = v.last.items } };
 
-    ghost invariant = { λ v. AreTold v.closed.items v.last.items v.told };
+    ghost invariant = { λ v. AreChanged v.closed.items v.last.items v.given };
 }
 
-impl ToldValues {
+impl CodeValues {
     /// So many codes, none of which has a value.
     pub fn new(alloc: Global, codes: usize) -> Result<Self, NoMemory>
-        ensures { IfOk result (λ told. told ≡ nothing_told codes) }
+        ensures { IfOk result (λ given. given ≡ no_values codes) }
     {
         let closed = vec![in alloc; None; codes]?;
         let last = vec![in alloc; None; codes]?;
-        let told = IndexSet::new(alloc, codes)?;
-        Ok(ToldValues { closed, last, told })
+        let given = IndexSet::new(alloc, codes)?;
+        Ok(CodeValues {
+            closed,
+            last,
+            given,
+        })
     }
 
     /// The code has this value from now on. It takes constant time and no memory. A code past the last one changes nothing.
-    pub fn tell(&mut self, code: u32, value: Four)
+    pub fn set(&mut self, code: u32, value: Four)
         ensures closed { self.new.closed ≡ self.old.closed }
         ensures last { self.new.last ≡ slice_set self.old.last code (Some value) }
     {
@@ -50,11 +54,11 @@ impl ToldValues {
         if place >= self.last.len() || is_value(&self.last[place], &value) {
             return;
         }
-        let _ = self.told.insert(place);
+        let _ = self.given.insert(place);
         self.last[place] = Some(value);
     }
 
-    /// The value of a code as it was told last. It takes constant time.
+    /// The value of a code as the dump gave it last. It takes constant time.
     pub fn value(&self, code: u32) -> Option<Four>
         ensures { result ≡ value_of self.now.last code }
     {
@@ -75,35 +79,35 @@ impl ToldValues {
     }
 
     /// Puts the signals in whose code has another value than at the last closed step, where `signals` has for each code
-    /// those that are bound to it. It takes no memory, and time for the codes that were told and their signals.
+    /// those that are bound to it. It takes no memory, and time for the codes that were given a value and their signals.
     pub fn add_changed(&self, signals: &Rows<u32>, changed: &mut IndexSet)
         requires rows { length signals.now ≡ length self.now.last }
         requires below { (code s : ℕ) → Contains (row_at signals.now code) s → s < changed.old.size }
         ensures size { changed.new.size ≡ changed.old.size }
         ensures changed { AddsChanged self.now signals.now changed.old.items changed.new.items }
     {
-        for place in 0..self.told.len() {
-            let code = self.told.get(place);
+        for place in 0..self.given.len() {
+            let code = self.given.get(place);
             if self.is_changed(code) {
                 insert_row(signals.row(code), changed);
             }
         }
     }
 
-    /// Closes a step: its values are those told last. It takes no memory, and time for the codes that were told.
+    /// Closes a step: its values are those given last. It takes no memory, and time for the codes that were given a value.
     pub fn close(&mut self)
         ensures { self.new ≡ record { closed = self.old.last; last = self.old.last } }
     {
-        for place in 0..self.told.len() {
-            let code = self.told.get(place);
+        for place in 0..self.given.len() {
+            let code = self.given.get(place);
             self.closed[code] = self.last[code];
         }
-        self.told.clear();
+        self.given.clear();
     }
 
     /// The first signal that has a code without a value, by the codes of the signals. It takes time for all signals.
-    pub fn first_untold(&self, codes: &[Option<u32>]) -> Option<usize>
-        ensures some { IfSome result (IsFirstUntold self.now.last codes.now) }
+    pub fn first_missing(&self, codes: &[Option<u32>]) -> Option<usize>
+        ensures some { IfSome result (IsFirstMissing self.now.last codes.now) }
         ensures none { IfNone result ((s : ℕ) → s < length codes.now → lacks_value self.now.last codes.now s ≡ false) }
     {
         for (signal, code) in codes.iter().enumerate() {

@@ -1,6 +1,6 @@
 use Rattle.std.proofs.Common.{◌∙◌, sym, ap}
-use Rattle.told_values.proofs.Changing.{same_signs, same_vector}
-use Rattle.told_values.proofs.values.is_same.Goals as goal
+use Rattle.code_values.proofs.Changing.{same_signs, same_vector}
+use Rattle.code_values.proofs.values.is_same.Goals as goal
 
 pub returns : goal.returns
 returns c = (

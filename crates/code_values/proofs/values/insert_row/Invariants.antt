@@ -1,6 +1,6 @@
 use Rattle.std.proofs.Common.{◌≡◌, take}
-use Rattle.told_values.specs.Told.{AddsRow}
-use Rattle.told_values.proofs.values.insert_row.Given as goal
+use Rattle.code_values.specs.Values.{AddsRow}
+use Rattle.code_values.proofs.values.insert_row.Given as goal
 
 -- the signals so far are put in
 abbrev pub invariant-loop-signal : goal.invariant-loop-signal

@@ -1,9 +1,9 @@
 use Rattle.std.proofs.Common.{◌≡◌, ◌∙◌, get_or, take, refl, subst, arith}
 use Rattle.std.proofs.lemmas.List.{take_all}
 use Rattle.std.proofs.lemmas.List.Elements.{Contains-get_or}
-use Rattle.told_values.specs.Told.{AddsRow}
-use Rattle.told_values.proofs.Changing.{one_in, row_more, row_none}
-use Rattle.told_values.proofs.values.insert_row.Goals as goal
+use Rattle.code_values.specs.Values.{AddsRow}
+use Rattle.code_values.proofs.Changing.{one_in, row_more, row_none}
+use Rattle.code_values.proofs.values.insert_row.Goals as goal
 
 pub loop-signal-init : goal.loop-signal-init
 loop-signal-init c = (refl, row_none c.args.signals.now c.args.changed.now.items)
