@@ -1,6 +1,9 @@
 pub mod Alike
 pub mod Between
 pub mod Blank
+pub mod BlocksCells
+pub mod BlocksOwn
+pub mod BlocksKept
 pub mod Both
 pub mod Branches
 pub mod Changed

@@ -72,7 +72,7 @@ module _ (d : Design) (m : ℕ) where
 -- ---- what is known of each cell then
 
 -- a bit of a memory, by the shape that the design has
-word_bit_by : (r : KnownWords) (x : Memory) (k : ℕ) → r.shape.first ≡ x.first → r.shape.last ≡ x.last → r.shape.width ≡ x.width → word_bit r k ≡ (if is_in_word x k then bit_at (word_at r (k / x.width)) (k % x.width) else None)
+pub word_bit_by : (r : KnownWords) (x : Memory) (k : ℕ) → r.shape.first ≡ x.first → r.shape.last ≡ x.last → r.shape.width ≡ x.width → word_bit r k ≡ (if is_in_word x k then bit_at (word_at r (k / x.width)) (k % x.width) else None)
 word_bit_by r x k first last width =
     ap₂ (λ a b. if nat_le (min a b) (k / r.shape.width) && nat_le (k / r.shape.width) (max a b) then bit_at (word_at r (k / r.shape.width)) (k % r.shape.width) else None) first last
     ∙ ap (λ w. if nat_le (min x.first x.last) (k / w) && nat_le (k / w) (max x.first x.last) then bit_at (word_at r (k / w)) (k % w) else None) width

@@ -13,13 +13,16 @@ impl<'a> Store<'a> {
     ghost use Rattle.body_store.specs.Held.{HoldsStore};
     ghost use Rattle.body_store.specs.Made.{unblamed};
     ghost use Rattle.body_store.specs.Updates.{update_writes};
+    ghost use Rattle.body_store.specs.Views.{hides};
 
     /// Makes an update.
-    fn make(&mut self, update: &Update)
+    pub(crate) fn make(&mut self, update: &Update)
         requires { Takes (design_view self.old.design.now) update.now.to (length update.now.value.bits) }
         ensures design { self.new.design ≡ self.old.design }
         ensures around { around_of self.old ≡ [] → around_of self.new ≡ [] }
         ensures rooms { rooms_of self.new ≡ rooms_of self.old }
+        ensures log { self.new.log ≡ self.old.log }
+        ensures hides { hides self.new ≡ hides self.old }
         ensures updates { self.new.updates ≡ self.old.updates }
         ensures kept { (k : Kept) → HoldsStore (design_view self.old.design.now) k unblamed self.old → HoldsStore (design_view self.old.design.now) (keep_all k (update_writes (design_view self.old.design.now) update.now)) unblamed self.new }
     {
@@ -42,6 +45,8 @@ impl<'a> Store<'a> {
         ensures rooms { rooms_of self.new ≡ record (rooms_of self.old) { queue = self.old.updates.room } }
         ensures kept { (k : Kept) → HoldsStore (design_view self.old.design.now) k unblamed self.old → HoldsStore (design_view self.old.design.now) (keep_all k (queued_of self.old)) unblamed self.new }
         ensures queued { queued_of self.new ≡ [] }
+        ensures log { self.new.log ≡ self.old.log }
+        ensures hides { hides self.new ≡ hides self.old }
     {
         for place in 0..self.updates.as_slice().len() {
             let update = self.updates.as_slice()[place];
