@@ -1,28 +1,34 @@
 -- What is kept of a store, cell by cell: the cells of the design, and those that it does not have.
-use Rattle.std.proofs.Common.{◌≡◌, ℕ, ◌+◌, ◌-◌, ◌*◌, ◌/◌, ◌%◌, ◌<◌, ◌≤◌, ◌==◌, ◌&&◌, Bool, true, false, if◌then◌else◌, List, length, map, get_or, min, max, None, refl, sym, ap, subst, ◌∙◌, arith, inl, inr, ⊎_elim}
+use Rattle.std.proofs.Common.{◌≡◌, ℕ, ◌+◌, ◌-◌, ◌*◌, ◌/◌, ◌%◌, ◌<◌, ◌≤◌, ◌==◌, ◌&&◌, Bool, true, false, if◌then◌else◌, List, [], ◌∷◌, length, map, get_or, min, max, None, refl, sym, ap, ap₂, subst, ◌∙◌, arith, inl, inr, ⊎_elim}
 use Rattle.std.specs.Prelude.{nat_le, nat_lt}
 use Rattle.std.proofs.Math.Path.{fun_ext}
-use Rattle.std.proofs.Math.Nat.{mod-lt, mod-add-div'}
-use Rattle.std.proofs.lemmas.Bool.{and_parts, cases_lt, eqb-true, false≢true}
+use Rattle.std.proofs.Math.Nat.{mod-add-div'}
+use Rattle.std.proofs.lemmas.Bool.{and_parts, cases_lt, eqb-true}
 use Rattle.std.proofs.lemmas.Bool.Decides.{nat_tests}
 use Rattle.std.proofs.lemmas.List.{get_or_past}
+use Rattle.std.proofs.lemmas.Nat.{div-mul-add, mod-mul-add}
 use Rattle.event_machine.specs.Cell.{Cell}
 use Rattle.known_state.specs.Partly.{Partly}
 use Rattle.design_model.specs.declared.design.Memory.{Memory}
 use Rattle.design_model.specs.Design.{Design, cell, is_memory, memory_at, no_memory, signal_at, signal_cells}
 use Rattle.body_replay.specs.KnownBits.{KnownBits}
-use Rattle.body_replay.specs.Store.{Kept, keep_all, weaken}
+use Rattle.body_replay.specs.Store.{Kept, keep_all, write_word}
 use Rattle.body_replay.proofs.Frames.{missed}
+use Rattle.body_replay.proofs.Writes.{keep_append}
 use Rattle.memory_rebuild.specs.Words.{IsIndex, KnownWords, StandsFor, word_at}
-use Rattle.body_calls.specs.Lvalues.{Takes, lvalue_writes}
+use Rattle.body_calls.specs.Lvalues.{Takes, if_certain, lvalue_writes}
 use Rattle.body_calls.specs.declared.lvalue.Lvalue.{Lvalue}
 use Rattle.body_calls.specs.declared.lvalue.Lvalue.TheVariants.{Part, Signal, Word}
+use Rattle.body_store.specs.declared.update.Update.{Update}
 use Rattle.body_store.specs.Fitting.{FitsWords}
 use Rattle.body_store.specs.Scenes.{bit_at, kept_by, word_bit}
+use Rattle.body_store.specs.Updates.{are_taken, queued_writes, takes, update_writes}
+use Rattle.body_store.proofs.Between.{certain_inside}
 use Rattle.body_store.proofs.Fit.{from_memories}
-use Rattle.body_store.proofs.Inside.{IsOutside, inside_misses, inside_part, inside_weaken, inside_whole, is_below}
+use Rattle.body_store.proofs.Inside.{Inside, IsOutside, inside_misses, inside_part, inside_whole, is_below}
+use Rattle.body_store.proofs.Queued.{takes_no_less}
 use Rattle.body_store.proofs.Rows.{row_at}
-use Rattle.body_store.proofs.Words.{inside_words, is_in_word, word_bit_by}
+use Rattle.body_store.proofs.Words.{inside_at, is_in_word, word_bit_by}
 
 -- the place is that of a bit of a memory with these bounds
 abbrev pub has_bit : Memory → ℕ → Bool
@@ -35,6 +41,12 @@ has_place d y k = if nat_lt y (length d.signals) then is_below (signal_at d y).w
 -- the cell is one of the design
 abbrev pub is_cell : Design → Cell → Bool
 is_cell d c = has_place d c.thing c.place
+
+-- each bit of a word has such a place
+bit_there : (x : Memory) (i j : ℕ) → nat_le (min x.first x.last) i && nat_le i (max x.first x.last) ≡ true → j < x.width → has_bit x (i * x.width + j) ≡ true
+bit_there x i j e l =
+    let yes : nat_lt j x.width ≡ true = grind (arith, nat_tests, l) in
+    ap₂ (λ a b. (nat_le (min x.first x.last) a && nat_le a (max x.first x.last)) && nat_lt b x.width) (div-mul-add i x.width j l) (mod-mul-add i x.width j l) ∙ ap₂ (λ s t. s && t) e yes
 
 below_is : (a w : ℕ) → nat_lt a w ≡ true → a < w
 below_is a w e = grind (arith, nat_tests, e)
@@ -138,35 +150,41 @@ module _ (d : Design) where
       go false e = inl e
       go true e = inr (below_out s c.thing c.place l (eqb-true s c.thing e) out)
 
-  word_out : (m y k : ℕ) → is_memory d m ≡ true → 1 ≤ (memory_at d m).width → m ≡ y → has_place d y k ≡ false → is_in_word (memory_at d m) k ≡ false
-  word_out m y k is some same out =
-      let x = memory_at d m in
+  word_out : (m y k : ℕ) → is_memory d m ≡ true → m ≡ y → has_place d y k ≡ false → has_bit (memory_at d m) k ≡ false
+  word_out m y k is same out =
       let from = from_memories d m is in
       let no : nat_lt m (length d.signals) ≡ false = grind (arith, nat_tests, from) in
-      let below : k % x.width < x.width = mod-lt k (omega (arith, some)) in
-      let yes : nat_lt (k % x.width) x.width ≡ true = grind (arith, nat_tests, below) in
-      first_false (is_in_word x k) (nat_lt (k % x.width) x.width) yes (sym (ap (λ t. if t then is_below (signal_at d m).width k else has_bit x k) no) ∙ subst (λ z. has_place d z k ≡ false) (sym same) out)
-    where
-      first_false : (a b : Bool) → b ≡ true → (a && b) ≡ false → a ≡ false
-      first_false false b e h = refl
-      first_false true b e h = absurd (false≢true (sym h ∙ e))
+      sym (ap (λ t. if t then is_below (signal_at d m).width k else has_bit (memory_at d m) k) no) ∙ subst (λ z. has_place d z k ≡ false) (sym same) out
 
-  memory_out : (m : ℕ) (c : Cell) → is_memory d m ≡ true → 1 ≤ (memory_at d m).width → is_cell d c ≡ false → IsOutside m (is_in_word (memory_at d m)) c
-  memory_out m c is some out = go (m == c.thing) refl
+  memory_out : (m : ℕ) (c : Cell) → is_memory d m ≡ true → is_cell d c ≡ false → IsOutside m (has_bit (memory_at d m)) c
+  memory_out m c is out = go (m == c.thing) refl
     where
-      go : (t : Bool) → (m == c.thing) ≡ t → IsOutside m (is_in_word (memory_at d m)) c
+      go : (t : Bool) → (m == c.thing) ≡ t → IsOutside m (has_bit (memory_at d m)) c
       go false e = inl e
-      go true e = inr (word_out m c.thing c.place is some (eqb-true m c.thing e) out)
+      go true e = inr (word_out m c.thing c.place is (eqb-true m c.thing e) out)
 
-  -- so writes that may not be made leave the other cells
-  pub weak_missed : (k : Kept) (to : Lvalue) (ps : KnownBits) (c : Cell) → Takes d to (length ps) → 1 ≤ length ps → is_cell d c ≡ false → keep_all k (weaken (lvalue_writes d to ps)) c ≡ k c
-  weak_missed k (Signal s) ps c takes some out =
+  inside_bits : (m : ℕ) (signed : Bool) (is ps : KnownBits) → Inside m (has_bit (memory_at d m)) (write_word d m signed is ps)
+  inside_bits m signed is ps = inside_at d m (has_bit (memory_at d m)) (bit_there (memory_at d m)) signed is ps
+
+  -- so the writes of an assignment, certain or not, leave the other cells
+  pub lvalue_missed : (k : Kept) (certain : Bool) (to : Lvalue) (ps : KnownBits) (c : Cell) → Takes d to (length ps) → is_cell d c ≡ false → keep_all k (if_certain certain (lvalue_writes d to ps)) c ≡ k c
+  lvalue_missed k certain (Signal s) ps c takes out =
       let ws = lvalue_writes d (Signal s) ps in
-      missed c (weaken ws) k (inside_misses s (is_below (signal_at d s).width) (weaken ws) c (inside_weaken s (is_below (signal_at d s).width) ws (inside_whole d s ps)) (signal_out s c takes.0 out))
-  weak_missed k (Part s low) ps c takes some out =
+      let at = is_below (signal_at d s).width in
+      missed c (if_certain certain ws) k (inside_misses s at (if_certain certain ws) c (certain_inside s at ws certain (inside_whole d s ps)) (signal_out s c takes.0 out))
+  lvalue_missed k certain (Part s low) ps c takes out =
       let ws = lvalue_writes d (Part s low) ps in
-      missed c (weaken ws) k (inside_misses s (is_below (signal_at d s).width) (weaken ws) c (inside_weaken s (is_below (signal_at d s).width) ws (inside_part d s low.signed low.bits ps)) (signal_out s c takes.0 out))
-  weak_missed k (Word m i) ps c takes some out =
+      let at = is_below (signal_at d s).width in
+      missed c (if_certain certain ws) k (inside_misses s at (if_certain certain ws) c (certain_inside s at ws certain (inside_part d s low.signed low.bits ps)) (signal_out s c takes.0 out))
+  lvalue_missed k certain (Word m i) ps c takes out =
       let ws = lvalue_writes d (Word m i) ps in
-      let wide : 1 ≤ (memory_at d m).width = subst (λ w. 1 ≤ w) takes.1 some in
-      missed c (weaken ws) k (inside_misses m (is_in_word (memory_at d m)) (weaken ws) c (inside_weaken m (is_in_word (memory_at d m)) ws (inside_words d m i.signed i.bits ps)) (memory_out m c takes.0 wide out))
+      let at = has_bit (memory_at d m) in
+      missed c (if_certain certain ws) k (inside_misses m at (if_certain certain ws) c (certain_inside m at ws certain (inside_bits m i.signed i.bits ps)) (memory_out m c takes.0 out))
+
+  -- and so do the writes that are queued
+  pub queue_missed : (k : Kept) (us : List Update) (c : Cell) → are_taken d us ≡ true → is_cell d c ≡ false → keep_all k (queued_writes d us) c ≡ k c
+  queue_missed k [] c h out = refl
+  queue_missed k (u ∷ us) c h out =
+      let both = and_parts (takes d u.to (length u.value.bits)) (are_taken d us) h in
+      ap (λ f. f c) (keep_append k (update_writes d u) (queued_writes d us)) ∙ queue_missed (keep_all k (update_writes d u)) us c both.1 out
+      ∙ lvalue_missed k u.certain u.to u.value.bits c (takes_no_less d u.to (length u.value.bits) both.0) out

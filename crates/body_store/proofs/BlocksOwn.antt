@@ -15,7 +15,6 @@ use Rattle.body_replay.proofs.Answered.{same_sure}
 use Rattle.memory_rebuild.specs.Words.{KnownWords, unwritten}
 use Rattle.term_replay.specs.Stands.{Scene}
 use Rattle.value_store.specs.Signals.{HasShape, kept_at, shape_at}
-use Rattle.body_calls.specs.Lvalues.{is_sure_signal}
 use Rattle.body_calls.specs.Own.{IsOwn, IsOwnOutside, is_in}
 use Rattle.body_store.specs.declared.store.Store.{Store}
 use Rattle.body_store.specs.Ended.{ended, settled}

@@ -4,6 +4,7 @@ pub mod Blank
 pub mod BlocksCells
 pub mod BlocksOwn
 pub mod BlocksKept
+pub mod BlocksLaws
 pub mod Both
 pub mod Branches
 pub mod Changed

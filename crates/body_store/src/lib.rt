@@ -27,7 +27,7 @@ mod update;
 mod veils;
 mod write;
 
-pub use laws::{premises_law, views_law};
+pub use laws::{own_law, premises_law, views_law};
 pub use store::{Store, StoreRoom};
 pub use update::Update;
 pub use word_log::StoredMemory;
