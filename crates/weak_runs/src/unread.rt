@@ -61,27 +61,27 @@ impl<'a, R: Reads> Reads for Unread<'a, R> {
 fn may_name_some(memory: u32, words: Range, index: &Known) -> bool
     ensures { (m : Memory) → IsOf words m → result ≡ has_marks (marks_of_words m (word_read memory) index.now.signed index.now.bits index.now.blame) }
 {
-    let mut notes = Counted { some: false };
+    let mut notes = AnyNote { found: false };
     note_words(Access::Read, memory, words, index, None, &mut notes);
-    notes.some
+    notes.found
 }
 
 /// Whether there was a note.
 #[derive(Drop)]
-struct Counted {
-    some: bool,
+struct AnyNote {
+    found: bool,
 }
 
-impl Notes for Counted {
+impl Notes for AnyNote {
     ghost use Rattle.std.specs.Prelude.{◌≡◌, ⊤};
     ghost use Rattle.weak_runs.specs.Unread.{has_marks};
 
     ghost Start = { ⊤ };
 
-    ghost noted = { λ start ms notes. notes.some ≡ has_marks ms };
+    ghost noted = { λ start ms notes. notes.found ≡ has_marks ms };
 
     fn note(&mut self, _spot: Spot, _doubt: Option<u32>) {
-        self.some = true;
+        self.found = true;
     }
 }
 
