@@ -3,3 +3,4 @@ pub mod Blames
 pub mod Evaluated
 pub mod Noting
 pub mod Ways
+pub mod WeakWay

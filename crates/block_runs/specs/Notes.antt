@@ -1,5 +1,5 @@
 -- The ways of a run and what it notes, as the definition of a run has them.
-use Rattle.std.specs.Prelude.{◌≡◌, ℕ, List, ◌++◌, Option, Some, None}
+use Rattle.std.specs.Prelude.{◌≡◌, ℕ, Bool, true, false, List, ◌++◌, Option, Some, None}
 use Rattle.body_replay.specs.Contract as c
 use Rattle.body_replay.specs.Contract.{Doubted, Note, notes_of}
 use Rattle.body_replay.specs.Replay.{Mark}
@@ -15,6 +15,11 @@ way_of (Clean time) = c.clean time
 way_of Quiet = c.quiet
 way_of (Perhaps time thing) = c.perhaps time thing
 way_of (Weak time thing) = c.weak time thing
+
+-- the way in which the body is not evaluated
+abbrev pub is_weak_way : c.Certainty → Bool
+is_weak_way (c.weak time thing) = true
+is_weak_way _ = false
 
 -- a doubt
 abbrev pub doubt_of : Option Doubt → Option Doubted

@@ -1,3 +1,6 @@
+ghost use Rattle.std.specs.Prelude.{◌≡◌};
+ghost use Rattle.block_runs.specs.Notes.{is_weak_way, way_of};
+
 /// How sure it is that a block runs in a step.
 #[derive(Clone, Copy, Debug, PartialEq, Eq)]
 pub enum Certainty {
@@ -10,4 +13,16 @@ pub enum Certainty {
     /// It may run any number of times, on any values: each write of its text may be made, and all that it may visit is in
     /// doubt by this thing.
     Weak { time: u64, thing: u32 },
+}
+
+impl Certainty {
+    /// Whether the body is not evaluated.
+    pub(crate) fn is_weak(self) -> bool
+        ensures { result ≡ is_weak_way (way_of self) }
+    {
+        match self {
+            Certainty::Weak { .. } => true,
+            _ => false,
+        }
+    }
 }

@@ -44,7 +44,7 @@ memories_kept d k e n n' held held' count same h =
 
 -- ---- no test is around
 
-inside_by : (scene : Reader) (now : Readings) (us : List w.Around) (ts : List Test) (l : LogState) → l.tests ≡ ts → tests_by scene (around (record l { tests = ts }) now) us ≡ [] → is_inside ts ≡ false
+pub inside_by : (scene : Reader) (now : Readings) (us : List w.Around) (ts : List Test) (l : LogState) → l.tests ≡ ts → tests_by scene (around (record l { tests = ts }) now) us ≡ [] → is_inside ts ≡ false
 inside_by scene now us [] l e none = refl
 inside_by scene now us (t ∷ ts) l e none = absurd (let more = ap length none in omega (arith, more))
 

@@ -1,6 +1,10 @@
 pub mod Alike
 pub mod Between
 pub mod Blank
+pub mod BlocksCells
+pub mod BlocksOwn
+pub mod BlocksKept
+pub mod BlocksLaws
 pub mod Both
 pub mod Branches
 pub mod Changed

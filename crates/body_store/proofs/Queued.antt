@@ -32,7 +32,7 @@ pub queued_more : (d : Design) (us : List Update) (u : Update) → queued_writes
 queued_more d [] u = append-nil (update_writes d u)
 queued_more d (v ∷ vs) u = ap (λ ws. update_writes d v ++ ws) (queued_more d vs u) ∙ sym (append_assoc (update_writes d v) (queued_writes d vs) (update_writes d u))
 
-takes_no_less : (d : Design) (to : Lvalue) (n : ℕ) → takes d to n ≡ true → Takes d to n
+pub takes_no_less : (d : Design) (to : Lvalue) (n : ℕ) → takes d to n ≡ true → Takes d to n
 takes_no_less d (Signal s) n h =
     let both = and_parts (nat_lt s (length d.signals)) (n == (signal_at d s).width) h in
     let first = both.0 in

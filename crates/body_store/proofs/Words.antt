@@ -30,25 +30,26 @@ min_max a b = let low = min-le_left a b in let high = le-max_left a b in omega (
 abbrev pub is_in_word : Memory → ℕ → Bool
 is_in_word x k = nat_le (min x.first x.last) (k / x.width) && nat_le (k / x.width) (max x.first x.last)
 
-module _ (d : Design) (m : ℕ) where
+-- so at each place of a word where a test passes
+module _ (d : Design) (m : ℕ) (at : ℕ → Bool) (there : (i j : ℕ) → nat_le (min (memory_at d m).first (memory_at d m).last) i && nat_le i (max (memory_at d m).first (memory_at d m).last) ≡ true → j < (memory_at d m).width → at (i * (memory_at d m).width + j) ≡ true) where
   abbrev x : Memory
   x = memory_at d m
 
-  word_inside : (i : ℕ) (ps : KnownBits) → nat_le (min x.first x.last) i && nat_le i (max x.first x.last) ≡ true → Inside m (is_in_word x) (writes_of (word_cells d m i) ps)
+  word_inside : (i : ℕ) (ps : KnownBits) → nat_le (min x.first x.last) i && nat_le i (max x.first x.last) ≡ true → Inside m at (writes_of (word_cells d m i) ps)
   word_inside i ps e =
-      inside_row m (is_in_word x) (λ k. i * x.width + k) 0 x.width ps
-      (λ k l b. (let below : k < x.width = omega (arith, b) in ap (λ j. nat_le (min x.first x.last) j && nat_le j (max x.first x.last)) (div-mul-add i x.width k below)) ∙ e)
+      inside_row m at (λ k. i * x.width + k) 0 x.width ps
+      (λ k l b. there i k e (omega (arith, b)))
 
-  named_inside : (o : Option ℤ) (ps : KnownBits) → Inside m (is_in_word x) (known_word_writes d m (named_word x o) ps)
+  named_inside : (o : Option ℤ) (ps : KnownBits) → Inside m at (known_word_writes d m (named_word x o) ps)
   named_inside None ps = tt
   named_inside (Some (negsuc k)) ps = tt
   named_inside (Some (pos k)) ps = go (nat_le (min x.first x.last) k && nat_le k (max x.first x.last)) refl
     where
-      go : (t : Bool) → nat_le (min x.first x.last) k && nat_le k (max x.first x.last) ≡ t → Inside m (is_in_word x) (known_word_writes d m (if t then Some k else None) ps)
+      go : (t : Bool) → nat_le (min x.first x.last) k && nat_le k (max x.first x.last) ≡ t → Inside m at (known_word_writes d m (if t then Some k else None) ps)
       go true e = word_inside k ps e
       go false e = tt
 
-  perhaps_inside : (may : ℕ → Bool) (ps : KnownBits) (a n : ℕ) → min x.first x.last ≤ a → a + n ≤ max x.first x.last + 1 → Inside m (is_in_word x) (perhaps_words d m may (range_with_len a n) ps)
+  perhaps_inside : (may : ℕ → Bool) (ps : KnownBits) (a n : ℕ) → min x.first x.last ≤ a → a + n ≤ max x.first x.last + 1 → Inside m at (perhaps_words d m may (range_with_len a n) ps)
   perhaps_inside may ps a zero l h = tt
   perhaps_inside may ps a (suc n) l h = go (perhaps_inside may ps (a + 1) n (omega (arith, l)) (omega (arith, h))) (may a)
     where
@@ -58,21 +59,26 @@ module _ (d : Design) (m : ℕ) where
       high : a ≤ max x.first x.last
       high = omega (arith, h)
 
-      go : Inside m (is_in_word x) (perhaps_words d m may (range_with_len (a + 1) n) ps) → (t : Bool) → Inside m (is_in_word x) (if t then weaken (writes_of (word_cells d m a) ps) ++ perhaps_words d m may (range_with_len (a + 1) n) ps else perhaps_words d m may (range_with_len (a + 1) n) ps)
-      go rest true = inside_append m (is_in_word x) (weaken (writes_of (word_cells d m a) ps)) (perhaps_words d m may (range_with_len (a + 1) n) ps) (inside_weaken m (is_in_word x) (writes_of (word_cells d m a) ps) (word_inside a ps (grind (arith, nat_tests, low, high)))) rest
+      go : Inside m at (perhaps_words d m may (range_with_len (a + 1) n) ps) → (t : Bool) → Inside m at (if t then weaken (writes_of (word_cells d m a) ps) ++ perhaps_words d m may (range_with_len (a + 1) n) ps else perhaps_words d m may (range_with_len (a + 1) n) ps)
+      go rest true = inside_append m at (weaken (writes_of (word_cells d m a) ps)) (perhaps_words d m may (range_with_len (a + 1) n) ps) (inside_weaken m at (writes_of (word_cells d m a) ps) (word_inside a ps (grind (arith, nat_tests, low, high)))) rest
       go rest false = rest
 
-  pub inside_words : (signed : Bool) (is ps : KnownBits) → Inside m (is_in_word x) (write_word d m signed is ps)
-  inside_words signed is ps = go (whole_bits is)
+  pub inside_at : (signed : Bool) (is ps : KnownBits) → Inside m at (write_word d m signed is ps)
+  inside_at signed is ps = go (whole_bits is)
     where
-      go : (o : Option (List Bit)) → Inside m (is_in_word x) (on_whole o (λ bs. known_word_writes d m (named_word x (index signed bs)) ps) (perhaps_words d m (may_name x signed is) (words x) ps))
+      go : (o : Option (List Bit)) → Inside m at (on_whole o (λ bs. known_word_writes d m (named_word x (index signed bs)) ps) (perhaps_words d m (may_name x signed is) (words x) ps))
       go None = perhaps_inside (may_name x signed is) ps (min x.first x.last) (max x.first x.last - min x.first x.last + 1) (omega arith) (let ordered : min x.first x.last ≤ max x.first x.last = min_max x.first x.last in omega (arith, ordered))
       go (Some bs) = named_inside (index signed bs) ps
+
+pub inside_words : (d : Design) (m : ℕ) (signed : Bool) (is ps : KnownBits) → Inside m (is_in_word (memory_at d m)) (write_word d m signed is ps)
+inside_words d m signed is ps =
+    inside_at d m (is_in_word (memory_at d m))
+    (λ i j e l. ap (λ a. nat_le (min (memory_at d m).first (memory_at d m).last) a && nat_le a (max (memory_at d m).first (memory_at d m).last)) (div-mul-add i (memory_at d m).width j l) ∙ e) signed is ps
 
 -- ---- what is known of each cell then
 
 -- a bit of a memory, by the shape that the design has
-word_bit_by : (r : KnownWords) (x : Memory) (k : ℕ) → r.shape.first ≡ x.first → r.shape.last ≡ x.last → r.shape.width ≡ x.width → word_bit r k ≡ (if is_in_word x k then bit_at (word_at r (k / x.width)) (k % x.width) else None)
+pub word_bit_by : (r : KnownWords) (x : Memory) (k : ℕ) → r.shape.first ≡ x.first → r.shape.last ≡ x.last → r.shape.width ≡ x.width → word_bit r k ≡ (if is_in_word x k then bit_at (word_at r (k / x.width)) (k % x.width) else None)
 word_bit_by r x k first last width =
     ap₂ (λ a b. if nat_le (min a b) (k / r.shape.width) && nat_le (k / r.shape.width) (max a b) then bit_at (word_at r (k / r.shape.width)) (k % r.shape.width) else None) first last
     ∙ ap (λ w. if nat_le (min x.first x.last) (k / w) && nat_le (k / w) (max x.first x.last) then bit_at (word_at r (k / w)) (k % w) else None) width

@@ -10,3 +10,4 @@ pub mod Updates
 pub mod Veils
 pub mod Views
 pub mod Laws
+pub mod Owned

@@ -13,6 +13,7 @@ use crate::Store;
 impl<'a> Store<'a> {
     ghost use Rattle.body_store.specs.Bodies.{around_of, rooms_of};
     ghost use Rattle.body_store.specs.Held.{HoldsStore};
+    ghost use Rattle.body_store.specs.Views.{hides};
 
     /// A run has ended, in which bodies wrote no other signals and memories than these: each of them is to blame for itself
     /// again, and counts as not written.
@@ -22,6 +23,8 @@ impl<'a> Store<'a> {
         ensures updates { self.new.updates ≡ self.old.updates }
         ensures around { around_of self.old ≡ [] → around_of self.new ≡ [] }
         ensures rooms { rooms_of self.new ≡ rooms_of self.old }
+        ensures log { self.new.log ≡ self.old.log }
+        ensures hides { hides self.new ≡ hides self.old }
         ensures kept { (k : Kept) (e : Blames) → HoldsStore (design_view self.old.design.now) k e self.old → HoldsStore (design_view self.old.design.now) k (ended written.now e) self.new }
     {
         for thing in written {
@@ -36,6 +39,8 @@ impl<'a> Store<'a> {
         ensures updates { self.new.updates ≡ self.old.updates }
         ensures around { around_of self.old ≡ [] → around_of self.new ≡ [] }
         ensures rooms { rooms_of self.new ≡ rooms_of self.old }
+        ensures log { self.new.log ≡ self.old.log }
+        ensures hides { hides self.new ≡ hides self.old }
         ensures kept { (k : Kept) (e : Blames) → HoldsStore (design_view self.old.design.now) k e self.old → HoldsStore (design_view self.old.design.now) k (settled thing e) self.new }
     {
         if (thing as usize) < self.signals.len() {

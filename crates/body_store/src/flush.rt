@@ -4,6 +4,7 @@ ghost use Rattle.std.specs.Prelude.{◌≡◌, [], length};
 ghost use Rattle.design_model.specs.View.{design_view};
 ghost use Rattle.body_replay.specs.Store.{Kept, keep_all};
 ghost use Rattle.body_calls.specs.Lvalues.{Takes};
+ghost use Rattle.body_calls.specs.Own.{IsOwn};
 
 use crate::{Store, Update};
 use body_calls::Lvalue;
@@ -13,13 +14,16 @@ impl<'a> Store<'a> {
     ghost use Rattle.body_store.specs.Held.{HoldsStore};
     ghost use Rattle.body_store.specs.Made.{unblamed};
     ghost use Rattle.body_store.specs.Updates.{update_writes};
+    ghost use Rattle.body_store.specs.Views.{hides, kept_scene};
 
     /// Makes an update.
-    fn make(&mut self, update: &Update)
+    pub(crate) fn make(&mut self, update: &Update)
         requires { Takes (design_view self.old.design.now) update.now.to (length update.now.value.bits) }
         ensures design { self.new.design ≡ self.old.design }
         ensures around { around_of self.old ≡ [] → around_of self.new ≡ [] }
         ensures rooms { rooms_of self.new ≡ rooms_of self.old }
+        ensures log { self.new.log ≡ self.old.log }
+        ensures hides { hides self.new ≡ hides self.old }
         ensures updates { self.new.updates ≡ self.old.updates }
         ensures kept { (k : Kept) → HoldsStore (design_view self.old.design.now) k unblamed self.old → HoldsStore (design_view self.old.design.now) (keep_all k (update_writes (design_view self.old.design.now) update.now)) unblamed self.new }
     {
@@ -41,8 +45,13 @@ impl<'a> Store<'a> {
         ensures around { around_of self.old ≡ [] → around_of self.new ≡ [] }
         ensures rooms { rooms_of self.new ≡ record (rooms_of self.old) { queue = self.old.updates.room } }
         ensures kept { (k : Kept) → HoldsStore (design_view self.old.design.now) k unblamed self.old → HoldsStore (design_view self.old.design.now) (keep_all k (queued_of self.old)) unblamed self.new }
+        ensures cells { IsOwn (kept_scene self.old) → (kept_scene self.new).kept ≡ keep_all (kept_scene self.old).kept (queued_of self.old) }
+        ensures own { IsOwn (kept_scene self.old) → IsOwn (kept_scene self.new) }
         ensures queued { queued_of self.new ≡ [] }
+        ensures log { self.new.log ≡ self.old.log }
+        ensures hides { hides self.new ≡ hides self.old }
     {
+        self.signals.fitting();
         for place in 0..self.updates.as_slice().len() {
             let update = self.updates.as_slice()[place];
             self.make(&update);

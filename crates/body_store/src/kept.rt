@@ -19,6 +19,7 @@ impl<'a> Store<'a> {
     ghost use Rattle.body_store.specs.Made.{unblamed};
     ghost use Rattle.body_store.specs.Bodies.{around_of, rooms_of};
     ghost use Rattle.body_store.specs.Veils.{SameButWords, kept_words as words_kept};
+    ghost use Rattle.body_store.specs.Views.{hides};
 
     /// What is kept of a signal, which is not what bodies read where the signal is shown or veiled.
     pub fn kept_signal(&self, signal: u32) -> Known
@@ -45,6 +46,8 @@ impl<'a> Store<'a> {
         ensures updates { self.new.updates ≡ self.old.updates }
         ensures around { around_of self.old ≡ [] → around_of self.new ≡ [] }
         ensures rooms { rooms_of self.new ≡ rooms_of self.old }
+        ensures log { self.new.log ≡ self.old.log }
+        ensures hides { hides self.new ≡ hides self.old }
         ensures kept { (k : Kept) → HoldsStore (design_view self.old.design.now) k unblamed self.old → HoldsStore (design_view self.old.design.now) (keep_all k (if_certain certain (writes_of (signal_cells (design_view self.old.design.now) signal) value.now.bits))) unblamed self.new }
     {
         let signed = self.signals.signal(signal).is_signed();
@@ -60,6 +63,8 @@ impl<'a> Store<'a> {
         ensures updates { self.new.updates ≡ self.old.updates }
         ensures around { around_of self.old ≡ [] → around_of self.new ≡ [] }
         ensures rooms { rooms_of self.new ≡ rooms_of self.old }
+        ensures log { self.new.log ≡ self.old.log }
+        ensures hides { hides self.new ≡ hides self.old }
         ensures kept { (k : Kept) → HoldsStore (design_view self.old.design.now) k unblamed self.old → HoldsStore (design_view self.old.design.now) (keep_all k (if_certain certain (write_bits (design_view self.old.design.now) signal low.now.signed low.now.bits part.now.bits))) unblamed self.new }
     {
         self.signals.update_part(signal, low, part, certain);
@@ -73,6 +78,8 @@ impl<'a> Store<'a> {
         ensures updates { self.new.updates ≡ self.old.updates }
         ensures around { around_of self.old ≡ [] → around_of self.new ≡ [] }
         ensures rooms { rooms_of self.new ≡ rooms_of self.old }
+        ensures log { self.new.log ≡ self.old.log }
+        ensures hides { hides self.new ≡ hides self.old }
         ensures kept { (k : Kept) → HoldsStore (design_view self.old.design.now) k unblamed self.old → HoldsStore (design_view self.old.design.now) (keep_all k (if_certain certain (write_word (design_view self.old.design.now) memory index.now.signed index.now.bits value.now.bits))) unblamed self.new }
     {
         let signed = self.are_signed(memory);
@@ -112,6 +119,7 @@ impl<'a> Store<'a> {
         ensures log { self.new.log ≡ self.old.log }
         ensures words { self.new.words ≡ self.old.words }
         ensures updates { self.new.updates ≡ self.old.updates }
+        ensures veiled { self.new.veils.veiled ≡ self.old.veils.veiled }
         ensures others { SameButWords place self.old.veils self.old.memories.items self.new.veils self.new.memories.items }
         ensures shape { (words_kept self.new.veils self.new.memories.items place).shape ≡ (words_kept self.old.veils self.old.memories.items place).shape }
         ensures here { (d : Design) (k : Kept) (m : ℕ) → StandsFor d k m (words_kept self.old.veils self.old.memories.items place) → StandsFor d (keep_all k (cell_writes d m index.now value.now.bits certain)) m (words_kept self.new.veils self.new.memories.items place) }

@@ -1,6 +1,7 @@
 //! What a store asks of a design, and what it keeps and shows.
 
 ghost use Rattle.body_store.specs.Laws.{FlushLaw, PlainLaw, SeenLaw, UnderLaw};
+ghost use Rattle.body_store.specs.Owned.{HeldLaw, KeptOwnLaw, ReadOwnLaw, SameLaw, ShownOwnLaw, VeiledOwnLaw};
 ghost use Rattle.body_store.specs.Premises.{PremisesLaw};
 
 /// A lawful design meets what `Store::new` asks: each signal and each word has 1 to 128 bits, and there are few enough of
@@ -17,4 +18,16 @@ pub fn views_law()
     ensures under { UnderLaw }
     ensures plain { PlainLaw }
     ensures flush { FlushLaw }
+{}
+
+/// Where what a store holds, or what bodies read, has each signal and memory to blame for itself, so has what is kept, or
+/// what bodies read of it, and it stays so where something is shown or veiled. What a store holds is what is kept, if nothing
+/// is known outside of the design. Where nothing is shown or veiled, what is kept is what bodies read.
+pub fn own_law()
+    ensures kept { KeptOwnLaw }
+    ensures read { ReadOwnLaw }
+    ensures held { HeldLaw }
+    ensures same { SameLaw }
+    ensures shown { ShownOwnLaw }
+    ensures veiled { VeiledOwnLaw }
 {}

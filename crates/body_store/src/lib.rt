@@ -5,12 +5,14 @@
 //! relations to the cells of a design: what the store keeps, and what bodies read of it (`specs/Held.antt`).
 //!
 //! While a body runs it calls the store by two traits: [`term_replay::Reads`] and [`body_calls::Bodies`]. After a run
-//! [`Store::end_run`] makes each signal to blame for itself again, and [`Store::flush`] makes what the run has queued.
+//! [`Store::end_run`] makes each signal to blame for itself again, and [`Store::flush`] makes what the run has queued. The run
+//! of a block calls the store by a third trait, [`body_calls::Blocks`], which ends the run too.
 //!
 //! [`Store::show`] and [`Store::veil`] put something else in the place of what is kept, which bodies read until
 //! [`Store::plain`]: what is kept stays, also where a body writes what is shown or veiled (`specs/Views.antt`).
 #![tactic(auto)]
 
+mod blocks;
 mod bodies;
 mod end;
 mod flush;
@@ -25,7 +27,7 @@ mod update;
 mod veils;
 mod write;
 
-pub use laws::{premises_law, views_law};
+pub use laws::{own_law, premises_law, views_law};
 pub use store::{Store, StoreRoom};
 pub use update::Update;
 pub use word_log::StoredMemory;

@@ -10,6 +10,8 @@ mod designs;
 #[cfg(test)]
 mod machine_cases;
 #[cfg(test)]
+mod tables;
+#[cfg(test)]
 mod tests;
 #[cfg(test)]
 mod visits;

@@ -2,6 +2,7 @@ use crate::addresses::addresses;
 use crate::cases::{CASES, Case};
 use crate::designs::{design_of, states_of};
 use crate::machine_cases::{FAULT_CASES, FaultCase, FaultKind, MACHINE_CASES};
+use crate::tables::table_of;
 use crate::visits::visits_of;
 use cov_host::Name;
 use cover_marks::Marks;
@@ -19,7 +20,10 @@ fn is_listed(alloc: Global, case: &Case) -> bool {
     let Ok(points) = list(alloc, &design, &states) else {
         return false;
     };
-    match addresses(alloc, &design, &points) {
+    let Ok(table) = table_of(alloc, &design, &states, &points) else {
+        return false;
+    };
+    match addresses(alloc, &table) {
         Ok(text) => text.as_slice() == case.addresses.as_bytes(),
         Err(_) => false,
     }

@@ -69,6 +69,14 @@ impl WordLog {
         })
     }
 
+    /// Outside of undecided tests nothing is logged. It does nothing.
+    pub fn outside(&self)
+        ensures done { is_inside self.now.tests ≡ false → self.now.done ≡ [] }
+        ensures undone { is_inside self.now.tests ≡ false → self.now.undone ≡ [] }
+    {
+        let _tests = self.tests.as_slice();
+    }
+
     /// A body writes a word of a memory by a blocking assignment, the one that this index names, or by an index that is not sure
     /// perhaps each one that it may name. In an undecided test the words that may change are logged first; outside of such
     /// tests nothing is.

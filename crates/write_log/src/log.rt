@@ -57,6 +57,14 @@ impl Log {
         })
     }
 
+    /// Outside of undecided tests nothing is logged. It does nothing.
+    pub fn outside(&self)
+        ensures done { is_inside self.now.tests ≡ false → self.now.done ≡ [] }
+        ensures undone { is_inside self.now.tests ≡ false → self.now.undone ≡ [] }
+    {
+        let _tests = self.tests.as_slice();
+    }
+
     /// A body assigns a value to a signal by a blocking assignment. In an undecided test what bodies read of the signal
     /// before is logged; outside of such tests nothing is.
     pub fn assign(&mut self, signals: &mut Signals, signal: u32, value: Known)

@@ -20,6 +20,8 @@ loop-thing-preserved c =
       updates = c.settle.ensures.updates ∙ l.invariant.updates;
       around = λ none. c.settle.ensures.around (l.invariant.around none);
       rooms = c.settle.ensures.rooms ∙ l.invariant.rooms;
+      log = c.settle.ensures.log ∙ l.invariant.log;
+      hides = c.settle.ensures.hides ∙ l.invariant.hides;
       kept = λ k e h.
           let settles = subst (λ y. (b : Kept) (a : Blames) → HoldsStore (design_view y.now) b a l.self → HoldsStore (design_view y.now) b (settled (get_or ts i 0) a) c.settle.new.self) l.invariant.design c.settle.ensures.kept in
           subst (λ a. HoldsStore d k a c.settle.new.self) (sym (ap (λ us. ended us e) (take_more ts i 0 inside) ∙ ended_more (take i ts) (get_or ts i 0) e)) (settles k (ended (take i ts) e) (l.invariant.kept k e h));

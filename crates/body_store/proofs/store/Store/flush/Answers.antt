@@ -4,9 +4,11 @@ use Rattle.std.proofs.lemmas.List.{take_all}
 use Rattle.design_model.specs.View.{design_view}
 use Rattle.body_replay.specs.Store.{Kept, keep_all}
 use Rattle.body_calls.specs.Rooms.{Rooms}
+use Rattle.body_store.specs.Bodies.{queued_of}
 use Rattle.body_store.specs.Held.{HoldsStore}
 use Rattle.body_store.specs.Made.{unblamed}
 use Rattle.body_store.specs.Updates.{queued_writes, update_writes}
+use Rattle.body_store.proofs.BlocksKept.{flush_kept}
 use Rattle.body_store.proofs.Queued.{made_more, taken_at}
 use Rattle.body_store.proofs.store.Store.flush.Goals as goal
 
@@ -29,20 +31,31 @@ loop-place-preserved c =
       updates = c.make.ensures.updates ∙ l.invariant.updates;
       around = λ none. c.make.ensures.around (l.invariant.around none);
       rooms = c.make.ensures.rooms ∙ l.invariant.rooms;
+      log = c.make.ensures.log ∙ l.invariant.log;
+      hides = c.make.ensures.hides ∙ l.invariant.hides;
       kept = λ k h.
           let before = l.invariant.kept k h in
           let made = subst (λ y. (b : Kept) → HoldsStore (design_view y.now) b unblamed l.self → HoldsStore (design_view y.now) (keep_all b (update_writes (design_view y.now) u)) unblamed c.make.new.self) l.invariant.design c.make.ensures.kept in
           subst (λ b. HoldsStore d b unblamed c.make.new.self) (made_more d k x.updates.items l.place u inside is) (made (keep_all k (queued_writes d (take l.place x.updates.items))) before);
     }
 
-pub returns-clause-kept : goal.returns-clause-kept
-returns-clause-kept c = λ k h.
+-- all updates are made once the loop has ended
+made_all : (c : goal.After-self-1) (k : Kept) → HoldsStore (design_view c.args.self.now.design.now) k unblamed c.args.self.now → HoldsStore (design_view c.args.self.now.design.now) (keep_all k (queued_of c.args.self.now)) unblamed c.loop-place.self
+made_all c k h =
     let l = c.loop-place in
     let x = c.args.self.now in
     let d = design_view x.design.now in
     let all : length x.updates.items ≤ l.place = (let size = ap (λ q. length q.items) l.invariant.updates in let end = ap length c.as_slice-place-end.ensures in omega (arith, size, end)) in
-    let before : HoldsStore d (keep_all k (queued_writes d x.updates.items)) unblamed l.self = subst (λ us. HoldsStore d (keep_all k (queued_writes d us)) unblamed l.self) (take_all l.place x.updates.items all) (l.invariant.kept k h) in
-    record { signals = before.signals; memories = before.memories }
+    subst (λ us. HoldsStore d (keep_all k (queued_writes d us)) unblamed l.self) (take_all l.place x.updates.items all) (l.invariant.kept k h)
+
+pub returns-clause-kept : goal.returns-clause-kept
+returns-clause-kept c = λ k h. let before = made_all c k h in record { signals = before.signals; memories = before.memories }
+
+pub returns-clause-cells : goal.returns-clause-cells
+returns-clause-cells c = λ own. (flush_kept c.args.self.now c.loop-place.self c.fitting.ensures.kept c.loop-place.invariant.design own (made_all c)).0
+
+pub returns-clause-own : goal.returns-clause-own
+returns-clause-own c = λ own. (flush_kept c.args.self.now c.loop-place.self c.fitting.ensures.kept c.loop-place.invariant.design own (made_all c)).1
 
 pub returns-clause-around : goal.returns-clause-around
 returns-clause-around c = c.loop-place.invariant.around
