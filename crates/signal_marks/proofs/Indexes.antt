@@ -31,7 +31,11 @@ in_range : (s w low i : ℕ) (r b : Bool) → i < w → (r ≡ false → i ≤ l
 in_range s w low i r true l h k = ap (indexed_cell s) (at_place w low i r l h)
 in_range s w low i r false l h k = ap (cell s) (only i w l (k refl))
 
-pub index_names : (d : Design) (s i : ℕ) → i < (signal_at d s).width → HasIndex (signal_at d s) i → ((signal_at d s).ranged ≡ false → (signal_at d s).width ≤ 1) → toggle_cell d s (index_at (signal_at d s) i) ≡ cell s i
-index_names d s i l h k =
+-- the index of a place names the bit there
+pub cell_at : (d : Design) (s i : ℕ) → i < (signal_at d s).width → (nat_le (signal_at d s).low (signal_at d s).high ≡ false → i ≤ (signal_at d s).low) → ((signal_at d s).ranged ≡ false → (signal_at d s).width ≤ 1) → toggle_cell d s (index_at (signal_at d s) i) ≡ cell s i
+cell_at d s i l below plain =
     let x = signal_at d s in
-    in_range s x.width x.low i (nat_le x.low x.high) x.ranged l h.1 k
+    in_range s x.width x.low i (nat_le x.low x.high) x.ranged l below plain
+
+pub index_names : (d : Design) (s i : ℕ) → i < (signal_at d s).width → HasIndex (signal_at d s) i → ((signal_at d s).ranged ≡ false → (signal_at d s).width ≤ 1) → toggle_cell d s (index_at (signal_at d s) i) ≡ cell s i
+index_names d s i l h plain = cell_at d s i l h.1 plain

@@ -1,3 +1,4 @@
 pub mod Marked
 pub mod Indexes
 pub mod Steps
+pub mod Masks

@@ -1,1 +1,2 @@
 pub mod Toggled
+pub mod Seen
