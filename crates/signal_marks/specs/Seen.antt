@@ -16,8 +16,10 @@ use Rattle.signal_marks.specs.Toggled.{index_at, toggled, verdict_of}
 -- the toggle points of the signal are marked after a step over which its bits go from the old ones to the new ones, and no other points
 pub record MarksChange (ps : Points) (x : Signal) (s time : ℕ) (old new : List (Option Bit)) (before after : List Verdict) : Type 0 where
   pub count : length after ≡ length before
-  pub rises : (i k : ℕ) → i < x.width → IsVisitOf ps k (Toggle s (index_at x i) true) → verdict_of after k ≡ toggled s time (surely_rises (bit_at old i) (bit_at new i)) (may_rise (bit_at old i) (bit_at new i)) (verdict_of before k)
-  pub falls : (i k : ℕ) → i < x.width → IsVisitOf ps k (Toggle s (index_at x i) false) → verdict_of after k ≡ toggled s time (surely_falls (bit_at old i) (bit_at new i)) (may_fall (bit_at old i) (bit_at new i)) (verdict_of before k)
+  pub rises : (i k : ℕ) → i < x.width → IsVisitOf ps k (Toggle s (index_at x i) true)
+      → verdict_of after k ≡ toggled s time (surely_rises (bit_at old i) (bit_at new i)) (may_rise (bit_at old i) (bit_at new i)) (verdict_of before k)
+  pub falls : (i k : ℕ) → i < x.width → IsVisitOf ps k (Toggle s (index_at x i) false)
+      → verdict_of after k ≡ toggled s time (surely_falls (bit_at old i) (bit_at new i)) (may_fall (bit_at old i) (bit_at new i)) (verdict_of before k)
   pub others : (k : ℕ) → ((rise : Bool) (i : ℕ) → i < x.width → IsVisitOf ps k (Toggle s (index_at x i) rise) → ⊥) → verdict_of after k ≡ verdict_of before k
 
 -- no toggle

@@ -24,5 +24,6 @@ pub fn seen_hit_law()
 
 /// Masks of what is marked already stay so where a point is left open.
 pub fn seen_doubt_law()
-    ensures { (d : Design) (ps : Points) (ms : List Toggles) (vs : List Verdict) (k : ℕ) (y : Doubt) → k < length vs → AreSeen d ps ms vs → AreSeen d ps ms (slice_set vs k (with_doubt y (verdict_of vs k))) }
+    ensures { (d : Design) (ps : Points) (ms : List Toggles) (vs : List Verdict) (k : ℕ) (y : Doubt) → k < length vs → AreSeen d ps ms vs
+        → AreSeen d ps ms (slice_set vs k (with_doubt y (verdict_of vs k))) }
 {}
