@@ -1,0 +1,12 @@
+-- the store stays ready
+use Rattle.design_model.specs.View.{design_view}
+use Rattle.body_store.specs.Bodies.{around_of, rooms_of}
+use Rattle.body_store.specs.Scenes.{scene_of}
+use Rattle.body_tests.specs.Ready.{IsReady}
+use Rattle.body_tests.proofs.examples.put_all.Given as goal
+
+abbrev pub invariant-loop-name : goal.invariant-loop-name
+invariant-loop-name l = IsReady (design_view l.design) (scene_of l.store) (around_of l.store) (rooms_of l.store)
+
+abbrev pub invariant-loop-place : goal.invariant-loop-place
+invariant-loop-place l = IsReady (design_view l.design) (scene_of l.store) (around_of l.store) (rooms_of l.store)
