@@ -11,5 +11,5 @@ mod laws;
 mod places;
 
 pub use bits::{Bits, add_bits};
-pub use laws::leaves_law;
+pub use laws::{leaves_law, part_law};
 pub use places::places_from;
