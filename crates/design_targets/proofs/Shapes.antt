@@ -11,7 +11,7 @@ use Rattle.process_names.proofs.NamesLaw.{has-append, or_right_false}
 use Rattle.design_targets.specs.Leaves.{Leaf, all_leaves, all_target_leaves, arms_leaves, leaves, target_leaves}
 use Rattle.design_targets.specs.Written.{IsShapedLeaf, has_place, leaf_names}
 
-module _ (d : Design) (P : Leaf → Type 0) (whole : (s : ℕ) → nat_lt s (length d.signals) ≡ true → P (s, None)) (part : (s : ℕ) (low : Term) → nat_lt s (length d.signals) ≡ true → is_alone d low ≡ true → P (s, Some low)) (word : (m : ℕ) → is_memory d m ≡ true → P (m, None)) where
+module _ (d : Design) (P : Leaf → Type 0) (whole : (s : ℕ) → nat_lt s (length d.signals) ≡ true → P (s, None)) (part : (s : ℕ) (low : Term) (w : ℕ) → nat_lt s (length d.signals) ≡ true → is_alone d low ≡ true → P (s, Some (low, w))) (word : (m : ℕ) → is_memory d m ≡ true → P (m, None)) where
   both : (xs ys : List Leaf) → All P xs → All P ys → All P (xs ++ ys)
   both xs ys a b = All-append P xs ys a b
 
@@ -28,7 +28,7 @@ module _ (d : Design) (P : Leaf → Type 0) (whole : (s : ℕ) → nat_lt s (len
     each_part (bits_of s low w) h =
         let p = and_parts (nat_lt s (length d.signals) && is_alone d low) (nat_le 1 w) h in
         let q = and_parts (nat_lt s (length d.signals)) (is_alone d low) p.0 in
-        one (s, Some low) (part s low q.0 q.1)
+        one (s, Some (low, w)) (part s low w q.0 q.1)
     each_part (word_of m i) h = one (m, None) (word m (and_parts (is_memory d m) _ h).0)
     each_part (several ts) h = each_parts ts h
 
@@ -63,7 +63,7 @@ module _ (d : Design) (P : Leaf → Type 0) (whole : (s : ℕ) → nat_lt s (len
 
 -- the indexes of the parts have their shapes
 pub leaves_shaped : (d : Design) (b : Bool) (s : Stmt) → is_body d s ≡ true → All IsShapedLeaf (leaves b s)
-leaves_shaped d b s h = each_leaf d IsShapedLeaf (λ s l. tt) (λ s low l a. (d, a)) (λ m l. tt) b s h
+leaves_shaped d b s h = each_leaf d IsShapedLeaf (λ s l. tt) (λ s low w l a. (d, a)) (λ m l. tt) b s h
 
 -- the signal or memory is one of the design
 abbrev IsOf : Design → Leaf → Type 0
@@ -77,7 +77,7 @@ signal_below d s h = let l : s < length d.signals = ltb-true s (length d.signals
 
 leaf_named : (l : Leaf) (y : ℕ) → list_any (λ z. z == y) (leaf_names l) ≡ true → l.0 ≡ y
 leaf_named (x, None) y h = eqb-true x y (sym (or_right_false (x == y)) ∙ h)
-leaf_named (x, Some low) y h = go (has_place low) h
+leaf_named (x, Some (low, w)) y h = go (has_place low) h
   where
     go : (b : Bool) → list_any (λ z. z == y) (cond b (x ∷ []) []) ≡ true → x ≡ y
     go true e = eqb-true x y (sym (or_right_false (x == y)) ∙ e)
@@ -93,4 +93,4 @@ named_below d (l ∷ ls) y a h =
 
 -- what a body may write is of the design
 pub written_below : (d : Design) (b : Bool) (s : Stmt) (y : ℕ) → is_body d s ≡ true → list_any (λ z. z == y) (flat_map leaf_names (leaves b s)) ≡ true → y < length d.signals + length d.memories
-written_below d b s y h n = named_below d (leaves b s) y (each_leaf d (IsOf d) (λ s l. signal_below d s l) (λ s low l k. signal_below d s l) (λ m l. memory_below d m l) b s h) n
+written_below d b s y h n = named_below d (leaves b s) y (each_leaf d (IsOf d) (λ s l. signal_below d s l) (λ s low w l k. signal_below d s l) (λ m l. memory_below d m l) b s h) n

@@ -7,15 +7,15 @@ use Rattle.design_model.specs.View.{term_view}
 use Rattle.design_model.specs.declared.tree.Term.{Term as CodeTerm}
 use Rattle.design_targets.specs.declared.leaves.Leaf.{Leaf as CodeLeaf}
 
--- a part of a target that has no parts of its own: the signal or memory, and the index of the lowest bit of a part of a signal
+-- a part of a target that has no parts of its own: the signal or memory, and of a part of a signal the index of the lowest bit and the number of bits
 abbrev pub Leaf : Type 0
-Leaf = ℕ × Option Term
+Leaf = ℕ × Option (Term × ℕ)
 
 -- the parts of a target
 abbrev mutual
   pub target_leaves : Target → List Leaf
   target_leaves (all_of s) = (s, None) ∷ []
-  target_leaves (bits_of s low w) = (s, Some low) ∷ []
+  target_leaves (bits_of s low w) = (s, Some (low, w)) ∷ []
   target_leaves (word_of m i) = (m, None) ∷ []
   target_leaves (several ts) = all_target_leaves ts
 
@@ -41,11 +41,11 @@ abbrev mutual
   arms_leaves b no_arms = []
   arms_leaves b (arm labels s arms) = leaves b s ++ arms_leaves b arms
 
--- the index of the lowest bit, where there is one
-abbrev pub low_view : Option (Bor CodeTerm) → Option Term
-low_view None = None
-low_view (Some low) = Some (term_view low.now)
+-- the index and the number of bits of a part
+abbrev pub part_view : Option (Bor CodeTerm × ℕ) → Option (Term × ℕ)
+part_view None = None
+part_view (Some (low, w)) = Some (term_view low.now, w)
 
 -- the part that a part of the code stands for
 abbrev pub leaf_view : CodeLeaf → Leaf
-leaf_view l = (l.thing, low_view l.low)
+leaf_view l = (l.thing, part_view l.part)

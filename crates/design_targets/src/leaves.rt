@@ -12,16 +12,16 @@ use design_model::{CaseArm, Process, Stmt, StmtForm, Target, Term};
 
 /// A part of a target that has no parts of its own.
 #[derive(Clone, Copy)]
-pub(crate) struct Leaf<'a> {
+pub struct Leaf<'a> {
     /// The signal or memory.
-    pub(crate) thing: u32,
-    /// The index of the lowest bit, of a part of a signal.
-    pub(crate) low: Option<&'a Term>,
+    pub thing: u32,
+    /// Of a part of a signal the index of the lowest bit, and the number of bits.
+    pub part: Option<(&'a Term, u8)>,
 }
 
 /// Adds the targets of the blocking assignments of a process, or with `false` of its nonblocking ones. An Assign counts
 /// as one blocking assignment.
-pub(crate) fn push_leaves<'a>(
+pub fn push_leaves<'a>(
     blocking: bool,
     process: &'a Process,
     found: &mut Vec<Leaf<'a>>,
@@ -111,11 +111,11 @@ fn push_target<'a>(target: &'a Target, found: &mut Vec<Leaf<'a>>) -> Result<(), 
     match target {
         Target::Whole(thing) | Target::Word { memory: thing, .. } => found.push(Leaf {
             thing: *thing,
-            low: None,
+            part: None,
         })?,
-        Target::Part { signal, low, .. } => found.push(Leaf {
+        Target::Part { signal, low, width } => found.push(Leaf {
             thing: *signal,
-            low: Some(low),
+            part: Some((low, *width)),
         })?,
         Target::Several(parts) => return push_targets(parts, found),
     }

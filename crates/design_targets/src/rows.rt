@@ -74,8 +74,8 @@ fn has_bits(leaf: &Leaf) -> bool
     requires { IsShapedLeaf (leaf_view leaf.now) }
     ensures { leaf_names (leaf_view leaf.now) ≡ (if result then leaf.now.thing ∷ [] else []) }
 {
-    match leaf.low {
-        Some(low) => has_place(low),
+    match leaf.part {
+        Some((low, _)) => has_place(low),
         None => true,
     }
 }

@@ -1,0 +1,4 @@
+pub mod Rows
+pub mod Masks
+pub mod Leaves
+pub mod Parts

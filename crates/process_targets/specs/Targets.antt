@@ -1,0 +1,43 @@
+-- The bits of signals that a process may write, as masks.
+use Rattle.std.specs.Prelude.{◌≡◌, ◌≤◌, ◌==◌, ◌&&◌, ◌||◌, ℕ, Bool, true, not, List, map, nat_lt, Some, None, ⊤}
+use Rattle.std.specs.List.{list_any}
+use Rattle.event_machine.specs.Cell.{Cell}
+use Rattle.four_state.specs.Masks.{is_set}
+use Rattle.four_state.specs.Parts.{index}
+use Rattle.design_model.specs.Assignment.{signal_range}
+use Rattle.design_model.specs.Design.{AreDistinct, Design, signal_at}
+use Rattle.design_model.specs.Mentions.{blank, is_constant, may_write}
+use Rattle.design_model.specs.Shape.{is_alone}
+use Rattle.design_model.specs.Tree.{bits_of}
+use Rattle.design_model.specs.Value.{head, offset_option, value}
+use Rattle.design_model.specs.WellFormed.{are_among}
+use Rattle.design_targets.specs.Leaves.{Leaf}
+use Rattle.process_targets.specs.declared.bits.Bits.{Bits}
+
+-- the bits have the cell
+abbrev pub has_bit : Bits → Cell → Bool
+has_bit b c = (b.signal == c.thing) && is_set b.mask c.place
+
+-- some of a row have it
+abbrev pub row_has : List Bits → Cell → Bool
+row_has row c = list_any (λ b. has_bit b c) row
+
+-- a row has the signal, with bits or without
+abbrev pub names : List Bits → ℕ → Bool
+names row s = list_any (λ b. b.signal == s) row
+
+-- no signal is in the row twice
+abbrev pub IsOnce : List Bits → Type 0
+IsOnce row = AreDistinct (map (λ b. b.signal) row)
+
+-- a part of a target may write the cell of a signal
+abbrev pub leaf_has : Design → Leaf → Cell → Bool
+leaf_has d (x, None) c = (c.thing == x) && nat_lt c.place (signal_at d x).width
+leaf_has d (x, Some (low, w)) c = may_write d (bits_of x low w) c
+
+-- of a part of a signal the index has its shape, and a constant one is that of bits of the signal
+abbrev pub IsRightLeaf : Design → Leaf → Type 0
+IsRightLeaf d (x, None) = ⊤
+IsRightLeaf d (x, Some (low, w)) =
+    (is_alone d low ≡ true) × (1 ≤ w)
+    × ((not (is_constant low) || are_among (signal_at d x).width w (offset_option (signal_range d x) (index (head low).signed (value d blank low)))) ≡ true)
