@@ -10,10 +10,12 @@ mod certainty;
 mod laws;
 mod notes;
 mod process;
+mod queue;
 mod runs;
 mod strong;
 
 pub use certainty::Certainty;
 pub use laws::outcomes_law;
 pub use notes::{BlockNotes, Doubt};
+pub use queue::queue_law;
 pub use runs::run_body;
