@@ -1,3 +1,4 @@
 pub mod Notes
 pub mod Met
 pub mod Runs
+pub mod Queue
