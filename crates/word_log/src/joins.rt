@@ -41,7 +41,7 @@ fn join_one(entry: &OverwrittenWord, seen: &mut Seen, memories: &mut [StoredMemo
     memories[entry.memory].join(entry, first);
 }
 
-/// Joins what the first entry of each word and of each memory says with what the memories hold, but for what has been seen.
+/// Joins what the first entry of each word and of each memory says with what the memories hold, except what has been seen.
 pub(crate) fn join_all(entries: &[OverwrittenWord], seen: &mut Seen, memories: &mut [StoredMemory])
     requires fit { All (Fits memories.old) entries.now }
     requires sizes { seen_sizes seen.old ≡ sizes_of memories.old }
