@@ -20,12 +20,14 @@ use crate::{BlockNotes, Certainty};
 use assignments::Piece;
 use body_calls::Blocks;
 use design_model::{Design, Process};
+use std::sync::ledger::Ledger;
+use step_counts::Steps;
 use value_store::Queue;
 
-/// Runs the body of a process of the design in this way. What is kept, what is queued and what is noted are those of the
-/// definition of a run. The things of `written` are all that the body assigns; no part of an assignment is left in `pieces`,
-/// which is scratch room. It takes no memory.
-pub fn run_body<S: Blocks, N: BlockNotes>(
+/// Runs the body of a process of the design in this way, which is one step. What is kept, what is queued and what is noted are
+/// those of the definition of a run. The things of `written` are all that the body assigns; no part of an assignment is left in
+/// `pieces`, which is scratch room. It takes no memory.
+pub fn run_body<S: Blocks, N: BlockNotes, L: Ledger>(
     store: &mut S,
     design: &Design,
     process: &Process,
@@ -33,6 +35,7 @@ pub fn run_body<S: Blocks, N: BlockNotes>(
     how: Certainty,
     pieces: &mut Queue<Piece>,
     notes: &mut N,
+    steps: &mut Steps<L>,
 )
     requires same { (S.scene store.old).design ≡ design_view design.now }
     requires lawful { is_body (S.scene store.old).design (body (process_view process.now)) ≡ true }
@@ -57,7 +60,9 @@ pub fn run_body<S: Blocks, N: BlockNotes>(
     ensures takes { (S.rooms store.new).takes ≡ (S.rooms store.old).takes }
     ensures queue { (S.rooms store.old).queue ≤ (S.rooms store.new).queue + queues (body (process_view process.now)) }
     ensures pieces { pieces.new ≡ pieces.old }
+    ensures steps { steps.new ≡ steps.old + 1 }
 {
+    steps.count();
     run_in_way(store, design, process, how, pieces, notes);
     store.end_run(written);
 }
