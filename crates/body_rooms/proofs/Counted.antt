@@ -19,7 +19,7 @@ use Rattle.body_rooms.specs.Rooms.{CountedLaw}
 module _ (d : Design) (w : HasWidths d) where
   mutual
     -- a part has at least one bit
-    parts_fit : (x : Target) → is_target d x ≡ true → target_parts x ≤ target_width d x
+    pub parts_fit : (x : Target) → is_target d x ≡ true → target_parts x ≤ target_width d x
     parts_fit (all_of s) h = let e = (w.signals s (ltb-true s (length d.signals) h)).spans in omega (arith, e)
     parts_fit (bits_of s low k) h = leb-true 1 k (and_parts _ (nat_le 1 k) h).1
     parts_fit (word_of m i) h = let e = (w.memories m (and_parts (is_memory d m) (is_alone d i) h).0).spans in omega (arith, e)

@@ -1,6 +1,6 @@
 -- What is kept of a store where what bodies read changes, and what a run leaves of it.
 use Rattle.std.proofs.Common.{◌≡◌, ℕ, ◌+◌, ◌-◌, ◌<◌, ◌==◌, ◌||◌, Bool, true, false, if◌then◌else◌, List, [], ◌∷◌, length, is_some, None, refl, sym, ap, ap₂, subst, ◌∙◌, arith}
-use Rattle.std.specs.Prelude.{min, nat_lt}
+use Rattle.std.specs.Prelude.{min, nat_lt, slice_index_or}
 use Rattle.std.proofs.Math.Path.{fun_ext}
 use Rattle.std.proofs.lemmas.Bool.Decides.{nat_tests}
 use Rattle.event_machine.specs.Cell.{Cell}
@@ -25,7 +25,7 @@ use Rattle.body_store.specs.Fitting.{memory_in}
 use Rattle.body_store.specs.Held.{HoldsMemories, IsMemory}
 use Rattle.body_store.specs.Scenes.{bit_at, kept_by, scene_with, signal_count, word_bit}
 use Rattle.body_store.specs.Veils.{is_veiled, kept_words, under_at}
-use Rattle.body_store.specs.Views.{under_of}
+use Rattle.body_store.specs.Views.{hides, under_of}
 use Rattle.body_store.proofs.Rooms.{no_tests_by}
 
 -- ---- what is kept stays
@@ -152,3 +152,9 @@ under_left x y count veils same log =
 -- the same signals, as they are
 pub same_under : (v : Signals) → SameUnder v v
 same_under v = record { shapes = refl; count = refl; hides = λ x. refl; under = λ x h. refl }
+
+-- the same is shown or veiled, where of the signals the same ones are shown and the same memories are veiled
+pub hides_left : (x y : Store) → y.design ≡ x.design → y.signals.hidden ≡ x.signals.hidden → y.veils.veiled ≡ x.veils.veiled → hides y ≡ hides x
+hides_left x y design hidden veiled =
+    ap₂ {C = ℕ → Bool} (λ b hs. λ t. if nat_lt t (length b.now.signals) then is_some (slice_index_or hs t None) else has y.veils.veiled.items (t - length b.now.signals)) design hidden
+    ∙ ap (λ q. λ t. if nat_lt t (signal_count x) then is_some (hidden_at x.signals t) else has q.items (t - signal_count x)) veiled

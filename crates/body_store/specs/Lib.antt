@@ -11,3 +11,4 @@ pub mod Veils
 pub mod Views
 pub mod Laws
 pub mod Owned
+pub mod Counted

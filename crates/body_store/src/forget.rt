@@ -14,6 +14,7 @@ impl<'a> Store<'a> {
     ghost use Rattle.body_store.specs.Held.{HoldsStore};
     ghost use Rattle.body_store.specs.Made.{itself_to_blame, nothing, without};
     ghost use Rattle.body_store.specs.Veils.{SameButWords, kept_words as words_kept};
+    ghost use Rattle.body_store.specs.Views.{hides};
 
     /// Nothing is known of the words of a memory any more. What bodies read in their place, where it is veiled, stays.
     pub fn smudge(&mut self, memory: u32)
@@ -22,6 +23,8 @@ impl<'a> Store<'a> {
         ensures updates { self.new.updates ≡ self.old.updates }
         ensures around { around_of self.old ≡ [] → around_of self.new ≡ [] }
         ensures rooms { rooms_of self.new ≡ rooms_of self.old }
+        ensures log { self.new.log ≡ self.old.log }
+        ensures hides { hides self.new ≡ hides self.old }
         ensures kept { (k : Kept) (e : Blames) → HoldsStore (design_view self.old.design.now) k e self.old → HoldsStore (design_view self.old.design.now) (without memory k) e self.new }
     {
         let place = memory as usize - self.signals.len();
@@ -36,6 +39,8 @@ impl<'a> Store<'a> {
         ensures updates { self.new.updates ≡ self.old.updates }
         ensures around { around_of self.old ≡ [] → around_of self.new ≡ [] }
         ensures rooms { rooms_of self.new ≡ rooms_of self.old }
+        ensures log { self.new.log ≡ self.old.log }
+        ensures hides { hides self.new ≡ hides self.old }
         ensures kept { (k : Kept) (e : Blames) → HoldsStore (design_view self.old.design.now) k e self.old → HoldsStore (design_view self.old.design.now) nothing (itself_to_blame e) self.new }
     {
         self.signals.forget();
@@ -52,6 +57,7 @@ impl<'a> Store<'a> {
         ensures log { self.new.log ≡ self.old.log }
         ensures words { self.new.words ≡ self.old.words }
         ensures updates { self.new.updates ≡ self.old.updates }
+        ensures veiled { self.new.veils.veiled ≡ self.old.veils.veiled }
         ensures others { SameButWords place self.old.veils self.old.memories.items self.new.veils self.new.memories.items }
         ensures here { words_kept self.new.veils self.new.memories.items place ≡ unwritten (words_kept self.old.veils self.old.memories.items place).shape }
     {

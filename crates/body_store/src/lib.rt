@@ -2,7 +2,8 @@
 //! [`Store`].
 //!
 //! In a new store nothing is known, and each signal and memory is to blame for itself. [`Store::new`] says so by two
-//! relations to the cells of a design: what the store keeps, and what bodies read of it (`specs/Held.antt`).
+//! relations to the cells of a design: what the store keeps, and what bodies read of it (`specs/Held.antt`). It takes the room
+//! that the bodies of the design need, and each store has it (`specs/Counted.antt`).
 //!
 //! While a body runs it calls the store by two traits: [`term_replay::Reads`] and [`body_calls::Bodies`]. After a run
 //! [`Store::end_run`] makes each signal to blame for itself again, and [`Store::flush`] makes what the run has queued. The run
@@ -28,6 +29,6 @@ mod veils;
 mod write;
 
 pub use laws::{own_law, premises_law, views_law};
-pub use store::{Store, StoreRoom};
+pub use store::Store;
 pub use update::Update;
 pub use word_log::StoredMemory;

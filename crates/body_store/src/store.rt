@@ -5,6 +5,7 @@ ghost use Rattle.value_store.specs.Signals.{HasWidth};
 ghost use Rattle.write_log.specs.Logs.{IsLogOf};
 ghost use Rattle.word_log.specs.Logs.{IsWordLogOf};
 ghost use Rattle.body_store.specs.Tests.{SameTests};
+ghost use Rattle.body_store.specs.Counted.{IsCounted};
 ghost use Rattle.body_store.specs.Fitting.{FitsDesign};
 ghost use Rattle.body_store.specs.Updates.{are_taken};
 ghost use Rattle.body_store.specs.Veils.{FitsVeils};
@@ -15,19 +16,9 @@ use crate::{StoredMemory, Update};
 use cov_host::NoMemory;
 use design_model::Design;
 use std::alloc::Global;
-use value_store::{Queue, Signals};
+use value_store::{Queue, Signals, log_room, queue_room};
 use word_log::WordLog;
 use write_log::Log;
-
-/// How much the runs of bodies may log and queue.
-#[derive(Clone, Copy)]
-pub struct StoreRoom {
-    /// How much a body may log: one place for each undecided test that it begins, and inside of such tests one for each write
-    /// of a signal, and for each write of a memory one more than the memory has words.
-    pub log: usize,
-    /// How many parts of nonblocking assignments may wait for the flush.
-    pub updates: usize,
-}
 
 /// What is known of the signals and memories of a design, between the runs of bodies and while one runs.
 #[derive(Drop)]
@@ -51,19 +42,21 @@ pub struct Store<'a> {
     ghost sized: { log.depth ≡ log.room },
     ghost words_logged: { IsWordLogOf memories.items words },
     ghost tests: { SameTests log words },
+    ghost counted: { IsCounted (design_view design.now) log.room updates.room },
     ghost taken: { are_taken (design_view design.now) updates.items ≡ true },
     ghost veiled: { FitsVeils (length design.now.signals) design.now.memories veils },
 }
 
 impl<'a> Store<'a> {
     ghost use Rattle.body_store.specs.Bodies.{around_of, queued_of, rooms_of};
-    ghost use Rattle.body_store.specs.Views.{hides};
+    ghost use Rattle.body_store.specs.Views.{hides, under_of};
     ghost use Rattle.body_store.specs.Made.{HasWordWidth, nothing, unblamed};
     ghost use Rattle.body_store.specs.Held.{HoldsStore, ReadsStore};
 
     /// Nothing is known of any signal or memory, each is to blame for itself, no signal is shown or veiled, and nothing is
-    /// queued. All memory that is ever needed is taken here.
-    pub fn new(alloc: Global, design: &'a Design, room: StoreRoom) -> Result<Self, NoMemory>
+    /// queued. All memory that is ever needed is taken here, with room in the log for the run of any body, and in the queue for
+    /// all parts of the nonblocking assignments of the design.
+    pub fn new(alloc: Global, design: &'a Design) -> Result<Self, NoMemory>
         requires widths { All HasWidth design.now.signals }
         requires word_widths { All HasWordWidth design.now.memories }
         requires few_signals { length design.now.signals ≤ 65536 }
@@ -74,8 +67,8 @@ impl<'a> Store<'a> {
         ensures queued { IfOk result (λ made. queued_of made ≡ []) }
         ensures around { IfOk result (λ made. around_of made ≡ []) }
         ensures hides { IfOk result (λ made. (x : ℕ) → hides made x ≡ false) }
-        ensures log { IfOk result (λ made. (rooms_of made).log ≡ room.log) }
-        ensures queue { IfOk result (λ made. (rooms_of made).queue ≡ room.updates) }
+        ensures log { IfOk result (λ made. (rooms_of made).log ≡ (under_of made).log) }
+        ensures queue { IfOk result (λ made. (rooms_of made).queue ≡ made.updates.room) }
     {
         let signals = Signals::new(alloc, design.signals.as_slice())?;
         let memories = memories(
@@ -83,9 +76,10 @@ impl<'a> Store<'a> {
             design.memories.as_slice(),
             design.signals.len() as u32,
         )?;
-        let log = Log::new(alloc, design.signals.len(), room.log, room.log)?;
-        let words = WordLog::new(alloc, memories.as_slice(), room.log, room.log)?;
-        let updates = Queue::new(alloc, room.updates)?;
+        let room = log_room(design);
+        let log = Log::new(alloc, design.signals.len(), room, room)?;
+        let words = WordLog::new(alloc, memories.as_slice(), room, room)?;
+        let updates = Queue::new(alloc, queue_room(design.processes.as_slice()))?;
         let veils = Veils::new(
             alloc,
             design.memories.as_slice(),

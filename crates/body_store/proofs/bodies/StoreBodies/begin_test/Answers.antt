@@ -24,6 +24,7 @@ invariant_of-self c =
       sized = ap (λ l. l.depth) e ∙ x.sized ∙ sym (ap (λ l. l.room) e);
       words_logged = subst (w.IsWordLogOf x.memories.items) (sym f) (record { sizes = x.words_logged.sizes; done = x.words_logged.done; undone = x.words_logged.undone });
       tests = begun_same x.log c.begin_test.new.self x.words c.begin_test-2.new.self (record { done = length x.log.done; undone = length x.log.undone; second = false; test = c.args.test }) (record { done = length x.words.done; undone = length x.words.undone; second = false; test = c.args.test }) refl x.tests e f;
+      counted = record { log_is = ap (λ l. l.room) e ∙ x.counted.log_is; queue_is = x.counted.queue_is };
       taken = x.taken;
       veiled = x.veiled;
     }

@@ -64,6 +64,7 @@ invariant_of-self c =
       sized = s.depth ∙ x.sized ∙ sym s.room;
       words_logged = subst (λ ys. w.IsWordLogOf ys c.second_branch-2.new.self) (sym (whole a)) t.fits;
       tests = changed_same x.log c.second_branch.new.self x.words c.second_branch-2.new.self (reads_of c.second_branch.new.signals) new x.tests s.room t.room t.depth branches;
+      counted = record { log_is = s.room ∙ x.counted.log_is; queue_is = x.counted.queue_is };
       taken = x.taken;
       veiled = x.veiled;
     }

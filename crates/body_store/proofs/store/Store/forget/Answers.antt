@@ -8,7 +8,7 @@ use Rattle.value_store.specs.Signals.{shape_of, unknown_from, unknown_signals}
 use Rattle.body_store.specs.Made.{nothing}
 use Rattle.body_store.specs.Veils.{kept_words}
 use Rattle.body_store.proofs.Blank.{unknown_holds}
-use Rattle.body_store.proofs.Holding.{around_closed, rooms_left, signals_kept}
+use Rattle.body_store.proofs.Holding.{around_closed, hides_left, rooms_left, signals_kept}
 use Rattle.body_store.proofs.KeptWords.{kept_fits}
 use Rattle.body_store.proofs.store.Store.forget.Goals as goal
 
@@ -40,6 +40,7 @@ loop-place-preserved c =
       log = e.log ∙ i.log;
       words_log = e.words ∙ i.words_log;
       updates = e.updates ∙ i.updates;
+      veiled = e.veiled ∙ i.veiled;
       count = e.others.count ∙ i.count;
       written = λ j. e.others.written j ∙ i.written j;
       words = λ j m. ⊎_elim
@@ -85,3 +86,8 @@ pub returns-clause-rooms : goal.returns-clause-rooms
 returns-clause-rooms c =
     let i = c.loop-place.invariant in
     rooms_left c.args.self.now c.loop-place.self i.design i.log i.words_log i.updates
+
+pub returns-clause-hides : goal.returns-clause-hides
+returns-clause-hides c =
+    let i = c.loop-place.invariant in
+    hides_left c.args.self.now c.loop-place.self i.design (ap (λ v. v.hidden) i.signals ∙ ap (λ v. v.hidden) c.forget.ensures.value) i.veiled

@@ -13,6 +13,7 @@ invariant-loop-place l =
       log : l.self.log ≡ l.fn.self.log;
       words_log : l.self.words ≡ l.fn.self.words;
       updates : l.self.updates ≡ l.fn.self.updates;
+      veiled : l.self.veils.veiled ≡ l.fn.self.veils.veiled;
       count : length l.self.memories.items ≡ length l.fn.self.memories.items;
       written : (i : ℕ) → (memory_in l.self.memories.items i).written ≡ (memory_in l.fn.self.memories.items i).written;
       words : (i : ℕ) → i < l.place → kept_words l.self.veils l.self.memories.items i ≡ unwritten (kept_words l.fn.self.veils l.fn.self.memories.items i).shape;

@@ -1,5 +1,6 @@
 use Rattle.std.proofs.Common.{◌≡◌, ◌+◌, ◌-◌, [], ap, ap₂, arith, is_some, min, length, map, subst, sym, ◌∙◌}
-use Rattle.design_model.specs.View.{design_view}
+use Rattle.design_model.specs.View.{design_view, process_view}
+use Rattle.value_store.specs.Rooms.{as_usize, processes_queued}
 use Rattle.value_store.specs.Signals.{hidden_at, shape_of, unknown_signals}
 use Rattle.write_log.specs.Logs.{around, reads_of}
 use Rattle.std.proofs.Math.Nat.{min-eq_left}
@@ -25,16 +26,17 @@ invariant_of-result c =
     (subst (λ n. AreUnknown n ms c.in_ok-memories.memories.items) c.len.ensures (subst (λ y. AreUnknown c.len.result y c.in_ok-memories.memories.items) c.as_slice-2.ensures c.in_ok-memories.ensures)) in
     record {
       fits = fits;
-      logged = new_logged v c.in_ok-log.log c.len-2.result c.args.room.log c.in_ok-log.ensures (c.len-2.ensures ∙ sym fits.signals);
+      logged = new_logged v c.in_ok-log.log c.len-2.result c.log_room-room.result c.in_ok-log.ensures (c.len-2.ensures ∙ sym fits.signals);
       sized = ap (λ l. l.depth) c.in_ok-log.ensures ∙ sym (ap (λ l. l.room) c.in_ok-log.ensures);
-      words_logged = new_words_logged c.in_ok-memories.memories.items c.in_ok-words.words c.args.room.log (c.in_ok-words.ensures ∙ ap (λ rs. record { done = []; undone = []; tests = []; room = c.args.room.log; depth = c.args.room.log; sizes = w.sizes_of rs }) c.as_slice-3.ensures.value);
+      words_logged = new_words_logged c.in_ok-memories.memories.items c.in_ok-words.words c.log_room-room.result (c.in_ok-words.ensures ∙ ap (λ rs. record { done = []; undone = []; tests = []; room = c.log_room-room.result; depth = c.log_room-room.result; sizes = w.sizes_of rs }) c.as_slice-3.ensures.value);
       tests = record {
         word_depth = ap (λ q. q.depth) c.in_ok-words.ensures ∙ sym (ap (λ q. q.room) c.in_ok-words.ensures);
         room = ap (λ q. q.room) c.in_ok-words.ensures ∙ sym (ap (λ l. l.room) c.in_ok-log.ensures);
         branches = ap (λ q. seconds q.tests) c.in_ok-words.ensures ∙ sym (ap (λ l. seconds l.tests) c.in_ok-log.ensures);
       };
+      counted = record { log_is = ap (λ l. l.room) c.in_ok-log.ensures ∙ c.log_room-room.ensures; queue_is = ap (λ q. q.room) c.in_ok-updates.ensures ∙ c.queue_room.ensures ∙ ap (λ ps. as_usize (processes_queued (map process_view ps))) c.as_slice-4.ensures };
       taken = ap (λ q. are_taken (design_view c.args.design.now) q.items) c.in_ok-updates.ensures;
-      veiled = subst (λ n. FitsVeils n ms c.in_ok-veils.veils) c.len-3.ensures (subst (λ y. FitsVeils c.len-3.result y c.in_ok-veils.veils) c.as_slice-4.ensures c.in_ok-veils.ensures.fits);
+      veiled = subst (λ n. FitsVeils n ms c.in_ok-veils.veils) c.len-3.ensures (subst (λ y. FitsVeils c.len-3.result y c.in_ok-veils.veils) c.as_slice-5.ensures c.in_ok-veils.ensures.fits);
     }
 
 pub returns-clause-holds : goal.returns-clause-holds
@@ -57,5 +59,11 @@ returns-clause-around c =
 
 pub returns-clause-log : goal.returns-clause-log
 returns-clause-log c =
-    let room : c.args.room.log - (0 + 0 + 0) ≡ c.args.room.log = omega arith in
-    ap₂ min (ap log_room c.in_ok-log.ensures ∙ room) (ap word_room c.in_ok-words.ensures ∙ room) ∙ min-eq_left (omega arith)
+    let room : c.log_room-room.result - (0 + 0 + 0) ≡ c.log_room-room.result = omega arith in
+    ap₂ min (ap log_room c.in_ok-log.ensures ∙ room) (ap word_room c.in_ok-words.ensures ∙ room) ∙ min-eq_left (omega arith) ∙ sym (ap (λ l. l.room) c.in_ok-log.ensures)
+
+pub returns-clause-queue : goal.returns-clause-queue
+returns-clause-queue c =
+    let e = c.in_ok-updates.ensures in
+    let all : c.queue_room.result - 0 ≡ c.queue_room.result = omega arith in
+    ap (λ q. q.room - length q.items) e ∙ all ∙ sym (ap (λ q. q.room) e)

@@ -5,7 +5,7 @@ use Rattle.value_store.specs.Held.{HoldsSignals}
 use Rattle.body_store.specs.Made.{without}
 use Rattle.body_store.specs.Veils.{SameButWords, kept_words}
 use Rattle.body_store.proofs.Fit.{among_memories, from_memories}
-use Rattle.body_store.proofs.Holding.{around_closed}
+use Rattle.body_store.proofs.Holding.{around_closed, hides_left}
 use Rattle.body_store.proofs.KeptWords.{memories_without, signals_without}
 use Rattle.body_store.proofs.store.Store.smudge.Goals as goal
 
@@ -17,6 +17,9 @@ smudge_words-requires c =
 
 pub returns-clause-around : goal.returns-clause-around
 returns-clause-around c = λ none. around_closed c.args.self.now c.smudge_words.new.self c.smudge_words.ensures.log none
+
+pub returns-clause-hides : goal.returns-clause-hides
+returns-clause-hides c = let e = c.smudge_words.ensures in hides_left c.args.self.now c.smudge_words.new.self e.design (ap (λ v. v.hidden) e.signals) e.veiled
 
 pub returns-clause-kept : goal.returns-clause-kept
 returns-clause-kept c = λ k e h.

@@ -26,6 +26,7 @@ invariant_of-self c =
       sized = x.sized;
       words_logged = x.words_logged;
       tests = x.tests;
+      counted = x.counted;
       taken = x.taken;
       veiled = veils_set n ms x.veils _ p c.smudge.new.self x.veiled refl refl (λ m. subst (FitsWords _ (n + p)) (sym c.smudge.ensures.value) (blank_again _ (n + p) old fit));
     }
@@ -50,6 +51,7 @@ invariant_of-self-else-is_veiled c =
       sized = x.sized;
       words_logged = logged_too x.memories.items (set x.memories.items p (record { words = w.new.self; written = old.written })) x.words (fit_shapes x.design.now.signals ms x.signals x.signals x.memories.items (set x.memories.items p (record { words = w.new.self; written = old.written })) x.fits fits) x.words_logged;
       tests = x.tests;
+      counted = x.counted;
       taken = x.taken;
       veiled = x.veiled;
     }

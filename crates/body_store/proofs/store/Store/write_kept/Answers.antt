@@ -28,6 +28,7 @@ invariant_of-self c =
       sized = x.sized;
       words_logged = x.words_logged;
       tests = x.tests;
+      counted = x.counted;
       taken = x.taken;
       veiled = veils_set n ms x.veils _ p c.write.new.self x.veiled refl refl
           (λ m. written_fits x.design.now p old c.write.new.self (λ k. keep_all k (cell_writes (design_view x.design.now) (n + p) c.args.index.now c.args.value.now.bits c.args.certain)) l fit c.write.ensures.shape c.write.ensures.size (λ k. c.write.ensures.stands (design_view x.design.now) k (n + p)));
@@ -54,6 +55,7 @@ invariant_of-self-else-is_veiled c =
       sized = x.sized;
       words_logged = logged_too x.memories.items (set x.memories.items p (record { words = w.new.self; written = old.written })) x.words (fit_shapes x.design.now.signals ms x.signals x.signals x.memories.items (set x.memories.items p (record { words = w.new.self; written = old.written })) x.fits fits) x.words_logged;
       tests = x.tests;
+      counted = x.counted;
       taken = x.taken;
       veiled = x.veiled;
     }

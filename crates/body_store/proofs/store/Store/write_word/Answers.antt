@@ -85,6 +85,7 @@ invariant_of-self c =
       sized = s.sized;
       words_logged = subst (λ ys. w.IsWordLogOf ys c.write.new.self) (sym (whole a)) e.fits;
       tests = record { word_depth = e.depth ∙ s.tests.word_depth ∙ sym e.room; room = e.room ∙ s.tests.room; branches = ap seconds e.tests ∙ s.tests.branches };
+      counted = s.counted;
       taken = s.taken;
       veiled = s.veiled;
     }

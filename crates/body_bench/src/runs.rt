@@ -1,0 +1,148 @@
+//! The runs of a body on one store.
+
+ghost use Rattle.std.specs.Prelude.{◌≡◌, ◌≤◌, ◌<◌, ◌+◌, ℕ, IfOk, IfSome, [], true, length};
+ghost use Rattle.std.specs.List.{All};
+ghost use Rattle.design_model.specs.Design.{body, body_at, is_number};
+ghost use Rattle.design_model.specs.Lawful.{IsLawfulDesign};
+ghost use Rattle.design_model.specs.Mentions.{body_assigns};
+ghost use Rattle.design_model.specs.View.{design_view, process_view};
+ghost use Rattle.body_calls.specs.Own.{is_in};
+ghost use Rattle.body_bench.specs.Idle.{IsIdle};
+
+use crate::stores::{new_store, put_inputs, sum_of};
+use assignments::{Piece, widths_law};
+use block_runs::{BlockNotes, Certainty, Doubt, run_body};
+use body_rooms::store_rooms_law;
+use body_store::{Store, own_law, views_law};
+use cov_host::NoMemory;
+use design_model::{Design, Process};
+use process_names::{names_law, push_assigned};
+use std::alloc::Global;
+use std::sync::ledger::{Blank, Ledger};
+use step_counts::Steps;
+use term_replay::Spot;
+use value_store::Queue;
+
+/// Counts what is noted.
+#[derive(Drop)]
+struct Count {
+    notes: u64,
+}
+
+impl BlockNotes for Count {
+    ghost use Rattle.std.specs.Prelude.{⊤, List};
+    ghost use Rattle.body_replay.specs.Contract.{Note};
+
+    ghost Start = { ⊤ };
+
+    ghost noted = { λ start ms x. ⊤ };
+
+    fn note(&mut self, _spot: Spot, _doubt: Option<Doubt>) {
+        self.notes = self.notes.wrapping_add(1);
+    }
+}
+
+/// What the runs of a body take beside the store.
+#[derive(Drop)]
+struct Scratch {
+    pieces: Queue<Piece>,
+    notes: Count,
+    ghost empty: { pieces.items ≡ [] },
+    ghost room: { 128 ≤ pieces.room },
+}
+
+/// The signals and memories that a process assigns, None where one is not of the design.
+fn written_by(
+    alloc: Global,
+    design: &Design,
+    process: &Process,
+) -> Result<Option<Vec<u32>>, NoMemory>
+    ensures numbers { IfOk result (λ made. IfSome made (λ written. All (λ x. is_number (design_view design.now) x ≡ true) written.items)) }
+    ensures all { IfOk result (λ made. IfSome made (λ written. (x : ℕ) → body_assigns x (body (process_view process.now)) ≡ true → is_in written.items x ≡ true)) }
+{
+    names_law();
+    let mut written = Vec::new(alloc);
+    push_assigned(true, process, &mut written)?;
+    push_assigned(false, process, &mut written)?;
+    let count = design.signals.len() + design.memories.len();
+    if written.iter().all(|thing| (*thing as usize) < count) {
+        Ok(Some(written))
+    } else {
+        Ok(None)
+    }
+}
+
+/// Runs the body of the first process so many times, where one in `unknown` inputs is unknown, and none if that is 0. It gives
+/// the sum of the numbers that the outputs have then, each times its place; None if there is no process.
+pub(crate) fn sum_after<L: Ledger>(
+    alloc: Global,
+    design: &Design,
+    rounds: u64,
+    unknown: usize,
+    blank: Blank,
+) -> Result<Option<u128>, NoMemory>
+    requires lawful { IsLawfulDesign (design_view design.now) }
+    requires name { blank.name ≡ L.name }
+    requires parts { blank.parts ≡ L.parts }
+    requires some { 0 < blank.parts }
+{
+    let Some(process) = design.processes.get(0) else {
+        return Ok(None);
+    };
+    let Some(written) = written_by(alloc, design, process)? else {
+        return Ok(None);
+    };
+    let mut store = new_store(alloc, design)?;
+    put_inputs(&mut store, design, unknown);
+    let pieces = Queue::new(alloc, 128)?;
+    let notes = Count { notes: 0 };
+    let mut scratch = Scratch { pieces, notes };
+    let mut steps = Steps::<L>::new(blank);
+    for _ in 0..rounds {
+        run_once(
+            &mut store,
+            design,
+            process,
+            written.as_slice(),
+            &mut scratch,
+            &mut steps,
+        );
+    }
+    Ok(Some(sum_of(&store, design)))
+}
+
+/// Runs the body of the first process, and makes the updates that it queues.
+fn run_once<L: Ledger>(
+    store: &mut Store,
+    design: &Design,
+    process: &Process,
+    written: &[u32],
+    scratch: &mut Scratch,
+    steps: &mut Steps<L>,
+)
+    requires lawful { IsLawfulDesign (design_view design.now) }
+    requires idle { IsIdle design.now store.old }
+    requires some { 0 < length design.now.processes }
+    requires first { body (process_view process.now) ≡ body_at (design_view design.now) 0 }
+    requires numbers { All (λ x. is_number (design_view design.now) x ≡ true) written.now }
+    requires written { (x : ℕ) → body_assigns x (body (process_view process.now)) ≡ true → is_in written.now x ≡ true }
+    ensures idle { IsIdle design.now store.new }
+    ensures steps { steps.new ≡ steps.old + 1 }
+{
+    widths_law();
+    own_law();
+    views_law();
+    store_rooms_law();
+    store.holding();
+    run_body(
+        store,
+        design,
+        process,
+        written,
+        Certainty::Clean { time: 0 },
+        &mut scratch.pieces,
+        &mut scratch.notes,
+        steps,
+    );
+    store.flush();
+}
