@@ -1,3 +1,3 @@
 pub mod Lists
 pub mod Members
-pub mod Doubts
+pub mod Shown

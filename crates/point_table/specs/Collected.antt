@@ -1,23 +1,16 @@
--- The table of a design from the points of a list and their markings.
+-- The table of a design from the points of a list.
 use Rattle.std.specs.Prelude.{◌≡◌, ℕ, List, map}
 use Rattle.coverage_db.specs.declared.db.Db.{Db}
-use Rattle.cover_marks.specs.declared.marks.Marks.{Marks}
 use Rattle.cover_points.specs.Listed.{IsPointList}
 use Rattle.cover_points.specs.declared.listing.Points.{Points}
 use Rattle.design_model.specs.Design.{Design}
 use Rattle.design_model.specs.Points.{StateNames}
-use Rattle.point_marks.specs.Marking.{Marking}
 use Rattle.point_table.specs.Addresses.{addresses_of, missed_points}
 use Rattle.point_table.specs.Rows.{ArePlaces, IsPathOrder, row_at}
-use Rattle.point_table.specs.Verdicts.{AreMarkings}
 
 -- the points are those of the design, with some machines
 abbrev pub AreListed : Design → Points → Type 0
 AreListed d ps = (ms : List StateNames) × IsPointList d ms ps
-
--- some markings, of things of the design, led to the marks
-abbrev pub AreMarked : Design → Marks → Type 0
-AreMarked d marks = (markings : List Marking) × AreMarkings d marks.verdicts markings
 
 -- the table of the design from these sources: its instances in the order of their paths, and these points in their order
 pub record IsCollected (d : Design) (sources : List (List ℕ)) (ps : Points) (db : Db) : Type 0 where

@@ -1,11 +1,11 @@
--- The verdicts of a table by the markings of its points.
-use Rattle.std.specs.Prelude.{◌≡◌, ◌<◌, ℕ, true, false, List, [], length, slice_index_or, All, IfSome, ⊤}
+-- The verdicts of a table by those of the marks of its points.
+use Rattle.std.specs.Prelude.{◌≡◌, ◌<◌, ℕ, true, false, List, [], length, slice_index_or, ⊤}
 use Rattle.coverage_db.specs.declared.address.Subject.TheVariants.{Word}
 use Rattle.coverage_db.specs.declared.db.DbPoint.{DbPoint}
 use Rattle.coverage_db.specs.declared.verdict.DbVerdict.{DbVerdict}
 use Rattle.coverage_db.specs.declared.verdict.DbVerdict.TheVariants as row
 use Rattle.design_model.specs.Design.{Design, is_number, path_of}
-use Rattle.point_marks.specs.Marking.{IsMarked, IsVerdict, Marking}
+use Rattle.point_marks.specs.Marking.{IsVerdict, Marking}
 use Rattle.point_marks.specs.declared.verdict.Verdict.{Verdict}
 use Rattle.point_marks.specs.declared.verdict.Verdict.TheVariants.{Hit, Missed, Undetermined}
 use Rattle.point_table.specs.Addresses.{missed}
@@ -22,18 +22,18 @@ IsOfDesign d Hit = ⊤
 IsOfDesign d Missed = ⊤
 IsOfDesign d (Undetermined y) = is_number d y.thing ≡ true
 
--- these markings led to the verdicts, and their doubts are of things of the design
-pub record AreMarkings (d : Design) (verdicts : List Verdict) (markings : List Marking) : Type 0 where
-  pub marked : IsMarked markings verdicts
-  pub things : All (λ m. IfSome m.doubt (λ y. is_number d y.thing ≡ true)) markings
+-- what a table gives past its end
+abbrev pub no_row : DbPoint
+no_row = missed (record { instance = 0; subject = Word [] 0 false })
+
+-- the rows have these verdicts, in order
+pub record AreShown (d : Design) (verdicts : List Verdict) (points : List DbPoint) : Type 0 where
+  pub count : length points ≡ length verdicts
+  pub each : (k : ℕ) → k < length points → (slice_index_or points k no_row).verdict ≡ row_verdict d (slice_index_or verdicts k Missed)
 
 -- the verdict is that of the point with this number, by the markings
 abbrev pub IsRowVerdict : Design → List Marking → ℕ → DbVerdict → Type 0
 IsRowVerdict d markings k verdict = (v : Verdict) × IsVerdict markings k v × (verdict ≡ row_verdict d v)
-
--- what a table gives past its end
-abbrev pub no_row : DbPoint
-no_row = missed (record { instance = 0; subject = Word [] 0 false })
 
 -- each point has its verdict by the markings
 abbrev pub HaveVerdicts : Design → List Marking → List DbPoint → Type 0

@@ -1,11 +1,11 @@
-ghost use Rattle.std.specs.Prelude.{◌≡◌, ◌≤◌, List, IfOk, OnOk, length};
+ghost use Rattle.std.specs.Prelude.{◌≡◌, ◌≤◌, List, All, IfOk, OnOk, length};
 ghost use Rattle.cover_marks.specs.Marks.{AreMarksOf};
 ghost use Rattle.cover_points.specs.Listed.{points_of};
 ghost use Rattle.design_model.specs.View.{design_view};
 ghost use Rattle.point_marks.specs.Marking.{IsMarked, Marking};
 ghost use Rattle.point_table.specs.Addresses.{missed_points};
-ghost use Rattle.point_table.specs.Collected.{AreListed, AreMarked, IsCollected};
-ghost use Rattle.point_table.specs.Verdicts.{HaveVerdicts};
+ghost use Rattle.point_table.specs.Collected.{AreListed, IsCollected};
+ghost use Rattle.point_table.specs.Verdicts.{AreShown, HaveVerdicts, IsOfDesign};
 
 use crate::addresses::{push_lines, push_machine_points, push_nodes, push_toggles, push_words};
 use crate::rows::{name_of, path_order, places_of, rows_of};
@@ -28,9 +28,10 @@ pub fn collect(
     requires listed { AreListed (design_view design.now) points.now }
     requires few { length (points_of points.now) ≤ MOST_POINTS }
     requires marks { AreMarksOf points.now marks.now }
-    requires things { AreMarked (design_view design.now) marks.now }
+    requires things { All (IsOfDesign (design_view design.now)) marks.now.verdicts }
     ensures table { IfOk result (IsCollected (design_view design.now) sources points.now) }
-    ensures verdicts { (markings : List Marking) → IsMarked markings marks.now.verdicts → IfOk result (λ db. HaveVerdicts (design_view design.now) markings db.points) }
+    ensures verdicts { IfOk result (λ db. AreShown (design_view design.now) marks.now.verdicts db.points) }
+    ensures markings { (markings : List Marking) → IsMarked markings marks.now.verdicts → IfOk result (λ db. HaveVerdicts (design_view design.now) markings db.points) }
 {
     let instances = design.instances.as_slice();
     let order = path_order(alloc, instances)?;

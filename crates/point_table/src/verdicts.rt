@@ -1,11 +1,9 @@
 //! The verdicts of a table.
 
-ghost use Rattle.std.specs.Prelude.{◌≡◌, ◌<◌, ◌^◌, List, IfOk, OnOk, length};
+ghost use Rattle.std.specs.Prelude.{◌≡◌, ◌<◌, ◌^◌, All, IfOk, OnOk, length, slice_index_or};
 ghost use Rattle.design_model.specs.View.{design_view};
-ghost use Rattle.point_marks.specs.Marking.{IsMarked, Marking};
 ghost use Rattle.point_table.specs.Addresses.{addresses_of};
-ghost use Rattle.point_table.specs.Collected.{AreMarked};
-ghost use Rattle.point_table.specs.Verdicts.{HaveVerdicts, IsOfDesign, IsRowVerdict, row_verdict};
+ghost use Rattle.point_table.specs.Verdicts.{AreShown, IsOfDesign, row_verdict};
 
 use cov_host::NoMemory;
 use cover_marks::{Marks, Verdict};
@@ -22,9 +20,9 @@ pub(crate) fn with_verdicts(
 ) -> Result<Vec<DbPoint>, NoMemory>
     requires count { length points.items ≡ length marks.now.verdicts }
     requires few { length points.items < 2 ^ 32 }
-    requires things { AreMarked (design_view design.now) marks.now }
+    requires things { All (IsOfDesign (design_view design.now)) marks.now.verdicts }
     ensures points { IfOk result (λ filled. addresses_of filled.items ≡ addresses_of points.items) }
-    ensures verdicts { (markings : List Marking) → IsMarked markings marks.now.verdicts → IfOk result (λ filled. HaveVerdicts (design_view design.now) markings filled.items) }
+    ensures verdicts { IfOk result (λ filled. AreShown (design_view design.now) marks.now.verdicts filled.items) }
 {
     let mut points = points;
     fill_verdicts(alloc, design, marks, points.as_mut_slice())?;
@@ -40,9 +38,9 @@ fn fill_verdicts(
 ) -> Result<(), NoMemory>
     requires count { length points.old ≡ length marks.now.verdicts }
     requires few { length points.old < 2 ^ 32 }
-    requires things { AreMarked (design_view design.now) marks.now }
+    requires things { All (IsOfDesign (design_view design.now)) marks.now.verdicts }
     ensures points { addresses_of points.new ≡ addresses_of points.old }
-    ensures verdicts { (markings : List Marking) → IsMarked markings marks.now.verdicts → OnOk result (HaveVerdicts (design_view design.now) markings points.new) }
+    ensures verdicts { OnOk result (AreShown (design_view design.now) marks.now.verdicts points.new) }
 {
     for number in 0..points.len() {
         points[number].verdict = verdict_at(alloc, design, marks, number as u32)?;
@@ -58,8 +56,8 @@ fn verdict_at(
     number: u32,
 ) -> Result<DbVerdict, NoMemory>
     requires number { number < length marks.now.verdicts }
-    requires things { AreMarked (design_view design.now) marks.now }
-    ensures { (markings : List Marking) → IsMarked markings marks.now.verdicts → IfOk result (IsRowVerdict (design_view design.now) markings number) }
+    requires things { All (IsOfDesign (design_view design.now)) marks.now.verdicts }
+    ensures { IfOk result (λ row. row ≡ row_verdict (design_view design.now) (slice_index_or marks.now.verdicts number Verdict.Missed)) }
 {
     row_verdict(alloc, design, marks.verdict(number))
 }

@@ -1,4 +1,4 @@
-//! Tests of the list of points: the addresses of the points of example designs, and visits of them.
+//! Tests of the points of designs: their addresses and visits in example designs, and the verdicts of their marks.
 #![tactic(auto)]
 
 #[cfg(test)]
@@ -9,6 +9,8 @@ mod cases;
 mod designs;
 #[cfg(test)]
 mod machine_cases;
+#[cfg(test)]
+mod mark_cases;
 #[cfg(test)]
 mod tables;
 #[cfg(test)]

@@ -1,31 +1,115 @@
-use crate::addresses::addresses;
+ghost use Rattle.std.specs.Prelude.{◌≤◌, IfSome, length};
+ghost use Rattle.cover_points.specs.Listed.{points_of};
+ghost use Rattle.cover_points.specs.Visits.{AreApart, AreOnce, ArePlaced};
+ghost use Rattle.design_model.specs.Lawful.{IsLawfulDesign};
+ghost use Rattle.design_model.specs.View.{design_view};
+ghost use Rattle.point_table.specs.Collected.{AreListed};
+
+use crate::addresses::{addresses, rows};
 use crate::cases::{CASES, Case};
-use crate::designs::{design_of, states_of};
+use crate::designs::{Machine, design_of, states_of};
 use crate::machine_cases::{FAULT_CASES, FaultCase, FaultKind, MACHINE_CASES};
-use crate::tables::table_of;
+use crate::mark_cases::{MARK_CASES, MarkCase};
+use crate::tables::{Mark, table_of};
 use crate::visits::visits_of;
-use cov_host::Name;
+use cov_host::{Name, Text};
 use cover_marks::Marks;
-use cover_points::{MachinePoint, PointFault, Points, Visit, list};
+use cover_points::{MOST_POINTS, MachinePoint, PointFault, Points, Visit, list};
+use coverage_db::Db;
+use design_model::Design;
+use state_machines::States;
 use std::alloc::Global;
+
+/// The points of a design with these machines.
+fn listed(alloc: Global, design: &Design, machines: &[Machine]) -> Option<Points>
+    requires { IsLawfulDesign (design_view design.now) }
+    ensures listed { IfSome result (AreListed (design_view design.now)) }
+    ensures apart { IfSome result AreApart }
+    ensures once { IfSome result AreOnce }
+    ensures placed { IfSome result ArePlaced }
+    ensures few { IfSome result (λ points. length (points_of points) ≤ MOST_POINTS) }
+{
+    match states_of(alloc, machines) {
+        Ok(states) => listed_with(alloc, design, &states),
+        Err(_) => None,
+    }
+}
+
+/// The points of a design with machines that are named.
+fn listed_with(alloc: Global, design: &Design, states: &States) -> Option<Points>
+    requires { IsLawfulDesign (design_view design.now) }
+    ensures listed { IfSome result (AreListed (design_view design.now)) }
+    ensures apart { IfSome result AreApart }
+    ensures once { IfSome result AreOnce }
+    ensures placed { IfSome result ArePlaced }
+    ensures few { IfSome result (λ points. length (points_of points) ≤ MOST_POINTS) }
+{
+    match list(alloc, design, states) {
+        Ok(points) => Some(points),
+        Err(_) => None,
+    }
+}
+
+/// The table of a design with these machines and marks.
+fn table(alloc: Global, design: &Design, machines: &[Machine], marked: &[Mark]) -> Option<Db>
+    requires { IsLawfulDesign (design_view design.now) }
+{
+    match listed(alloc, design, machines) {
+        Some(points) => table_of(alloc, design, &points, marked),
+        None => None,
+    }
+}
 
 /// Whether the points of the case are listed by these addresses.
 fn is_listed(alloc: Global, case: &Case) -> bool {
-    let Some(design) = design_of(alloc, case.sources, case.top) else {
-        return false;
-    };
-    let Ok(states) = states_of(alloc, case.machines) else {
-        return false;
-    };
-    let Ok(points) = list(alloc, &design, &states) else {
-        return false;
-    };
-    let Ok(table) = table_of(alloc, &design, &states, &points) else {
-        return false;
-    };
-    match addresses(alloc, &table) {
-        Ok(text) => text.as_slice() == case.addresses.as_bytes(),
-        Err(_) => false,
+    match design_of(alloc, case.sources, case.top) {
+        Some(design) => is_listed_of(alloc, &design, case),
+        None => false,
+    }
+}
+
+/// The same of the design of the case.
+fn is_listed_of(alloc: Global, design: &Design, case: &Case) -> bool
+    requires { IsLawfulDesign (design_view design.now) }
+{
+    match table(alloc, design, case.machines, &[]) {
+        Some(table) => match addresses(alloc, &table) {
+            Ok(text) => is_text(&text, case.addresses),
+            Err(_) => false,
+        },
+        None => false,
+    }
+}
+
+fn is_text(text: &Text, wanted: &str) -> bool {
+    text.as_slice() == wanted.as_bytes()
+}
+
+/// Whether the points of the case have these verdicts after its marks.
+fn is_marked(alloc: Global, case: &MarkCase) -> bool {
+    match design_of(alloc, case.sources, case.top) {
+        Some(design) => is_marked_of(alloc, &design, case),
+        None => false,
+    }
+}
+
+/// The same of the design of the case.
+fn is_marked_of(alloc: Global, design: &Design, case: &MarkCase) -> bool
+    requires { IsLawfulDesign (design_view design.now) }
+{
+    match table(alloc, design, &[], case.marks) {
+        Some(table) => match rows(alloc, &table) {
+            Ok(text) => is_text(&text, case.rows),
+            Err(_) => false,
+        },
+        None => false,
+    }
+}
+
+#[test]
+fn shows_the_verdicts_of_marks(rt: HostRuntime) {
+    for case in MARK_CASES {
+        assert!(rt; is_marked(rt.alloc(), case), "{}", case.name);
     }
 }
 
@@ -74,17 +158,31 @@ fn are_numbered(alloc: Global, marks: &Marks, points: &Points) -> bool {
 
 /// Whether each point of the case is found by its visit, or as a state or an arc.
 fn is_found(alloc: Global, case: &Case) -> bool {
-    let Some(design) = design_of(alloc, case.sources, case.top) else {
-        return false;
-    };
-    let Ok(states) = states_of(alloc, case.machines) else {
-        return false;
-    };
-    let Ok(points) = list(alloc, &design, &states) else {
-        return false;
-    };
-    match Marks::new(alloc, &points) {
-        Ok(marks) => are_numbered(alloc, &marks, &points),
+    match design_of(alloc, case.sources, case.top) {
+        Some(design) => is_found_of(alloc, &design, case),
+        None => false,
+    }
+}
+
+/// The same of the design of the case.
+fn is_found_of(alloc: Global, design: &Design, case: &Case) -> bool
+    requires { IsLawfulDesign (design_view design.now) }
+{
+    match listed(alloc, design, case.machines) {
+        Some(points) => are_found(alloc, &points),
+        None => false,
+    }
+}
+
+/// The same of the points of the case.
+fn are_found(alloc: Global, points: &Points) -> bool
+    requires apart { AreApart points.now }
+    requires once { AreOnce points.now }
+    requires placed { ArePlaced points.now }
+    requires few { length (points_of points.now) ≤ MOST_POINTS }
+{
+    match Marks::new(alloc, points) {
+        Ok(marks) => are_numbered(alloc, &marks, points),
         Err(_) => false,
     }
 }
@@ -125,13 +223,27 @@ fn is_named(name: &Name, text: &str) -> bool {
 
 /// Whether the points of the case are refused for its fault.
 fn is_refused(alloc: Global, case: &FaultCase) -> bool {
-    let Some(design) = design_of(alloc, &[("ff.v", case.text)], "ff") else {
-        return false;
-    };
-    let Ok(states) = states_of(alloc, &[case.machine]) else {
-        return false;
-    };
-    match list(alloc, &design, &states) {
+    match design_of(alloc, &[("ff.v", case.text)], "ff") {
+        Some(design) => is_refused_of(alloc, &design, case),
+        None => false,
+    }
+}
+
+/// The same of the design of the case.
+fn is_refused_of(alloc: Global, design: &Design, case: &FaultCase) -> bool
+    requires { IsLawfulDesign (design_view design.now) }
+{
+    match states_of(alloc, &[case.machine]) {
+        Ok(states) => is_refused_with(alloc, design, &states, case),
+        Err(_) => false,
+    }
+}
+
+/// The same with the machines of the case.
+fn is_refused_with(alloc: Global, design: &Design, states: &States, case: &FaultCase) -> bool
+    requires { IsLawfulDesign (design_view design.now) }
+{
+    match list(alloc, design, states) {
         Ok(_) => false,
         Err(fault) => is_fault(&fault, case),
     }

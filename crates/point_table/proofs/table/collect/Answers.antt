@@ -4,9 +4,10 @@ use Rattle.std.specs.List.Sorted.{IsPermutation}
 use Rattle.design_model.specs.View.{design_view}
 use Rattle.point_table.specs.Addresses.{addresses_of, missed_points}
 use Rattle.point_table.specs.Rows.{ArePlaces, IsPathOrder}
-use Rattle.point_table.specs.Verdicts.{HaveVerdicts}
+use Rattle.point_table.specs.Verdicts.{AreShown}
 use Rattle.point_table.proofs.Lists.{order_length}
 use Rattle.point_table.proofs.Members.{as_many_rows}
+use Rattle.point_table.proofs.Shown.{by_markings}
 use Rattle.point_table.proofs.table.collect.Goals as goal
 
 pub places_of-requires-clause-order : goal.places_of-requires-clause-order
@@ -47,4 +48,7 @@ returns-clause-table c =
     }
 
 pub returns-clause-verdicts : goal.returns-clause-verdicts
-returns-clause-verdicts c = λ markings m. subst (λ ps. HaveVerdicts (design_view c.args.design.now) markings ps) (sym c.from_vec.ensures) (c.in_ok-rows.ensures.verdicts markings m)
+returns-clause-verdicts c = subst (AreShown (design_view c.args.design.now) c.args.marks.now.verdicts) (sym c.from_vec.ensures) c.in_ok-rows.ensures.verdicts
+
+pub returns-clause-markings : goal.returns-clause-markings
+returns-clause-markings c = λ markings m. by_markings (design_view c.args.design.now) c.args.marks.now.verdicts _ markings (subst (AreShown (design_view c.args.design.now) c.args.marks.now.verdicts) (sym c.from_vec.ensures) c.in_ok-rows.ensures.verdicts) m

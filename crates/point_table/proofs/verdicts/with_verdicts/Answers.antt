@@ -4,11 +4,11 @@ use Rattle.std.proofs.lemmas.List.{length-map}
 use Rattle.std.specs.Prelude.{◌++◌, take}
 use Rattle.coverage_db.specs.declared.db.DbPoint.{DbPoint}
 use Rattle.design_model.specs.View.{design_view}
-use Rattle.point_table.specs.Verdicts.{HaveVerdicts}
+use Rattle.point_table.specs.Verdicts.{AreShown}
 use Rattle.point_table.proofs.verdicts.with_verdicts.Goals as goal
 
 pub returns-clause-verdicts : goal.returns-clause-verdicts
-returns-clause-verdicts c = λ markings m.
+returns-clause-verdicts c =
     let now = c.fill_verdicts.new.points in
     let before = c.args.points.items in
     let address = λ (p : DbPoint). p.address in
@@ -16,4 +16,4 @@ returns-clause-verdicts c = λ markings m.
     let counted : c.args.points.len ≡ length before = search rules in
     let behind = now ++ drop (length now) before in
     let whole = ap (λ n. take n behind) (counted ∙ sym as_many) ∙ take-append_seam now (drop (length now) before) in
-    subst (λ ps. HaveVerdicts (design_view c.args.design.now) markings ps) (sym whole) (c.in_ok-fill_verdicts.ensures.verdicts markings m)
+    subst (AreShown (design_view c.args.design.now) c.args.marks.now.verdicts) (sym whole) c.in_ok-fill_verdicts.ensures.verdicts
