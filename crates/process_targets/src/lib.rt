@@ -8,8 +8,12 @@
 
 mod bits;
 mod laws;
+mod parts;
 mod places;
+mod rows;
 
-pub use bits::{Bits, add_bits};
+pub use bits::{Bits, mask_of, set_places};
 pub use laws::{leaves_law, part_law};
+pub use parts::all_places;
 pub use places::places_from;
+pub use rows::target_rows;

@@ -1,0 +1,71 @@
+-- What processes watch, with the places of bits, row by row.
+use Rattle.std.proofs.Common.{◌≡◌, ◌∙◌, ⊎_elim, ℕ, ◌+◌, ◌<◌, ◌≤◌, ◌&&◌, Bool, true, false, not, List, [], ◌∷◌, ◌++◌, map, length, get_or, take, refl, sym, ap, ap₂, subst, arith}
+use Rattle.std.specs.Prelude.{nat_lt}
+use Rattle.std.specs.List.{All, Contains}
+use Rattle.std.proofs.Math.ListN.{get_or-map}
+use Rattle.std.proofs.lemmas.Bool.{cases_lt, false≢true, lt-ltb}
+use Rattle.std.proofs.lemmas.Bool.Decides.{nat_tests}
+use Rattle.std.proofs.lemmas.List.{get_or_past, length-map, map-append, take_more}
+use Rattle.std.proofs.lemmas.List.Elements.{All-append, All-cons, All-from_get_or, All-get_or, All-nil, Contains-get_or}
+use Rattle.event_machine.specs.Cell.{Cell}
+use Rattle.four_state.specs.Masks.{is_set}
+use Rattle.design_model.specs.Design.{Design, In, IsClocked, body_at, cell, no_signal, process_at, signal_at}
+use Rattle.design_model.specs.Machine.{is_level}
+use Rattle.design_model.specs.Mentions.{blocking_target, body_mentions}
+use Rattle.design_model.specs.Tree.{Process, assign, clocked, comb}
+use Rattle.index_sets.specs.Rows.{row_at}
+use Rattle.process_names.specs.Laws.{has}
+use Rattle.process_order.proofs.Distinct.{contains_in}
+use Rattle.process_targets.specs.Rows.{AreBits}
+use Rattle.process_targets.specs.Targets.{row_has}
+use Rattle.process_targets.specs.declared.bits.Bits.{Bits}
+use Rattle.wake_bits.specs.Mentions.{mentioned_names}
+use Rattle.wake_bits.specs.Wakes.{AreWakes, IsWake}
+use Rattle.wake_bits.specs.declared.wakes.Wake.{Wake}
+use Rattle.wake_bits.proofs.Mentioned.{mentioned_is}
+
+-- nothing is watched
+pub no_wakes : (d : Design) (writes : Cell → Bool) (mentions : ℕ → Bool) → AreWakes d writes mentions [] []
+no_wakes d writes mentions = record { things = refl; each = All-nil (IsWake d writes mentions) }
+
+-- one thing more
+pub wakes_more : (d : Design) (writes : Cell → Bool) (mentions : ℕ → Bool) (xs : List ℕ) (i : ℕ) (ws : List Wake) (w : Wake) → i < length xs → w.thing ≡ get_or xs i 0 → IsWake d writes mentions w
+    → AreWakes d writes mentions (take i xs) ws → AreWakes d writes mentions (take (i + 1) xs) (ws ++ w ∷ [])
+wakes_more d writes mentions xs i ws w l e is h =
+    record {
+      things = map-append (λ v. v.thing) ws (w ∷ []) ∙ ap₂ (λ ys y. ys ++ y ∷ []) h.things e ∙ sym (take_more xs i 0 l);
+      each = All-append (IsWake d writes mentions) ws (w ∷ []) h.each (All-cons (IsWake d writes mentions) w [] is (All-nil (IsWake d writes mentions)));
+    }
+
+no_width : (d : Design) (x k : ℕ) (b c : Bool) → length d.signals ≤ x → (nat_lt k (signal_at d x).width && b) ≡ (nat_lt k (signal_at d x).width && c)
+no_width d x k b c past =
+    let none : (signal_at d x).width ≡ 0 = ap (λ s. s.width) (get_or_past d.signals x no_signal past) in
+    ap (λ n. nat_lt k n && b) none ∙ sym (ap (λ n. nat_lt k n && c) none)
+
+level_settles : (p : Process) (x : ℕ) → is_level p x ≡ true → IsClocked p → ⊥
+level_settles (assign i y t counted) x l c = c
+level_settles (comb i wakes s) x l c = c
+level_settles (clocked i events s) x l c = false≢true l
+
+-- those of a process, by the row of the bits that it writes and by the names of its body
+pub wakes_of_process : (d : Design) (p : ℕ) (row : List Bits) (xs : List ℕ) (ws : List Wake) → AreBits d (blocking_target d (body_at d p)) row → ((x : ℕ) → In x xs → is_level (process_at d p) x ≡ true)
+    → AreWakes d (row_has row) (λ x. has x (mentioned_names (process_at d p))) xs ws → AreWakes d (blocking_target d (body_at d p)) (λ x. body_mentions x (body_at d p)) xs ws
+wakes_of_process d p row xs ws bits level h =
+    record { things = h.things; each = All-from_get_or (IsWake d (blocking_target d (body_at d p)) (λ x. body_mentions x (body_at d p))) ws no_wake one }
+  where
+    no_wake : Wake
+    no_wake = record { thing = 0; mask = 0; mentioned = false }
+
+    watches : (k : ℕ) → k < length ws → In (get_or ws k no_wake).thing xs
+    watches k l =
+        let less : k < length xs = omega (arith, l, length-map ws (λ w. w.thing), ap length h.things) in
+        subst (λ x. In x xs) (ap (λ ys. get_or ys k 0) (sym h.things) ∙ get_or-map (λ w. w.thing) ws k no_wake) (contains_in (get_or xs k 0) xs (Contains-get_or xs k 0 less))
+
+    one : (k : ℕ) → k < length ws → IsWake d (blocking_target d (body_at d p)) (λ x. body_mentions x (body_at d p)) (get_or ws k no_wake)
+    one k l =
+        let is = All-get_or (IsWake d (row_has row) (λ x. has x (mentioned_names (process_at d p)))) ws k no_wake l h.each in
+        let x = (get_or ws k no_wake).thing in
+        record {
+          places = λ i. is.places i ∙ ⊎_elim (λ below. ap (λ b. nat_lt i (signal_at d x).width && not b) (bits.has (cell x i) below)) (λ past. no_width d x i _ _ past) (cases_lt x (length d.signals));
+          mentioned = is.mentioned ∙ mentioned_is (process_at d p) x (level_settles (process_at d p) x (level x (watches k l)));
+        }
