@@ -6,3 +6,4 @@ pub mod PartLaw
 pub mod Offsets
 pub mod Named
 pub mod Processes
+pub mod Settled

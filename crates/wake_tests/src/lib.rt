@@ -10,6 +10,8 @@ mod orders;
 #[cfg(test)]
 mod steps;
 #[cfg(test)]
+mod targets;
+#[cfg(test)]
 mod tests;
 #[cfg(test)]
 mod turns;
