@@ -1,5 +1,5 @@
 -- What the parts of the targets of a body name, and the rows that are made of them.
-use Rattle.std.proofs.Common.{◌≡◌, ◌∙◌, ⊎_elim, ℕ, ◌+◌, ◌<◌, ◌^◌, ◌==◌, ◌≤◌, ◌&&◌, ◌||◌, Bool, true, false, not, cond, List, [], ◌∷◌, ◌++◌, Some, None, Ok, Err, map, length, get_or, refl, sym, ap, ap₂, subst, arith, eq-eqb}
+use Rattle.std.proofs.Common.{◌≡◌, ◌∙◌, ⊎_elim, ℕ, ◌<◌, ◌==◌, ◌≤◌, ◌&&◌, ◌||◌, Bool, true, false, not, cond, List, [], ◌∷◌, ◌++◌, Some, None, Ok, Err, map, length, get_or, refl, sym, ap, ap₂, subst, arith, eq-eqb}
 use Rattle.std.specs.List.{All, list_any}
 use Rattle.std.specs.Prelude.{OnOk, Result, nat_lt}
 use Rattle.std.proofs.lemmas.Bool.{and_parts, eqb-true, false≢true, lt-ltb, ltb-true, or_cases}

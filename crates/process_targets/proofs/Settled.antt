@@ -1,10 +1,9 @@
 -- What an Assign or Comb assigns it assigns by blocking assignments, and it is a signal.
-use Rattle.std.proofs.Common.{◌≡◌, ◌∙◌, ⊎_elim, inl, inr, ℕ, ◌<◌, ◌&&◌, ◌||◌, Bool, true, false, not, length, refl, sym, ap, ap₂}
-use Rattle.std.proofs.lemmas.Bool.{and_parts, false≢true, true≢false}
-use Rattle.event_machine.specs.Cell.{Cell}
-use Rattle.design_model.specs.Design.{Design, IsClocked, body, body_at, process_at}
+use Rattle.std.proofs.Common.{◌≡◌, inl, ℕ, ◌&&◌, ◌||◌, Bool, true, false, not, refl, ap₂}
+use Rattle.std.proofs.lemmas.Bool.{false≢true, true≢false}
+use Rattle.design_model.specs.Design.{Design, IsClocked, body, process_at}
 use Rattle.design_model.specs.Lawful.{IsLawfulDesign, target_once}
-use Rattle.design_model.specs.Mentions.{any_set, any_set_in, any_set_of, blocking_target, body_assigns, body_blocks, target_names}
+use Rattle.design_model.specs.Mentions.{any_set, any_set_in, any_set_of, body_assigns, body_blocks, target_names}
 use Rattle.design_model.specs.Tree.{Arms, Process, Stmt, Stmts, Target, Term, a_stmt, arm, assign, block, branch, clocked, comb, empty, no_arms, no_stmts, select, set, turns}
 use Rattle.design_model.proofs.BodyLaws.{settled_signals_law}
 use Rattle.design_model.proofs.TargetCells.{target_cells_law}

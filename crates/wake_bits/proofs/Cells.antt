@@ -4,7 +4,7 @@ use Rattle.std.specs.Prelude.{nat_lt}
 use Rattle.std.specs.List.{list_all, list_any, range_with_len}
 use Rattle.std.proofs.lemmas.Bool.{cases_lt, lt-ltb, ltb-false, ltb-true}
 use Rattle.std.proofs.lemmas.Bool.Decides.{nat_tests}
-use Rattle.std.proofs.lemmas.List.Folds.{list_all-map, list_any-map}
+use Rattle.std.proofs.lemmas.List.Folds.{list_all-map}
 use Rattle.event_machine.specs.Cell.{Cell}
 use Rattle.four_state.specs.Masks.{is_set}
 use Rattle.four_state.proofs.Places.{is_set-and, is_set-not}
@@ -50,6 +50,10 @@ module _ (d : Design) (p : ℕ) (test : Cell → Bool) where
       go true e = e
       go false e = ap (λ b. test c && b) e
 
+any_cells : (f : Cell → Bool) (x : ℕ) (ks : List ℕ) → list_any f (map (cell x) ks) ≡ list_any (λ k. f (cell x k)) ks
+any_cells f x [] = refl
+any_cells f x (k ∷ ks) = ap (λ b. f (cell x k) || b) (any_cells f x ks)
+
 -- tests that agree in a range
 some_same : (f g : ℕ → Bool) (a n : ℕ) → ((k : ℕ) → k < a + n → f k ≡ g k) → list_any f (range_with_len a n) ≡ list_any g (range_with_len a n)
 some_same f g a zero h = refl
@@ -75,7 +79,7 @@ module _ (d : Design) (p : ℕ) (w : Wake) (test : Cell → Bool) (is : IsWakeOf
   some_wake l =
       ap (λ cs. list_any test (not_assigned d p cs)) (cells_of_signal d w.thing l)
       ∙ some_left d p test (signal_cells d w.thing)
-      ∙ list_any-map (λ c. not (blocking_target d (body_at d p) c) && test c) (cell w.thing) (range_with_len 0 (signal_at d w.thing).width)
+      ∙ any_cells (λ c. not (blocking_target d (body_at d p) c) && test c) w.thing (range_with_len 0 (signal_at d w.thing).width)
       ∙ some_same _ _ 0 (signal_at d w.thing).width (λ k m. ap (λ b. b && test (cell w.thing k)) (sym (place_is k m)))
 
   pub each_wake : w.thing < length d.signals → list_all test (wake_cells d p w.thing) ≡ list_all (λ k. not (is_set w.mask k) || test (cell w.thing k)) (range_with_len 0 (signal_at d w.thing).width)

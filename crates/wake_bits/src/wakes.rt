@@ -78,6 +78,7 @@ pub fn wake_rows(
 
 /// Room to look up what is of a design.
 fn lookup_for(alloc: Global, design: &Design) -> Result<Lookup, NoMemory>
+    requires { IsLawfulDesign (design_view design.now) }
     ensures places { IfOk result (λ lookup. length lookup.places.items ≡ length design.now.signals) }
     ensures mentioned { IfOk result (λ lookup. lookup.mentioned.size ≡ length design.now.signals + length design.now.memories) }
 {

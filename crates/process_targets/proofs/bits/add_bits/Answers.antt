@@ -2,7 +2,7 @@ use Rattle.std.proofs.Common.{◌≡◌, ◌∙◌, ◌<◌, ◌==◌, ◌||◌,
 use Rattle.std.proofs.lemmas.List.{get_or_default}
 use Rattle.process_targets.specs.Placed.{ArePlaced, IsPlaceOf, no_bits}
 use Rattle.process_targets.specs.Targets.{has_bit, names, row_has}
-use Rattle.process_targets.proofs.Placing.{push_placed, put_placed}
+use Rattle.process_targets.proofs.Placing.{put_placed}
 use Rattle.process_targets.proofs.RowLemmas.{put_has, put_names, with_mask}
 use Rattle.process_targets.proofs.bits.add_bits.Goals as goal
 

@@ -1,4 +1,4 @@
-use Rattle.std.proofs.Common.{◌≡◌, ◌∙◌, sym, subst}
+use Rattle.std.proofs.Common.{◌∙◌, sym, subst}
 use Rattle.four_state.proofs.Places.{is_set-zero}
 use Rattle.process_targets.specs.Placed.{IsPlaceOf}
 use Rattle.process_targets.proofs.Placing.{placed_has, unnamed_has}

@@ -1,7 +1,6 @@
-use Rattle.std.proofs.Common.{◌≡◌, ◌∙◌, ◌+◌, ◌&&◌, sym, ap, arith}
+use Rattle.std.proofs.Common.{◌∙◌, sym, ap, arith}
 use Rattle.std.specs.Prelude.{nat_lt}
 use Rattle.four_state.proofs.Places.{is_set-zero}
-use Rattle.design_model.specs.Design.{signal_at}
 use Rattle.design_model.specs.View.{design_view}
 use Rattle.process_targets.proofs.Offsets.{found_signal, from_zero, no_places, sized_found}
 use Rattle.process_targets.proofs.parts.all_places.Goals as goal

@@ -1,7 +1,6 @@
-use Rattle.std.proofs.Common.{◌≡◌, ◌∙◌, ◌≤◌, sym, ap, arith}
+use Rattle.std.proofs.Common.{◌∙◌, sym, ap, arith}
 use Rattle.std.specs.Prelude.{nat_lt}
 use Rattle.four_state.proofs.Places.{is_set-zero}
-use Rattle.design_model.specs.Design.{signal_at}
 use Rattle.design_model.specs.View.{design_view, term_view}
 use Rattle.process_targets.proofs.Offsets.{any_part, begins_at, fits_found, found_signal, from_zero, inside_found, is_sized_found, known_part, no_part, part_of_none, signal_narrow, sized_found}
 use Rattle.process_targets.proofs.parts.part_places.Goals as goal

@@ -1,4 +1,4 @@
-use Rattle.std.proofs.Common.{◌≡◌, ◌<◌, length, arith}
+use Rattle.std.proofs.Common.{◌<◌, length, arith}
 use Rattle.design_model.specs.View.{design_view}
 use Rattle.design_targets.specs.Leaves.{leaf_view}
 use Rattle.process_targets.proofs.Named.{on_both, one_leaf}

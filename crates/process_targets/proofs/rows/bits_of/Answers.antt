@@ -1,5 +1,5 @@
-use Rattle.std.proofs.Common.{◌≡◌, ◌∙◌, ◌++◌, ◌∷◌, [], ◌+◌, length, map, take, sym, ap, subst}
-use Rattle.std.proofs.lemmas.List.{map-append, take_all, take_more}
+use Rattle.std.proofs.Common.{◌≡◌, ◌∙◌, ◌++◌, ◌∷◌, [], ◌+◌, map, take, sym, ap, subst}
+use Rattle.std.proofs.lemmas.List.{map-append, take_more}
 use Rattle.design_model.specs.View.{design_view}
 use Rattle.design_targets.specs.Leaves.{leaf_view}
 use Rattle.design_targets.proofs.Lists.{all_back}
