@@ -1,8 +1,8 @@
 -- The places of a mask and the wake cells of a process.
-use Rattle.std.proofs.Common.{◌≡◌, ◌∙◌, ⊎_elim, ℕ, zero, suc, ◌+◌, ◌-◌, ◌*◌, ◌^◌, ◌<◌, ◌≤◌, ◌&&◌, ◌||◌, Bool, true, false, not, if◌then◌else◌, List, [], ◌∷◌, map, length, bit_and, refl, sym, ap, ap₂, subst, arith}
+use Rattle.std.proofs.Common.{◌≡◌, ◌∙◌, ℕ, zero, suc, ◌+◌, ◌-◌, ◌^◌, ◌<◌, ◌≤◌, ◌&&◌, ◌||◌, Bool, true, false, not, if◌then◌else◌, List, [], ◌∷◌, map, length, bit_and, refl, sym, ap, ap₂, arith}
 use Rattle.std.specs.Prelude.{nat_lt}
 use Rattle.std.specs.List.{list_all, list_any, range_with_len}
-use Rattle.std.proofs.lemmas.Bool.{cases_lt, lt-ltb, ltb-false, ltb-true}
+use Rattle.std.proofs.lemmas.Bool.{lt-ltb, ltb-false, ltb-true}
 use Rattle.std.proofs.lemmas.Bool.Decides.{nat_tests}
 use Rattle.std.proofs.lemmas.List.Folds.{list_all-map}
 use Rattle.event_machine.specs.Cell.{Cell}
@@ -13,7 +13,6 @@ use Rattle.design_model.specs.Design.{Design, body_at, cell, signal_at, signal_c
 use Rattle.design_model.specs.Mentions.{blocking_target}
 use Rattle.replay_model.specs.Step.{not_assigned, wake_cells}
 use Rattle.wake_bits.specs.Laws.{EachWakeLaw, IsWakeOf, SomeWakeLaw}
-use Rattle.wake_bits.specs.Wakes.{IsWake}
 use Rattle.wake_bits.specs.declared.wakes.Wake.{Wake}
 
 and_none : (b : Bool) → (b && false) ≡ false

@@ -1,5 +1,5 @@
 -- What a body mentions is of the design.
-use Rattle.std.proofs.Common.{◌≡◌, ◌∙◌, ⊎_elim, ℕ, ◌+◌, ◌-◌, ◌<◌, ◌==◌, ◌&&◌, ◌||◌, Bool, true, false, if◌then◌else◌, List, [], ◌∷◌, ◌++◌, length, max, take, refl, sym, ap, arith}
+use Rattle.std.proofs.Common.{◌≡◌, ◌∙◌, ⊎_elim, ℕ, ◌+◌, ◌-◌, ◌<◌, ◌==◌, ◌&&◌, ◌||◌, Bool, true, if◌then◌else◌, List, [], ◌∷◌, ◌++◌, length, max, take, refl, sym, ap, arith}
 use Rattle.std.specs.Prelude.{nat_le, nat_lt}
 use Rattle.std.specs.List.{list_all, list_any}
 use Rattle.std.proofs.lemmas.Bool.{and_parts, eqb-true, false≢true, ltb-true, or_cases}
@@ -12,7 +12,6 @@ use Rattle.design_model.specs.Mentions.{arms_mention, body_mentions, body_mentio
 use Rattle.design_model.specs.Shape.{all_signed_of, are_alone, are_bodies, are_shaped, are_targets, has_shape, is_alone, is_arms, is_body, is_shaped, is_target, is_wide_unary, own_sign, own_width, widest_of}
 use Rattle.design_model.specs.Tree.{Arms, Process, Stmt, Stmts, Target, Targets, Term, Terms, a_stmt, a_target, a_term, all_of, arm, assign, binary, bit, bits_of, block, branch, choice, clocked, comb, concat, empty, no_arms, no_stmts, no_targets, no_terms, number, part, repeat, select, set, several, sign, signal, slide, turns, unary, word, word_of}
 use Rattle.design_model.proofs.BitReads.{binary_shape, binary_shaped, if_cases}
-use Rattle.process_names.specs.Names.{level_names, names_in}
 use Rattle.process_names.proofs.NamesLaw.{level_is, or_right_false}
 use Rattle.wake_bits.specs.Mentions.{mentioned_names}
 

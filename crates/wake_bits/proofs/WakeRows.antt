@@ -1,14 +1,14 @@
 -- What processes watch, with the places of bits, row by row.
-use Rattle.std.proofs.Common.{◌≡◌, ◌↔◌, ◌∙◌, ⊎_elim, ℕ, ◌+◌, ◌<◌, ◌≤◌, ◌==◌, ◌&&◌, ◌||◌, Bool, true, false, not, List, [], ◌∷◌, ◌++◌, map, length, get_or, take, refl, sym, ap, ap₂, subst, arith}
+use Rattle.std.proofs.Common.{◌≡◌, ◌↔◌, ◌∙◌, ⊎_elim, ℕ, ◌+◌, ◌<◌, ◌≤◌, ◌==◌, ◌&&◌, Bool, true, false, not, List, [], ◌∷◌, ◌++◌, length, get_or, take, refl, sym, ap, ap₂, subst, arith}
 use Rattle.std.specs.Prelude.{nat_lt, sum_by}
-use Rattle.std.specs.List.{All, Contains}
+use Rattle.std.specs.List.{All}
 use Rattle.std.proofs.Math.ListN.{get_or-map}
 use Rattle.std.proofs.lemmas.Bool.{cases_lt, eqb-true, false≢true, or_cases}
 use Rattle.std.proofs.lemmas.Bool.Decides.{nat_tests}
 use Rattle.std.proofs.lemmas.List.{get_or_past, length-map, map-append, take_more}
+use Rattle.std.proofs.lemmas.List.Sums.{sum_by-cons}
 use Rattle.std.proofs.lemmas.List.Elements.{All-append, All-cons, All-from_get_or, All-get_or, All-head, All-nil, All-tail, Contains-get_or}
 use Rattle.event_machine.specs.Cell.{Cell}
-use Rattle.four_state.specs.Masks.{is_set}
 use Rattle.design_model.specs.Design.{Design, In, IsClocked, body_at, cell, no_signal, process_at, signal_at}
 use Rattle.design_model.specs.Lawful.{IsLawfulDesign, span}
 use Rattle.design_model.specs.Machine.{is_level}
@@ -100,7 +100,10 @@ named_below d (b ∷ row) s h n =
 -- a design has few things
 few_memories : (ms : List Memory) → length ms ≤ sum_by (λ m. span m.first m.last) ms
 few_memories [] = omega arith
-few_memories (m ∷ ms) = omega (arith, few_memories ms)
+few_memories (m ∷ ms) =
+    let step : sum_by (λ k. span k.first k.last) (m ∷ ms) ≡ span m.first m.last + sum_by (λ k. span k.first k.last) ms = sum_by-cons (λ k. span k.first k.last) m ms in
+    let some : 1 ≤ span m.first m.last = omega arith in
+    omega (arith, few_memories ms, step, some)
 
 pub few_things : (d : Design) → IsLawfulDesign d → length d.signals + length d.memories ≤ 327680
 few_things d lawful = omega (arith, lawful.few_signals, lawful.few_words, few_memories d.memories)

@@ -1,4 +1,4 @@
-use Rattle.std.proofs.Common.{◌≡◌, ◌∙◌, ◌+◌, ◌<◌, ◌++◌, ◌∷◌, [], ℕ, List, length, get_or, map, sym, ap, subst, arith}
+use Rattle.std.proofs.Common.{◌≡◌, ◌∙◌, ◌<◌, ◌++◌, ◌∷◌, [], ℕ, List, length, get_or, map, sym, ap, subst, arith}
 use Rattle.std.proofs.lemmas.List.{length-append, length-map, map-append}
 use Rattle.std.proofs.lemmas.Result.{IfOk-weaker}
 use Rattle.design_model.specs.Design.{body_at, process_at}
@@ -32,9 +32,9 @@ loop-process-preserved c =
     let found : c.index-processes-process.result ≡ get_or c.args.design.now.processes c.loop-process.process c.index-processes-process.result = c.index-processes-process.is ∙ ap (λ qs. get_or qs c.loop-process.process c.index-processes-process.result) c.as_slice-processes.ensures in
     let is : process_at d n ≡ process_view q = process_is c.args.design.now n q less found in
     let by_row : AreWakes d (row_has (row_at c.args.targets.now n)) (λ x. has x (mentioned_names (process_at d n))) (row_at c.args.watched.now n) c.in_ok-list.list.items =
-        subst (λ row. AreWakes d (row_has row) (λ x. has x (mentioned_names (process_at d n))) (row_at c.args.watched.now n) c.in_ok-list.list.items) c.row-in-loop-process.ensures
-        (subst (λ xs. AreWakes d (row_has c.row-in-loop-process.result.now) (λ x. has x (mentioned_names (process_at d n))) xs c.in_ok-list.list.items) c.row.ensures
-        (subst (λ r. AreWakes d (row_has c.row-in-loop-process.result.now) (λ x. has x (mentioned_names r)) c.row.result.now c.in_ok-list.list.items) (sym is) c.in_ok-list.ensures.list)) in
+    subst (λ row. AreWakes d (row_has row) (λ x. has x (mentioned_names (process_at d n))) (row_at c.args.watched.now n) c.in_ok-list.list.items) c.row-in-loop-process.ensures
+    (subst (λ xs. AreWakes d (row_has c.row-in-loop-process.result.now) (λ x. has x (mentioned_names (process_at d n))) xs c.in_ok-list.list.items) c.row.ensures
+    (subst (λ r. AreWakes d (row_has c.row-in-loop-process.result.now) (λ x. has x (mentioned_names r)) c.row.result.now c.in_ok-list.list.items) (sym is) c.in_ok-list.ensures.list)) in
     let row : P n c.in_ok-list.list.items = wakes_of_process d n (row_at c.args.targets.now n) (row_at c.args.watched.now n) c.in_ok-list.list.items (c.requires.targets.each n).bits (c.requires.watched n) by_row in
     let lists : map (λ list. list.items) c.push.new.self.items ≡ map (λ list. list.items) c.loop-process.lists.items ++ c.in_ok-list.list.items ∷ [] = ap (map (λ list. list.items)) c.in_ok-push.ensures.items ∙ map-append (λ list. list.items) c.loop-process.lists.items (c.in_ok-list.list ∷ []) in
     record {

@@ -1,4 +1,4 @@
-use Rattle.std.proofs.Common.{◌≡◌, ◌∙◌, ◌<◌, ◌+◌, ℕ, length, sym, ap, subst, arith}
+use Rattle.std.proofs.Common.{◌≡◌, ◌∙◌, length, sym, ap, subst, arith}
 use Rattle.std.specs.List.{Contains}
 use Rattle.early_sets.proofs.Membership.{is_in_from, is_in_gives}
 use Rattle.design_model.specs.View.{design_view, process_view}
