@@ -1,8 +1,10 @@
-//! Tests of the sets of a step and of the order of processes, on small designs.
+//! Tests of the sets of a step, of the order of processes and of the bits that they write and watch, on small designs.
 #![tactic(auto)]
 
 #[cfg(test)]
 mod answers;
+#[cfg(test)]
+mod definitions;
 #[cfg(test)]
 mod designs;
 #[cfg(test)]

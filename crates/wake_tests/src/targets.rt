@@ -3,6 +3,9 @@
 //! Each expected text is worked out by hand. It has two lines for each process: the signals that its blocking assignments
 //! write, each with the sum of the powers of two of its places, and what it watches, with the places that it does not
 //! write itself. What stands after a plus sign is in a list of names, and the body does not mention it.
+ghost use Rattle.design_model.specs.Lawful.{IsLawfulDesign};
+ghost use Rattle.design_model.specs.View.{design_view};
+
 use crate::designs::design_of;
 use cov_host::NoMemory;
 use design_model::Design;
@@ -10,9 +13,6 @@ use process_order::process_tables;
 use process_targets::{Bits, target_rows};
 use std::alloc::Global;
 use wake_bits::{Wake, wake_rows};
-
-ghost use Rattle.design_model.specs.Lawful.{IsLawfulDesign};
-ghost use Rattle.design_model.specs.View.{design_view};
 
 /// Whether the processes of a design have these rows.
 fn has_rows(alloc: Global, text: &str, expected: &str) -> bool {
