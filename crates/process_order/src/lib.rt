@@ -8,4 +8,5 @@ mod owners;
 mod parts;
 mod tables;
 
+pub use owners::mark;
 pub use tables::{ProcessTables, process_tables};

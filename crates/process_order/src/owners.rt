@@ -34,8 +34,8 @@ pub(crate) fn shared_lists(
     Ok(shared)
 }
 
-/// Makes the numbers of a list the members of the set.
-fn mark(list: &[u32], marks: &mut IndexSet)
+/// Makes the numbers of a list the members of a set, and no others.
+pub fn mark(list: &[u32], marks: &mut IndexSet)
     requires { (x : ℕ) → Contains list.now x → x < marks.old.size }
     ensures size { marks.new.size ≡ marks.old.size }
     ensures members { (x : ℕ) → Contains marks.new.items x ↔ Contains list.now x }

@@ -32,7 +32,8 @@ pub fn process_tables(
     bound: &[bool],
 ) -> Result<ProcessTables, NoMemory>
     requires { length design.now.processes ≤ 2 ^ 32 }
-    ensures { IfOk result (λ tables. AreTables (design_view design.now) (is_bound bound.now) (tables_of tables)) }
+    ensures count { IfOk result (λ tables. length tables.watched ≡ length design.now.processes) }
+    ensures tables { IfOk result (λ tables. AreTables (design_view design.now) (is_bound bound.now) (tables_of tables)) }
 {
     let processes = design.processes.as_slice();
     let listed = watch_lists(alloc, processes)?;

@@ -1,4 +1,9 @@
-pub mod Rows
+pub mod RowLemmas
+pub mod Placing
 pub mod Masks
 pub mod Leaves
-pub mod Parts
+pub mod PartLaw
+pub mod Offsets
+pub mod Named
+pub mod Processes
+pub mod Settled

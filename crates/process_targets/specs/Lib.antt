@@ -1,2 +1,4 @@
 pub mod Targets
+pub mod Placed
+pub mod Rows
 pub mod Laws

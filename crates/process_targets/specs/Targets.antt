@@ -1,11 +1,14 @@
 -- The bits of signals that a process may write, as masks.
-use Rattle.std.specs.Prelude.{◌≡◌, ◌≤◌, ◌==◌, ◌&&◌, ◌||◌, ℕ, Bool, true, not, List, map, nat_lt, Some, None, ⊤}
+use Rattle.std.specs.Prelude.{◌≡◌, ◌≤◌, ◌==◌, ◌&&◌, ◌||◌, ℕ, Bool, true, not, List, map, nat_le, nat_lt, ℤ, pos, Option, Some, None, ⊤}
 use Rattle.std.specs.List.{list_any}
 use Rattle.event_machine.specs.Cell.{Cell}
 use Rattle.four_state.specs.Masks.{is_set}
 use Rattle.four_state.specs.Parts.{index}
 use Rattle.design_model.specs.Assignment.{signal_range}
 use Rattle.design_model.specs.Design.{AreDistinct, Design, signal_at}
+use Rattle.design_model.specs.declared.design.Range.{Range}
+use Rattle.design_model.specs.declared.design.Signal.{Signal}
+use Rattle.design_model.specs.Lawful.{span}
 use Rattle.design_model.specs.Mentions.{blank, is_constant, may_write}
 use Rattle.design_model.specs.Shape.{is_alone}
 use Rattle.design_model.specs.Tree.{bits_of}
@@ -41,3 +44,16 @@ IsRightLeaf d (x, None) = ⊤
 IsRightLeaf d (x, Some (low, w)) =
     (is_alone d low ≡ true) × (1 ≤ w)
     × ((not (is_constant low) || are_among (signal_at d x).width w (offset_option (signal_range d x) (index (head low).signed (value d blank low)))) ≡ true)
+
+-- the declared range of a signal
+abbrev pub range_in : Signal → Range
+range_in s = record { high = s.high; low = s.low }
+
+-- the signal has 1 to 128 bits, as many as its range
+abbrev pub is_sized : Signal → Bool
+is_sized s = nat_le 1 s.width && (nat_le s.width 128 && (s.width == span s.high s.low))
+
+-- a place as an offset
+abbrev pub whole_option : Option ℕ → Option ℤ
+whole_option None = None
+whole_option (Some k) = Some (pos k)

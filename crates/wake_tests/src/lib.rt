@@ -1,14 +1,18 @@
-//! Tests of the sets of a step and of the order of processes, on small designs.
+//! Tests of the sets of a step, of the order of processes and of the bits that they write and watch, on small designs.
 #![tactic(auto)]
 
 #[cfg(test)]
 mod answers;
+#[cfg(test)]
+mod definitions;
 #[cfg(test)]
 mod designs;
 #[cfg(test)]
 mod orders;
 #[cfg(test)]
 mod steps;
+#[cfg(test)]
+mod targets;
 #[cfg(test)]
 mod tests;
 #[cfg(test)]

@@ -59,8 +59,15 @@ rest_of-requires-clause-within c =
     let watched_size : length c.as_slice-4.result.now ≡ length c.in_ok-listed.listed.items = ap length c.as_slice-4.ensures.value ∙ c.in_ok-watched.ensures.count ∙ ap length c.as_slice-3.ensures.value in
     omega (arith, c.in_ok-order.ensures.size, watched_size, listed_size, processes)
 
-pub returns : goal.returns
-returns c =
+pub returns-clause-count : goal.returns-clause-count
+returns-clause-count c =
+    let processes = ap length c.as_slice-processes.ensures in
+    let listed_size : length c.in_ok-listed.listed.items ≡ length c.as_slice-processes.result.now = sym (length-map c.in_ok-listed.listed.items (λ v. v.items)) ∙ ap length c.in_ok-listed.ensures ∙ length-map c.as_slice-processes.result.now (λ q. level_names (process_view q)) in
+    let rows : length c.in_ok-rows.rows ≡ length c.in_ok-watched.watched.items = ap length c.in_ok-rows.ensures ∙ length-map c.as_slice-6.result.now (λ v. v.items) ∙ ap length c.as_slice-6.ensures.value in
+    omega (arith, rows, c.in_ok-watched.ensures.count, ap length c.as_slice-3.ensures.value, listed_size, processes)
+
+pub returns-clause-tables : goal.returns-clause-tables
+returns-clause-tables c =
     let processes = ap length c.as_slice-processes.ensures in
     let listed_size : length c.in_ok-listed.listed.items ≡ length c.as_slice-processes.result.now = sym (length-map c.in_ok-listed.listed.items (λ v. v.items)) ∙ ap length c.in_ok-listed.ensures ∙ length-map c.as_slice-processes.result.now (λ q. level_names (process_view q)) in
     let driven_size : length c.as_slice-5.result.now ≡ length c.as_slice-processes.result.now = ap length c.as_slice-5.ensures.value ∙ sym (length-map c.in_ok-driven.driven.items (λ v. v.items)) ∙ ap length c.in_ok-driven.ensures ∙ length-map c.as_slice-processes.result.now (λ q. driven_names (process_view q)) in

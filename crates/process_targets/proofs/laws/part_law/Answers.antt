@@ -1,4 +1,4 @@
-use Rattle.process_targets.proofs.Parts as parts
+use Rattle.process_targets.proofs.PartLaw as parts
 use Rattle.process_targets.proofs.laws.part_law.Goals as goal
 
 pub returns : goal.returns
