@@ -1,0 +1,4 @@
+pub mod Vectors
+pub mod Loose
+pub mod Dumped
+pub mod Starts
