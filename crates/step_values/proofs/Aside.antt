@@ -3,14 +3,17 @@ use Rattle.std.proofs.Common.{◌≡◌, ℕ, ◌+◌, ◌<◌, ◌≤◌, ◌==
 use Rattle.std.specs.Prelude.{slice_set}
 use Rattle.std.proofs.lemmas.Bool.{cases_eq, eqb-true, false≢true}
 use Rattle.std.proofs.lemmas.Bool.Decides.{nat_tests}
-use Rattle.std.proofs.lemmas.List.{get_or-set_other, get_or-set_same, get_or_append_left, get_or_push}
+use Rattle.std.proofs.lemmas.List.{get_or-set_other, get_or-set_same, get_or_append_left, get_or_push, take_all}
 use Rattle.std.proofs.lemmas.List.FromFn.{length-map-range_with_len}
 use Rattle.std.proofs.lemmas.List.Folds.{list_any_more}
 use Rattle.known_state.specs.Partly.{Partly}
 use Rattle.design_model.specs.Design.{Design, Signal, cell, no_signal, signal_at, signal_cells}
+use Rattle.design_model.specs.View.{design_view}
 use Rattle.body_replay.specs.Store.{Kept}
 use Rattle.body_calls.specs.Own.{is_in}
 use Rattle.value_store.specs.Signals.{no_value}
+use Rattle.body_store.specs.declared.store.Store.{Store}
+use Rattle.store_knowledge.specs.Knows.{Knows}
 use Rattle.step_values.specs.Vectors.{AreKnownBits, AreOpened, AreWide, FitsSignals, IsSetAside, StepVectors, vector_at}
 
 -- ---- a vector for each signal
@@ -85,15 +88,13 @@ module _ (d : Design) (k : Kept) (things : List ℕ) (i x : ℕ) (l : i < length
       let above : length d.signals ≤ x = omega (arith, count, past) in
       (so_far.0, record { before = passed v.before above so_far.1.before; made = passed v.made above so_far.1.made })
 
-  pub signal_opened : (v w : StepVectors) → x < length v.before → IsSetAside d k x v w → FitsSignals d v × AreOpened d k (take i things) v → FitsSignals d w × AreOpened d k (take (i + 1) things) w
-  signal_opened v w inside aside so_far =
-      let q = aside.0 in
-      let bits = aside.1.0 in
+  pub signal_opened : (v w : StepVectors) (q : Partly) → x < length v.before → w ≡ record { before = slice_set v.before x q; made = slice_set v.made x q } → q.bits ≡ map k (signal_cells d x) → FitsSignals d v × AreOpened d k (take i things) v → FitsSignals d w × AreOpened d k (take (i + 1) things) w
+  signal_opened v w q inside set bits so_far =
       let fits = so_far.0 in
       let a = fits.before.count in
       let b = fits.made.count in
       let also : x < length v.made = omega (arith, inside, a, b) in
-      subst (λ u. FitsSignals d u × AreOpened d k (take (i + 1) things) u) (sym aside.1.1) (
+      subst (λ u. FitsSignals d u × AreOpened d k (take (i + 1) things) u) (sym set) (
         record { before = set_wide d.signals v.before x q inside (known_width d k x q bits) fits.before; made = set_wide d.signals v.made x q also (known_width d k x q bits) fits.made },
         record { before = one_known v.before q inside bits so_far.1.before; made = one_known v.made q also bits so_far.1.made },
       )
@@ -101,3 +102,31 @@ module _ (d : Design) (k : Kept) (things : List ℕ) (i x : ℕ) (l : i < length
 -- none
 pub none_opened : (d : Design) (k : Kept) (things : List ℕ) (v : StepVectors) → AreOpened d k (take 0 things) v
 none_opened d k things v = record { before = λ s m h. absurd (false≢true h); made = λ s m h. absurd (false≢true h) }
+
+-- ---- one more thing
+
+-- the vectors that are set aside so far, of the things of a list up to a place
+pub record SoFar (x : Store) (v : StepVectors) (things : List ℕ) (i : ℕ) (w : StepVectors) : Type 0 where
+  pub before : length w.before ≡ length v.before
+  pub made : length w.made ≡ length v.made
+  pub known : (d : Design) (k : Kept) → Knows d k x → FitsSignals d v → FitsSignals d w × AreOpened d k (take i things) w
+
+pub none_so_far : (x : Store) (v : StepVectors) (things : List ℕ) → SoFar x v things 0 v
+none_so_far x v things = record { before = refl; made = refl; known = λ d k h fits. (fits, none_opened d k things v) }
+
+pub memory_so_far : (x : Store) (v : StepVectors) (things : List ℕ) (i thing : ℕ) (w : StepVectors) → i < length things → thing ≡ get_or things i thing → length w.before ≤ thing → SoFar x v things i w → SoFar x v things (i + 1) w
+memory_so_far x v things i thing w l is past f = record { before = f.before; made = f.made; known = λ d k h fits. memory_opened d k things i thing l is w (f.known d k h fits) past }
+
+pub signal_so_far : (x : Store) (v : StepVectors) (things : List ℕ) (i thing : ℕ) (w u : StepVectors) → i < length things → thing ≡ get_or things i thing → thing < length w.before → IsSetAside x thing w u → SoFar x v things i w → SoFar x v things (i + 1) u
+signal_so_far x v things i thing w u l is inside aside f =
+    let q = aside.0 in
+    record {
+      before = ap (λ y. length y.before) aside.1 ∙ length-set w.before thing q ∙ f.before;
+      made = ap (λ y. length y.made) aside.1 ∙ length-set w.made thing q ∙ f.made;
+      known = λ d k h fits. signal_opened d k things i thing l is w u q inside aside.1 (aside.2 d k h) (f.known d k h fits);
+    }
+
+-- all
+pub all_so_far : (x : Store) (v : StepVectors) (things : List ℕ) (i : ℕ) (w : StepVectors) → length things ≤ i → FitsSignals (design_view x.design.now) v → SoFar x v things i w → (d : Design) (k : Kept) → Knows d k x → FitsSignals d w × AreOpened d k things w
+all_so_far x v things i w past fits f d k h =
+    subst (λ ts. FitsSignals d w × AreOpened d k ts w) (take_all i things past) (f.known d k h (subst (λ e. FitsSignals e v) h.design fits))

@@ -73,12 +73,12 @@ module _ (d : Design) (v : StepVectors) (b : Bits) (q : Partly) (fits : FitsSign
         let is : s ≡ b.signal = sym (eqb-true b.signal s e) in
         let size : length (vector_at v.made s).bits ≡ (signal_at d s).width = fits.made.width s k in
         row_is (forgetting (has_bit b) m) (cell s) 0 (signal_at d s).width q.bits (width ∙ ap (λ x. length (vector_at v.made x).bits) (sym is) ∙ size) (λ i below.
-            let here : i < length (vector_at v.made b.signal).bits = subst (λ x. i < length (vector_at v.made x).bits) is (omega (arith, below, size)) in
-            ap (λ t. if t && is_set b.mask (0 + i) then None else m (cell s (0 + i))) e
-            ∙ ap (λ o. if is_set b.mask (0 + i) then None else o) (row_at m (cell s) 0 (signal_at d s).width (vector_at v.made s).bits i old below)
-            ∙ (let start : 0 + i ≡ i = omega arith in ap (λ j. if is_set b.mask j then None else get_or (vector_at v.made s).bits i None) start)
-            ∙ ap (λ x. left b.mask (vector_at v.made x).bits i) is
-            ∙ sym (bits i here))
+        let here : i < length (vector_at v.made b.signal).bits = subst (λ x. i < length (vector_at v.made x).bits) is (omega (arith, below, size)) in
+        ap (λ t. if t && is_set b.mask (0 + i) then None else m (cell s (0 + i))) e
+        ∙ ap (λ o. if is_set b.mask (0 + i) then None else o) (row_at m (cell s) 0 (signal_at d s).width (vector_at v.made s).bits i old below)
+        ∙ (let start : 0 + i ≡ i = omega arith in ap (λ j. if is_set b.mask j then None else get_or (vector_at v.made s).bits i None) start)
+        ∙ ap (λ x. left b.mask (vector_at v.made x).bits i) is
+        ∙ sym (bits i here))
 
     pub made_forgotten : (s : ℕ) → s < length d.signals → (vector_at v.made s).bits ≡ map m (signal_cells d s) → (vector_at (slice_set v.made b.signal q) s).bits ≡ map (forgetting (has_bit b) m) (signal_cells d s)
     made_forgotten s k old = ap (λ (p : Partly). p.bits) (set_there v.made b.signal q s (b.signal == s) l refl) ∙ bits_at s (b.signal == s) refl k old

@@ -35,14 +35,14 @@ said d codes values new s dumped coded = go (slice_index_or codes s None) refl c
   where
     go : (o : Option ℕ) → slice_index_or codes s None ≡ o → is_some o ≡ true → IsSaid d codes values new s
     go None e none = absurd (false≢true none)
-    go (Some code) e some = let v = dumped s code e in record { value = v.0; is = ap (coded_value values) e ∙ v.1.0; bits = v.1.1 }
+    go (Some code) e some = let v = dumped s code e in record { value = v.0; is = ap (coded_value values) e ∙ v.1; bits = v.2 }
 
 pub said_width : (d : Design) (new : Values Bit) (s : ℕ) (ps : List Bit) → ps ≡ signal_bits d new s → length ps ≡ (signal_at d s).width
 said_width d new s ps e = ap length e ∙ length-map (signal_cells d s) new ∙ length-map-range_with_len (cell s) 0 (signal_at d s).width
 
 -- ---- one signal
 
-map_twice : (new : Values Bit) (f : ℕ → Cell) (js : List ℕ) → map Some (map new (map f js)) ≡ map (λ c. Some (new c)) (map f js)
+pub map_twice : (new : Values Bit) (f : ℕ → Cell) (js : List ℕ) → map Some (map new (map f js)) ≡ map (λ c. Some (new c)) (map f js)
 map_twice new f [] = refl
 map_twice new f (j ∷ js) = ap (λ ps. Some (new (f j)) ∷ ps) (map_twice new f js)
 

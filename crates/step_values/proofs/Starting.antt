@@ -3,10 +3,11 @@ use Rattle.std.proofs.Common.{◌≡◌, ℕ, ◌<◌, ◌==◌, ◌&&◌, ◌||
 use Rattle.std.specs.Prelude.{nat_lt}
 use Rattle.std.specs.List.{All, list_any}
 use Rattle.std.proofs.Math.Path.{fun_ext}
-use Rattle.std.proofs.lemmas.Bool.{eqb-true, false≢true, or_parts}
+use Rattle.std.proofs.lemmas.Bool.{cases_lt, eqb-true, false_from_ne_true, false≢true, or_parts}
 use Rattle.std.proofs.lemmas.Bool.Decides.{nat_tests}
 use Rattle.std.proofs.lemmas.List.Elements.{All-head, All-tail}
 use Rattle.event_machine.specs.Cell.{Cell}
+use Rattle.four_state.specs.Masks.{is_set}
 use Rattle.four_state.specs.Vector.{Vector}
 use Rattle.design_model.specs.BodyLaws.{all_cells}
 use Rattle.design_model.specs.Design.{Design, In, body_at, signal_at, signal_cells}
@@ -24,7 +25,7 @@ use Rattle.replay_steps.proofs.Settling.{loose_is, starts_settled}
 use Rattle.store_knowledge.specs.Knows.{Knows}
 use Rattle.store_knowledge.proofs.Cells.{out_of_cells}
 use Rattle.step_values.specs.Dumped.{HaveCodes, putting}
-use Rattle.step_values.specs.Loose.{forgetting, has_code, some_row_has, uncoded}
+use Rattle.step_values.specs.Loose.{HaveRows, IsInside, forgetting, has_code, some_row_has, uncoded}
 use Rattle.step_values.specs.Starts.{HasValues, IsStartOf}
 use Rattle.step_values.specs.Vectors.{AreOpened, FitsSignals, StepVectors, vector_at}
 
@@ -41,10 +42,29 @@ coded_in d codes (x ∷ ss) s all h = elim (or_parts (x == s) (is_in ss s) h) [
   | inr e ↦ coded_in d codes ss s (All-tail x ss all) e
 ]
 
-module _ (st : Closing) (moves woken : List ℕ) (targets : List (List Bits)) (changed : List ℕ) (codes : List (Option ℕ)) (values : List (Option Vector)) (start : IsStartOf st moves woken targets changed codes values) where
+-- a row of bits inside of signals has no cell of anything else
+row_out : (d : Design) (row : List Bits) (c : Cell) → All (IsInside d) row → length d.signals ≤ c.thing → row_has row c ≡ false
+row_out d [] c all past = refl
+row_out d (b ∷ row) c all past =
+    let inside = (All-head b row all).0 in
+    let other : (b.signal == c.thing) ≡ false = grind (arith, nat_tests, inside, past) in
+    ap (λ t. (t && is_set b.mask c.place) || row_has row c) other ∙ row_out d row c (All-tail b row all) past
+
+in_rows : (d : Design) (rows : List (List Bits)) (ps : List ℕ) (p : ℕ) → HaveRows d rows ps → In p ps → All (IsInside d) (row_at rows p)
+in_rows d rows [] p all i = absurd i
+in_rows d rows (q ∷ ps) p all (inl e) = subst (λ x. All (IsInside d) (row_at rows x)) e (All-head q ps all).1
+in_rows d rows (q ∷ ps) p all (inr i) = in_rows d rows ps p (All-tail q ps all) i
+
+module _ (st : Closing) (moves woken : List ℕ) (targets : List (List Bits)) (changed : List ℕ) (codes : List (Option ℕ)) (values : List (Option Vector)) (start : IsStartOf st moves woken targets changed codes values) (rows : HaveRows st.design targets woken) where
+  target_at : (p : ℕ) (c : Cell) → In p woken → row_has (row_at targets p) c ≡ blocking_target st.design (body_at st.design p) c
+  target_at p c i = elim (cases_lt c.thing (length st.design.signals)) [
+    | inl l ↦ start.targets p c i l
+    | inr past ↦ row_out st.design (row_at targets p) c (in_rows st.design targets woken p rows i) past ∙ sym (false_from_ne_true _ (λ e. let l = start.driven p c i e in absurd (omega (arith, l, past))))
+  ]
+
   -- what is to be made anew is what the rows of the woken processes have
   pub loose_rows : (c : Cell) → is_loose st c ≡ some_row_has targets woken c
-  loose_rows c = loose_is st c woken start.woken ∙ sym (any_same (λ p. row_has (row_at targets p) c) (λ p. blocking_target st.design (body_at st.design p) c) woken (λ p h. start.targets p c h))
+  loose_rows c = loose_is st c woken start.woken ∙ sym (any_same (λ p. row_has (row_at targets p) c) (λ p. blocking_target st.design (body_at st.design p) c) woken (λ p h. target_at p c h))
 
   pub made_is : (c : Cell) → (settle_start st (clocked_run st)).made c ≡ forgetting (some_row_has targets woken) st.start.kept c
   made_is c = (starts_settled st c start.unclocked).1 ∙ ap (λ b. if b then None else st.start.kept c) (loose_rows c)
@@ -83,9 +103,9 @@ module _ (st : Closing) (moves woken : List ℕ) (targets : List (List Bits)) (c
         ∙ ap (λ b. if b && nat_lt c.place (signal_at st.design c.thing).width then Some (st.new c) else loosened st c) (start.bound c.thing)
         ∙ ap (λ b. if has_code codes c.thing && nat_lt c.place (signal_at st.design c.thing).width then Some (st.new c) else (if b then None else st.start.kept c)) (loose_rows c)
         ∙ kept_at c (has_code codes c.thing) (nat_lt c.place (signal_at st.design c.thing).width) (is_in changed c.thing) (some_row_has targets woken c) refl refl refl
-            (λ e h. start.still c (ap (λ b. b && nat_lt c.place (signal_at st.design c.thing).width) (start.bound c.thing) ∙ e) h)
-            (listed c.thing)
-            (λ w b. past c w b)))
+        (λ e h. start.still c (ap (λ b. b && nat_lt c.place (signal_at st.design c.thing).width) (start.bound c.thing) ∙ e) h)
+        (listed c.thing)
+        (λ w b. past c w b)))
 
     -- the values of the step
     pub has_values : (x : Store) (v w : StepVectors) → FitsSignals st.design w → AreOpened st.design st.start.kept moves v → w.before ≡ v.before

@@ -28,7 +28,8 @@ pub record IsStartOf (st : Closing) (moves woken : List ℕ) (targets : List (Li
   pub unclocked : st.tables.clocked ≡ []
   pub moves : (s : ℕ) → st.sets.moves s ≡ true → is_in moves s ≡ true
   pub woken : (p : ℕ) → In p woken ↔ (In p (st.tables.order ++ st.tables.last) × (is_touched st p ≡ true))
-  pub targets : (p : ℕ) (c : Cell) → In p woken → row_has (row_at targets p) c ≡ blocking_target st.design (body_at st.design p) c
+  pub targets : (p : ℕ) (c : Cell) → In p woken → c.thing < length st.design.signals → row_has (row_at targets p) c ≡ blocking_target st.design (body_at st.design p) c
+  pub driven : (p : ℕ) (c : Cell) → In p woken → blocking_target st.design (body_at st.design p) c ≡ true → c.thing < length st.design.signals
   pub bound : (s : ℕ) → st.bound s ≡ has_code codes s
   pub signals : (s : ℕ) → st.bound s ≡ true → s < length st.design.signals
   pub dumped : AreDumped st.design codes values st.new

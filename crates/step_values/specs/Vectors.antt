@@ -5,6 +5,8 @@ use Rattle.design_model.specs.Design.{Design, Signal, no_signal, signal_cells}
 use Rattle.body_replay.specs.Store.{Kept}
 use Rattle.body_calls.specs.Own.{is_in}
 use Rattle.value_store.specs.Signals.{no_value}
+use Rattle.body_store.specs.declared.store.Store.{Store}
+use Rattle.store_knowledge.specs.Knows.{Knows}
 
 -- the vectors, by the number of a signal
 pub record StepVectors : Type 0 where
@@ -34,6 +36,7 @@ pub record AreOpened (d : Design) (k : Kept) (listed : List ℕ) (v : StepVector
   pub before : AreKnownBits d k listed v.before
   pub made : AreKnownBits d k listed v.made
 
--- what is known of signal s is set aside in both
-abbrev pub IsSetAside : Design → Kept → ℕ → StepVectors → StepVectors → Type 0
-IsSetAside d k s v w = (value : Partly) × (value.bits ≡ map k (signal_cells d s)) × (w ≡ record { before = slice_set v.before s value; made = slice_set v.made s value })
+-- what the store knows of signal s is set aside in both
+abbrev pub IsSetAside : Store → ℕ → StepVectors → StepVectors → Type 0
+IsSetAside x s v w =
+    (value : Partly) × (w ≡ record { before = slice_set v.before s value; made = slice_set v.made s value }) × ((d : Design) (k : Kept) → Knows d k x → value.bits ≡ map k (signal_cells d s))

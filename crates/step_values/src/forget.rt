@@ -1,14 +1,15 @@
 //! The bits that the woken processes may write are made unknown.
 
-ghost use Rattle.std.specs.Prelude.{◌≡◌, ◌<◌, ℕ, length, map, true};
+ghost use Rattle.std.specs.Prelude.{◌≡◌};
 ghost use Rattle.std.specs.List.{All};
-ghost use Rattle.design_model.specs.Design.{Design, signal_cells};
+ghost use Rattle.design_model.specs.Design.{Design};
 ghost use Rattle.design_model.specs.View.{design_view};
 ghost use Rattle.body_replay.specs.Store.{Kept};
 ghost use Rattle.process_targets.specs.Targets.{has_bit, row_has};
 ghost use Rattle.store_knowledge.specs.Knows.{Knows};
-ghost use Rattle.step_values.specs.Loose.{HaveRows, IsInside, forgetting, has_code, some_row_has, uncoded};
-ghost use Rattle.step_values.specs.Vectors.{FitsSignals, vector_at};
+ghost use Rattle.step_values.specs.Loose.{HaveRows, IsInside, forgetting, has_code, some_row_has};
+ghost use Rattle.step_values.specs.Loosens.{Loosens};
+ghost use Rattle.step_values.specs.Vectors.{FitsSignals};
 
 use crate::StepValues;
 use bit_changes::forgotten;
@@ -25,11 +26,7 @@ impl StepValues {
         requires known { (d : Design) × (k : Kept) × Knows d k store.old }
         requires fits { FitsSignals (design_view store.old.design.now) self.old }
         requires inside { All (IsInside (design_view store.old.design.now)) targets.now }
-        ensures design { store.new.design ≡ store.old.design }
-        ensures fits { (d : Design) → FitsSignals d self.old → FitsSignals d self.new }
-        ensures before { self.new.before ≡ self.old.before }
-        ensures knows { (d : Design) (k : Kept) → Knows d k store.old → Knows d (forgetting (uncoded codes.now (row_has targets.now)) k) store.new }
-        ensures made { (d : Design) (m : Kept) (s : ℕ) → FitsSignals d self.old → s < length d.signals → has_code codes.now s ≡ true → (vector_at self.old.made s).bits ≡ map m (signal_cells d s) → (vector_at self.new.made s).bits ≡ map (forgetting (row_has targets.now) m) (signal_cells d s) }
+        ensures { Loosens codes.now (row_has targets.now) store.old store.new self.old self.new }
     {
         for bits in targets {
             self.loosen_bits(store, bits, codes);
@@ -41,11 +38,7 @@ impl StepValues {
         requires known { (d : Design) × (k : Kept) × Knows d k store.old }
         requires fits { FitsSignals (design_view store.old.design.now) self.old }
         requires inside { IsInside (design_view store.old.design.now) bits.now }
-        ensures design { store.new.design ≡ store.old.design }
-        ensures fits { (d : Design) → FitsSignals d self.old → FitsSignals d self.new }
-        ensures before { self.new.before ≡ self.old.before }
-        ensures knows { (d : Design) (k : Kept) → Knows d k store.old → Knows d (forgetting (uncoded codes.now (has_bit bits.now)) k) store.new }
-        ensures made { (d : Design) (m : Kept) (s : ℕ) → FitsSignals d self.old → s < length d.signals → has_code codes.now s ≡ true → (vector_at self.old.made s).bits ≡ map m (signal_cells d s) → (vector_at self.new.made s).bits ≡ map (forgetting (has_bit bits.now) m) (signal_cells d s) }
+        ensures { Loosens codes.now (has_bit bits.now) store.old store.new self.old self.new }
     {
         if is_coded(codes, bits.signal) {
             self.forget_made(bits);
@@ -65,11 +58,7 @@ impl StepValues {
         requires known { (d : Design) × (k : Kept) × Knows d k store.old }
         requires fits { FitsSignals (design_view store.old.design.now) self.old }
         requires rows { HaveRows (design_view store.old.design.now) targets.now woken.now }
-        ensures design { store.new.design ≡ store.old.design }
-        ensures fits { (d : Design) → FitsSignals d self.old → FitsSignals d self.new }
-        ensures before { self.new.before ≡ self.old.before }
-        ensures knows { (d : Design) (k : Kept) → Knows d k store.old → Knows d (forgetting (uncoded codes.now (some_row_has targets.now woken.now)) k) store.new }
-        ensures made { (d : Design) (m : Kept) (s : ℕ) → FitsSignals d self.old → s < length d.signals → has_code codes.now s ≡ true → (vector_at self.old.made s).bits ≡ map m (signal_cells d s) → (vector_at self.new.made s).bits ≡ map (forgetting (some_row_has targets.now woken.now) m) (signal_cells d s) }
+        ensures { Loosens codes.now (some_row_has targets.now woken.now) store.old store.new self.old self.new }
     {
         for process in woken {
             self.loosen(store, targets.row(*process), codes);

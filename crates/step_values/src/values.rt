@@ -103,7 +103,7 @@ impl StepValues {
         requires place { signal < length store.now.design.now.signals }
         requires before { signal < length self.old.before }
         requires made { signal < length self.old.made }
-        ensures { (d : Design) (k : Kept) → Knows d k store.now → IsSetAside d k signal self.old self.new }
+        ensures { IsSetAside store.now signal self.old self.new }
     {
         let value = known_signal(store, signal);
         self.before[signal as usize] = value;

@@ -1,5 +1,5 @@
 -- What is known of each cell once a signal has other bits.
-use Rattle.std.proofs.Common.{◌≡◌, ℕ, zero, suc, ◌+◌, ◌<◌, ◌==◌, Bool, true, false, if◌then◌else◌, List, [], ◌∷◌, length, map, get_or, None, refl, sym, ap, subst, ◌∙◌, arith, inl, inr}
+use Rattle.std.proofs.Common.{◌≡◌, ℕ, zero, suc, ◌+◌, ◌<◌, ◌≤◌, ◌==◌, Bool, true, false, if◌then◌else◌, List, [], ◌∷◌, length, map, get_or, None, refl, sym, ap, subst, ◌∙◌, arith, inl, inr}
 use Rattle.std.specs.Prelude.{nat_lt}
 use Rattle.std.specs.List.{range_with_len}
 use Rattle.std.proofs.Math.Path.{fun_ext}
@@ -31,7 +31,7 @@ module _ (d : Design) (s : ℕ) (l : s < length d.signals) where
   abbrev width : ℕ
   width = (signal_at d s).width
 
-  cells_are : all_cells d s ≡ signal_cells d s
+  pub cells_are : all_cells d s ≡ signal_cells d s
   cells_are = let yes : nat_lt s (length d.signals) ≡ true = grind (arith, nat_tests, l) in rw yes refl
 
   -- a place of the signal is one of its cells, and no other place is
@@ -39,7 +39,7 @@ module _ (d : Design) (s : ℕ) (l : s < length d.signals) where
   in_cells j b = let start : 0 + j ≡ j = omega arith in subst (In (cell s j)) (sym cells_are) (subst (λ i. In (cell s i) (signal_cells d s)) start (in_row s 0 width j b))
 
   pub out_of_cells : (j : ℕ) → width ≤ j → In (cell s j) (all_cells d s) → ⊥
-  out_of_cells j b i = let below = (cell_of_signal s 0 width (cell s j) (subst (In (cell s j)) cells_are i)).1.1 in omega (arith, below, b)
+  out_of_cells j b i = let below = (cell_of_signal s 0 width (cell s j) (subst (In (cell s j)) cells_are i)).2 in omega (arith, below, b)
 
   module _ (ps : KnownBits) (size : length ps ≡ width) (k : Kept) (blank : IsBlank d k) where
     past : (j : ℕ) → width ≤ j → get_or ps j None ≡ None

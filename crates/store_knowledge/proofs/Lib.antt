@@ -1,3 +1,3 @@
 pub mod Cells
 pub mod Knowing
-pub mod Laws
+pub mod Known

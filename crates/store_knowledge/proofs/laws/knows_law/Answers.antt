@@ -1,4 +1,4 @@
-use Rattle.store_knowledge.proofs.Laws.{own_law, read_law, view_law}
+use Rattle.store_knowledge.proofs.Known.{own_law, read_law, view_law}
 use Rattle.store_knowledge.proofs.laws.knows_law.Goals as goal
 
 pub returns : goal.returns
