@@ -1,0 +1,132 @@
+-- What is known of signals is set aside one after the other.
+use Rattle.std.proofs.Common.{◌≡◌, ℕ, ◌+◌, ◌<◌, ◌≤◌, ◌==◌, ◌||◌, Bool, true, false, if◌then◌else◌, List, [], ◌∷◌, ◌++◌, length, map, take, get_or, refl, sym, ap, subst, ◌∙◌, arith, length-map, length-set, ⊎_elim}
+use Rattle.std.specs.Prelude.{slice_set}
+use Rattle.std.proofs.lemmas.Bool.{cases_eq, eqb-true, false≢true}
+use Rattle.std.proofs.lemmas.Bool.Decides.{nat_tests}
+use Rattle.std.proofs.lemmas.List.{get_or-set_other, get_or-set_same, get_or_append_left, get_or_push, take_all}
+use Rattle.std.proofs.lemmas.List.FromFn.{length-map-range_with_len}
+use Rattle.std.proofs.lemmas.List.Folds.{list_any_more}
+use Rattle.known_state.specs.Partly.{Partly}
+use Rattle.design_model.specs.Design.{Design, Signal, cell, no_signal, signal_at, signal_cells}
+use Rattle.design_model.specs.View.{design_view}
+use Rattle.body_replay.specs.Store.{Kept}
+use Rattle.body_calls.specs.Own.{is_in}
+use Rattle.value_store.specs.Signals.{no_value}
+use Rattle.body_store.specs.declared.store.Store.{Store}
+use Rattle.store_knowledge.specs.Knows.{Knows}
+use Rattle.step_values.specs.Vectors.{AreKnownBits, AreOpened, AreWide, FitsSignals, IsSetAside, StepVectors, vector_at}
+
+-- ---- a vector for each signal
+
+-- there is one for each of the first signals
+pub record Wide (i : ℕ) (ss : List Signal) (qs : List Partly) : Type 0 where
+  pub count : length qs ≡ i
+  pub width : (s : ℕ) → s < i → length (vector_at qs s).bits ≡ (get_or ss s no_signal).width
+
+pub one_wide : (i : ℕ) (ss : List Signal) (qs us : List Partly) (x : Signal) (q : Partly) → x ≡ get_or ss i no_signal → us ≡ qs ++ q ∷ [] → length us ≡ i + 1 → length q.bits ≡ x.width → Wide i ss qs → Wide (i + 1) ss us
+one_wide i ss qs us x q is pushed size width w =
+    record {
+      count = size;
+      width = λ s l. ⊎_elim
+          (λ e. ap (λ ps. length (vector_at ps s).bits) pushed ∙ ap (λ (p : Partly). length p.bits) (ap (λ k. get_or (qs ++ q ∷ []) k no_value) e ∙ get_or_push qs q no_value i w.count) ∙ width ∙ ap (λ (y : Signal). y.width) is ∙ ap (λ k. (get_or ss k no_signal).width) (sym e))
+          (λ ne. let less : s < i = omega (arith, l, ne) in
+          let count = w.count in
+          ap (λ ps. length (vector_at ps s).bits) pushed ∙ ap (λ (p : Partly). length p.bits) (get_or_append_left qs (q ∷ []) no_value s (omega (arith, less, count))) ∙ w.width s less)
+          (cases_eq s i);
+    }
+
+pub all_wide : (i : ℕ) (ss : List Signal) (qs : List Partly) → i ≡ length ss → Wide i ss qs → AreWide ss qs
+all_wide i ss qs e w = record { count = w.count ∙ e; width = λ s l. w.width s (omega (arith, e, l)) }
+
+-- a list with another vector of a signal
+pub set_there : (qs : List Partly) (x : ℕ) (q : Partly) (s : ℕ) (t : Bool) → x < length qs → (x == s) ≡ t → vector_at (slice_set qs x q) s ≡ (if t then q else vector_at qs s)
+set_there qs x q s true l e = let is : s ≡ x = sym (eqb-true x s e) in ap (λ y. vector_at (slice_set qs x q) y) is ∙ get_or-set_same qs x q no_value l
+set_there qs x q s false l e = get_or-set_other qs x s q no_value (λ is. false≢true (sym e ∙ eqb_is is))
+  where
+    eqb_is : x ≡ s → (x == s) ≡ true
+    eqb_is is = grind (arith, nat_tests, is)
+
+pub set_wide : (ss : List Signal) (qs : List Partly) (x : ℕ) (q : Partly) → x < length qs → length q.bits ≡ (get_or ss x no_signal).width → AreWide ss qs → AreWide ss (slice_set qs x q)
+set_wide ss qs x q l width w = record { count = length-set qs x q ∙ w.count; width = λ s m. ap (λ (p : Partly). length p.bits) (set_there qs x q s (x == s) l refl) ∙ at s (x == s) refl m }
+  where
+    at : (s : ℕ) (t : Bool) → (x == s) ≡ t → s < length ss → length (if t then q else vector_at qs s).bits ≡ (get_or ss s no_signal).width
+    at s true e m = width ∙ ap (λ y. (get_or ss y no_signal).width) (eqb-true x s e)
+    at s false e m = w.width s m
+
+-- ---- what is known of signals
+
+known_width : (d : Design) (k : Kept) (s : ℕ) (q : Partly) → q.bits ≡ map k (signal_cells d s) → length q.bits ≡ (signal_at d s).width
+known_width d k s q e = ap length e ∙ length-map (signal_cells d s) k ∙ length-map-range_with_len (cell s) 0 (signal_at d s).width
+
+module _ (d : Design) (k : Kept) (things : List ℕ) (i x : ℕ) (l : i < length things) (is : x ≡ get_or things i x) where
+  more : (s : ℕ) → is_in (take (i + 1) things) s ≡ (is_in (take i things) s || x == s)
+  more s = list_any_more (λ y. y == s) things i x l ∙ ap (λ y. is_in (take i things) s || y == s) (sym is)
+
+  -- a memory is passed over
+  passed : (qs : List Partly) → length d.signals ≤ x → AreKnownBits d k (take i things) qs → AreKnownBits d k (take (i + 1) things) qs
+  passed qs past so_far s m h = so_far s m (or_no (is_in (take i things) s) (sym (more s ∙ ap (λ b. is_in (take i things) s || b) (apart s m)) ∙ h))
+    where
+      apart : (s : ℕ) → s < length d.signals → (x == s) ≡ false
+      apart s m = grind (arith, nat_tests, m, past)
+
+      or_no : (b : Bool) → (b || false) ≡ true → b ≡ true
+      or_no true e = refl
+      or_no false e = e
+
+  -- a signal more
+  one_known : (qs : List Partly) (q : Partly) → x < length qs → q.bits ≡ map k (signal_cells d x) → AreKnownBits d k (take i things) qs → AreKnownBits d k (take (i + 1) things) (slice_set qs x q)
+  one_known qs q inside bits so_far s m h = ap (λ (p : Partly). p.bits) (set_there qs x q s (x == s) inside refl) ∙ at (x == s) (is_in (take i things) s) refl (sym (more s) ∙ h) (λ e. so_far s m e)
+    where
+      at : (t u : Bool) → (x == s) ≡ t → (u || t) ≡ true → (u ≡ true → (vector_at qs s).bits ≡ map k (signal_cells d s)) → (if t then q else vector_at qs s).bits ≡ map k (signal_cells d s)
+      at true u e h old = bits ∙ ap (λ y. map k (signal_cells d y)) (eqb-true x s e)
+      at false true e h old = old refl
+      at false false e h old = absurd (false≢true h)
+
+  pub memory_opened : (v : StepVectors) → FitsSignals d v × AreOpened d k (take i things) v → length v.before ≤ x → FitsSignals d v × AreOpened d k (take (i + 1) things) v
+  memory_opened v so_far past =
+      let count = so_far.0.before.count in
+      let above : length d.signals ≤ x = omega (arith, count, past) in
+      (so_far.0, record { before = passed v.before above so_far.1.before; made = passed v.made above so_far.1.made })
+
+  pub signal_opened : (v w : StepVectors) (q : Partly) → x < length v.before → w ≡ record { before = slice_set v.before x q; made = slice_set v.made x q } → q.bits ≡ map k (signal_cells d x) → FitsSignals d v × AreOpened d k (take i things) v → FitsSignals d w × AreOpened d k (take (i + 1) things) w
+  signal_opened v w q inside set bits so_far =
+      let fits = so_far.0 in
+      let a = fits.before.count in
+      let b = fits.made.count in
+      let also : x < length v.made = omega (arith, inside, a, b) in
+      subst (λ u. FitsSignals d u × AreOpened d k (take (i + 1) things) u) (sym set) (
+        record { before = set_wide d.signals v.before x q inside (known_width d k x q bits) fits.before; made = set_wide d.signals v.made x q also (known_width d k x q bits) fits.made },
+        record { before = one_known v.before q inside bits so_far.1.before; made = one_known v.made q also bits so_far.1.made },
+      )
+
+-- none
+pub none_opened : (d : Design) (k : Kept) (things : List ℕ) (v : StepVectors) → AreOpened d k (take 0 things) v
+none_opened d k things v = record { before = λ s m h. absurd (false≢true h); made = λ s m h. absurd (false≢true h) }
+
+-- ---- one more thing
+
+-- the vectors that are set aside so far, of the things of a list up to a place
+pub record SoFar (x : Store) (v : StepVectors) (things : List ℕ) (i : ℕ) (w : StepVectors) : Type 0 where
+  pub before : length w.before ≡ length v.before
+  pub made : length w.made ≡ length v.made
+  pub known : (d : Design) (k : Kept) → Knows d k x → FitsSignals d v → FitsSignals d w × AreOpened d k (take i things) w
+
+pub none_so_far : (x : Store) (v : StepVectors) (things : List ℕ) → SoFar x v things 0 v
+none_so_far x v things = record { before = refl; made = refl; known = λ d k h fits. (fits, none_opened d k things v) }
+
+pub memory_so_far : (x : Store) (v : StepVectors) (things : List ℕ) (i thing : ℕ) (w : StepVectors) → i < length things → thing ≡ get_or things i thing → length w.before ≤ thing → SoFar x v things i w → SoFar x v things (i + 1) w
+memory_so_far x v things i thing w l is past f = record { before = f.before; made = f.made; known = λ d k h fits. memory_opened d k things i thing l is w (f.known d k h fits) past }
+
+pub signal_so_far : (x : Store) (v : StepVectors) (things : List ℕ) (i thing : ℕ) (w u : StepVectors) → i < length things → thing ≡ get_or things i thing → thing < length w.before → IsSetAside x thing w u → SoFar x v things i w → SoFar x v things (i + 1) u
+signal_so_far x v things i thing w u l is inside aside f =
+    let q = aside.0 in
+    record {
+      before = ap (λ y. length y.before) aside.1 ∙ length-set w.before thing q ∙ f.before;
+      made = ap (λ y. length y.made) aside.1 ∙ length-set w.made thing q ∙ f.made;
+      known = λ d k h fits. signal_opened d k things i thing l is w u q inside aside.1 (aside.2 d k h) (f.known d k h fits);
+    }
+
+-- all
+pub all_so_far : (x : Store) (v : StepVectors) (things : List ℕ) (i : ℕ) (w : StepVectors) → length things ≤ i → FitsSignals (design_view x.design.now) v → SoFar x v things i w → (d : Design) (k : Kept) → Knows d k x → FitsSignals d w × AreOpened d k things w
+all_so_far x v things i w past fits f d k h =
+    subst (λ ts. FitsSignals d w × AreOpened d k ts w) (take_all i things past) (f.known d k h (subst (λ e. FitsSignals e v) h.design fits))

@@ -1,0 +1,42 @@
+-- What is set aside of each signal in a step: as it was at the start of the step, and as it was made in it.
+use Rattle.std.specs.Prelude.{◌≡◌, ◌<◌, ℕ, true, List, length, map, slice_index_or, slice_set}
+use Rattle.known_state.specs.Partly.{Partly}
+use Rattle.design_model.specs.Design.{Design, Signal, no_signal, signal_cells}
+use Rattle.body_replay.specs.Store.{Kept}
+use Rattle.body_calls.specs.Own.{is_in}
+use Rattle.value_store.specs.Signals.{no_value}
+use Rattle.body_store.specs.declared.store.Store.{Store}
+use Rattle.store_knowledge.specs.Knows.{Knows}
+
+-- the vectors, by the number of a signal
+pub record StepVectors : Type 0 where
+  pub before : List Partly  -- at the start of the step
+  pub made : List Partly  -- made in the step, before the dump's value took its place
+
+-- the vector of a signal
+abbrev pub vector_at : List Partly → ℕ → Partly
+vector_at qs s = slice_index_or qs s no_value
+
+-- there is a vector for each of these signals, as wide as it is
+pub record AreWide (signals : List Signal) (qs : List Partly) : Type 0 where
+  pub count : length qs ≡ length signals
+  pub width : (s : ℕ) → s < length signals → length (vector_at qs s).bits ≡ (slice_index_or signals s no_signal).width
+
+-- there are both for each signal of the design
+pub record FitsSignals (d : Design) (v : StepVectors) : Type 0 where
+  pub before : AreWide d.signals v.before
+  pub made : AreWide d.signals v.made
+
+-- the vector of each signal that is listed is what is known of it
+abbrev pub AreKnownBits : Design → Kept → List ℕ → List Partly → Type 0
+AreKnownBits d k listed qs = (s : ℕ) → s < length d.signals → is_in listed s ≡ true → (vector_at qs s).bits ≡ map k (signal_cells d s)
+
+-- so are both
+pub record AreOpened (d : Design) (k : Kept) (listed : List ℕ) (v : StepVectors) : Type 0 where
+  pub before : AreKnownBits d k listed v.before
+  pub made : AreKnownBits d k listed v.made
+
+-- what the store knows of signal s is set aside in both
+abbrev pub IsSetAside : Store → ℕ → StepVectors → StepVectors → Type 0
+IsSetAside x s v w =
+    (value : Partly) × (w ≡ record { before = slice_set v.before s value; made = slice_set v.made s value }) × ((d : Design) (k : Kept) → Knows d k x → value.bits ≡ map k (signal_cells d s))

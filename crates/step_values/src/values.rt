@@ -1,0 +1,137 @@
+ghost use Rattle.std.specs.Prelude.{◌≡◌, ◌<◌, ◌≤◌, ◌^◌, IfOk, ℕ, length, map, slice_set, true};
+ghost use Rattle.std.specs.List.{All};
+ghost use Rattle.design_model.specs.Design.{Design, signal_cells};
+ghost use Rattle.design_model.specs.View.{design_view};
+ghost use Rattle.body_replay.specs.Store.{Kept};
+ghost use Rattle.value_store.specs.Signals.{HasWidth};
+ghost use Rattle.process_targets.specs.Targets.{has_bit};
+ghost use Rattle.store_knowledge.specs.Knows.{Knows};
+ghost use Rattle.step_values.specs.Loose.{forgetting};
+ghost use Rattle.step_values.specs.Vectors.{AreOpened, AreWide, FitsSignals, IsSetAside, vector_at};
+
+use bit_changes::forgotten;
+use body_store::Store;
+use cov_host::NoMemory;
+use design_model::{Design, Signal};
+use known_state::Known;
+use process_targets::Bits;
+use std::alloc::Global;
+use std::marker::Model;
+use store_knowledge::known_signal;
+
+/// What is set aside of each signal in a step. It says something of the signals that may move in the step alone.
+///
+/// Contracts see two lists by the number of a signal.
+#[derive(Drop)]
+pub struct StepValues {
+    /// What was known of the signal at the start of the step.
+    before: Vec<Known>,
+    /// What was made of it in the step, before the dump's value took its place.
+    made: Vec<Known>,
+}
+
+impl Model for StepValues {
+    ghost use Rattle.std.specs.Prelude.{◌<◌, ◌^◌, length};
+    ghost use Rattle.step_values.specs.Vectors.{StepVectors};
+
+    ghost Value = { StepVectors };
+
+    ghost view = { λ v. record { before = v.before.items; made = v.made.items } };
+
+    ghost invariant = { λ v. length v.before.items < 2 ^ 32 };
+}
+
+impl StepValues {
+    /// Room for each signal of a design. All memory that is ever needed is taken here.
+    pub fn new(alloc: Global, design: &Design) -> Result<Self, NoMemory>
+        requires widths { All HasWidth design.now.signals }
+        requires few { length design.now.signals ≤ 65536 }
+        ensures { IfOk result (λ made. FitsSignals (design_view design.now) made) }
+    {
+        let before = unknown_values(alloc, design.signals.as_slice())?;
+        let made = unknown_values(alloc, design.signals.as_slice())?;
+        Ok(StepValues { before, made })
+    }
+
+    /// What was known of a signal at the start of the step.
+    pub fn before(&self, signal: u32) -> Known
+        requires { signal < length self.now.before }
+        ensures { result ≡ vector_at self.now.before signal }
+    {
+        self.before[signal as usize]
+    }
+
+    /// What was made of a signal in the step.
+    pub fn made(&self, signal: u32) -> Known
+        requires { signal < length self.now.made }
+        ensures { result ≡ vector_at self.now.made signal }
+    {
+        self.made[signal as usize]
+    }
+
+    /// What was made of each signal.
+    pub fn all_made(&self) -> &[Known]
+        ensures { result.now ≡ self.now.made }
+    {
+        self.made.as_slice()
+    }
+
+    /// This was made of a signal in the step.
+    pub fn set_made(&mut self, signal: u32, value: Known)
+        requires { signal < length self.old.made }
+        ensures { self.new ≡ record self.old { made = slice_set self.old.made signal value } }
+    {
+        self.made[signal as usize] = value;
+    }
+
+    /// A step begins: what is known of the signals that may move is set aside, and nothing else has been made of them yet.
+    /// `moves` are signals and memories; it takes time for these.
+    pub fn open(&mut self, store: &Store, moves: &[usize])
+        requires { FitsSignals (design_view store.now.design.now) self.old }
+        ensures fits { (d : Design) (k : Kept) → Knows d k store.now → FitsSignals d self.new }
+        ensures opened { (d : Design) (k : Kept) → Knows d k store.now → AreOpened d k moves.now self.new }
+    {
+        for thing in moves {
+            if *thing < self.before.len() {
+                self.set_aside(store, *thing as u32);
+            }
+        }
+    }
+
+    /// What is known of a signal is set aside.
+    fn set_aside(&mut self, store: &Store, signal: u32)
+        requires place { signal < length store.now.design.now.signals }
+        requires before { signal < length self.old.before }
+        requires made { signal < length self.old.made }
+        ensures { IsSetAside store.now signal self.old self.new }
+    {
+        let value = known_signal(store, signal);
+        self.before[signal as usize] = value;
+        self.made[signal as usize] = value;
+    }
+
+    /// Nothing is known any more of what was made of these bits.
+    pub(crate) fn forget_made(&mut self, bits: &Bits)
+        requires place { bits.now.signal < length self.old.made }
+        requires mask { bits.now.mask < 2 ^ length (vector_at self.old.made bits.now.signal).bits }
+        ensures before { self.new.before ≡ self.old.before }
+        ensures fits { (d : Design) → FitsSignals d self.old → FitsSignals d self.new }
+        ensures made { (d : Design) (m : Kept) (s : ℕ) → FitsSignals d self.old → s < length d.signals → (vector_at self.old.made s).bits ≡ map m (signal_cells d s) → (vector_at self.new.made s).bits ≡ map (forgetting (has_bit bits.now) m) (signal_cells d s) }
+    {
+        let signal = bits.signal as usize;
+        self.made[signal] = forgotten(&self.made[signal], bits.mask, bits.signal);
+    }
+}
+
+/// A vector for each signal of which no bit is sure.
+fn unknown_values(alloc: Global, signals: &[Signal]) -> Result<Vec<Known>, NoMemory>
+    requires widths { All HasWidth signals.now }
+    requires few { length signals.now ≤ 65536 }
+    ensures { IfOk result (λ made. AreWide signals.now made.items) }
+{
+    let mut values = Vec::with_capacity(alloc, signals.len())?;
+    for (place, signal) in signals.iter().enumerate() {
+        values.push(Known::unknown(signal.width, signal.signed, place as u32))?;
+    }
+    Ok(values)
+}

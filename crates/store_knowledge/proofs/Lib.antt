@@ -1,0 +1,3 @@
+pub mod Cells
+pub mod Knowing
+pub mod Known
