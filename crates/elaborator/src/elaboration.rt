@@ -125,7 +125,7 @@ fn top_instance<'a>(
     top: &[u8],
     module: &'a Module,
 ) -> Result<Instantiation<'a>, NoMemory>
-    ensures { IfOk result (λ given. instantiation_view given ≡ top_instance top.now (module_view module.now)) }
+    ensures { IfOk result (λ given. instantiation_view given ≡ top_instance top.now (module_view «module».now)) }
 {
     let mut around = Vec::new(alloc);
     around.push(module)?;

@@ -51,7 +51,7 @@ pub(crate) fn is_declared_here(declared: &Declarations, name: &Named) -> bool
 
 /// The names of a module's port list.
 fn port_names<'a>(alloc: Global, module: &'a Module) -> Result<Vec<NameAt<'a>>, NoMemory>
-    ensures { IfOk result (λ names. names_view names.items ≡ (module_view module.now).ports) }
+    ensures { IfOk result (λ names. names_view names.items ≡ (module_view «module».now).ports) }
 {
     let mut names = Vec::new(alloc);
     for port in module.ports.as_slice() {
@@ -67,7 +67,7 @@ fn declared_names<'a>(
     overrides: &[Override],
     module: &'a Module,
 ) -> Result<Declarations<'a>, NoMemory>
-    ensures { IfOk result (λ declared. declared ≡ of_instances.declared (overrides_view overrides.now) (module_view module.now)) }
+    ensures { IfOk result (λ declared. declared ≡ of_instances.declared (overrides_view overrides.now) (module_view «module».now)) }
 {
     let mut untold = Tally::new(alloc);
     let constants = check_constants(alloc, overrides, module, &mut untold)?;
@@ -168,7 +168,7 @@ fn with_module<'a>(
     around: &[&'a Module],
     module: &'a Module,
 ) -> Result<Vec<&'a Module>, NoMemory>
-    ensures { IfOk result (λ longer. around_view longer.items ≡ (module_view module.now).name.name ∷ around_view around.now) }
+    ensures { IfOk result (λ longer. around_view longer.items ≡ (module_view «module».now).name.name ∷ around_view around.now) }
 {
     let mut longer = Vec::from_slice(alloc, around)?;
     longer.push(module)?;

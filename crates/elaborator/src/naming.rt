@@ -38,14 +38,14 @@ pub(crate) struct InstancesOf<'a> {
 
 /// Whether two modules have one name.
 fn has_name_of(module: &Module, other: &Module) -> bool
-    ensures { result ≡ bytes_eq (module_view module.now).name.name (module_view other.now).name.name }
+    ensures { result ≡ bytes_eq (module_view «module».now).name.name (module_view other.now).name.name }
 {
     module.name.name.as_slice() == other.name.name.as_slice()
 }
 
 /// Whether a module is one of these.
 fn is_around(around: &[&Module], module: &Module) -> bool
-    ensures { result ≡ list_any (bytes_eq (module_view module.now).name.name) (around_view around.now) }
+    ensures { result ≡ list_any (bytes_eq (module_view «module».now).name.name) (around_view around.now) }
 {
     for other in around {
         if has_name_of(module, other) {

@@ -56,7 +56,7 @@ impl States {
     /// Adds a machine. One of the same module and variable takes the place of the earlier. After a refusal nothing has
     /// changed.
     pub fn add(&mut self, module: &str, variable: &str, names: &Words) -> Result<(), NoMemory>
-        ensures ok { OnOk result (self.new ≡ with_machine (machine_of module.now variable.now names.now) self.old) }
+        ensures ok { OnOk result (self.new ≡ with_machine (machine_of «module».now variable.now names.now) self.old) }
         ensures err { OnErr result (self.new ≡ self.old) }
     {
         let variable = variable_of(self.alloc, module, variable)?;
@@ -90,7 +90,7 @@ impl States {
 
 /// The variable with this name in a module.
 fn variable_of(alloc: Global, module: &str, name: &str) -> Result<Variable, NoMemory>
-    ensures { IfOk result (λ variable. (variable.module.items ≡ module.now) × (variable.name.items ≡ name.now)) }
+    ensures { IfOk result (λ variable. (variable.module.items ≡ «module».now) × (variable.name.items ≡ name.now)) }
 {
     Ok(Variable {
         module: Vec::from_slice(alloc, module.as_bytes())?,
