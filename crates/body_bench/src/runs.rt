@@ -13,7 +13,7 @@ use crate::stores::{new_store, put_inputs, sum_of};
 use assignments::{Piece, widths_law};
 use block_runs::{BlockNotes, Certainty, Doubt, run_body};
 use body_rooms::store_rooms_law;
-use body_store::{Store, own_law, views_law};
+use body_store::{Store, own_law, premises_law, views_law};
 use cov_host::NoMemory;
 use design_model::{Design, Process};
 use process_names::{names_law, push_assigned};
@@ -65,9 +65,11 @@ fn written_by(
     design: &Design,
     process: &Process,
 ) -> Result<Option<Vec<u32>>, NoMemory>
+    requires { IsLawfulDesign (design_view design.now) }
     ensures numbers { IfOk result (λ made. IfSome made (λ written. All (λ x. is_number (design_view design.now) x ≡ true) written.items)) }
     ensures all { IfOk result (λ made. IfSome made (λ written. (x : ℕ) → body_assigns x (body (process_view process.now)) ≡ true → is_in written.items x ≡ true)) }
 {
+    premises_law();
     let mut written = Vec::new(alloc);
     push_names(process, &mut written)?;
     let signals = design.signals.len();

@@ -1,4 +1,5 @@
-use Rattle.std.proofs.Common.{◌≡◌, [], subst, sym, true}
+use Rattle.std.proofs.Common.{◌<◌, ◌≡◌, [], arith, length, subst, sym, true}
+use Rattle.std.proofs.lemmas.List.{length-map}
 use Rattle.std.specs.List.{All}
 use Rattle.design_model.specs.Design.{body, is_number}
 use Rattle.design_model.specs.Shape.{is_body}
@@ -31,7 +32,10 @@ pub run_body-requires-clause-room : goal.run_body-requires-clause-room
 run_body-requires-clause-room g c =
     let e = c.store_rooms_law.ensures in
     let d = design_view c.args.design.now in
-    subst (λ s. HasRoomFor s [] (rooms_of c.args.store.now)) (sym c.requires.first) (has_room d c.args.store.now 0 c.requires.idle c.requires.lawful c.requires.some e.places e.among e.ready)
+    let size = length-map c.args.design.now.processes process_view in
+    let some = c.requires.some in
+    let inside : 0 < length d.processes = omega (arith, size, some) in
+    subst (λ s. HasRoomFor s [] (rooms_of c.args.store.now)) (sym c.requires.first) (has_room d c.args.store.now 0 c.requires.idle c.requires.lawful inside e.places e.among e.ready)
 
 pub run_body-requires-clause-kept_own : goal.run_body-requires-clause-kept_own
 run_body-requires-clause-kept_own g c = kept_own (design_view c.args.design.now) c.args.store.now c.requires.idle c.views_law.ensures.under

@@ -6,6 +6,15 @@ use Rattle.design_model.specs.Design.{is_number}
 use Rattle.design_model.specs.View.{design_view}
 use Rattle.body_bench.proofs.runs.written_by.Goals as goal
 
+pub overflow_add-signals : goal.overflow_add-signals
+overflow_add-signals c =
+    let storable = c.premises_law.ensures (design_view c.args.design.now) c.requires in
+    let few = storable.few_signals in
+    let few_memories = storable.few_memories in
+    let signals = c.len-signals.ensures in
+    let memories = c.len-memories.ensures in
+    omega (arith, few, few_memories, signals, memories)
+
 pub returns-then-are_below-clause-numbers : goal.returns-then-are_below-clause-numbers
 returns-then-are_below-clause-numbers c =
     let d = design_view c.args.design.now in

@@ -4,8 +4,8 @@ use Rattle.body_store.specs.Held.{HoldsStore}
 use Rattle.body_store.specs.Made.{nothing, unblamed}
 use Rattle.body_bench.proofs.stores.new_store.Goals as goal
 
-pub new-store-requires-clause-few_memories : goal.new-store-requires-clause-few_memories
-new-store-requires-clause-few_memories c = (c.premises_law.ensures (design_view c.args.design.now) c.requires).few_memories
+pub new-requires-clause-few_memories : goal.new-requires-clause-few_memories
+new-requires-clause-few_memories c = (c.premises_law.ensures (design_view c.args.design.now) c.requires).few_memories
 
 pub returns : goal.returns
 returns c =
