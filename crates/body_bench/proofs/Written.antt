@@ -1,8 +1,12 @@
 -- What a body assigns is what it assigns by blocking and by nonblocking assignments.
-use Rattle.std.proofs.Common.{Bool, List, ap₂, false, not, refl, sym, true, ℕ, ◌∙◌, ◌&&◌, ◌||◌, ◌≡◌}
+use Rattle.std.proofs.Common.{Bool, List, ap, ap₂, false, not, refl, sym, true, ℕ, ◌++◌, ◌==◌, ◌∙◌, ◌&&◌, ◌||◌, ◌≡◌}
 use Rattle.std.proofs.lemmas.Bool.{or_parts, true≢false}
+use Rattle.std.proofs.lemmas.List.Folds.{list_any-append}
 use Rattle.design_model.specs.Mentions.{any_set_in, any_set_of, body_assigns, body_blocks, body_queues, target_names}
 use Rattle.design_model.specs.Tree.{Arms, Stmt, Stmts, Target, Term, a_stmt, arm, block, branch, empty, no_arms, no_stmts, select, set, turns}
+use Rattle.body_calls.specs.Own.{is_in}
+use Rattle.process_names.specs.Assigned.{assigned}
+use Rattle.process_names.specs.Laws.{BlockingNamesLaw, NonblockingNamesLaw}
 
 module _ (x : ℕ) where
   abbrev all : Bool → Target → Term → Bool
@@ -48,3 +52,14 @@ assigned_if x s h = go (body_blocks x s) (body_queues x s) refl refl
     go true c e f = refl
     go false true e f = refl
     go false false e f = absurd (true≢false (sym h ∙ none_assigned x s e f))
+
+either : (a b c : Bool) → (b || c) ≡ true → ((a || b) || c) ≡ true
+either true b c h = refl
+either false b c h = h
+
+-- what a body assigns is in the list of its names, after any others
+pub in_names : BlockingNamesLaw → NonblockingNamesLaw → (xs : List ℕ) (s : Stmt) (x : ℕ) → body_assigns x s ≡ true → is_in ((xs ++ assigned true s) ++ assigned false s) x ≡ true
+in_names blocking nonblocking xs s x e =
+    list_any-append (λ y. y == x) (xs ++ assigned true s) (assigned false s)
+    ∙ ap₂ (λ a b. a || b) (list_any-append (λ y. y == x) xs (assigned true s) ∙ ap (λ b. is_in xs x || b) (blocking s x)) (nonblocking s x)
+    ∙ either (is_in xs x) (body_blocks x s) (body_queues x s) (assigned_if x s e)

@@ -1,7 +1,7 @@
 //! The runs of a body on one store.
 
-ghost use Rattle.std.specs.Prelude.{◌≡◌, ◌≤◌, ◌<◌, ◌+◌, ℕ, IfOk, IfSome, [], true, length};
-ghost use Rattle.std.specs.List.{All};
+ghost use Rattle.std.specs.Prelude.{◌≡◌, ◌≤◌, ◌<◌, ◌+◌, ℕ, IfOk, IfSome, OnOk, [], true, length, nat_lt};
+ghost use Rattle.std.specs.List.{All, list_all};
 ghost use Rattle.design_model.specs.Design.{body, body_at, is_number};
 ghost use Rattle.design_model.specs.Lawful.{IsLawfulDesign};
 ghost use Rattle.design_model.specs.Mentions.{body_assigns};
@@ -13,7 +13,7 @@ use crate::stores::{new_store, put_inputs, sum_of};
 use assignments::{Piece, widths_law};
 use block_runs::{BlockNotes, Certainty, Doubt, run_body};
 use body_rooms::store_rooms_law;
-use body_store::{Store, own_law, views_law};
+use body_store::{Store, own_law, premises_law, views_law};
 use cov_host::NoMemory;
 use design_model::{Design, Process};
 use process_names::{names_law, push_assigned};
@@ -51,25 +51,51 @@ struct Scratch {
     ghost room: { 128 ≤ pieces.room },
 }
 
+/// The first process.
+fn first_process(design: &Design) -> Option<&Process>
+    ensures body { IfSome result (λ process. body (process_view process.now) ≡ body_at (design_view design.now) 0) }
+    ensures some { IfSome result (λ process. 0 < length design.now.processes) }
+{
+    design.processes.get(0)
+}
+
 /// The signals and memories that a process assigns, None where one is not of the design.
 fn written_by(
     alloc: Global,
     design: &Design,
     process: &Process,
 ) -> Result<Option<Vec<u32>>, NoMemory>
+    requires { IsLawfulDesign (design_view design.now) }
     ensures numbers { IfOk result (λ made. IfSome made (λ written. All (λ x. is_number (design_view design.now) x ≡ true) written.items)) }
     ensures all { IfOk result (λ made. IfSome made (λ written. (x : ℕ) → body_assigns x (body (process_view process.now)) ≡ true → is_in written.items x ≡ true)) }
 {
-    names_law();
+    premises_law();
     let mut written = Vec::new(alloc);
-    push_assigned(true, process, &mut written)?;
-    push_assigned(false, process, &mut written)?;
-    let count = design.signals.len() + design.memories.len();
-    if written.iter().all(|thing| (*thing as usize) < count) {
+    push_names(process, &mut written)?;
+    let signals = design.signals.len();
+    let memories = design.memories.len();
+    if are_below(written.as_slice(), signals + memories) {
         Ok(Some(written))
     } else {
         Ok(None)
     }
+}
+
+/// Adds what a process assigns.
+fn push_names(process: &Process, found: &mut Vec<u32>) -> Result<(), NoMemory>
+    ensures { OnOk result ((x : ℕ) → body_assigns x (body (process_view process.now)) ≡ true → is_in found.new.items x ≡ true) }
+{
+    names_law();
+    push_assigned(true, process, found)?;
+    push_assigned(false, process, found)?;
+    Ok(())
+}
+
+/// Whether each of the numbers is below this one.
+fn are_below(numbers: &[u32], end: usize) -> bool
+    ensures { result ≡ list_all (λ x. nat_lt x end) numbers.now }
+{
+    numbers.iter().all(|number| (*number as usize) < end)
 }
 
 /// Runs the body of the first process so many times, where one in `unknown` inputs is unknown, and none if that is 0. It gives
@@ -86,7 +112,7 @@ pub(crate) fn sum_after<L: Ledger>(
     requires parts { blank.parts ≡ L.parts }
     requires some { 0 < blank.parts }
 {
-    let Some(process) = design.processes.get(0) else {
+    let Some(process) = first_process(design) else {
         return Ok(None);
     };
     let Some(written) = written_by(alloc, design, process)? else {
@@ -121,12 +147,12 @@ fn run_once<L: Ledger>(
     steps: &mut Steps<L>,
 )
     requires lawful { IsLawfulDesign (design_view design.now) }
-    requires idle { IsIdle design.now store.old }
+    requires idle { IsIdle (design_view design.now) store.old }
     requires some { 0 < length design.now.processes }
     requires first { body (process_view process.now) ≡ body_at (design_view design.now) 0 }
     requires numbers { All (λ x. is_number (design_view design.now) x ≡ true) written.now }
     requires written { (x : ℕ) → body_assigns x (body (process_view process.now)) ≡ true → is_in written.now x ≡ true }
-    ensures idle { IsIdle design.now store.new }
+    ensures idle { IsIdle (design_view design.now) store.new }
     ensures steps { steps.new ≡ steps.old + 1 }
 {
     widths_law();

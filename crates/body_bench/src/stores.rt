@@ -18,7 +18,7 @@ const WIDTH: u8 = 16;
 /// A store of which nothing is known.
 pub(crate) fn new_store<'a>(alloc: Global, design: &'a Design) -> Result<Store<'a>, NoMemory>
     requires { IsLawfulDesign (design_view design.now) }
-    ensures { IfOk result (λ store. IsIdle design.now store) }
+    ensures { IfOk result (λ store. IsIdle (design_view design.now) store) }
 {
     premises_law();
     own_law();
@@ -36,8 +36,8 @@ fn value_of(signal: u32) -> Known
 
 /// Keeps the values of the inputs of 16 bits, except of one in `unknown` of them, where that is not 0.
 pub(crate) fn put_inputs(store: &mut Store, design: &Design, unknown: usize)
-    requires { IsIdle design.now store.old }
-    ensures { IsIdle design.now store.new }
+    requires { IsIdle (design_view design.now) store.old }
+    ensures { IsIdle (design_view design.now) store.new }
 {
     for number in 0..design.signals.len() {
         let is_known = unknown == 0 || number % unknown != 0;
@@ -49,9 +49,9 @@ pub(crate) fn put_inputs(store: &mut Store, design: &Design, unknown: usize)
 
 /// Keeps the value of the signal with this number, if it is an input of 16 bits.
 fn put_input(store: &mut Store, design: &Design, number: usize)
-    requires idle { IsIdle design.now store.old }
+    requires idle { IsIdle (design_view design.now) store.old }
     requires place { number < length design.now.signals }
-    ensures { IsIdle design.now store.new }
+    ensures { IsIdle (design_view design.now) store.new }
 {
     let signal = &design.signals.as_slice()[number];
     if !signal.input || signal.width != WIDTH {
@@ -66,7 +66,7 @@ fn put_input(store: &mut Store, design: &Design, number: usize)
 
 /// The sum of the numbers that are known of the signals that are no inputs, each times its place.
 pub(crate) fn sum_of(store: &Store, design: &Design) -> u128
-    requires { IsIdle design.now store.now }
+    requires { IsIdle (design_view design.now) store.now }
 {
     let mut sum = 0u128;
     for number in 0..design.signals.len() {
@@ -80,7 +80,7 @@ pub(crate) fn sum_of(store: &Store, design: &Design) -> u128
 
 /// The number that is known of a signal.
 fn kept_number(store: &Store, design: &Design, signal: usize) -> u128
-    requires idle { IsIdle design.now store.now }
+    requires idle { IsIdle (design_view design.now) store.now }
     requires place { signal < length design.now.signals }
 {
     match u32::try_from(signal) {
