@@ -3,7 +3,7 @@ use Rattle.std.proofs.Common.{◌≡◌, ◌<◌, ◌++◌, ℕ, true, List, [],
 use Rattle.std.specs.List.{All}
 use Rattle.std.proofs.lemmas.List.Elements.{All-from_get_or, All-get_or, All-set}
 use Rattle.design_model.specs.Design.{Design, is_number}
-use Rattle.point_marks.specs.Marking.{IsMarked, IsVerdict, with_doubt}
+use Rattle.point_marks.specs.Marking.{IsMarked, IsVerdict, doubt_of, with_doubt}
 use Rattle.point_marks.specs.declared.verdict.Doubt.{Doubt}
 use Rattle.point_marks.specs.declared.verdict.Verdict.{Verdict}
 use Rattle.point_marks.specs.declared.verdict.Verdict.TheVariants.{Hit, Missed, Undetermined}
@@ -12,7 +12,7 @@ use Rattle.point_table.specs.Verdicts.{IsOfDesign}
 not_marked : (d : Design) (k : ℕ) (v : Verdict) → IsVerdict [] k v → IsOfDesign d v
 not_marked d k Hit h = tt
 not_marked d k Missed h = tt
-not_marked d k (Undetermined y) h = absurd (omega (arith, ap length h.1.is, length-append h.1.before (_ ∷ h.1.after)))
+not_marked d k (Undetermined y) h = absurd (omega (arith, ap length h.1.is, length-append h.1.before (doubt_of k y ∷ h.1.after)))
 
 -- where nothing was marked
 pub none_marked : (d : Design) (verdicts : List Verdict) → IsMarked [] verdicts → All (IsOfDesign d) verdicts

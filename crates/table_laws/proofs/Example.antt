@@ -6,7 +6,7 @@ use Rattle.cov_host.specs.Identifier.{is_reserved}
 use Rattle.coverage_db.specs.Table.{IsIdentifier, IsNumber, IsSourceLine, is_file_name, is_path}
 use Rattle.design_model.specs.declared.design.Instance.{Instance}
 use Rattle.design_model.specs.declared.design.Signal.{Signal}
-use Rattle.design_model.specs.Design.{In, Named, names_of, process_at}
+use Rattle.design_model.specs.Design.{In, process_at}
 use Rattle.design_model.specs.FlipFlop.{flip_flop}
 use Rattle.design_model.specs.Numbered.{LineAt, NodeAt, lines_of, nodes_of}
 use Rattle.point_table.specs.Addresses.{source_line}
@@ -30,21 +30,15 @@ nodes_good zero x (inl e) = subst IsGoodNode e ((omega arith, omega arith), reco
 nodes_good zero x (inr h) = absurd h
 nodes_good (suc p) x h = absurd h
 
-names_good : (n : Named) → In n (names_of flip_flop) → IsIdentifier n.1
+abbrev IsGoodSignal : Signal → Type 0
+IsGoodSignal s = IsIdentifier s.name × (s.high < 2 ^ 32) × (s.low < 2 ^ 32)
+
+signals_good : (s : Signal) → In s flip_flop.signals → IsGoodSignal s
 unfolding is_reserved
-names_good n (inl e) = subst (λ (m : Named). IsIdentifier m.1) e refl
-names_good n (inr (inl e)) = subst (λ (m : Named). IsIdentifier m.1) e refl
-names_good n (inr (inr (inl e))) = subst (λ (m : Named). IsIdentifier m.1) e refl
-names_good n (inr (inr (inr h))) = absurd h
-
-abbrev HasSmallBounds : Signal → Type 0
-HasSmallBounds s = (s.high < 2 ^ 32) × (s.low < 2 ^ 32)
-
-bits_good : (s : Signal) → In s flip_flop.signals → HasSmallBounds s
-bits_good s (inl e) = subst HasSmallBounds e (omega arith, omega arith)
-bits_good s (inr (inl e)) = subst HasSmallBounds e (omega arith, omega arith)
-bits_good s (inr (inr (inl e))) = subst HasSmallBounds e (omega arith, omega arith)
-bits_good s (inr (inr (inr h))) = absurd h
+signals_good s (inl e) = subst IsGoodSignal e (refl, omega arith, omega arith)
+signals_good s (inr (inl e)) = subst IsGoodSignal e (refl, omega arith, omega arith)
+signals_good s (inr (inr (inl e))) = subst IsGoodSignal e (refl, omega arith, omega arith)
+signals_good s (inr (inr (inr h))) = absurd h
 
 abbrev IsGoodInstance : Instance → Type 0
 IsGoodInstance i = IsTrue (is_path i.path) × IsIdentifier i.«module»
@@ -64,9 +58,8 @@ flip_flop_written =
       few_files = omega arith;
       some_instance = omega arith;
       instances = instances_good;
-      names = names_good;
-      bits = bits_good;
-      words = λ m h. absurd h;
+      signals = signals_good;
+      memories = λ m h. absurd h;
       lines = lines_good;
       nodes = nodes_good;
     }

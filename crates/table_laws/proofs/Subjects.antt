@@ -1,13 +1,14 @@
 -- What the points of each kind have of a written design: an instance of the design, and names, numbers and places that a text has.
 use Rattle.std.proofs.Common.{◌≡◌, ◌<◌, ◌≤◌, ◌+◌, ◌-◌, ◌^◌, ◌++◌, ◌∙◌, ℕ, Bool, true, false, List, [], ◌∷◌, Option, Some, None, length, map, get_or, max, min, inl, inr, refl, sym, ap, subst, arith}
 use Rattle.std.specs.Prelude.{IfSome, ◌==◌, ◌&&◌, ◌||◌, nat_le, nat_lt}
+use Rattle.std.specs.List.{All}
 use Rattle.std.specs.declared.cmp.Ordering.TheVariants.{Equal}
 use Rattle.std.specs.Ordering.{nat_cmp, ordering_then}
 use Rattle.std.proofs.lemmas.Bool.{and_parts, cases_lt}
 use Rattle.std.proofs.lemmas.Bool.Decides.{nat_tests}
 use Rattle.std.proofs.lemmas.List.{get_or_past}
 use Rattle.coverage_db.specs.Order.{bytes_cmp, index_cmp as option_cmp}
-use Rattle.coverage_db.specs.Table.{IsIdentifier, IsSubject, is_state}
+use Rattle.coverage_db.specs.Table.{IsIdentifier, IsSubject}
 use Rattle.cover_points.specs.Listed.{IsPointList}
 use Rattle.cover_points.specs.MachinePoints.{machine_of, machine_view}
 use Rattle.cover_points.specs.Order.{thing_instance, thing_name}
@@ -20,25 +21,21 @@ use Rattle.cover_points.specs.declared.points.IndexPoint.{IndexPoint}
 use Rattle.cover_points.proofs.Members.{both_equal, in_at, in_left, in_map_back, in_right, same_bytes, same_place}
 use Rattle.cover_points.proofs.NamedOnce.{one_signal}
 use Rattle.cover_points.proofs.Pieces.{instance_there, test_at}
-use Rattle.design_machines.specs.Machines.{machine_at}
-use Rattle.design_model.specs.declared.design.Alias.{Alias}
-use Rattle.design_model.specs.declared.design.Constant.{Constant}
+use Rattle.design_machines.specs.Machines.{machine_at, no_machine}
 use Rattle.design_model.specs.declared.design.Instance.{Instance}
 use Rattle.design_model.specs.declared.design.Memory.{Memory}
-use Rattle.design_model.specs.declared.design.Signal.{Signal}
-use Rattle.design_model.specs.Design.{Design, In, Named, is_memory, memory_at, no_instance, no_memory, no_process, no_signal, process_at, signal_at}
+use Rattle.design_model.specs.Design.{Design, In, is_memory, memory_at, no_instance, no_memory, no_process, no_signal, process_at, signal_at}
 use Rattle.design_model.specs.Lawful.{IsLawfulDesign, instance_of, is_memory_of, is_signal, span}
 use Rattle.design_model.specs.Numbered.{NodeAt, counted_terms, line_at, lines_of, node_at, node_text, nodes_in}
-use Rattle.design_model.specs.Points.{IsNameOf, IsPoint, IsStateValue, IsWithin, StateNames}
+use Rattle.design_model.specs.Points.{IsPoint, IsWithin, StateNames}
 use Rattle.design_model.specs.Tree.{Term}
 use Rattle.design_model.specs.Value.{head}
 use Rattle.design_model.specs.declared.point.Point.{Point}
-use Rattle.four_state.specs.Vector.{Vector}
 use Rattle.point_table.specs.Addresses.{index_if, line_address, machine_address, node_address, toggle_address, word_address}
 use Rattle.point_table.specs.Rows.{path_cmp}
 use Rattle.point_words.specs.Words.{can_have, operator_text}
 use Rattle.table_laws.proofs.Cases.{case_of, same_operator}
-use Rattle.table_laws.specs.Written.{IsWritten}
+use Rattle.table_laws.specs.Written.{IsWritten, IsWrittenMachine}
 use Rattle.text_points.proofs.OperatorTexts.{text_is}
 use Rattle.text_points.specs.Operators.{operator_of}
 use Rattle.text_points.specs.declared.points.LinePoint.{LinePoint}
@@ -62,23 +59,7 @@ index_same : (b : Bool) (i j : ℕ) → (b ≡ false → (i ≡ 0) × (j ≡ 0))
 index_same true i j h = refl
 index_same false i j h = let z = h refl in sym (ap (λ k. nat_cmp k j) z.0 ∙ ap (nat_cmp 0) z.1)
 
-either : (a b : Bool) → a ≡ true → (a || b) ≡ true
-either true b h = refl
-either false b h = absurd cc
-
 module _ (d : Design) (lawful : IsLawfulDesign d) (sources : List (List ℕ)) (written : IsWritten sources d) where
-  abbrev ss : List Named
-  ss = map (λ (s : Signal). (s.instance, s.name)) d.signals
-
-  abbrev ms : List Named
-  ms = map (λ (m : Memory). (m.instance, m.name)) d.memories
-
-  abbrev cs : List Named
-  cs = map (λ (c : Constant). (c.instance, c.name)) d.constants
-
-  abbrev xs : List Named
-  xs = map (λ (a : Alias). (a.instance, a.name)) d.aliases
-
   process_instance : (p : ℕ) → instance_of (process_at d p) < length d.instances
   process_instance p = elim (cases_lt p (length d.processes)) [
     | inl l ↦ instance_there d lawful p l
@@ -88,10 +69,7 @@ module _ (d : Design) (lawful : IsLawfulDesign d) (sources : List (List ℕ)) (w
   ]
 
   pub signal_name : (s : ℕ) → s < length d.signals → IsIdentifier (signal_at d s).name
-  signal_name s l =
-      let x = signal_at d s in
-      let n : Named = (x.instance, x.name) in
-      written.names n (in_left n (ss ++ ms ++ cs) xs (in_left n (ss ++ ms) cs (in_left n ss ms (in_map_back (λ (s : Signal). (s.instance, s.name)) x d.signals (in_at d.signals s no_signal l)))))
+  signal_name s l = (written.signals (signal_at d s) (in_at d.signals s no_signal l)).0
 
   pub signal_instance : (s : ℕ) → s < length d.signals → (signal_at d s).instance < length d.instances
   signal_instance s l =
@@ -130,10 +108,7 @@ module _ (d : Design) (lawful : IsLawfulDesign d) (sources : List (List ℕ)) (w
       subst (λ x. In x d.memories) (sym at.1) (in_at d.memories (m - length d.signals) no_memory at.0)
 
   pub memory_name : (m : ℕ) → is_memory d m ≡ true → IsIdentifier (memory_at d m).name
-  memory_name m h =
-      let x = memory_at d m in
-      let n : Named = (x.instance, x.name) in
-      written.names n (in_left n (ss ++ ms ++ cs) xs (in_left n (ss ++ ms) cs (in_right n ss ms (in_map_back (λ (m : Memory). (m.instance, m.name)) x d.memories (memory_in m h)))))
+  memory_name m h = (written.memories (memory_at d m) (memory_in m h)).0
 
   pub memory_instance : (m : ℕ) → is_memory d m ≡ true → (memory_at d m).instance < length d.instances
   memory_instance m h =
@@ -148,23 +123,6 @@ module _ (d : Design) (lawful : IsLawfulDesign d) (sources : List (List ℕ)) (w
       let first = and_parts a b (and_parts (a && b) c (and_parts (a && b && c) e (and_parts (a && b && c && e) f (and_parts (a && b && c && e && f) (x.ranged || ((x.high == 0) && (x.low == 0))) t).0).0).0).0 in
       let l : x.instance < length d.instances = grind (arith, nat_tests, first) in
       subst (λ (y : Memory). y.instance < length d.instances) (sym at.1) l
-
-  constant_name : (c : Constant) → In c d.constants → IsIdentifier c.name
-  constant_name c h =
-      let n : Named = (c.instance, c.name) in
-      written.names n (in_left n (ss ++ ms ++ cs) xs (in_right n (ss ++ ms) cs (in_map_back (λ (c : Constant). (c.instance, c.name)) c d.constants h)))
-
-  alias_name : (a : Alias) → In a d.aliases → IsIdentifier a.name
-  alias_name a h =
-      let n : Named = (a.instance, a.name) in
-      written.names n (in_right n (ss ++ ms ++ cs) xs (in_map_back (λ (a : Alias). (a.instance, a.name)) a d.aliases h))
-
-  name_known : (i s : ℕ) (name : List ℕ) → IsNameOf d i name s → IsIdentifier name
-  name_known i s name (inl a) = subst IsIdentifier a.2 (signal_name s a.0)
-  name_known i s name (inr a) = subst IsIdentifier a.3 (alias_name a.0 a.1)
-
-  state_known : (i s : ℕ) (state : List ℕ) (x : Vector) → IsStateValue d i s state x → is_state state ≡ true
-  state_known i s state x h = either _ _ (subst IsIdentifier h.3 (constant_name h.0 h.1))
 
   -- a signal is named by its number
   pub signal_thing : (s : ℕ) → s < length d.signals → (thing_instance d s ≡ (signal_at d s).instance) × (thing_name d s ≡ (signal_at d s).name)
@@ -186,7 +144,7 @@ module _ (d : Design) (lawful : IsLawfulDesign d) (sources : List (List ℕ)) (w
       let i : x.instance ≡ y.instance = same_place (λ (i : Instance). i.path) d.instances x.instance y.instance no_instance lawful.instance_paths (signal_instance s l) (signal_instance t m) (same_bytes _ _ both.0) in
       one_signal d lawful x.instance s t x.name (inl (l, refl, refl)) (inl (m, sym i, sym (same_bytes x.name y.name both.1)))
 
-  module _ (machines : List StateNames) (ps : Points) (listed : IsPointList d machines ps) (places : List ℕ) where
+  module _ (machines : List StateNames) (ps : Points) (listed : IsPointList d machines ps) (named : All IsWrittenMachine ps.machines.items) (places : List ℕ) where
     abbrev kl : List Point
     kl = map line_view ps.lines.items
 
@@ -228,8 +186,8 @@ module _ (d : Design) (lawful : IsLawfulDesign d) (sources : List (List ℕ)) (w
     toggle_is x h =
         let p = toggle_of x h in
         let s = signal_at d x.thing in
-        let bounds = written.bits s (in_at d.signals x.thing no_signal p.0) in
-        let small : x.index < 2 ^ 32 = omega (arith, p.1.1, bounds) in
+        let own = written.signals s (in_at d.signals x.thing no_signal p.0) in
+        let small : x.index < 2 ^ 32 = omega (arith, p.1.1, own.1, own.2) in
         (signal_instance x.thing p.0, (signal_name x.thing p.0, index_small s.ranged x.index small))
 
     -- without a range the index is 0
@@ -254,10 +212,14 @@ module _ (d : Design) (lawful : IsLawfulDesign d) (sources : List (List ℕ)) (w
     pub machine_is : (x : MachinePoint) → In x ps.states.items → ((machine_at ps.machines.items (machine_of x)).instance < length d.instances) × IsSubject (length sources) (machine_address ps.machines.items places x).subject
     machine_is (State k s) h =
         let p = machine_in (State k s) h in
-        (p.2.0.0, (name_known _ _ _ p.2.2, state_known _ _ _ _ p.4))
+        let placed = listed.placed (State k s) h in
+        let m = named k no_machine placed.0 in
+        (p.2.0.0, (m.0, m.1 s [] placed.1))
     machine_is (Arc k i j) h =
         let p = machine_in (Arc k i j) h in
-        (p.2.0.0, (name_known _ _ _ p.2.2, state_known _ _ _ _ p.6, state_known _ _ _ _ p.7, p.5))
+        let placed = listed.placed (Arc k i j) h in
+        let m = named k no_machine placed.0 in
+        (p.2.0.0, (m.0, m.1 i [] placed.1, m.1 j [] placed.2, p.5))
 
     pub word_of : (x : IndexPoint) → In x ps.words.items → (is_memory d x.thing ≡ true) × (min (memory_at d x.thing).first (memory_at d x.thing).last ≤ x.index) × (x.index ≤ max (memory_at d x.thing).first (memory_at d x.thing).last)
     word_of x h =
@@ -267,5 +229,5 @@ module _ (d : Design) (lawful : IsLawfulDesign d) (sources : List (List ℕ)) (w
     pub word_is : (x : IndexPoint) → In x ps.words.items → ((memory_at d x.thing).instance < length d.instances) × IsSubject (length sources) (word_address d places x).subject
     word_is x h =
         let p = word_of x h in
-        let bounds = written.words (memory_at d x.thing) (memory_in x.thing p.0) in
-        (memory_instance x.thing p.0, (memory_name x.thing p.0, omega (arith, p.2, bounds)))
+        let own = written.memories (memory_at d x.thing) (memory_in x.thing p.0) in
+        (memory_instance x.thing p.0, (memory_name x.thing p.0, omega (arith, p.2, own.1, own.2)))

@@ -40,7 +40,7 @@ use Rattle.table_laws.proofs.AddressOrder.{AreInOrder, by_line, by_machine, by_n
 use Rattle.table_laws.proofs.PlaceOrder.{by_place, place_below, rows_rise}
 use Rattle.table_laws.proofs.Rising.{rises_append, rises_map, rises_unmap}
 use Rattle.table_laws.proofs.Subjects.{line_is, machine_is, memory_instance, memory_name, memory_thing, node_is, signal_instance, signal_name, signal_thing, toggle_is, toggle_of, toggles_compare, word_is, word_of}
-use Rattle.table_laws.specs.Written.{IsWritten, IsWrittenVerdict}
+use Rattle.table_laws.specs.Written.{IsWritten, IsWrittenMachine, IsWrittenVerdict}
 
 abbrev rank : Address → ℕ
 rank a = letter_rank a.subject
@@ -87,7 +87,7 @@ module _ (d : Design) (lawful : IsLawfulDesign d) (sources : List (List ℕ)) (w
   many : length order ≡ length d.instances
   many = order_length (length d.instances) order in_order.permutation
 
-  module _ (machines : List StateNames) (ps : Points) (listed : IsPointList d machines ps) where
+  module _ (machines : List StateNames) (ps : Points) (listed : IsPointList d machines ps) (named : All IsWrittenMachine ps.machines.items) where
     abbrev la : List Address
     la = map (line_address places) ps.lines.items
 
@@ -109,32 +109,32 @@ module _ (d : Design) (lawful : IsLawfulDesign d) (sources : List (List ℕ)) (w
     lines_rise : Rises address_cmp la
     lines_rise =
         rises_map (line_cmp d.instances) address_cmp (line_address places) ps.lines.items listed.lines (λ x y i j l.
-        by_line d places same x y (line_is d lawful sources written machines ps listed places x i).0 (line_is d lawful sources written machines ps listed places y j).0 ∙ l)
+        by_line d places same x y (line_is d lawful sources written machines ps listed named places x i).0 (line_is d lawful sources written machines ps listed named places y j).0 ∙ l)
 
     nodes_rise : Rises address_cmp na
     nodes_rise =
         rises_map (node_cmp d.instances) address_cmp (node_address places) ps.nodes.items listed.nodes (λ x y i j l.
-        by_node d places same x y (node_is d lawful sources written machines ps listed places x i).0 (node_is d lawful sources written machines ps listed places y j).0 ∙ l)
+        by_node d places same x y (node_is d lawful sources written machines ps listed named places x i).0 (node_is d lawful sources written machines ps listed named places y j).0 ∙ l)
 
     toggles_rise : Rises address_cmp ta
     toggles_rise =
         rises_map (index_cmp d) address_cmp (toggle_address d places) ps.toggles.items listed.toggles (λ x y i j l.
-        let p = (toggle_of d lawful sources written machines ps listed places x i).0 in
-        let q = (toggle_of d lawful sources written machines ps listed places y j).0 in
+        let p = (toggle_of d lawful sources written machines ps listed named places x i).0 in
+        let q = (toggle_of d lawful sources written machines ps listed named places y j).0 in
         let a = signal_thing d lawful sources written x.thing p in
         let b = signal_thing d lawful sources written y.thing q in
-        by_toggle d places same x y (signal_instance d lawful sources written x.thing p) (signal_instance d lawful sources written y.thing q) a.0 b.0 a.1 b.1 (toggles_compare d lawful sources written machines ps listed places x y i j) ∙ l)
+        by_toggle d places same x y (signal_instance d lawful sources written x.thing p) (signal_instance d lawful sources written y.thing q) a.0 b.0 a.1 b.1 (toggles_compare d lawful sources written machines ps listed named places x y i j) ∙ l)
 
     states_rise : Rises address_cmp sa
     states_rise =
         rises_map (machine_cmp d.instances ps.machines.items) address_cmp (machine_address ps.machines.items places) ps.states.items listed.states (λ x y i j l.
-        by_machine d places same ps.machines.items x y (machine_is d lawful sources written machines ps listed places x i).0 (machine_is d lawful sources written machines ps listed places y j).0 ∙ l)
+        by_machine d places same ps.machines.items x y (machine_is d lawful sources written machines ps listed named places x i).0 (machine_is d lawful sources written machines ps listed named places y j).0 ∙ l)
 
     words_rise : Rises address_cmp wa
     words_rise =
         rises_map (index_cmp d) address_cmp (word_address d places) ps.words.items listed.words (λ x y i j l.
-        let p = (word_of d lawful sources written machines ps listed places x i).0 in
-        let q = (word_of d lawful sources written machines ps listed places y j).0 in
+        let p = (word_of d lawful sources written machines ps listed named places x i).0 in
+        let q = (word_of d lawful sources written machines ps listed named places y j).0 in
         let a = memory_thing d lawful sources written x.thing p in
         let b = memory_thing d lawful sources written y.thing q in
         by_word d places same x y (memory_instance d lawful sources written x.thing p) (memory_instance d lawful sources written y.thing q) a.0 b.0 a.1 b.1 ∙ l)
@@ -154,19 +154,19 @@ module _ (d : Design) (lawful : IsLawfulDesign d) (sources : List (List ℕ)) (w
     below i l = place_below d.instances lawful.instance_paths order in_order places are i l
 
     machine_address_is : (x : MachinePoint) → In x ps.states.items → Is (machine_address ps.machines.items places x)
-    machine_address_is (State k s) i = let h = machine_is d lawful sources written machines ps listed places (State k s) i in (below _ h.0, h.1)
-    machine_address_is (Arc k u w) i = let h = machine_is d lawful sources written machines ps listed places (Arc k u w) i in (below _ h.0, h.1)
+    machine_address_is (State k s) i = let h = machine_is d lawful sources written machines ps listed named places (State k s) i in (below _ h.0, h.1)
+    machine_address_is (Arc k u w) i = let h = machine_is d lawful sources written machines ps listed named places (Arc k u w) i in (below _ h.0, h.1)
 
     each_is : {X : Type 0} (f : X → Address) (xs : List X) → ((x : X) → In x xs → Is (f x)) → All Is (map f xs)
     each_is f xs h = All-map Is f xs (all_in (λ x. Is (f x)) xs h)
 
     addresses_are : All Is all_addresses
     addresses_are =
-        let a = each_is (line_address places) ps.lines.items (λ x i. let h = line_is d lawful sources written machines ps listed places x i in (below x.instance h.0, h.1)) in
-        let b = each_is (node_address places) ps.nodes.items (λ x i. let h = node_is d lawful sources written machines ps listed places x i in (below x.instance h.0, h.1)) in
-        let c = each_is (toggle_address d places) ps.toggles.items (λ x i. let h = toggle_is d lawful sources written machines ps listed places x i in (below (signal_at d x.thing).instance h.0, h.1)) in
+        let a = each_is (line_address places) ps.lines.items (λ x i. let h = line_is d lawful sources written machines ps listed named places x i in (below x.instance h.0, h.1)) in
+        let b = each_is (node_address places) ps.nodes.items (λ x i. let h = node_is d lawful sources written machines ps listed named places x i in (below x.instance h.0, h.1)) in
+        let c = each_is (toggle_address d places) ps.toggles.items (λ x i. let h = toggle_is d lawful sources written machines ps listed named places x i in (below (signal_at d x.thing).instance h.0, h.1)) in
         let e = each_is (machine_address ps.machines.items places) ps.states.items machine_address_is in
-        let f = each_is (word_address d places) ps.words.items (λ x i. let h = word_is d lawful sources written machines ps listed places x i in (below (memory_at d x.thing).instance h.0, h.1)) in
+        let f = each_is (word_address d places) ps.words.items (λ x i. let h = word_is d lawful sources written machines ps listed named places x i in (below (memory_at d x.thing).instance h.0, h.1)) in
         All-append Is (la ++ na ++ ta ++ sa) wa (All-append Is (la ++ na ++ ta) sa (All-append Is (la ++ na) ta (All-append Is la na a b) c) e) f
 
     seen : {X : Type 0} (f : X → Address) (xs : List X) → addresses_of (map (λ x. missed (f x)) xs) ≡ map f xs
@@ -229,17 +229,17 @@ module _ (d : Design) (lawful : IsLawfulDesign d) (sources : List (List ℕ)) (w
       All-from_get_or (λ (p : DbPoint). IsTextVerdict rows p.verdict) points no_row (λ k l.
       subst (IsTextVerdict rows) (sym (h.each k l)) (verdict_is (get_or verdicts k Missed) (All-get_or (IsWrittenVerdict d) verdicts k Missed (omega (arith, l, h.count)) all)))
 
-pub collected_is : (d : Design) (sources : List (List ℕ)) (ps : Points) (verdicts : List Verdict) (db : Db) → IsLawfulDesign d → IsWritten sources d → AreListed d ps → length (points_of ps) ≤ MOST_POINTS → All (IsWrittenVerdict d) verdicts → IsCollected d sources ps db → AreShown d verdicts db.points → IsTable db
-collected_is d sources ps verdicts db lawful written listed few all is shown =
+pub collected_is : (d : Design) (sources : List (List ℕ)) (ps : Points) (verdicts : List Verdict) (db : Db) → IsLawfulDesign d → IsWritten sources d → AreListed d ps → length (points_of ps) ≤ MOST_POINTS → All IsWrittenMachine ps.machines.items → All (IsWrittenVerdict d) verdicts → IsCollected d sources ps db → AreShown d verdicts db.points → IsTable db
+collected_is d sources ps verdicts db lawful written listed few named all is shown =
     let order = is.order in
     let rows = map (row_at d.instances) order in
     let number = order_length (length d.instances) order is.path_order.permutation in
     let rows_number : length rows ≡ length d.instances = length-map order (row_at d.instances) ∙ number in
     let instances : length db.instances ≡ length d.instances = ap length is.instances ∙ rows_number in
     let files : length db.sources ≡ length sources = ap length is.names in
-    let addresses = points_are d lawful sources written order is.places is.path_order is.are_places listed.0 ps listed.1 db.points is.points in
+    let addresses = points_are d lawful sources written order is.places is.path_order is.are_places listed.0 ps listed.1 named db.points is.points in
     let texts = verdicts_are d lawful sources written order is.places is.path_order is.are_places verdicts all db.points shown in
-    let many = points_number d lawful sources written order is.places is.path_order is.are_places listed.0 ps listed.1 db.points is.points in
+    let many = points_number d lawful sources written order is.places is.path_order is.are_places listed.0 ps listed.1 named db.points is.points in
     record {
       top = subst IsIdentifier (sym is.top) written.top;
       sources = subst (All (λ name. IsTrue (is_file_name name))) (sym is.names) written.files;
@@ -254,6 +254,6 @@ collected_is d sources ps verdicts db lawful written listed few all is shown =
       some_source = λ e. omega (arith, files, ap length e, written.some_file);
       some_instance = λ e. omega (arith, instances, ap length e, written.some_instance);
       instances_rise = subst (Rises (λ (a b : DbInstance). bytes_cmp a.path b.path)) (sym is.instances) (rows_rise d.instances lawful.instance_paths order is.path_order);
-      points_rise = points_rise d lawful sources written order is.places is.path_order is.are_places listed.0 ps listed.1 db.points is.points;
+      points_rise = points_rise d lawful sources written order is.places is.path_order is.are_places listed.0 ps listed.1 named db.points is.points;
       lines = omega (arith, files, instances, many, few, written.few_files, lawful.few_instances);
     }

@@ -1,7 +1,8 @@
--- What the text of a table asks of a design and its sources, and of the verdicts of its points.
+-- What the text of a table asks of a design and its sources, of its state machines, and of the verdicts of its points.
 use Rattle.std.specs.Prelude.{◌≡◌, ◌<◌, ◌≤◌, ◌^◌, ℕ, true, List, length, All, IsTrue, ⊤}
-use Rattle.coverage_db.specs.Table.{IsIdentifier, IsNumber, IsSourceLine, is_file_name, is_path}
-use Rattle.design_model.specs.Design.{Design, In, Named, is_number, names_of, process_at}
+use Rattle.coverage_db.specs.Table.{IsIdentifier, IsNumber, IsSourceLine, is_file_name, is_path, is_state}
+use Rattle.design_machines.specs.declared.machine.Machine.{Machine}
+use Rattle.design_model.specs.Design.{Design, In, is_number, process_at}
 use Rattle.design_model.specs.declared.design.Instance.{Instance}
 use Rattle.design_model.specs.declared.design.Memory.{Memory}
 use Rattle.design_model.specs.declared.design.Signal.{Signal}
@@ -18,11 +19,14 @@ pub record IsWritten (sources : List (List ℕ)) (d : Design) : Type 0 where
   pub few_files : length sources < 2 ^ 31
   pub some_instance : 1 ≤ length d.instances
   pub instances : (i : Instance) → In i d.instances → IsTrue (is_path i.path) × IsIdentifier i.«module»
-  pub names : (n : Named) → In n (names_of d) → IsIdentifier n.1
-  pub bits : (s : Signal) → In s d.signals → (s.high < 2 ^ 32) × (s.low < 2 ^ 32)
-  pub words : (m : Memory) → In m d.memories → (m.first < 2 ^ 32) × (m.last < 2 ^ 32)
+  pub signals : (s : Signal) → In s d.signals → IsIdentifier s.name × (s.high < 2 ^ 32) × (s.low < 2 ^ 32)
+  pub memories : (m : Memory) → In m d.memories → IsIdentifier m.name × (m.first < 2 ^ 32) × (m.last < 2 ^ 32)
   pub lines : (p : ℕ) (x : LineAt) → In x (lines_of (process_at d p)) → IsNumber x.line × IsSourceLine (length sources) (source_line x.place)
   pub nodes : (p : ℕ) (x : NodeAt) → In x (nodes_of (process_at d p)) → IsNumber x.node × IsSourceLine (length sources) (source_line x.place)
+
+-- the name of the machine's variable is an identifier, and each state has an identifier or digits
+abbrev pub IsWrittenMachine : Machine → Type 0
+IsWrittenMachine x = IsIdentifier x.variable × All (λ name. IsTrue (is_state name)) x.names
 
 -- a doubt is of a signal or memory of the design, at a time that a text has
 abbrev pub IsWrittenVerdict : Design → Verdict → Type 0

@@ -19,17 +19,19 @@ ghost use Rattle.point_marks.specs.declared.verdict.Verdict.{Verdict};
 ghost use Rattle.point_table.specs.Collected.{AreListed, IsCollected};
 ghost use Rattle.point_table.specs.Verdicts.{AreShown};
 ghost use Rattle.table_laws.specs.Rows.{ListsEach};
-ghost use Rattle.table_laws.specs.Written.{IsWritten, IsWrittenVerdict};
+ghost use Rattle.table_laws.specs.Written.{IsWritten, IsWrittenMachine, IsWrittenVerdict};
 
-/// The points of a lawful design that are collected with these verdicts are a table that has a text.
+/// The points of a lawful design that are collected with these verdicts are a table that has a text. Each state machine has
+/// names that a text can have, as those that are named by words.
 pub fn table_law()
     ensures { (d : Design) (sources : List (List ℕ)) (ps : Points) (verdicts : List Verdict) (db : Db) → IsLawfulDesign d → IsWritten sources d → AreListed d ps
-        → length (points_of ps) ≤ MOST_POINTS → All (IsWrittenVerdict d) verdicts → IsCollected d sources ps db → AreShown d verdicts db.points → IsTable db }
+        → length (points_of ps) ≤ MOST_POINTS → All IsWrittenMachine ps.machines.items → All (IsWrittenVerdict d) verdicts → IsCollected d sources ps db → AreShown d verdicts db.points → IsTable db }
 {}
 
 /// The table has a row for each point of the list, which names it.
 pub fn rows_law()
-    ensures { (d : Design) (sources : List (List ℕ)) (ps : Points) (db : Db) → IsLawfulDesign d → IsWritten sources d → AreListed d ps → IsCollected d sources ps db → ListsEach d ps db }
+    ensures { (d : Design) (sources : List (List ℕ)) (ps : Points) (db : Db) → IsLawfulDesign d → IsWritten sources d → AreListed d ps
+        → All IsWrittenMachine ps.machines.items → IsCollected d sources ps db → ListsEach d ps db }
 {}
 
 /// A design that is written: a register with a test, from one source.
