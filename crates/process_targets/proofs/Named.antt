@@ -1,5 +1,5 @@
 -- What the parts of the targets of a body name, and the rows that are made of them.
-use Rattle.std.proofs.Common.{◌≡◌, ◌∙◌, ⊎_elim, ℕ, ◌<◌, ◌==◌, ◌≤◌, ◌&&◌, ◌||◌, Bool, true, false, not, cond, List, [], ◌∷◌, ◌++◌, Some, None, Ok, Err, map, length, get_or, refl, sym, ap, ap₂, subst, arith, eq-eqb}
+use Rattle.std.proofs.Common.{◌≡◌, ◌∙◌, ⊎_elim, ℕ, ◌<◌, ◌==◌, ◌&&◌, ◌||◌, Bool, true, false, not, cond, List, [], ◌∷◌, ◌++◌, Some, None, Ok, Err, map, length, get_or, refl, sym, ap, ap₂, subst, arith, eq-eqb}
 use Rattle.std.specs.List.{All, list_any}
 use Rattle.std.specs.Prelude.{OnOk, Result, nat_lt}
 use Rattle.std.proofs.lemmas.Bool.{and_parts, eqb-true, false≢true, lt-ltb, ltb-true, or_cases}
@@ -138,17 +138,6 @@ bit_leaf d l m h c = go (l.0 == c.thing) refl
     go : (b : Bool) → (l.0 == c.thing) ≡ b → ((l.0 == c.thing) && is_set m c.place) ≡ leaf_has d l c
     go true e = ap (λ b. b && is_set m c.place) e ∙ h c.place ∙ ap (λ x. leaf_has d l (cell x c.place)) (eqb-true l.0 c.thing e)
     go false e = ap (λ b. b && is_set m c.place) e ∙ sym (leaf_apart d l c (swapped c.thing l.0 ∙ e))
-
--- a part of no signal adds nothing
-pub no_leaf : (d : Design) (l : Leaf) (row : List Bits) → length d.signals ≤ l.0 → AddsLeaf d l row row
-no_leaf d l row past =
-    record {
-      has = λ c m. sym (ap (λ b. row_has row c || b) (leaf_apart d l c (unequal c.thing l.0 (omega (arith, m, past)))) ∙ or_right_false (row_has row c));
-      named = λ s. sym (ap (λ b. names row s || b) (none s) ∙ or_right_false (names row s));
-    }
-  where
-    none : (s : ℕ) → (nat_lt s (length d.signals) && l.0 == s) ≡ false
-    none s = grind (arith, nat_tests, past)
 
 one_name : (s t n : ℕ) → t < n → (t == s) ≡ (nat_lt s n && t == s)
 one_name s t n l = grind (arith, nat_tests, l)

@@ -1,8 +1,8 @@
 -- The places of signals in a row that bits are added to.
-use Rattle.std.proofs.Common.{◌≡◌, ◌≢◌, ◌∙◌, ⊎_elim, inl, inr, ℕ, zero, suc, ◌+◌, ◌<◌, ◌==◌, ◌&&◌, ◌||◌, Bool, true, false, List, [], ◌∷◌, ◌++◌, map, length, get_or, slice_set, refl, sym, ap, ap₂, subst, arith, eq-eqb}
-use Rattle.std.proofs.Math.ListN.{get_or-append, get_or-map}
+use Rattle.std.proofs.Common.{◌≡◌, ◌≢◌, ◌∙◌, ⊎_elim, inl, inr, ℕ, zero, suc, ◌+◌, ◌<◌, ◌==◌, ◌&&◌, ◌||◌, Bool, true, false, List, [], ◌∷◌, map, length, get_or, slice_set, refl, sym, ap, ap₂, subst, arith, eq-eqb}
+use Rattle.std.proofs.Math.ListN.{get_or-map}
 use Rattle.std.proofs.lemmas.Bool.{cases_lt, eqb-true, true≢false}
-use Rattle.std.proofs.lemmas.List.{get_or-set_other, get_or-set_same, length-append, length-map, length-set}
+use Rattle.std.proofs.lemmas.List.{get_or-set_other, get_or-set_same, length-map, length-set}
 use Rattle.std.proofs.lemmas.List.Elements.{All-from_get_or}
 use Rattle.std.proofs.lemmas.List.Folds.{list_any_at, list_any_none}
 use Rattle.four_state.specs.Masks.{is_set}
@@ -26,18 +26,6 @@ put_placed xs places k m d l h j lj =
 -- a signal of the row is named
 pub named_at : (xs : List Bits) (j s : ℕ) → j < length xs → (get_or xs j no_bits).signal ≡ s → names xs s ≡ true
 named_at xs j s l e = list_any_at (λ b. b.signal == s) xs j no_bits l (eq-eqb (get_or xs j no_bits).signal s e)
-
-last_item : (xs : List Bits) (b : Bits) → get_or (xs ++ b ∷ []) (length xs) no_bits ≡ b
-last_item [] b = refl
-last_item (x ∷ xs) b = last_item xs b
-
-pub push_placed : (xs : List Bits) (places : List ℕ) (b : Bits) → b.signal < length places → names xs b.signal ≡ false → ArePlaced xs places → ArePlaced (xs ++ b ∷ []) (slice_set places b.signal (length xs))
-push_placed xs places b below none h j lj =
-    ⊎_elim
-    (λ l. ap (λ x. get_or (slice_set places b.signal (length xs)) x.signal 0) (get_or-append xs (b ∷ []) no_bits j l) ∙ get_or-set_other places b.signal (get_or xs j no_bits).signal (length xs) 0 (λ e. true≢false (sym (named_at xs j b.signal l e) ∙ none)) ∙ h j l)
-    (λ l. let e : j ≡ length xs = omega (arith, length-append xs (b ∷ []), lj, l) in
-    subst (λ n. get_or (slice_set places b.signal (length xs)) (get_or (xs ++ b ∷ []) n no_bits).signal 0 ≡ n) (sym e) (ap (λ x. get_or (slice_set places b.signal (length xs)) x.signal 0) (last_item xs b) ∙ get_or-set_same places b.signal (length xs) 0 below))
-    (cases_lt j (length xs))
 
 in_at : (x : ℕ) (xs : List ℕ) → In x xs → (k : ℕ) × (k < length xs) × (get_or xs k 0 ≡ x)
 in_at x [] h = absurd h

@@ -15,10 +15,6 @@ use Rattle.replay_model.specs.Step.{not_assigned, wake_cells}
 use Rattle.wake_bits.specs.Laws.{EachWakeLaw, IsWakeOf, SomeWakeLaw}
 use Rattle.wake_bits.specs.declared.wakes.Wake.{Wake}
 
-and_none : (b : Bool) → (b && false) ≡ false
-and_none true = refl
-and_none false = refl
-
 -- the places of a width that are not in a mask
 pub left_places : (all own n i : ℕ) (writes : Bool) → n ≤ 128 → own < 2 ^ 128 → is_set all i ≡ nat_lt i n → is_set own i ≡ writes → is_set (bit_and all (2 ^ 128 - 1 - own)) i ≡ (nat_lt i n && not writes)
 left_places all own n i writes narrow below a o = is_set-and all (2 ^ 128 - 1 - own) i ∙ go (nat_lt i 128) refl

@@ -1,9 +1,8 @@
 -- What a body mentions is of the design.
-use Rattle.std.proofs.Common.{◌≡◌, ◌∙◌, ⊎_elim, ℕ, ◌+◌, ◌-◌, ◌<◌, ◌==◌, ◌&&◌, ◌||◌, Bool, true, if◌then◌else◌, List, [], ◌∷◌, ◌++◌, length, max, take, refl, sym, ap, arith}
+use Rattle.std.proofs.Common.{◌≡◌, ◌∙◌, ⊎_elim, ℕ, ◌+◌, ◌<◌, ◌==◌, ◌&&◌, ◌||◌, Bool, true, if◌then◌else◌, List, [], ◌∷◌, ◌++◌, length, max, refl, sym, ap, arith}
 use Rattle.std.specs.Prelude.{nat_le, nat_lt}
 use Rattle.std.specs.List.{list_all, list_any}
 use Rattle.std.proofs.lemmas.Bool.{and_parts, eqb-true, false≢true, ltb-true, or_cases}
-use Rattle.std.proofs.lemmas.List.{length-append}
 use Rattle.design_model.specs.Assignment.{target_width}
 use Rattle.design_model.specs.Design.{Design, IsClocked, body, is_memory}
 use Rattle.design_model.specs.Lawful.{wakes_of}
@@ -157,13 +156,3 @@ pub mentioned_below : (d : Design) (p : Process) (x : ℕ) → is_body d (body p
 mentioned_below d (assign i y t counted) x shape m = body_below d x (body (assign i y t counted)) shape (sym (mentioned_is (assign i y t counted) x (λ h. h)) ∙ m)
 mentioned_below d (comb i wakes s) x shape m = body_below d x s shape (sym (mentioned_is (comb i wakes s) x (λ h. h)) ∙ m)
 mentioned_below d (clocked i events s) x shape m = absurd (false≢true m)
-
--- the names of a Comb without its list
-cut_names : (xs ys : List ℕ) → take (length xs) (xs ++ ys) ≡ xs
-cut_names [] ys = refl
-cut_names (x ∷ xs) ys = ap (λ zs. x ∷ zs) (cut_names xs ys)
-
-pub without_list : (xs ys : List ℕ) → take (length (xs ++ ys) - length ys) (xs ++ ys) ≡ xs
-without_list xs ys =
-    let few : length (xs ++ ys) - length ys ≡ length xs = omega (arith, length-append xs ys) in
-    ap (λ n. take n (xs ++ ys)) few ∙ cut_names xs ys
