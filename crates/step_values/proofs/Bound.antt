@@ -1,22 +1,20 @@
 -- What is known of the bits that the dump has.
-use Rattle.std.proofs.Common.{◌≡◌, ℕ, ◌+◌, ◌<◌, ◌&&◌, Bool, true, false, List, [], ◌∷◌, map, get_or, Option, Some, None, refl, sym, ap, subst, ◌∙◌, arith}
+use Rattle.std.proofs.Common.{◌≡◌, ℕ, ◌+◌, ◌<◌, Bool, true, false, List, map, get_or, Option, Some, None, refl, sym, ap, ◌∙◌, arith}
 use Rattle.std.specs.Prelude.{nat_lt, is_some, slice_index_or}
 use Rattle.std.specs.List.{range_with_len}
 use Rattle.std.proofs.lemmas.Bool.{and_parts, false≢true}
 use Rattle.std.proofs.lemmas.Bool.Decides.{nat_tests}
-use Rattle.event_machine.specs.Cell.{Cell, Values}
+use Rattle.event_machine.specs.Cell.{Values}
 use Rattle.four_state.specs.Vector.{Vector, same_bit}
 use Rattle.four_state.specs.declared.bit.Bit.{Bit}
 use Rattle.design_model.specs.Design.{Design, a_signal, cell, signal_at, signal_bits, signal_cells}
-use Rattle.design_model.specs.Shows.{BoundDump}
 use Rattle.design_model.proofs.Definite.{bound_clear_law}
 use Rattle.design_model.proofs.Lawful.{same_bit_is, same_bit_self}
 use Rattle.body_replay.specs.Store.{Kept}
 use Rattle.body_store.proofs.Rows.{row_at}
-use Rattle.body_calls.specs.Own.{is_in}
 use Rattle.code_values.specs.Values.{value_of}
 use Rattle.step_values.specs.Dumped.{AreDumped}
-use Rattle.step_values.specs.Laws.{AreListed, BoundLaw, KnowsDump, StillLaw}
+use Rattle.step_values.specs.Laws.{BoundLaw, StillLaw}
 use Rattle.step_values.specs.Loose.{has_code}
 use Rattle.step_values.proofs.Dumps.{bits_in, map_twice}
 

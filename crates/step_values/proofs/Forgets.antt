@@ -1,10 +1,9 @@
 -- What a store knows once bits are forgotten, bits after bits and row after row.
-use Rattle.std.proofs.Common.{◌≡◌, ℕ, ◌+◌, ◌<◌, ◌≤◌, ◌||◌, ◌^◌, ◌==◌, ◌&&◌, Bool, true, false, List, length, map, take, get_or, Option, None, refl, sym, ap, subst, ◌∙◌}
-use Rattle.std.specs.List.{All, range_with_len}
+use Rattle.std.proofs.Common.{◌≡◌, ℕ, ◌+◌, ◌<◌, ◌||◌, ◌==◌, ◌&&◌, Bool, true, false, List, length, map, take, get_or, Option, None, refl, sym, ap, subst, ◌∙◌}
+use Rattle.std.specs.List.{range_with_len}
 use Rattle.std.proofs.Math.Path.{fun_ext}
 use Rattle.std.proofs.lemmas.Bool.{eqb-true, false_from_ne_true, false≢true}
 use Rattle.std.proofs.lemmas.List.{length-map}
-use Rattle.std.proofs.lemmas.List.Elements.{All-get_or}
 use Rattle.std.proofs.lemmas.List.FromFn.{length-map-range_with_len}
 use Rattle.event_machine.specs.Cell.{Cell}
 use Rattle.four_state.specs.Masks.{is_set}
@@ -17,9 +16,9 @@ use Rattle.index_sets.specs.Rows.{row_at}
 use Rattle.process_targets.specs.Targets.{has_bit, row_has}
 use Rattle.process_targets.specs.declared.bits.Bits.{Bits}
 use Rattle.store_knowledge.specs.Knows.{Knows, with_bits}
-use Rattle.step_values.specs.Loose.{HaveRows, IsInside, forgetting, has_code, some_row_has, uncoded}
+use Rattle.step_values.specs.Loose.{IsInside, forgetting, has_code, some_row_has, uncoded}
 use Rattle.step_values.specs.Loosens.{Loosens}
-use Rattle.step_values.specs.Vectors.{FitsSignals, StepVectors, vector_at}
+use Rattle.step_values.specs.Vectors.{StepVectors, vector_at}
 use Rattle.step_values.proofs.Bits.{bits_forgotten, left, row_kept}
 use Rattle.step_values.proofs.Tests.{both_tests, coded_bits, free_bits, no_test, row_more, rows_more, same_test, uncoded_none, uncoded_or}
 

@@ -9,17 +9,15 @@ use Rattle.std.proofs.lemmas.List.Elements.{All-head, All-tail}
 use Rattle.event_machine.specs.Cell.{Cell}
 use Rattle.four_state.specs.Masks.{is_set}
 use Rattle.four_state.specs.Vector.{Vector}
-use Rattle.design_model.specs.BodyLaws.{all_cells}
 use Rattle.design_model.specs.Design.{Design, In, body_at, signal_at, signal_cells}
 use Rattle.design_model.specs.Mentions.{blocking_target}
-use Rattle.body_replay.specs.Store.{Kept}
 use Rattle.body_calls.specs.Own.{is_in}
 use Rattle.body_store.specs.Owned.{IsBlank}
 use Rattle.body_store.specs.declared.store.Store.{Store}
 use Rattle.index_sets.specs.Rows.{row_at}
 use Rattle.process_targets.specs.Targets.{row_has}
 use Rattle.process_targets.specs.declared.bits.Bits.{Bits}
-use Rattle.replay_model.specs.Step.{Closing, clocked_run, is_dumped, is_loose, settle_start, with_dump}
+use Rattle.replay_model.specs.Step.{Closing, clocked_run, is_loose, settle_start}
 use Rattle.replay_steps.specs.Settling.{loosened}
 use Rattle.replay_steps.proofs.Settling.{loose_is, starts_settled}
 use Rattle.store_knowledge.specs.Knows.{Knows}

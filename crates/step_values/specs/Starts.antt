@@ -11,8 +11,8 @@ use Rattle.body_calls.specs.Own.{is_in}
 use Rattle.body_store.specs.declared.store.Store.{Store}
 use Rattle.replay_model.specs.Step.{Closing, Working, is_dumped, is_touched, known_bits}
 use Rattle.store_knowledge.specs.Knows.{Knows}
-use Rattle.step_values.specs.Dumped.{AreDumped, HaveCodes}
-use Rattle.step_values.specs.Loose.{HaveRows, has_code}
+use Rattle.step_values.specs.Dumped.{AreDumped}
+use Rattle.step_values.specs.Loose.{has_code}
 use Rattle.step_values.specs.Vectors.{FitsSignals, StepVectors, vector_at}
 
 -- the store knows what is kept, and of the signals that may move the vectors are those at the start of the step, and of the bound

@@ -1,9 +1,9 @@
-use Rattle.std.proofs.Common.{◌≡◌, ◌∙◌, ◌<◌, [], ◌∷◌, Some, ap, length, map, subst, sym}
+use Rattle.std.proofs.Common.{◌≡◌, ◌∙◌, ◌<◌, Some, ap, length, subst, sym}
 use Rattle.std.proofs.lemmas.List.{length-map}
 use Rattle.known_state.specs.Partly.{Partly}
 use Rattle.design_model.specs.View.{design_view}
 use Rattle.store_knowledge.specs.Knows.{Knows, with_bits}
-use Rattle.step_values.specs.Dumped.{dumped_of, putting}
+use Rattle.step_values.specs.Dumped.{dumped_of}
 use Rattle.step_values.proofs.Dumps.{one_put, said_width, value_bits}
 use Rattle.step_values.proofs.Forgets.{here}
 use Rattle.step_values.proofs.dump.put_signal.Goals as goal

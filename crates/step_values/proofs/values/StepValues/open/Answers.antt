@@ -1,4 +1,4 @@
-use Rattle.std.proofs.Common.{◌≡◌, ◌≤◌, ◌<◌, ap, arith, length}
+use Rattle.std.proofs.Common.{ap, arith, length}
 use Rattle.step_values.specs.Vectors.{StepVectors}
 use Rattle.step_values.proofs.Aside.{all_so_far, memory_so_far, none_so_far, signal_so_far}
 use Rattle.step_values.proofs.values.StepValues.open.Goals as goal
