@@ -1,13 +1,14 @@
 -- What is known of signals is set aside one after the other.
-use Rattle.std.proofs.Common.{◌≡◌, ℕ, ◌+◌, ◌<◌, ◌≤◌, ◌==◌, ◌||◌, Bool, true, false, if◌then◌else◌, List, [], ◌∷◌, ◌++◌, length, map, take, get_or, refl, sym, ap, subst, ◌∙◌, arith, length-map, length-set, ⊎_elim}
+use Rattle.std.proofs.Common.{◌≡◌, ℕ, zero, suc, ◌+◌, ◌<◌, ◌≤◌, ◌==◌, ◌||◌, Bool, true, false, if◌then◌else◌, List, [], ◌∷◌, ◌++◌, length, map, take, get_or, refl, sym, ap, subst, ◌∙◌, arith, length-set, ⊎_elim}
 use Rattle.std.specs.Prelude.{slice_set}
 use Rattle.std.proofs.lemmas.Bool.{cases_eq, eqb-true, false≢true}
 use Rattle.std.proofs.lemmas.Bool.Decides.{nat_tests}
-use Rattle.std.proofs.lemmas.List.{get_or-set_other, get_or-set_same, get_or_append_left, get_or_push, take_all}
+use Rattle.std.proofs.lemmas.List.{get_or-set_other, get_or-set_same, get_or_append_left, get_or_push, length-map, take_all}
 use Rattle.std.proofs.lemmas.List.FromFn.{length-map-range_with_len}
 use Rattle.std.proofs.lemmas.List.Folds.{list_any_more}
 use Rattle.known_state.specs.Partly.{Partly}
-use Rattle.design_model.specs.Design.{Design, Signal, cell, no_signal, signal_at, signal_cells}
+use Rattle.design_model.specs.Design.{Design, cell, no_signal, signal_at, signal_cells}
+use Rattle.design_model.specs.declared.design.Signal.{Signal}
 use Rattle.design_model.specs.View.{design_view}
 use Rattle.body_replay.specs.Store.{Kept}
 use Rattle.body_calls.specs.Own.{is_in}
@@ -41,10 +42,19 @@ all_wide i ss qs e w = record { count = w.count ∙ e; width = λ s l. w.width s
 -- a list with another vector of a signal
 pub set_there : (qs : List Partly) (x : ℕ) (q : Partly) (s : ℕ) (t : Bool) → x < length qs → (x == s) ≡ t → vector_at (slice_set qs x q) s ≡ (if t then q else vector_at qs s)
 set_there qs x q s true l e = let is : s ≡ x = sym (eqb-true x s e) in ap (λ y. vector_at (slice_set qs x q) y) is ∙ get_or-set_same qs x q no_value l
-set_there qs x q s false l e = get_or-set_other qs x s q no_value (λ is. false≢true (sym e ∙ eqb_is is))
+set_there qs x q s false l e = get_or-set_other qs x s q no_value (λ is. false≢true (sym e ∙ eqb_is (sym is)))
   where
     eqb_is : x ≡ s → (x == s) ≡ true
     eqb_is is = grind (arith, nat_tests, is)
+
+-- a vector at a place of a list
+other_default : (qs : List Partly) (i : ℕ) (a b : Partly) → i < length qs → get_or qs i a ≡ get_or qs i b
+other_default [] i a b l = absurd (omega (arith, l))
+other_default (q ∷ qs) zero a b l = refl
+other_default (q ∷ qs) (suc i) a b l = other_default qs i a b (omega (arith, l))
+
+pub in_list : (qs : List Partly) (i : ℕ) (q : Partly) → i < length qs → q ≡ get_or qs i q → q ≡ vector_at qs i
+in_list qs i q l is = is ∙ other_default qs i q no_value l
 
 pub set_wide : (ss : List Signal) (qs : List Partly) (x : ℕ) (q : Partly) → x < length qs → length q.bits ≡ (get_or ss x no_signal).width → AreWide ss qs → AreWide ss (slice_set qs x q)
 set_wide ss qs x q l width w = record { count = length-set qs x q ∙ w.count; width = λ s m. ap (λ (p : Partly). length p.bits) (set_there qs x q s (x == s) l refl) ∙ at s (x == s) refl m }
@@ -58,9 +68,12 @@ set_wide ss qs x q l width w = record { count = length-set qs x q ∙ w.count; w
 known_width : (d : Design) (k : Kept) (s : ℕ) (q : Partly) → q.bits ≡ map k (signal_cells d s) → length q.bits ≡ (signal_at d s).width
 known_width d k s q e = ap length e ∙ length-map (signal_cells d s) k ∙ length-map-range_with_len (cell s) 0 (signal_at d s).width
 
-module _ (d : Design) (k : Kept) (things : List ℕ) (i x : ℕ) (l : i < length things) (is : x ≡ get_or things i x) where
+module _ (d : Design) (k : Kept) (things : List ℕ) (i e : ℕ) (l : i < length things) where
+  abbrev x : ℕ
+  x = get_or things i e
+
   more : (s : ℕ) → is_in (take (i + 1) things) s ≡ (is_in (take i things) s || x == s)
-  more s = list_any_more (λ y. y == s) things i x l ∙ ap (λ y. is_in (take i things) s || y == s) (sym is)
+  more s = list_any_more (λ y. y == s) things i e l
 
   -- a memory is passed over
   passed : (qs : List Partly) → length d.signals ≤ x → AreKnownBits d k (take i things) qs → AreKnownBits d k (take (i + 1) things) qs
@@ -114,16 +127,16 @@ pub record SoFar (x : Store) (v : StepVectors) (things : List ℕ) (i : ℕ) (w 
 pub none_so_far : (x : Store) (v : StepVectors) (things : List ℕ) → SoFar x v things 0 v
 none_so_far x v things = record { before = refl; made = refl; known = λ d k h fits. (fits, none_opened d k things v) }
 
-pub memory_so_far : (x : Store) (v : StepVectors) (things : List ℕ) (i thing : ℕ) (w : StepVectors) → i < length things → thing ≡ get_or things i thing → length w.before ≤ thing → SoFar x v things i w → SoFar x v things (i + 1) w
-memory_so_far x v things i thing w l is past f = record { before = f.before; made = f.made; known = λ d k h fits. memory_opened d k things i thing l is w (f.known d k h fits) past }
+pub memory_so_far : (x : Store) (v : StepVectors) (things : List ℕ) (i e : ℕ) (w : StepVectors) → i < length things → length w.before ≤ get_or things i e → SoFar x v things i w → SoFar x v things (i + 1) w
+memory_so_far x v things i e w l past f = record { before = f.before; made = f.made; known = λ d k h fits. memory_opened d k things i e l w (f.known d k h fits) past }
 
-pub signal_so_far : (x : Store) (v : StepVectors) (things : List ℕ) (i thing : ℕ) (w u : StepVectors) → i < length things → thing ≡ get_or things i thing → thing < length w.before → IsSetAside x thing w u → SoFar x v things i w → SoFar x v things (i + 1) u
-signal_so_far x v things i thing w u l is inside aside f =
+pub signal_so_far : (x : Store) (v : StepVectors) (things : List ℕ) (i e : ℕ) (w u : StepVectors) → i < length things → get_or things i e < length w.before → IsSetAside x (get_or things i e) w u → SoFar x v things i w → SoFar x v things (i + 1) u
+signal_so_far x v things i e w u l inside aside f =
     let q = aside.0 in
     record {
-      before = ap (λ y. length y.before) aside.1 ∙ length-set w.before thing q ∙ f.before;
-      made = ap (λ y. length y.made) aside.1 ∙ length-set w.made thing q ∙ f.made;
-      known = λ d k h fits. signal_opened d k things i thing l is w u q inside aside.1 (aside.2 d k h) (f.known d k h fits);
+      before = ap (λ y. length y.before) aside.1 ∙ length-set w.before (get_or things i e) q ∙ f.before;
+      made = ap (λ y. length y.made) aside.1 ∙ length-set w.made (get_or things i e) q ∙ f.made;
+      known = λ d k h fits. signal_opened d k things i e l w u q inside aside.1 (aside.2 d k h) (f.known d k h fits);
     }
 
 -- all

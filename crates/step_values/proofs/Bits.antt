@@ -1,5 +1,5 @@
 -- Bits of a signal that are forgotten, of what is known of it and of what was made of it.
-use Rattle.std.proofs.Common.{◌≡◌, ℕ, ◌+◌, ◌<◌, ◌≤◌, ◌==◌, ◌&&◌, Bool, true, false, if◌then◌else◌, List, length, map, get_or, [], ◌∷◌, Option, None, refl, sym, ap, ap₂, subst, ◌∙◌, arith, inl, inr}
+use Rattle.std.proofs.Common.{◌≡◌, ℕ, ◌+◌, ◌<◌, ◌==◌, ◌&&◌, Bool, true, false, if◌then◌else◌, List, length, map, get_or, [], ◌∷◌, Option, None, refl, sym, ap, ap₂, subst, ◌∙◌, arith, inl, inr}
 use Rattle.std.specs.Prelude.{slice_set}
 use Rattle.std.specs.List.{range_with_len}
 use Rattle.std.proofs.Math.Path.{fun_ext}
@@ -20,7 +20,7 @@ use Rattle.store_knowledge.specs.Knows.{with_bits}
 use Rattle.store_knowledge.proofs.Cells.{out_of_cells}
 use Rattle.step_values.specs.Loose.{forgetting}
 use Rattle.step_values.specs.Vectors.{FitsSignals, StepVectors, vector_at}
-use Rattle.step_values.proofs.Aside.{set_there, set_wide}
+use Rattle.step_values.proofs.Aside.{in_list, set_there, set_wide}
 
 -- a bit that is forgotten by a mask
 abbrev pub left : ℕ → KnownBits → ℕ → Option Bit
@@ -82,3 +82,13 @@ module _ (d : Design) (v : StepVectors) (b : Bits) (q : Partly) (fits : FitsSign
 
     pub made_forgotten : (s : ℕ) → s < length d.signals → (vector_at v.made s).bits ≡ map m (signal_cells d s) → (vector_at (slice_set v.made b.signal q) s).bits ≡ map (forgetting (has_bit b) m) (signal_cells d s)
     made_forgotten s k old = ap (λ (p : Partly). p.bits) (set_there v.made b.signal q s (b.signal == s) l refl) ∙ bits_at s (b.signal == s) refl k old
+
+-- the same, of a vector that was found at its place
+pub forget_made_is : (d : Design) (v : StepVectors) (b : Bits) (p q : Partly) → FitsSignals d v → b.signal < length v.made → p ≡ get_or v.made b.signal p → length q.bits ≡ length p.bits → ((i : ℕ) → i < length p.bits → get_or q.bits i None ≡ left b.mask p.bits i)
+    → FitsSignals d (record v { made = slice_set v.made b.signal q })
+    × ((m : Kept) (s : ℕ) → s < length d.signals → (vector_at v.made s).bits ≡ map m (signal_cells d s) → (vector_at (slice_set v.made b.signal q) s).bits ≡ map (forgetting (has_bit b) m) (signal_cells d s))
+forget_made_is d v b p q fits l found width bits =
+    let is : p ≡ vector_at v.made b.signal = in_list v.made b.signal p l found in
+    let size : length q.bits ≡ length (vector_at v.made b.signal).bits = width ∙ ap (λ (x : Partly). length x.bits) is in
+    let each : (i : ℕ) → i < length (vector_at v.made b.signal).bits → get_or q.bits i None ≡ left b.mask (vector_at v.made b.signal).bits i = subst (λ (x : Partly). (i : ℕ) → i < length x.bits → get_or q.bits i None ≡ left b.mask x.bits i) is bits in
+    (made_fits d v b q fits l size, λ m s. made_forgotten d v b q fits l size m each s)

@@ -1,24 +1,22 @@
 -- What is known of the bits that the dump has.
-use Rattle.std.proofs.Common.{◌≡◌, ℕ, ◌+◌, ◌<◌, ◌&&◌, Bool, true, false, List, [], ◌∷◌, map, get_or, Option, Some, None, refl, sym, ap, subst, ◌∙◌, arith}
+use Rattle.std.proofs.Common.{◌≡◌, ℕ, ◌+◌, ◌<◌, Bool, true, false, List, map, get_or, Option, Some, None, refl, sym, ap, ◌∙◌, arith}
 use Rattle.std.specs.Prelude.{nat_lt, is_some, slice_index_or}
 use Rattle.std.specs.List.{range_with_len}
 use Rattle.std.proofs.lemmas.Bool.{and_parts, false≢true}
 use Rattle.std.proofs.lemmas.Bool.Decides.{nat_tests}
-use Rattle.event_machine.specs.Cell.{Cell, Values}
+use Rattle.event_machine.specs.Cell.{Values}
 use Rattle.four_state.specs.Vector.{Vector, same_bit}
 use Rattle.four_state.specs.declared.bit.Bit.{Bit}
 use Rattle.design_model.specs.Design.{Design, a_signal, cell, signal_at, signal_bits, signal_cells}
-use Rattle.design_model.specs.Shows.{BoundDump}
 use Rattle.design_model.proofs.Definite.{bound_clear_law}
 use Rattle.design_model.proofs.Lawful.{same_bit_is, same_bit_self}
 use Rattle.body_replay.specs.Store.{Kept}
 use Rattle.body_store.proofs.Rows.{row_at}
-use Rattle.body_calls.specs.Own.{is_in}
 use Rattle.code_values.specs.Values.{value_of}
 use Rattle.step_values.specs.Dumped.{AreDumped}
-use Rattle.step_values.specs.Laws.{AreListed, BoundLaw, KnowsDump, StillLaw}
+use Rattle.step_values.specs.Laws.{BoundLaw, StillLaw}
 use Rattle.step_values.specs.Loose.{has_code}
-use Rattle.step_values.proofs.Dumps.{map_twice}
+use Rattle.step_values.proofs.Dumps.{bits_in, map_twice}
 
 -- the bit at a place of a signal
 bit_of : (d : Design) (v : Values Bit) (s j : ℕ) (o : List (Option Bit)) → o ≡ map Some (signal_bits d v s) → j < (signal_at d s).width → get_or o j None ≡ Some (v (cell s j))
@@ -49,10 +47,6 @@ code_of codes s coded = go (slice_index_or codes s None) refl coded
     go None e none = absurd (false≢true none)
     go (Some code) e some = (code, e)
 
-bits_in : Option Vector → List Bit
-bits_in None = []
-bits_in (Some v) = v.bits
-
 -- signals of codes with the same value have the same bits
 same_bits : (d : Design) (codes : List (Option ℕ)) (closed last : List (Option Vector)) (old new : Values Bit) (s code : ℕ) → AreDumped d codes closed old → AreDumped d codes last new → slice_index_or codes s None ≡ Some code → value_of closed code ≡ value_of last code → signal_bits d old s ≡ signal_bits d new s
 same_bits d codes closed last old new s code before after coded same =
@@ -60,7 +54,7 @@ same_bits d codes closed last old new s code before after coded same =
     let w = after s code coded in
     sym v.2 ∙ ap bits_in (sym v.1 ∙ same ∙ w.1) ∙ w.2
 
-is_same : Bit → Option Bit → Bool
+abbrev is_same : Bit → Option Bit → Bool
 is_same b None = false
 is_same b (Some a) = same_bit a b
 

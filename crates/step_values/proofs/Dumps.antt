@@ -1,11 +1,11 @@
 -- The dump's values of signals are put in one after the other.
-use Rattle.std.proofs.Common.{◌≡◌, ℕ, ◌+◌, ◌<◌, ◌≤◌, ◌==◌, ◌&&◌, ◌||◌, Bool, true, false, if◌then◌else◌, List, [], ◌∷◌, length, map, take, get_or, Option, Some, None, refl, sym, ap, subst, ◌∙◌, arith, inl, inr, length-map}
+use Rattle.std.proofs.Common.{◌≡◌, ℕ, ◌+◌, ◌<◌, ◌≤◌, ◌==◌, ◌&&◌, ◌||◌, Bool, true, false, if◌then◌else◌, List, [], ◌∷◌, length, map, take, get_or, Option, Some, None, refl, sym, ap, subst, ◌∙◌, arith}
 use Rattle.std.specs.Prelude.{nat_lt, is_some, slice_index_or}
 use Rattle.std.specs.List.{range_with_len}
 use Rattle.std.proofs.Math.Path.{fun_ext}
-use Rattle.std.proofs.lemmas.Bool.{cases_lt, eqb-true, false≢true}
+use Rattle.std.proofs.lemmas.Bool.{eqb-true, false≢true}
 use Rattle.std.proofs.lemmas.Bool.Decides.{nat_tests}
-use Rattle.std.proofs.lemmas.List.{get_or_past}
+use Rattle.std.proofs.lemmas.List.{get_or_past, length-map}
 use Rattle.std.proofs.lemmas.List.FromFn.{length-map-range_with_len}
 use Rattle.std.proofs.lemmas.List.Folds.{list_any_more}
 use Rattle.event_machine.specs.Cell.{Cell, Values}
@@ -16,7 +16,6 @@ use Rattle.body_replay.specs.Store.{Kept}
 use Rattle.body_calls.specs.Own.{is_in}
 use Rattle.body_store.specs.Owned.{IsBlank}
 use Rattle.body_store.proofs.Rows.{row_at}
-use Rattle.code_values.specs.Values.{value_of}
 use Rattle.store_knowledge.specs.Knows.{with_bits}
 use Rattle.store_knowledge.proofs.Cells.{out_of_cells}
 use Rattle.step_values.specs.Dumped.{AreDumped, coded_value, dumped_of, putting}
@@ -36,6 +35,14 @@ said d codes values new s dumped coded = go (slice_index_or codes s None) refl c
     go : (o : Option ℕ) → slice_index_or codes s None ≡ o → is_some o ≡ true → IsSaid d codes values new s
     go None e none = absurd (false≢true none)
     go (Some code) e some = let v = dumped s code e in record { value = v.0; is = ap (coded_value values) e ∙ v.1; bits = v.2 }
+
+-- the bits of a value, if there is one
+abbrev pub bits_in : Option Vector → List Bit
+bits_in None = []
+bits_in (Some v) = v.bits
+
+pub value_bits : (d : Design) (codes : List (Option ℕ)) (values : List (Option Vector)) (new : Values Bit) (s : ℕ) (v : Vector) → AreDumped d codes values new → has_code codes s ≡ true → dumped_of codes values s ≡ Some v → v.bits ≡ signal_bits d new s
+value_bits d codes values new s v dumped coded e = let x = said d codes values new s dumped coded in ap bits_in (sym e ∙ x.is) ∙ x.bits
 
 pub said_width : (d : Design) (new : Values Bit) (s : ℕ) (ps : List Bit) → ps ≡ signal_bits d new s → length ps ≡ (signal_at d s).width
 said_width d new s ps e = ap length e ∙ length-map (signal_cells d s) new ∙ length-map-range_with_len (cell s) 0 (signal_at d s).width
@@ -71,17 +78,20 @@ module _ (d : Design) (new : Values Bit) (k : Kept) (blank : IsBlank d k) (s : �
 
 -- ---- one more signal
 
-module _ (d : Design) (new : Values Bit) (k : Kept) (ss : List ℕ) (i s : ℕ) (l : i < length ss) (is : s ≡ get_or ss i s) where
-  more_at : (c : Cell) (a b e : Bool) → (if (a || false) && e then Some (new c) else (if b && e then Some (new c) else k c)) ≡ (if (b || a) && e then Some (new c) else k c)
+module _ (d : Design) (new : Values Bit) (k : Kept) (ss : List ℕ) (i e : ℕ) (l : i < length ss) where
+  abbrev s : ℕ
+  s = get_or ss i e
+
+  more_at : (c : Cell) (a b t : Bool) → (if (a || false) && t then Some (new c) else (if b && t then Some (new c) else k c)) ≡ (if (b || a) && t then Some (new c) else k c)
   more_at c true true true = refl
   more_at c true true false = refl
   more_at c true false true = refl
   more_at c true false false = refl
-  more_at c false true e = refl
-  more_at c false false e = refl
+  more_at c false true t = refl
+  more_at c false false t = refl
 
   pub put_more : putting d (s ∷ []) new (putting d (take i ss) new k) ≡ putting d (take (i + 1) ss) new k
   put_more = fun_ext (λ c.
-      let more : is_in (take (i + 1) ss) c.thing ≡ (is_in (take i ss) c.thing || s == c.thing) = list_any_more (λ y. y == c.thing) ss i s l ∙ ap (λ y. is_in (take i ss) c.thing || y == c.thing) (sym is) in
+      let more : is_in (take (i + 1) ss) c.thing ≡ (is_in (take i ss) c.thing || s == c.thing) = list_any_more (λ y. y == c.thing) ss i e l in
       more_at c (s == c.thing) (is_in (take i ss) c.thing) (nat_lt c.place (signal_at d c.thing).width)
       ∙ ap (λ b. if b && nat_lt c.place (signal_at d c.thing).width then Some (new c) else k c) (sym more))

@@ -1,10 +1,9 @@
 -- What a store knows once bits are forgotten, bits after bits and row after row.
-use Rattle.std.proofs.Common.{◌≡◌, ℕ, ◌+◌, ◌<◌, ◌≤◌, ◌||◌, ◌^◌, ◌==◌, ◌&&◌, Bool, true, false, List, length, map, take, get_or, Option, None, refl, sym, ap, subst, ◌∙◌, length-map}
-use Rattle.std.specs.List.{All, range_with_len}
+use Rattle.std.proofs.Common.{◌≡◌, ℕ, ◌+◌, ◌<◌, ◌||◌, ◌==◌, ◌&&◌, Bool, true, false, List, length, map, take, get_or, Option, None, refl, sym, ap, subst, ◌∙◌}
+use Rattle.std.specs.List.{range_with_len}
 use Rattle.std.proofs.Math.Path.{fun_ext}
 use Rattle.std.proofs.lemmas.Bool.{eqb-true, false_from_ne_true, false≢true}
-use Rattle.std.proofs.lemmas.List.{take_all}
-use Rattle.std.proofs.lemmas.List.Elements.{All-get_or}
+use Rattle.std.proofs.lemmas.List.{length-map}
 use Rattle.std.proofs.lemmas.List.FromFn.{length-map-range_with_len}
 use Rattle.event_machine.specs.Cell.{Cell}
 use Rattle.four_state.specs.Masks.{is_set}
@@ -17,9 +16,9 @@ use Rattle.index_sets.specs.Rows.{row_at}
 use Rattle.process_targets.specs.Targets.{has_bit, row_has}
 use Rattle.process_targets.specs.declared.bits.Bits.{Bits}
 use Rattle.store_knowledge.specs.Knows.{Knows, with_bits}
-use Rattle.step_values.specs.Loose.{HaveRows, IsInside, forgetting, has_code, some_row_has, uncoded}
+use Rattle.step_values.specs.Loose.{IsInside, forgetting, has_code, some_row_has, uncoded}
 use Rattle.step_values.specs.Loosens.{Loosens}
-use Rattle.step_values.specs.Vectors.{FitsSignals, StepVectors, vector_at}
+use Rattle.step_values.specs.Vectors.{StepVectors, vector_at}
 use Rattle.step_values.proofs.Bits.{bits_forgotten, left, row_kept}
 use Rattle.step_values.proofs.Tests.{both_tests, coded_bits, free_bits, no_test, row_more, rows_more, same_test, uncoded_none, uncoded_or}
 
@@ -89,3 +88,11 @@ one_more codes t u all x y z v w a both first second = record {
 
 pub all_of : (codes : List (Option ℕ)) (t u : Cell → Bool) (x y : Store) (v w : StepVectors) → ((c : Cell) → t c ≡ u c) → Loosens codes t x y v w → Loosens codes u x y v w
 all_of codes t u x y v w same f = subst (λ a. Loosens codes a x y v w) (fun_ext same) f
+
+-- ---- the steps of the loops
+
+pub row_step : (codes : List (Option ℕ)) (row : List Bits) (i : ℕ) (e : Bits) (x y z : Store) (v w a : StepVectors) → i < length row → Loosens codes (row_has (take i row)) x y v w → Loosens codes (has_bit (get_or row i e)) y z w a → Loosens codes (row_has (take (i + 1) row)) x z v a
+row_step codes row i e x y z v w a l = one_more codes (has_bit (get_or row i e)) (row_has (take i row)) (row_has (take (i + 1) row)) x y z v w a (λ c. row_more row i e c l)
+
+pub rows_step : (codes : List (Option ℕ)) (rows : List (List Bits)) (ps : List ℕ) (i e : ℕ) (x y z : Store) (v w a : StepVectors) → i < length ps → Loosens codes (some_row_has rows (take i ps)) x y v w → Loosens codes (row_has (row_at rows (get_or ps i e))) y z w a → Loosens codes (some_row_has rows (take (i + 1) ps)) x z v a
+rows_step codes rows ps i e x y z v w a l = one_more codes (row_has (row_at rows (get_or ps i e))) (some_row_has rows (take i ps)) (some_row_has rows (take (i + 1) ps)) x y z v w a (λ c. rows_more rows ps i e c l)

@@ -3,23 +3,21 @@ use Rattle.std.proofs.Common.{◌≡◌, ℕ, ◌<◌, ◌==◌, ◌&&◌, ◌||
 use Rattle.std.specs.Prelude.{nat_lt}
 use Rattle.std.specs.List.{All, list_any}
 use Rattle.std.proofs.Math.Path.{fun_ext}
-use Rattle.std.proofs.lemmas.Bool.{cases_lt, eqb-true, false_from_ne_true, false≢true, or_parts}
+use Rattle.std.proofs.lemmas.Bool.{cases_lt, eqb-true, false_from_ne_true, false≢true}
 use Rattle.std.proofs.lemmas.Bool.Decides.{nat_tests}
 use Rattle.std.proofs.lemmas.List.Elements.{All-head, All-tail}
 use Rattle.event_machine.specs.Cell.{Cell}
 use Rattle.four_state.specs.Masks.{is_set}
 use Rattle.four_state.specs.Vector.{Vector}
-use Rattle.design_model.specs.BodyLaws.{all_cells}
 use Rattle.design_model.specs.Design.{Design, In, body_at, signal_at, signal_cells}
 use Rattle.design_model.specs.Mentions.{blocking_target}
-use Rattle.body_replay.specs.Store.{Kept}
 use Rattle.body_calls.specs.Own.{is_in}
 use Rattle.body_store.specs.Owned.{IsBlank}
 use Rattle.body_store.specs.declared.store.Store.{Store}
 use Rattle.index_sets.specs.Rows.{row_at}
 use Rattle.process_targets.specs.Targets.{row_has}
 use Rattle.process_targets.specs.declared.bits.Bits.{Bits}
-use Rattle.replay_model.specs.Step.{Closing, clocked_run, is_dumped, is_loose, settle_start, with_dump}
+use Rattle.replay_model.specs.Step.{Closing, clocked_run, is_loose, settle_start}
 use Rattle.replay_steps.specs.Settling.{loosened}
 use Rattle.replay_steps.proofs.Settling.{loose_is, starts_settled}
 use Rattle.store_knowledge.specs.Knows.{Knows}
@@ -37,23 +35,25 @@ any_same f g (x ∷ xs) same = ap₂ (λ a b. a || b) (same x (inl refl)) (any_s
 -- each of a list has a code
 coded_in : (d : Design) (codes : List (Option ℕ)) (ss : List ℕ) (s : ℕ) → HaveCodes d codes ss → is_in ss s ≡ true → has_code codes s ≡ true
 coded_in d codes [] s all h = absurd (false≢true h)
-coded_in d codes (x ∷ ss) s all h = elim (or_parts (x == s) (is_in ss s) h) [
-  | inl e ↦ subst (λ y. has_code codes y ≡ true) (eqb-true x s e) (All-head x ss all).1
-  | inr e ↦ coded_in d codes ss s (All-tail x ss all) e
-]
+coded_in d codes (x ∷ ss) s all h = go (x == s) refl h (coded_in d codes ss s (All-tail (λ y. (y < length d.signals) × (has_code codes y ≡ true)) x ss all))
+  where
+    go : (t : Bool) → (x == s) ≡ t → (t || is_in ss s) ≡ true → (is_in ss s ≡ true → has_code codes s ≡ true) → has_code codes s ≡ true
+    go true e k rest = let first : (x < length d.signals) × (has_code codes x ≡ true) = All-head (λ y. (y < length d.signals) × (has_code codes y ≡ true)) x ss all in subst (λ y. has_code codes y ≡ true) (eqb-true x s e) first.1
+    go false e k rest = rest k
 
 -- a row of bits inside of signals has no cell of anything else
 row_out : (d : Design) (row : List Bits) (c : Cell) → All (IsInside d) row → length d.signals ≤ c.thing → row_has row c ≡ false
 row_out d [] c all past = refl
 row_out d (b ∷ row) c all past =
-    let inside = (All-head b row all).0 in
+    let first : IsInside d b = All-head (IsInside d) b row all in
+    let inside : b.signal < length d.signals = first.0 in
     let other : (b.signal == c.thing) ≡ false = grind (arith, nat_tests, inside, past) in
-    ap (λ t. (t && is_set b.mask c.place) || row_has row c) other ∙ row_out d row c (All-tail b row all) past
+    ap (λ t. (t && is_set b.mask c.place) || row_has row c) other ∙ row_out d row c (All-tail (IsInside d) b row all) past
 
 in_rows : (d : Design) (rows : List (List Bits)) (ps : List ℕ) (p : ℕ) → HaveRows d rows ps → In p ps → All (IsInside d) (row_at rows p)
 in_rows d rows [] p all i = absurd i
-in_rows d rows (q ∷ ps) p all (inl e) = subst (λ x. All (IsInside d) (row_at rows x)) e (All-head q ps all).1
-in_rows d rows (q ∷ ps) p all (inr i) = in_rows d rows ps p (All-tail q ps all) i
+in_rows d rows (q ∷ ps) p all (inl e) = let first : (q < length rows) × All (IsInside d) (row_at rows q) = All-head (λ x. (x < length rows) × All (IsInside d) (row_at rows x)) q ps all in subst (λ x. All (IsInside d) (row_at rows x)) e first.1
+in_rows d rows (q ∷ ps) p all (inr i) = in_rows d rows ps p (All-tail (λ x. (x < length rows) × All (IsInside d) (row_at rows x)) q ps all) i
 
 module _ (st : Closing) (moves woken : List ℕ) (targets : List (List Bits)) (changed : List ℕ) (codes : List (Option ℕ)) (values : List (Option Vector)) (start : IsStartOf st moves woken targets changed codes values) (rows : HaveRows st.design targets woken) where
   target_at : (p : ℕ) (c : Cell) → In p woken → row_has (row_at targets p) c ≡ blocking_target st.design (body_at st.design p) c

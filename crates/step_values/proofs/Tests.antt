@@ -1,6 +1,5 @@
 -- What is forgotten one test after the other.
 use Rattle.std.proofs.Common.{◌≡◌, ℕ, ◌+◌, ◌<◌, ◌&&◌, ◌||◌, Bool, true, false, not, ◌==◌, if◌then◌else◌, List, Option, get_or, length, take, None, refl, sym, ap, ◌∙◌}
-use Rattle.std.specs.List.{list_any}
 use Rattle.std.proofs.Math.Path.{fun_ext}
 use Rattle.std.proofs.lemmas.Bool.{eqb-true}
 use Rattle.std.proofs.lemmas.List.Folds.{list_any_more}
@@ -72,8 +71,8 @@ module _ (codes : List (Option ℕ)) (b : Bits) (c : Cell) where
 
 -- ---- one more of a list
 
-pub row_more : (row : List Bits) (i : ℕ) (b : Bits) (c : Cell) → i < length row → b ≡ get_or row i b → row_has (take (i + 1) row) c ≡ (row_has (take i row) c || has_bit b c)
-row_more row i b c l is = list_any_more (λ y. has_bit y c) row i b l ∙ ap (λ y. row_has (take i row) c || has_bit y c) (sym is)
+pub row_more : (row : List Bits) (i : ℕ) (e : Bits) (c : Cell) → i < length row → row_has (take (i + 1) row) c ≡ (row_has (take i row) c || has_bit (get_or row i e) c)
+row_more row i e c l = list_any_more (λ y. has_bit y c) row i e l
 
-pub rows_more : (rows : List (List Bits)) (ps : List ℕ) (i p : ℕ) (c : Cell) → i < length ps → p ≡ get_or ps i p → some_row_has rows (take (i + 1) ps) c ≡ (some_row_has rows (take i ps) c || row_has (row_at rows p) c)
-rows_more rows ps i p c l is = list_any_more (λ q. row_has (row_at rows q) c) ps i p l ∙ ap (λ q. some_row_has rows (take i ps) c || row_has (row_at rows q) c) (sym is)
+pub rows_more : (rows : List (List Bits)) (ps : List ℕ) (i e : ℕ) (c : Cell) → i < length ps → some_row_has rows (take (i + 1) ps) c ≡ (some_row_has rows (take i ps) c || row_has (row_at rows (get_or ps i e)) c)
+rows_more rows ps i e c l = list_any_more (λ q. row_has (row_at rows q) c) ps i e l

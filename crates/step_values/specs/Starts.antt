@@ -11,8 +11,8 @@ use Rattle.body_calls.specs.Own.{is_in}
 use Rattle.body_store.specs.declared.store.Store.{Store}
 use Rattle.replay_model.specs.Step.{Closing, Working, is_dumped, is_touched, known_bits}
 use Rattle.store_knowledge.specs.Knows.{Knows}
-use Rattle.step_values.specs.Dumped.{AreDumped, HaveCodes}
-use Rattle.step_values.specs.Loose.{HaveRows, has_code}
+use Rattle.step_values.specs.Dumped.{AreDumped}
+use Rattle.step_values.specs.Loose.{has_code}
 use Rattle.step_values.specs.Vectors.{FitsSignals, StepVectors, vector_at}
 
 -- the store knows what is kept, and of the signals that may move the vectors are those at the start of the step, and of the bound
@@ -24,12 +24,12 @@ pub record HasValues (st : Closing) (w : Working) (x : Store) (v : StepVectors) 
   pub made : (s : ℕ) → s < length st.design.signals → st.sets.moves s ≡ true → st.bound s ≡ true → (vector_at v.made s).bits ≡ known_bits st.design w.made s
 
 -- what the lists of the code say of a step that is to be closed, in a design without Clocked
-pub record IsStartOf (st : Closing) (moves woken : List ℕ) (targets : List (List Bits)) (changed : List ℕ) (codes : List (Option ℕ)) (values : List (Option Vector)) : Type 0 where
+pub record IsStartOf (st : Closing) (moving waking : List ℕ) (rows : List (List Bits)) (changed : List ℕ) (codes : List (Option ℕ)) (values : List (Option Vector)) : Type 0 where
   pub unclocked : st.tables.clocked ≡ []
-  pub moves : (s : ℕ) → st.sets.moves s ≡ true → is_in moves s ≡ true
-  pub woken : (p : ℕ) → In p woken ↔ (In p (st.tables.order ++ st.tables.last) × (is_touched st p ≡ true))
-  pub targets : (p : ℕ) (c : Cell) → In p woken → c.thing < length st.design.signals → row_has (row_at targets p) c ≡ blocking_target st.design (body_at st.design p) c
-  pub driven : (p : ℕ) (c : Cell) → In p woken → blocking_target st.design (body_at st.design p) c ≡ true → c.thing < length st.design.signals
+  pub moves : (s : ℕ) → st.sets.moves s ≡ true → is_in moving s ≡ true
+  pub woken : (p : ℕ) → In p waking ↔ (In p (st.tables.order ++ st.tables.last) × (is_touched st p ≡ true))
+  pub targets : (p : ℕ) (c : Cell) → In p waking → c.thing < length st.design.signals → row_has (row_at rows p) c ≡ blocking_target st.design (body_at st.design p) c
+  pub driven : (p : ℕ) (c : Cell) → In p waking → blocking_target st.design (body_at st.design p) c ≡ true → c.thing < length st.design.signals
   pub bound : (s : ℕ) → st.bound s ≡ has_code codes s
   pub signals : (s : ℕ) → st.bound s ≡ true → s < length st.design.signals
   pub dumped : AreDumped st.design codes values st.new

@@ -1,7 +1,8 @@
 -- What is set aside of each signal in a step: as it was at the start of the step, and as it was made in it.
 use Rattle.std.specs.Prelude.{◌≡◌, ◌<◌, ℕ, true, List, length, map, slice_index_or, slice_set}
 use Rattle.known_state.specs.Partly.{Partly}
-use Rattle.design_model.specs.Design.{Design, Signal, no_signal, signal_cells}
+use Rattle.design_model.specs.Design.{Design, no_signal, signal_cells}
+use Rattle.design_model.specs.declared.design.Signal.{Signal}
 use Rattle.body_replay.specs.Store.{Kept}
 use Rattle.body_calls.specs.Own.{is_in}
 use Rattle.value_store.specs.Signals.{no_value}

@@ -12,6 +12,7 @@ mod begin;
 mod dump;
 mod forget;
 mod laws;
+mod room;
 mod values;
 
 pub use dump::put_dump;

@@ -1,21 +1,16 @@
-ghost use Rattle.std.specs.Prelude.{◌≡◌, ◌<◌, ◌≤◌, ◌^◌, IfOk, ℕ, length, map, slice_set, true};
-ghost use Rattle.std.specs.List.{All};
+ghost use Rattle.std.specs.Prelude.{◌≡◌, ◌<◌, ◌^◌, ℕ, length, map, slice_set};
 ghost use Rattle.design_model.specs.Design.{Design, signal_cells};
 ghost use Rattle.design_model.specs.View.{design_view};
 ghost use Rattle.body_replay.specs.Store.{Kept};
-ghost use Rattle.value_store.specs.Signals.{HasWidth};
 ghost use Rattle.process_targets.specs.Targets.{has_bit};
 ghost use Rattle.store_knowledge.specs.Knows.{Knows};
 ghost use Rattle.step_values.specs.Loose.{forgetting};
-ghost use Rattle.step_values.specs.Vectors.{AreOpened, AreWide, FitsSignals, IsSetAside, vector_at};
+ghost use Rattle.step_values.specs.Vectors.{AreOpened, FitsSignals, IsSetAside, vector_at};
 
 use bit_changes::forgotten;
 use body_store::Store;
-use cov_host::NoMemory;
-use design_model::{Design, Signal};
 use known_state::Known;
 use process_targets::Bits;
-use std::alloc::Global;
 use std::marker::Model;
 use store_knowledge::known_signal;
 
@@ -25,9 +20,9 @@ use store_knowledge::known_signal;
 #[derive(Drop)]
 pub struct StepValues {
     /// What was known of the signal at the start of the step.
-    before: Vec<Known>,
+    pub(crate) before: Vec<Known>,
     /// What was made of it in the step, before the dump's value took its place.
-    made: Vec<Known>,
+    pub(crate) made: Vec<Known>,
 }
 
 impl Model for StepValues {
@@ -42,17 +37,6 @@ impl Model for StepValues {
 }
 
 impl StepValues {
-    /// Room for each signal of a design. All memory that is ever needed is taken here.
-    pub fn new(alloc: Global, design: &Design) -> Result<Self, NoMemory>
-        requires widths { All HasWidth design.now.signals }
-        requires few { length design.now.signals ≤ 65536 }
-        ensures { IfOk result (λ made. FitsSignals (design_view design.now) made) }
-    {
-        let before = unknown_values(alloc, design.signals.as_slice())?;
-        let made = unknown_values(alloc, design.signals.as_slice())?;
-        Ok(StepValues { before, made })
-    }
-
     /// What was known of a signal at the start of the step.
     pub fn before(&self, signal: u32) -> Known
         requires { signal < length self.now.before }
@@ -121,17 +105,4 @@ impl StepValues {
         let signal = bits.signal as usize;
         self.made[signal] = forgotten(&self.made[signal], bits.mask, bits.signal);
     }
-}
-
-/// A vector for each signal of which no bit is sure.
-fn unknown_values(alloc: Global, signals: &[Signal]) -> Result<Vec<Known>, NoMemory>
-    requires widths { All HasWidth signals.now }
-    requires few { length signals.now ≤ 65536 }
-    ensures { IfOk result (λ made. AreWide signals.now made.items) }
-{
-    let mut values = Vec::with_capacity(alloc, signals.len())?;
-    for (place, signal) in signals.iter().enumerate() {
-        values.push(Known::unknown(signal.width, signal.signed, place as u32))?;
-    }
-    Ok(values)
 }

@@ -1,5 +1,5 @@
 -- What is known of each cell once a signal has other bits.
-use Rattle.std.proofs.Common.{◌≡◌, ℕ, zero, suc, ◌+◌, ◌<◌, ◌≤◌, ◌==◌, Bool, true, false, if◌then◌else◌, List, [], ◌∷◌, length, map, get_or, None, refl, sym, ap, subst, ◌∙◌, arith, inl, inr}
+use Rattle.std.proofs.Common.{◌≡◌, ℕ, zero, suc, ◌+◌, ◌<◌, ◌≤◌, ◌==◌, Bool, true, false, if◌then◌else◌, length, map, get_or, None, refl, sym, ap, subst, ◌∙◌, arith, inl, inr}
 use Rattle.std.specs.Prelude.{nat_lt}
 use Rattle.std.specs.List.{range_with_len}
 use Rattle.std.proofs.Math.Path.{fun_ext}

@@ -11,7 +11,7 @@ use Rattle.body_store.specs.Held.{HoldsStore}
 use Rattle.body_store.specs.Made.{unblamed}
 use Rattle.body_store.specs.Owned.{IsBlank}
 use Rattle.body_store.specs.Scenes.{scene_of}
-use Rattle.body_store.specs.Views.{hides, kept_scene, view_of}
+use Rattle.body_store.specs.Views.{kept_scene, view_of}
 use Rattle.body_store.proofs.BlocksLaws.{held_law, kept_own_law, same_law}
 use Rattle.body_store.proofs.ViewLaws.{plain_law}
 use Rattle.store_knowledge.specs.Knows.{Knows}

@@ -1,5 +1,5 @@
 use Rattle.step_values.proofs.Aside.{Wide}
-use Rattle.step_values.proofs.values.unknown_values.Given as goal
+use Rattle.step_values.proofs.room.unknown_values.Given as goal
 
 -- there are vectors of the signals so far
 abbrev pub invariant-loop-place : goal.invariant-loop-place
