@@ -45,7 +45,7 @@ fall_kept true true own kept h = h
 fall_kept true false own kept h = absurd (false≢true (kept refl))
 fall_kept false s' own kept h = refl
 
-has_moves : (w : WakeState) (earlier : List WakeState) → AreRounds (w ∷ earlier) → HasMoves w
+pub has_moves : (w : WakeState) (earlier : List WakeState) → AreRounds (w ∷ earlier) → HasMoves w
 has_moves w [] rounds = rounds.1
 has_moves w (a ∷ earlier) rounds = rounds.0.moves
 
@@ -234,8 +234,8 @@ module _ (d : Design) (lawful : IsLawfulDesign d) (dump : BoundDump) (t : ℕ) w
       let ns = notes_back a w next.rest notes in
       let ws = writers_back a w n next writers in
       let now : becomes_single a x ≡ true → IsFirstSingle d dump t x (get_or w.rounds x 0) = λ h.
-          let is : suc n ≡ get_or w.rounds x 0 = omega (arith, next.now x h) in
-          subst (IsFirstSingle d dump t x) is (first_now n a w ts ns ws (has_moves a earlier rounds) (rounds_single a earlier ts ns ws rounds) next x h) in
+      let is : suc n ≡ get_or w.rounds x 0 = omega (arith, next.now x h) in
+      subst (IsFirstSingle d dump t x) is (first_now n a w ts ns ws (has_moves a earlier rounds) (rounds_single a earlier ts ns ws rounds) next x h) in
       ⊎_elim
       now
       (λ out. ⊎_elim

@@ -51,6 +51,7 @@ returns-clause-more g c went =
     let found = c.find_moves.ensures.rest in
     let one : 0 < length ready = omega (arith, c.len.ensures.value, c.if-len-eq0.false) in
     let before : s.derived ≡ a.derived = ap (λ w. w.derived) c.find_ready.ensures.rest in
-    let after = ap (λ w. w.derived) found in
-    (more_derived c.args.round a b ready c.find_ready.ensures.ready one (subst (λ xs. Adds (Contains ready) xs b.derived) before (subst (Adds (Contains ready) s.derived) (sym after) c.add_derived.ensures.derived)),
-      omega (arith, ap length after, c.add_derived.ensures.within, ap (λ v. length v.items) c.add_derived.ensures.told, c.find_ready.new.self.sizes.told_are, ap (λ w. w.tables.things) found))
+    let after = ap (λ w. w.derived) found in (
+      more_derived c.args.round a b ready c.find_ready.ensures.ready one (subst (λ xs. Adds (Contains ready) xs b.derived) before (subst (Adds (Contains ready) s.derived) (sym after) c.add_derived.ensures.derived)),
+      omega (arith, ap length after, c.add_derived.ensures.within, ap (λ v. length v.items) c.add_derived.ensures.told, c.find_ready.new.self.sizes.told_are, ap (λ w. w.tables.things) found),
+    )
