@@ -1,24 +1,23 @@
 -- The writers that are found are those of the design.
-use Rattle.std.proofs.Common.{◌≡◌, ◌≢◌, ◌↔◌, ◌∙◌, ◌⊎◌, inl, inr, ⊎_elim, eq-eqb, ℕ, ◌+◌, ◌<◌, ◌≤◌, Bool, true, false, not, cond, ◌==◌, ◌&&◌, ◌||◌, List, [], ◌∷◌, ◌++◌, length, get_or, map, Option, Some, None, refl, sym, ap, subst, arith}
-use Rattle.std.specs.Prelude.{nat_lt}
+use Rattle.std.proofs.Common.{◌≡◌, ◌≢◌, ◌∙◌, ◌⊎◌, inl, inr, ⊎_elim, eq-eqb, ℕ, ◌+◌, ◌<◌, ◌≤◌, Bool, true, false, not, cond, ◌==◌, ◌&&◌, List, [], ◌∷◌, length, map, Option, Some, None, refl, sym, ap, subst, arith}
 use Rattle.std.specs.List.{All, Contains, filter, list_any}
-use Rattle.std.proofs.lemmas.Bool.{and_from, and_parts, both_ways, cases_Bool, cases_lt, eqb-true, false≢true, ne_eqb, not-true, or_cases, or_left, or_right}
+use Rattle.std.proofs.lemmas.Bool.{and_from, and_parts, both_ways, cases_lt, eqb-true, false≢true, ne_eqb, or_cases, or_left, or_right}
 use Rattle.std.proofs.lemmas.List.{get_or-map, get_or_past, length-map, nil_from_length}
 use Rattle.std.proofs.lemmas.List.Elements.{Contains-append_cases, Contains-append_left, Contains-append_right}
+use Rattle.std.proofs.lemmas.Option.{none-some}
 use Rattle.event_machine.specs.Cell.{Cell}
 use Rattle.event_machine.specs.Machine.{Edge as MachineEdge, IsLawful, IsTarget, Machine, Negedge, Posedge}
-use Rattle.four_state.specs.declared.bit.Bit.{Bit}
 use Rattle.design_model.specs.Design.{Design, body, body_at, cell, no_process, process_at}
 use Rattle.design_model.specs.Lawful.{IsLawfulDesign}
 use Rattle.design_model.specs.Machine.{is_event_signal, is_level, lists_edge, machine}
 use Rattle.design_model.specs.Mentions.{blocking_target, nonblocking_target}
 use Rattle.design_model.specs.Once.{names_once}
+use Rattle.design_model.specs.Shape.{is_body}
 use Rattle.design_model.specs.Tree.{Process, assign, clocked, comb}
 use Rattle.design_model.specs.View.{design_view, process_view}
 use Rattle.design_model.specs.declared.design.Design.{Design as CodeDesign}
 use Rattle.design_model.proofs.Assigns.{machine_lawful}
-use Rattle.design_targets.specs.Laws.{SomeCell}
-use Rattle.design_targets.specs.Written.{written}
+use Rattle.design_targets.specs.Written.{IsShapedProcess, written}
 use Rattle.design_targets.proofs.Targets.{blocking_law, nonblocking_law, within_law}
 use Rattle.design_wakes.specs.Tables.{IsEdgeTable}
 use Rattle.design_wakes.specs.Transpose.{IsTranspose}
@@ -26,9 +25,9 @@ use Rattle.design_wakes.proofs.Tables.{names_row}
 use Rattle.index_sets.specs.Rows.{row_at}
 use Rattle.process_names.specs.Names.{level_names}
 use Rattle.process_names.proofs.NamesLaw.{level_is}
-use Rattle.once_writers.specs.Lists.{first_of, is_clocked, is_listed, marked_targets, once_of, once_written}
+use Rattle.once_writers.specs.Lists.{first_of, is_clocked, is_listed, marked_targets, once_written}
 use Rattle.once_writers.specs.Writers.{AreOnceWriters, IsOnceWriter, flag_at, writer_at}
-use Rattle.once_writers.proofs.Picked.{first_in, has_first, passed, passes}
+use Rattle.once_writers.proofs.Picked.{first_in, flagged, has_first, passed, passes}
 
 no_item : (x : ℕ) → Contains [] x → ⊥
 no_item x c = omega (arith, c.1)
@@ -36,7 +35,7 @@ no_item x c = omega (arith, c.1)
 -- a row with an item is not empty, and one that is not empty has an item
 has_items : (xs : List ℕ) (p : ℕ) → Contains xs p → not (length xs == 0) ≡ true
 has_items [] p c = absurd (no_item p c)
-has_items (x ∷ xs) p c = refl
+has_items (x ∷ xs) p c = ap not (ne_eqb (length (x ∷ xs)) 0 (λ e. omega (arith, e)))
 
 some_item : (xs : List ℕ) → not (length xs == 0) ≡ true → (p : ℕ) × Contains xs p
 some_item [] h = absurd (false≢true h)
@@ -62,6 +61,10 @@ clocked_from p none = go (level_names p) refl
 module _ (x : CodeDesign) (lawful : IsLawfulDesign (design_view x)) (n : ℕ) (things : n ≡ length x.signals + length x.memories) where
   abbrev d : Design
   d = design_view x
+
+  -- each process of the design has its shapes
+  pub shaped : All (λ process. IsShapedProcess (process_view process)) x.processes
+  shaped k p l = (d, subst (λ q. is_body d (body q) ≡ true) (get_or-map process_view x.processes k p no_process l) (lawful.bodies k))
 
   m : IsLawful (machine d)
   m = machine_lawful d lawful
@@ -92,6 +95,9 @@ module _ (x : CodeDesign) (lawful : IsLawfulDesign (design_view x)) (n : ℕ) (t
   below : (p y : ℕ) → IsTarget (machine d) p (cell y 0) → y < n
   below p y t = let c = listed_target p y t in let l = within_law d lawful c.0 p y c.1 in omega (arith, l, things)
 
+  pub writers_within : (bound : List Bool) (writers : List (Option ℕ)) → AreOnceWriters d (flag_at bound) writers → (y p : ℕ) → writer_at writers y ≡ Some p → p < length x.processes
+  writers_within bound writers are y p e = process_within p y ((are y p).0 e).writes
+
   -- the tables of edges have the event signals
   module _ (rising falling : List (List ℕ)) (rise : IsEdgeTable Posedge (map process_view x.processes) n rising) (fall : IsEdgeTable Negedge (map process_view x.processes) n falling) where
     event_from : (e : MachineEdge) (rows : List (List ℕ)) → IsEdgeTable e (map process_view x.processes) n rows → (y : ℕ) → y < n → not (length (row_at rows y) == 0) ≡ true → is_event_signal d y ≡ true
@@ -113,7 +119,7 @@ module _ (x : CodeDesign) (lawful : IsLawfulDesign (design_view x)) (n : ℕ) (t
     -- the lists have the signals that are written once
     module _ (bound wanted : List Bool) (counted : length wanted ≡ n) (flags : (y : ℕ) → y < n → flag_at wanted y ≡ (flag_at bound y && is_listed rising falling y)) where
       inside : (y : ℕ) → flag_at wanted y ≡ true → y < n
-      inside y h = ⊎_elim (λ l. l) (λ past. absurd (both_ways (flag_at wanted y) (get_or_past wanted y false (omega (arith, past, counted))) h)) (cases_lt y n)
+      inside y h = let l = flagged wanted y h in omega (arith, l, counted)
 
       in_marked : (p y : ℕ) → Contains (marked_targets wanted (process_at d p)) y → (flag_at wanted y ≡ true) × ((b : Bool) × Contains (written b (body_at d p)) y)
       in_marked p y c =
@@ -137,7 +143,7 @@ module _ (x : CodeDesign) (lawful : IsLawfulDesign (design_view x)) (n : ℕ) (t
               let l = inside y marked.0 in
               let parts = and_parts (flag_at bound y) _ (sym (flags y l) ∙ marked.0) in
               let event = listed_event y l parts.1 in
-              record { is_bound = parts.0; is_event = event; clocked = clocked_is (process_at d p) e; writes = target_in marked.1 p y marked.2 event; once = once.0 }
+              record { is_bound = parts.0; is_event = event; clocked = clocked_is (process_at d p) e; writes = target_in marked.1.0 p y marked.1.1 event; once = once.0 }
 
       pub once_to : (p y : ℕ) → IsOnceWriter d (flag_at bound) y p → Contains (once_written wanted (process_at d p)) y
       once_to p y o =
@@ -163,11 +169,8 @@ module _ (x : CodeDesign) (lawful : IsLawfulDesign (design_view x)) (n : ℕ) (t
           past : n ≤ y → writer_at (map first_of rows) y ≡ None
           past h = get_or_past (map first_of rows) y None (omega (arith, h, turned.count_is, length-map rows first_of))
 
-          none : (None {A = ℕ}) ≡ Some p → ⊥
-          none h = grind (h)
-
           found : writer_at (map first_of rows) y ≡ Some p → IsOnceWriter d (flag_at bound) y p
-          found e = ⊎_elim (λ l. in_row p l (first_in (row_at rows y) p (sym (at l) ∙ e))) (λ h. absurd (none (sym (past h) ∙ e))) (cases_lt y n)
+          found e = ⊎_elim (λ l. in_row p l (first_in (row_at rows y) p (sym (at l) ∙ e))) (λ h. absurd (none-some p (sym (past h) ∙ e))) (cases_lt y n)
 
           kept : IsOnceWriter d (flag_at bound) y p → writer_at (map first_of rows) y ≡ Some p
           kept o =

@@ -1,2 +1,3 @@
-mod Picked
+pub mod Picked
 pub mod Found
+pub mod Few

@@ -1,5 +1,5 @@
 -- What each process writes at most once of some signals.
-use Rattle.std.specs.Prelude.{◌≡◌, ◌<◌, ◌&&◌, ◌||◌, ◌==◌, ◌++◌, if◌then◌else◌, ℕ, Bool, true, false, not, List, [], ◌∷◌, Option, Some, None, length}
+use Rattle.std.specs.Prelude.{◌||◌, ◌==◌, ◌++◌, if◌then◌else◌, ℕ, Bool, true, false, not, List, [], ◌∷◌, Option, Some, None, length}
 use Rattle.std.specs.List.{filter}
 use Rattle.design_model.specs.Design.{body}
 use Rattle.design_model.specs.Once.{names_once}

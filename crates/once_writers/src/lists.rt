@@ -1,6 +1,6 @@
 //! The signals that each process writes at most once in each evaluation.
 
-ghost use Rattle.std.specs.Prelude.{◌≡◌, ◌<◌, ◌≤◌, ◌++◌, ℕ, IfOk, OnOk, length, map, not};
+ghost use Rattle.std.specs.Prelude.{◌≡◌, ◌<◌, ◌++◌, IfOk, OnOk, length, map};
 ghost use Rattle.std.specs.List.{All, filter};
 ghost use Rattle.design_model.specs.View.{process_view};
 ghost use Rattle.design_targets.specs.Written.{IsShapedProcess};
