@@ -1,0 +1,5 @@
+pub mod Counting
+pub mod Replacing
+pub mod Highest
+pub mod Clearing
+pub mod Arms
