@@ -1,0 +1,44 @@
+//! The numbers of signals and memories.
+
+ghost use Rattle.std.specs.Prelude.{◌≡◌, ℕ, IfOk, true};
+ghost use Rattle.std.specs.List.{All};
+ghost use Rattle.design_model.specs.Design.{is_number};
+ghost use Rattle.design_model.specs.Lawful.{IsLawfulDesign};
+ghost use Rattle.design_model.specs.View.{design_view};
+ghost use Rattle.body_calls.specs.Own.{is_in};
+
+use body_store::premises_law;
+use cov_host::NoMemory;
+use design_model::Design;
+use std::alloc::Global;
+
+/// The number of the first signal with this name, or of the first memory.
+pub fn thing_named(design: &Design, name: &[u8]) -> Option<u32> {
+    let signals = design.signals.as_slice();
+    for (place, signal) in signals.iter().enumerate() {
+        if signal.name.as_slice() == name {
+            return u32::try_from(place).ok();
+        }
+    }
+    for (place, memory) in design.memories.as_slice().iter().enumerate() {
+        if memory.name.as_slice() == name {
+            return u32::try_from(signals.len().checked_add(place)?).ok();
+        }
+    }
+    None
+}
+
+/// The numbers of all signals and memories.
+pub(crate) fn all_things(alloc: Global, design: &Design) -> Result<Vec<u32>, NoMemory>
+    requires { IsLawfulDesign (design_view design.now) }
+    ensures numbers { IfOk result (λ things. All (λ x. is_number (design_view design.now) x ≡ true) things.items) }
+    ensures all { IfOk result (λ things. (x : ℕ) → is_number (design_view design.now) x ≡ true → is_in things.items x ≡ true) }
+{
+    premises_law();
+    let count = design.signals.len() + design.memories.len();
+    let mut things = Vec::with_capacity(alloc, count)?;
+    for number in 0..count {
+        things.push(number as u32)?;
+    }
+    Ok(things)
+}
