@@ -298,6 +298,20 @@ known clk=1 d=?? q=00
 clean 0
 notes l1
 keeps q=??
+====
+module m(input clk, input [1:0] d, output [1:0] q);
+  step u(.clk(clk), .d(d), .s(q));
+endmodule
+module step(input clk, input [1:0] d, output reg [1:0] s);
+  parameter A = 0, B = 1;
+  always @(posedge clk) s <= d;
+endmodule
+----
+# states-of-inner-instance, at 5.
+known clk=1 d=01 q=00
+clean 0
+notes l1
+keeps q=01
 ";
 
 #[test]

@@ -9,8 +9,10 @@
 //! | `known a=0 m=0,1,x,?` | what is known before the next runs; of all else nothing is known |
 //! | `clean 0`, `quiet 0` | the process with this number runs in this way |
 //! | `perhaps 0 a`, `weak 0 a` | it runs in this way by this thing |
-//! | `notes l1 c1:0?a` | what the last run has noted, in order; a doubt is `?` and the thing that is to blame |
+//! | `notes l1 c1:0?a r0 w3` | the lines, cases of nodes, and words read and written that the last run has noted, in order; a doubt is `?` and the thing that is to blame |
 //! | `keeps q=1 p=?` | what the last run has left, with what it queued |
+//!
+//! The assignment of a net is noted as line 0, which is no point.
 
 ghost use Rattle.design_model.specs.Lawful.{IsLawfulDesign};
 ghost use Rattle.design_model.specs.View.{design_view};

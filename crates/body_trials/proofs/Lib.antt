@@ -1,3 +1,4 @@
 mod Made
 mod Numbers
 mod Ready
+mod Things

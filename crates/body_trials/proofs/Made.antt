@@ -28,6 +28,7 @@ module _ (D : m.Design) (lawful : IsLawfulDesign (design_view D)) (counted : Cou
       record {
         lawful = lawful;
         design = design;
+        seen = ap design_view design;
         around = around;
         plain = plain;
         known = nothing;

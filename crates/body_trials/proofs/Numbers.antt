@@ -9,7 +9,7 @@ use Rattle.design_model.specs.Mentions.{any_set, any_set_in, any_set_of, body_as
 use Rattle.design_model.specs.Shape.{are_bodies, are_targets, is_alone, is_arms, is_body, is_target}
 
 -- a test of the number of the design's things
-counts : (d : Design) (x : ℕ) → x < length d.signals + length d.memories → is_number d x ≡ true
+pub counts : (d : Design) (x : ℕ) → x < length d.signals + length d.memories → is_number d x ≡ true
 counts d x l = grind (arith, nat_tests, l)
 
 module _ (d : Design) (x : ℕ) where

@@ -30,6 +30,7 @@ still_ready d x y k r design around plain rooms held =
     record {
       lawful = r.lawful;
       design = ap (λ b. b.now) design ∙ r.design;
+      seen = ap (λ b. design_view b.now) design ∙ r.seen;
       around = around r.around;
       plain = λ t. ap (λ f. f t) plain ∙ r.plain t;
       known = k;

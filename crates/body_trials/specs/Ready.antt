@@ -10,6 +10,7 @@ use Rattle.body_store.specs.declared.store.Store.{Store}
 use Rattle.body_store.specs.Bodies.{around_of, rooms_of}
 use Rattle.body_store.specs.Held.{HoldsStore}
 use Rattle.body_store.specs.Made.{unblamed}
+use Rattle.body_store.specs.Scenes.{scene_of}
 use Rattle.body_store.specs.Views.{hides}
 
 -- the store is of this lawful design, no test is open, nothing is shown or veiled, each signal and memory is to blame for itself, and
@@ -17,6 +18,7 @@ use Rattle.body_store.specs.Views.{hides}
 pub record IsReady (d : m.Design) (x : Store) : Type 0 where
   pub lawful : IsLawfulDesign (design_view d)
   pub design : x.design.now ≡ d
+  pub seen : (scene_of x).design ≡ design_view d
   pub around : around_of x ≡ []
   pub plain : (t : ℕ) → hides x t ≡ false
   pub known : Kept

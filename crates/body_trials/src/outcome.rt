@@ -1,17 +1,16 @@
 //! What a run of a body leaves.
 
-ghost use Rattle.std.specs.Prelude.{◌≡◌, ◌<◌, length, true};
+ghost use Rattle.std.specs.Prelude.{◌≡◌, IfSome, true};
 ghost use Rattle.design_model.specs.Design.{is_memory};
 ghost use Rattle.design_model.specs.View.{design_view};
-ghost use Rattle.body_store.specs.Scenes.{scene_of};
 
 use crate::Mark;
-use body_store::Store;
 use cov_host::NoMemory;
-use design_model::{Design, Memory};
+use design_model::Design;
 use four_state::Four;
 use known_state::Known;
 use std::alloc::Global;
+use term_replay::Reads;
 
 /// What is kept after a run and the flush of what it queued, and what it noted.
 #[derive(Drop)]
@@ -22,75 +21,74 @@ pub struct Outcome {
     pub marks: Vec<Mark>,
 }
 
-/// What is kept of the signals and memories.
-pub(crate) fn values_of(
+/// What bodies read of the signals and memories.
+pub(crate) fn values_of<R: Reads>(
     alloc: Global,
-    store: &Store,
+    store: &R,
     design: &Design,
 ) -> Result<Vec<Vec<Known>>, NoMemory>
-    requires { (scene_of store.now).design ≡ design_view design.now }
+    requires { (R.scene store.now).design ≡ design_view design.now }
 {
     let mut values = Vec::new(alloc);
-    for signal in 0..design.signals.len() {
+    for place in 0..design.signals.len() {
         let mut value = Vec::new(alloc);
-        push_signal(store, design, signal, &mut value)?;
+        if let Some(known) = signal_at(store, design, place) {
+            value.push(known)?;
+        }
         values.push(value)?;
     }
-    for (place, memory) in design.memories.as_slice().iter().enumerate() {
-        let mut words = Vec::new(alloc);
-        push_words(store, design, place, memory, &mut words)?;
-        values.push(words)?;
+    for place in 0..design.memories.len() {
+        values.push(words_of(alloc, store, design, place)?)?;
     }
     Ok(values)
 }
 
-/// Adds what is kept of a signal.
-fn push_signal(
-    store: &Store,
-    design: &Design,
-    place: usize,
-    values: &mut Vec<Known>,
-) -> Result<(), NoMemory>
-    requires { (scene_of store.now).design ≡ design_view design.now }
+/// What is known of the signal at a place of the design's signals.
+fn signal_at<R: Reads>(store: &R, design: &Design, place: usize) -> Option<Known>
+    requires { (R.scene store.now).design ≡ design_view design.now }
 {
-    match u32::try_from(place) {
-        Ok(signal) if place < design.signals.len() => {
-            values.push(store.kept_signal(signal))?;
-            Ok(())
-        }
-        _ => Ok(()),
-    }
-}
-
-/// Adds what is kept of the words of the memory with this place.
-fn push_words(
-    store: &Store,
-    design: &Design,
-    place: usize,
-    memory: &Memory,
-    words: &mut Vec<Known>,
-) -> Result<(), NoMemory>
-    requires { (scene_of store.now).design ≡ design_view design.now }
-{
-    let least = memory.first.min(memory.last);
-    let greatest = memory.first.max(memory.last);
-    for index in least..=greatest {
-        if let Some(word) = kept_word(store, design, place, index) {
-            words.push(word)?;
-        }
-    }
-    Ok(())
-}
-
-/// What is kept of the word with this index of the memory with this place.
-fn kept_word(store: &Store, design: &Design, place: usize, index: u32) -> Option<Known>
-    requires { (scene_of store.now).design ≡ design_view design.now }
-{
-    let number = u32::try_from(design.signals.len().checked_add(place)?).ok()?;
-    if place < design.memories.len() {
-        let index = Known::whole(Four::make(32, false, u128::from(index), 0));
-        Some(store.kept_word(number, &index))
+    let signal = u32::try_from(place).ok()?;
+    if (signal as usize) < design.signals.len() {
+        Some(store.signal(signal))
     } else {
         None
     }
+}
+
+/// What is known of the words of the memory at a place of the design's memories.
+fn words_of<R: Reads>(
+    alloc: Global,
+    store: &R,
+    design: &Design,
+    place: usize,
+) -> Result<Vec<Known>, NoMemory>
+    requires { (R.scene store.now).design ≡ design_view design.now }
+{
+    let mut words = Vec::new(alloc);
+    let Some(memory) = design.memories.get(place) else {
+        return Ok(words);
+    };
+    let Some(number) = memory_number(design, place) else {
+        return Ok(words);
+    };
+    for index in memory.first.min(memory.last)..=memory.first.max(memory.last) {
+        words.push(store.word(number, &index_of(index)))?;
+    }
+    Ok(words)
+}
+
+/// The number of the memory at a place of the design's memories.
+fn memory_number(design: &Design, place: usize) -> Option<u32>
+    ensures { IfSome result (λ number. is_memory (design_view design.now) number ≡ true) }
+{
+    if place < design.memories.len() {
+        u32::try_from(design.signals.len().checked_add(place)?).ok()
+    } else {
+        None
+    }
+}
+
+/// The index of a word.
+fn index_of(index: u32) -> Known {
+    Known::whole(Four::make(32, false, u128::from(index), 0))
 }

@@ -70,12 +70,7 @@ fn add_mark(design: &Design, mark: &Mark, time: u64, text: &mut Vec<u8>) -> Resu
 }
 
 /// Adds a doubt.
-fn add_doubt(
-    design: &Design,
-    doubt: Doubt,
-    time: u64,
-    text: &mut Vec<u8>,
-) -> Result<(), NoMemory> {
+fn add_doubt(design: &Design, doubt: Doubt, time: u64, text: &mut Vec<u8>) -> Result<(), NoMemory> {
     text.push(b'?')?;
     text.extend_from_slice(name_of(design, doubt.thing))?;
     if doubt.time != time {

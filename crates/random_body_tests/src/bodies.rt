@@ -1,210 +1,184 @@
 //! Texts of bodies that look random.
 
 use crate::random::Random;
-use cov_host::NoMemory;
 use std::alloc::Global;
 
-/// The declarations of the module of a body.
-const HEAD: &str =
-    "module m(input clk, input [1:0] a, input [1:0] b, input [0:1] c, output reg [1:0] p, output reg [0:1] q, output reg [1:0] r, output reg [1:0] s);\n  reg [1:0] w [0:3];\n  always @(posedge clk) begin\n";
+/// The module of a body up to its first statement. Its things are in this order: signals of one bit, of two bits, and a memory.
+const HEAD: &str = "module m(input clk, input [1:0] a, input [1:0] b, input [0:1] c,
+  output reg [1:0] p, output reg [0:1] q, output reg [1:0] r, output reg [1:0] s);
+  reg [1:0] w [0:3];
+  always @(posedge clk) begin
+";
 
-/// The signals that are read.
-const READ: &[&str] = &["a", "b", "c", "p", "q", "r", "s"];
+/// What each capital letter may stand for, one way on each line: `B` a body, `S` a statement, `Q` one inside of it, `A` an
+/// assignment, `L` and `J` arms of a case, `G` a label, `T` a term, `F` a smaller one, `P` an operand.
+const RULES: &str = "
+B S S S
+S if (F) begin Q end else Q
+S if (F) begin Q end else Q
+S if (F) Q
+S K (F) L default: Q endcase
+S begin Q Q end
+S A
+Q if (F) begin A end else A
+Q if (F) A
+Q K (F) J default: A endcase
+Q begin A A end
+Q A
+Q A
+K case
+K casez
+K casex
+L
+L G: Q
+L G: Q G: Q
+L G: Q G, F: Q G: Q
+J
+J G: A
+J G: A G: A
+J G: A G, F: A G: A
+G 2'bHH
+H 0
+H 1
+H ?
+H x
+A p[X] = T;
+A q[X] = T;
+A r[X] <= T;
+A w[X] <= T;
+A {p, q[0]} = T;
+A {r[1], s} <= T;
+A p = T;
+A q = T;
+A r <= T;
+A s <= T;
+X V
+X V O P
+T (U F)
+T (F ? F : F)
+T {F, P}
+T P
+T (F O F)
+T (F O F)
+T (F O F)
+F (U P)
+F (P ? P : P)
+F {P, P}
+F P
+F (P O P)
+F (P O P)
+F (P O P)
+P 2'bZZ
+P V[V]
+P w[V]
+P a[1:0]
+P V
+P V
+P V
+P V
+Z 0
+Z 0
+Z 1
+Z 1
+Z x
+Z z
+V a
+V b
+V c
+V p
+V q
+V r
+V s
+U ~
+U !
+U &
+U |
+U ^
+O &
+O |
+O ^
+O +
+O -
+O ==
+O !=
+O ===
+O <
+O &&
+O ||
+O <<
+";
 
-const UNARY: &[&str] = &["~", "!", "&", "|", "^"];
-
-const BINARY: &[&str] = &[
-    "&", "|", "^", "+", "-", "==", "!=", "===", "<", "&&", "||", "<<",
-];
-
-const DIGITS: &[&str] = &["0", "1", "0", "1", "x", "z"];
-
-const LABELS: &[&str] = &["0", "1", "?", "x"];
+/// More steps than the rules take from a body to an operand.
+const DEPTH: usize = 16;
 
 /// A writer of a text.
 #[derive(Drop)]
 struct Writer {
     text: Vec<u8>,
+    /// Something has not been written for want of memory.
+    is_cut: bool,
     random: Random,
 }
 
-/// One of some words.
-fn one_of(random: &mut Random, words: &[&'static str]) -> &'static str {
-    words.get(random.below(words.len())).copied().unwrap_or("a")
-}
-
 impl Writer {
-    fn add(&mut self, text: &str) -> Result<(), NoMemory> {
-        self.text.extend_from_slice(text.as_bytes())?;
-        Ok(())
-    }
-
-    fn pick(&mut self, words: &[&'static str]) -> Result<(), NoMemory> {
-        let word = one_of(&mut self.random, words);
-        self.add(word)
-    }
-
-    /// A number of two digits.
-    fn number(&mut self, digits: &[&'static str]) -> Result<(), NoMemory> {
-        self.add("2'b")?;
-        self.pick(digits)?;
-        self.pick(digits)
-    }
-
-    /// An operand.
-    fn operand(&mut self) -> Result<(), NoMemory> {
-        match self.random.below(8) {
-            0 => self.number(DIGITS),
-            1 => {
-                self.pick(READ)?;
-                self.add("[")?;
-                self.pick(READ)?;
-                self.add("]")
-            }
-            2 => {
-                self.add("w[")?;
-                self.pick(READ)?;
-                self.add("]")
-            }
-            3 => { self.add("a[1:0]") }
-            _ => self.pick(READ),
-        }
-    }
-
-    /// An expression in parentheses of so many levels at most.
-    fn term(&mut self, depth: u8) -> Result<(), NoMemory> {
-        if depth == 0 {
-            return self.operand();
-        }
-        match self.random.below(7) {
-            0 => {
-                self.add("(")?;
-                self.pick(UNARY)?;
-                self.term(depth - 1)?;
-                self.add(")")
-            }
-            1 => {
-                self.add("(")?;
-                self.term(depth - 1)?;
-                self.add(" ? ")?;
-                self.term(depth - 1)?;
-                self.add(" : ")?;
-                self.term(depth - 1)?;
-                self.add(")")
-            }
-            2 => {
-                self.add("{")?;
-                self.term(depth - 1)?;
-                self.add(", ")?;
-                self.operand()?;
-                self.add("}")
-            }
-            3 => self.operand(),
-            _ => {
-                self.add("(")?;
-                self.term(depth - 1)?;
-                self.add(" ")?;
-                self.pick(BINARY)?;
-                self.add(" ")?;
-                self.term(depth - 1)?;
-                self.add(")")
+    /// Writes what a letter stands for.
+    fn write(&mut self, letter: u8, depth: usize) {
+        let rule = self.rule_of(letter);
+        for byte in rule.as_bytes() {
+            if !byte.is_ascii_uppercase() {
+                self.add(&[*byte]);
+            } else if depth > 0 {
+                self.write(*byte, depth - 1);
             }
         }
     }
 
-    /// An assignment to a part by an index, which is no constant: a constant one outside of the range is refused.
-    fn part(&mut self, before: &str, after: &str) -> Result<(), NoMemory> {
-        self.add(before)?;
-        self.pick(READ)?;
-        if self.random.below(2) == 0 {
-            self.add(" ")?;
-            self.pick(BINARY)?;
-            self.add(" ")?;
-            self.operand()?;
+    /// One of the ways of a letter.
+    fn rule_of(&mut self, letter: u8) -> &'static str {
+        let mut left = self.random.below(rule_count(letter));
+        for line in RULES.lines() {
+            if line.as_bytes().first() == Some(&letter) {
+                if left == 0 {
+                    return line.split_once(' ').unwrap_or(("", "")).1;
+                }
+                left -= 1;
+            }
         }
-        self.add(after)
+        ""
     }
 
-    /// An assignment.
-    fn assignment(&mut self) -> Result<(), NoMemory> {
-        match self.random.below(10) {
-            0 => self.part("p[", "] = ")?,
-            1 => self.part("q[", "] = ")?,
-            2 => self.part("r[", "] <= ")?,
-            3 => self.part("w[", "] <= ")?,
-            4 => self.add("{p, q[0]} = ")?,
-            5 => self.add("{r[1], s} <= ")?,
-            6 | 7 => self.pick(&["p = ", "q = "])?,
-            _ => self.pick(&["r <= ", "s <= "])?,
-        }
-        self.term(2)?;
-        self.add(";\n")
-    }
-
-    /// A case statement over statements of so many levels at most.
-    #[cycle(statement)]
-    fn case(&mut self, depth: u8) -> Result<(), NoMemory> {
-        self.pick(&["case (", "casez (", "casex ("])?;
-        self.term(1)?;
-        self.add(")\n")?;
-        for _ in 0..self.random.below(4) {
-            self.number(LABELS)?;
-            if self.random.below(3) == 0 {
-                self.add(", ")?;
-                self.term(1)?;
-            }
-            self.add(": ")?;
-            self.statement(depth)?;
-        }
-        self.add("default: ")?;
-        self.statement(depth)?;
-        self.add("endcase\n")
-    }
-
-    /// A statement of so many levels at most.
-    #[cycle(statement)]
-    fn statement(&mut self, depth: u8) -> Result<(), NoMemory> {
-        if depth == 0 {
-            return self.assignment();
-        }
-        match self.random.below(6) {
-            0 | 1 => {
-                self.add("if (")?;
-                self.term(1)?;
-                self.add(") begin ")?;
-                self.statement(depth - 1)?;
-                self.add("end else ")?;
-                self.statement(depth - 1)
-            }
-            2 => {
-                self.add("if (")?;
-                self.term(1)?;
-                self.add(") ")?;
-                self.statement(depth - 1)
-            }
-            3 => self.case(depth - 1),
-            4 => {
-                self.add("begin ")?;
-                self.statement(depth - 1)?;
-                self.statement(depth - 1)?;
-                self.add("end\n")
-            }
-            _ => self.assignment(),
+    fn add(&mut self, bytes: &[u8]) {
+        if self.text.extend_from_slice(bytes).is_err() {
+            self.is_cut = true;
         }
     }
 }
 
-/// The text of a module with one body.
-pub(crate) fn body_text(alloc: Global, seed: u64) -> Result<Vec<u8>, NoMemory> {
+/// How many ways a letter has.
+fn rule_count(letter: u8) -> usize {
+    let mut count = 0usize;
+    for line in RULES.lines() {
+        if line.as_bytes().first() == Some(&letter) {
+            count = count.saturating_add(1);
+        }
+    }
+    count
+}
+
+/// The text of a module with one body. None for want of memory.
+pub(crate) fn body_text(alloc: Global, seed: u64) -> Option<Vec<u8>> {
     let mut writer = Writer {
         text: Vec::new(alloc),
+        is_cut: false,
         random: Random::new(seed),
     };
     writer.random.number();
-    writer.add(HEAD)?;
-    for _ in 0..3 {
-        writer.statement(2)?;
+    writer.add(HEAD.as_bytes());
+    writer.write(b'B', DEPTH);
+    writer.add(b"\n  end\nendmodule\n");
+    if writer.is_cut {
+        None
+    } else {
+        Some(writer.text)
     }
-    writer.add("  end\nendmodule\n")?;
-    Ok(writer.text)
 }

@@ -41,7 +41,7 @@ impl DesignUser for Trial {
 
 /// What is wrong with the runs of the body with this number.
 pub(crate) fn fault_of(alloc: Global, number: u64) -> Option<&'static str> {
-    let Ok(text) = body_text(alloc, number) else {
+    let Some(text) = body_text(alloc, number) else {
         return Some("no text");
     };
     let mut trial = Trial {
@@ -63,7 +63,12 @@ fn try_body(alloc: Global, design: &Design, number: u64) -> Option<&'static str>
     let Some(start) = start_of(alloc, &mut random) else {
         return Some("no start");
     };
-    let Some(clean) = run_on(alloc, design, start.as_slice(), Certainty::Clean { time: TIME }) else {
+    let Some(clean) = run_on(
+        alloc,
+        design,
+        start.as_slice(),
+        Certainty::Clean { time: TIME },
+    ) else {
         return Some("no clean run");
     };
     let fault = ways_fault(alloc, design, start.as_slice(), &clean);
