@@ -1,4 +1,4 @@
+mod Below
 mod Made
 mod Numbers
 mod Ready
-mod Things

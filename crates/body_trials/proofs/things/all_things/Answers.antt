@@ -2,7 +2,7 @@ use Rattle.std.proofs.Common.{◌<◌, ◌+◌, length, arith}
 use Rattle.std.proofs.lemmas.Bool.{ltb-true}
 use Rattle.design_model.specs.View.{design_view}
 use Rattle.body_trials.proofs.Numbers.{counts}
-use Rattle.body_trials.proofs.Things.{below_more, below_none}
+use Rattle.body_trials.proofs.Below.{below_more, below_none}
 use Rattle.body_trials.proofs.things.all_things.Goals as goal
 
 pub loop-number-init : goal.loop-number-init

@@ -1,5 +1,5 @@
 use Rattle.design_model.specs.View.{design_view}
-use Rattle.body_trials.proofs.Things.{HasBelow}
+use Rattle.body_trials.proofs.Below.{HasBelow}
 use Rattle.body_trials.proofs.things.all_things.Given as goal
 
 -- those below the number so far
