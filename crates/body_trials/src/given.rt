@@ -9,7 +9,7 @@ use std::alloc::Global;
 /// What is known of a signal, or of a word of a memory.
 #[derive(Clone, Copy)]
 pub struct Given {
-    /// The number of the signal or memory.
+    /// The number of the signal, or of the first memory.
     pub thing: u32,
     /// The place of the word among those of the memory, from the least index on; of no meaning for a signal.
     pub place: usize,

@@ -1,6 +1,6 @@
 //! Stores in which the bodies of a design can run.
 
-ghost use Rattle.std.specs.Prelude.{◌≡◌, ◌<◌, ℕ, IfOk, length, true};
+ghost use Rattle.std.specs.Prelude.{◌≡◌, ◌<◌, IfOk, IfSome, length, true};
 ghost use Rattle.design_model.specs.Design.{is_memory, memory_at, signal_at};
 ghost use Rattle.design_model.specs.Lawful.{IsLawfulDesign};
 ghost use Rattle.design_model.specs.View.{design_view};
@@ -34,7 +34,8 @@ pub(crate) fn store_of<'a>(alloc: Global, design: &'a Design) -> Result<Store<'a
     Store::new(alloc, design, room)
 }
 
-/// Keeps all that is given. The answer is whether the design has these signals and words, with so many bits.
+/// Keeps all that is given. The answer is whether the design has these signals, and its first memory these words, with so many
+/// bits.
 pub(crate) fn keep_all(store: &mut Store, design: &Design, given: &[Given]) -> bool
     requires { IsReady design.now store.old }
     ensures { IsReady design.now store.new }
@@ -74,22 +75,33 @@ fn keep_signal(store: &mut Store, design: &Design, signal: u32, value: &Known)
     store.set(signal, value, true);
 }
 
-/// Keeps what is given of a word.
+/// Keeps what is given of a word of the first memory.
 fn keep_word(store: &mut Store, design: &Design, given: &Given) -> bool
     requires { IsReady design.now store.old }
     ensures { IsReady design.now store.new }
 {
-    let place = given.thing as usize - design.signals.len();
-    match design.memories.get(place) {
-        Some(memory) => {
-            let fits = memory.width == given.value.width();
-            if fits {
-                let index = u128::from(memory.first.min(memory.last)) + given.place as u128;
-                set_word(store, design, given.thing, index, &given.value);
-            }
-            fits
+    let Some(number) = first_memory(design) else {
+        return false;
+    };
+    match design.memories.get(0) {
+        Some(memory) if given.thing == number && memory.width == given.value.width() => {
+            let index = u128::from(memory.first.min(memory.last)) + given.place as u128;
+            set_word(store, design, number, index, &given.value);
+            true
         }
-        None => false,
+        _ => false,
+    }
+}
+
+/// The number of the first memory of a design.
+fn first_memory(design: &Design) -> Option<u32>
+    ensures memory { IfSome result (λ number. is_memory (design_view design.now) number ≡ true) }
+    ensures first { IfSome result (λ number. number ≡ length design.now.signals) }
+{
+    if design.memories.is_empty() {
+        None
+    } else {
+        u32::try_from(design.signals.len()).ok()
     }
 }
 
