@@ -1,0 +1,4 @@
+mod Below
+mod Made
+mod Numbers
+mod Ready
