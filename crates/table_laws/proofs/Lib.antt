@@ -5,4 +5,5 @@ pub mod Cases
 pub mod Subjects
 pub mod Tables
 pub mod EachRow
+pub mod Listing
 pub mod Example

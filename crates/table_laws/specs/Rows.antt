@@ -1,5 +1,5 @@
 -- Which point of a design a row of a table names.
-use Rattle.std.specs.Prelude.{◌≡◌, ◌<◌, ℕ, List, length, slice_index_or}
+use Rattle.std.specs.Prelude.{◌≡◌, ◌<◌, ◌↔◌, ℕ, List, Contains, length, map, slice_index_or}
 use Rattle.coverage_db.specs.declared.address.Address.{Address}
 use Rattle.coverage_db.specs.declared.address.Subject.{Subject}
 use Rattle.coverage_db.specs.declared.address.Subject.TheVariants as subject
@@ -10,6 +10,7 @@ use Rattle.cover_points.specs.Visits.{point_at}
 use Rattle.cover_points.specs.declared.listing.Points.{Points}
 use Rattle.design_model.specs.Design.{Design, memory_at, process_at, signal_at}
 use Rattle.design_model.specs.Lawful.{instance_of}
+use Rattle.design_model.specs.Points.{IsPoint, StateNames}
 use Rattle.design_model.specs.declared.point.Point.{Point}
 use Rattle.design_model.specs.declared.point.Point.TheVariants.{Line as line_point, Logic as logic_point, Toggle as toggle_point, State as state_point, Arc as arc_point, Word as word_point}
 use Rattle.point_table.specs.Addresses.{index_if, source_line}
@@ -46,3 +47,7 @@ pub record IsAddressOf (d : Design) (rows : List DbInstance) (x : Point) (a : Ad
 pub record ListsEach (d : Design) (ps : Points) (db : Db) : Type 0 where
   pub count : length db.points ≡ length (points_of ps)
   pub each : (k : ℕ) → k < length db.points → IsAddressOf d db.instances (point_at ps k) (slice_index_or db.points k no_row).address
+
+-- the addresses of the table are those of the points of the design with these machines
+abbrev pub ListsPoints : Design → List StateNames → Db → Type 0
+ListsPoints d ms db = (a : Address) → Contains (map (λ p. p.address) db.points) a ↔ ((x : Point) × IsPoint d ms x × IsAddressOf d db.instances x a)
