@@ -10,7 +10,7 @@ use Rattle.early_sets.specs.declared.edges.Edges.{Edges}
 use Rattle.early_sets.specs.declared.rule.Rule.{Rule}
 use Rattle.early_sets.specs.Adds.{Adds, Extends}
 use Rattle.early_sets.specs.Once.{IsOnce}
-use Rattle.early_sets.specs.Reached.{IsItem, IsItemWhere, IsRowItem, IsTargetBy, IsTargetFrom, MayWakeBy, edges_at, is_apart}
+use Rattle.early_sets.specs.Reached.{IsItem, IsItemWhere, IsRowItem, IsTargetBy, IsTargetFrom, MayWakeBy, is_apart}
 use Rattle.early_sets.proofs.Counting.{once_push}
 
 pub extends_none : (xs : List ℕ) → Extends xs xs
@@ -94,11 +94,11 @@ pub row_passed : (condition : Bool) (row : List ℕ) (except : Option ℕ) (xs :
 row_passed condition row except xs is = none_added (IsRowItem condition row except) xs (λ x p. both_ways condition is p.0)
 
 -- the processes that a change of a thing may wake
-pub wake_added : (t : WakeTables) (edges : List Edges) (thing : ℕ) (xs ys zs ws : List ℕ) → Adds (IsRowItem true (row_at t.level thing) None) xs ys → Adds (IsRowItem (edges_at edges thing).rise (row_at t.rising thing) None) ys zs → Adds (IsRowItem (edges_at edges thing).fall (row_at t.falling thing) None) zs ws → Adds (MayWakeBy t edges thing) xs ws
+pub wake_added : (t : WakeTables) (edges : ℕ → Edges) (thing : ℕ) (xs ys zs ws : List ℕ) → Adds (IsRowItem true (row_at t.level thing) None) xs ys → Adds (IsRowItem (edges thing).rise (row_at t.rising thing) None) ys zs → Adds (IsRowItem (edges thing).fall (row_at t.falling thing) None) zs ws → Adds (MayWakeBy t edges thing) xs ws
 wake_added t edges thing xs ys zs ws a b c =
     let A = IsRowItem true (row_at t.level thing) None in
-    let B = IsRowItem (edges_at edges thing).rise (row_at t.rising thing) None in
-    let C = IsRowItem (edges_at edges thing).fall (row_at t.falling thing) None in
+    let B = IsRowItem (edges thing).rise (row_at t.rising thing) None in
+    let C = IsRowItem (edges thing).fall (row_at t.falling thing) None in
     same_added (λ p. (A p ⊎ B p) ⊎ C p) (MayWakeBy t edges thing) xs ws
     (λ p. ⊎_elim (λ ab. ⊎_elim (λ q. inl q.1.0) (λ q. inr (inl (q.0, q.1.0))) ab) (λ q. inr (inr (q.0, q.1.0))))
     (λ p. ⊎_elim (λ q. inl (inl (refl, (q, refl)))) (λ bc. ⊎_elim (λ q. inl (inr (q.0, (q.1, refl)))) (λ q. inr (q.0, (q.1, refl))) bc))

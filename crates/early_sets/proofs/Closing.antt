@@ -10,14 +10,14 @@ use Rattle.early_sets.specs.Reached.{IsTargetBy, IsTargetFrom, IsWoken, MayWakeB
 use Rattle.early_sets.proofs.Adding.{extends_at, extends_chain, extends_has, extends_none, member_at, place_of}
 
 -- so many things were taken from the list: what they may wake is among the processes, and what those may write among the things
-pub record IsClosing (t : WakeTables) (edges : List Edges) (r : Rule) (seeds things processes : List ℕ) (taken : ℕ) : Type 0 where
+pub record IsClosing (t : WakeTables) (edges : ℕ → Edges) (r : Rule) (seeds things processes : List ℕ) (taken : ℕ) : Type 0 where
   pub extends : Extends seeds things
   pub reached : (x : ℕ) → Contains things x → Reached t edges r (Contains seeds) x
   pub woken : (p : ℕ) → Contains processes p → IsWoken t edges r (Contains seeds) p
   pub wakes : (k p : ℕ) → k < taken → MayWakeBy t edges (get_or things k 0) p → Contains processes p
   pub writes : (k y : ℕ) → k < length processes → IsTargetBy t r (get_or processes k 0) y → Contains things y
 
-module _ (t : WakeTables) (edges : List Edges) (r : Rule) (seeds : List ℕ) where
+module _ (t : WakeTables) (edges : ℕ → Edges) (r : Rule) (seeds : List ℕ) where
   -- nothing was taken yet
   pub closing_none : IsClosing t edges r seeds seeds [] 0
   closing_none =
@@ -80,6 +80,6 @@ module _ (t : WakeTables) (edges : List Edges) (r : Rule) (seeds : List ℕ) whe
   )
 
 -- from other seeds
-pub reached_from : (t : WakeTables) (edges : List Edges) (r : Rule) (P Q : ℕ → Type 0) → ((x : ℕ) → P x → Q x) → (x : ℕ) → Reached t edges r P x → Reached t edges r Q x
+pub reached_from : (t : WakeTables) (edges : ℕ → Edges) (r : Rule) (P Q : ℕ → Type 0) → ((x : ℕ) → P x → Q x) → (x : ℕ) → Reached t edges r P x → Reached t edges r Q x
 reached_from t edges r P Q f x (of_seed _ h) = of_seed x (f x h)
 reached_from t edges r P Q f y (of_target x p _ m wakes target) = of_target x p y (reached_from t edges r P Q f x m) wakes target

@@ -105,7 +105,7 @@ module _ (f : ℕ → ℕ) where
       omega (arith, inside, ap (sum_by f) is)
 
 -- what a change may wake is among those that some change may wake
-pub may_listen : (t : WakeTables) (edges : List Edges) (x p : ℕ) → MayWakeBy t edges x p → Contains (listeners t x) p
+pub may_listen : (t : WakeTables) (edges : ℕ → Edges) (x p : ℕ) → MayWakeBy t edges x p → Contains (listeners t x) p
 may_listen t edges x p =
     let level = row_at t.level x in
     let rising = row_at t.rising x in
@@ -115,7 +115,7 @@ may_listen t edges x p =
     (λ m. ⊎_elim (λ r. Contains-append_left (level ++ rising) falling p (Contains-append_right level rising p r.1)) (λ f. Contains-append_right (level ++ rising) falling p f.1) m)
 
 -- one member more of a work list
-pub member_counted : (t : WakeTables) (edges : List Edges) (things processes more_things more : List ℕ) (taken : ℕ) → taken < length things → Extends things more_things → IsOnce processes → Adds (MayWakeBy t edges (get_or things taken 0)) processes more → (start before turn woken written : ℕ) → before ≤ start + sum_by (member_turns t) (take taken things) → turn ≤ before + 1 → woken ≤ turn + length (listeners t (get_or things taken 0)) → written ≤ woken + sum_by (process_turns t) (drop (length processes) more) → written ≤ start + sum_by (member_turns t) (take (taken + 1) more_things)
+pub member_counted : (t : WakeTables) (edges : ℕ → Edges) (things processes more_things more : List ℕ) (taken : ℕ) → taken < length things → Extends things more_things → IsOnce processes → Adds (MayWakeBy t edges (get_or things taken 0)) processes more → (start before turn woken written : ℕ) → before ≤ start + sum_by (member_turns t) (take taken things) → turn ≤ before + 1 → woken ≤ turn + length (listeners t (get_or things taken 0)) → written ≤ woken + sum_by (process_turns t) (drop (length processes) more) → written ≤ start + sum_by (member_turns t) (take (taken + 1) more_things)
 member_counted t edges things processes more_things more taken l e once a start before turn woken written h0 h1 h2 h3 =
     let x = get_or things taken 0 in
     let fresh = sum_added (process_turns t) (MayWakeBy t edges x) processes more (listeners t x) a once (λ p m. may_listen t edges x p m) in

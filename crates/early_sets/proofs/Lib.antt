@@ -5,4 +5,6 @@ pub mod Closing
 pub mod EarlyAdding
 pub mod EarlyFound
 pub mod EventRows
+pub mod Numbering
+pub mod NextRound
 pub mod Shared

@@ -1,5 +1,5 @@
 -- Which edges the change of a signal may be.
-use Rattle.std.specs.Prelude.{Bool, true}
+use Rattle.std.specs.Prelude.{Bool, true, false}
 use Rattle.four_state.specs.Edges.{falls, rises}
 use Rattle.four_state.specs.declared.bit.Bit.{Bit}
 use Rattle.four_state.specs.declared.edge.Edge.{Edge}
@@ -13,6 +13,10 @@ edges_between old new = record { rise = rises old new; fall = falls old new }
 -- those of a change that is not known
 abbrev pub any_edges : Edges
 any_edges = record { rise = true; fall = true }
+
+-- no change is an edge
+abbrev pub no_edges : Edges
+no_edges = record { rise = false; fall = false }
 
 -- the change may be this edge
 abbrev pub may_be : Edges → Edge → Bool

@@ -1,8 +1,12 @@
 pub mod Once
+pub mod Has
 pub mod Adds
 pub mod Edges
+pub mod Changes
 pub mod Reached
 pub mod Sizes
 pub mod WakeState
+pub mod Rounds
 pub mod Early
 pub mod Turns
+pub mod Settled

@@ -1,5 +1,5 @@
 -- What some things reach through the processes that they may wake, by tables.
-use Rattle.std.specs.Prelude.{◌≡◌, ◌⊎◌, ◌<◌, ◌≤◌, ◌==◌, ℕ, Bool, true, false, not, List, Option, Some, None, slice_index, slice_index_or}
+use Rattle.std.specs.Prelude.{◌≡◌, ◌⊎◌, ◌<◌, ◌≤◌, ◌==◌, ℕ, Bool, true, false, not, List, Option, Some, None, slice_index}
 use Rattle.std.specs.List.{Contains}
 use Rattle.index_sets.specs.Rows.{row_at}
 use Rattle.wake_tables.specs.declared.tables.WakeTables.{WakeTables}
@@ -23,18 +23,10 @@ IsItemWhere condition n except x = (condition ≡ true) × IsItem n except x
 abbrev pub IsRowItem : Bool → List ℕ → Option ℕ → ℕ → Type 0
 IsRowItem condition row except x = (condition ≡ true) × (Contains row x × (is_apart except x ≡ true))
 
--- no change is an edge
-abbrev pub no_edges : Edges
-no_edges = record { rise = false; fall = false }
-
--- the edges that a change of thing x may be
-abbrev pub edges_at : List Edges → ℕ → Edges
-edges_at edges x = slice_index_or edges x no_edges
-
--- a change of thing x may wake process p
-abbrev pub MayWakeBy : WakeTables → List Edges → ℕ → ℕ → Type 0
+-- a change of thing x may wake process p, where a change of each thing may be these edges
+abbrev pub MayWakeBy : WakeTables → (ℕ → Edges) → ℕ → ℕ → Type 0
 MayWakeBy t edges x p =
-    Contains (row_at t.level x) p ⊎ ((((edges_at edges x).rise ≡ true) × Contains (row_at t.rising x) p) ⊎ (((edges_at edges x).fall ≡ true) × Contains (row_at t.falling x) p))
+    Contains (row_at t.level x) p ⊎ ((((edges x).rise ≡ true) × Contains (row_at t.rising x) p) ⊎ (((edges x).fall ≡ true) × Contains (row_at t.falling x) p))
 
 -- process p may write thing y, which is not the trigger, and not by a blocking assignment if it is the block
 abbrev pub IsTargetBy : WakeTables → Rule → ℕ → ℕ → Type 0
@@ -45,10 +37,10 @@ abbrev pub IsTargetFrom : WakeTables → Rule → List ℕ → ℕ → ℕ → �
 IsTargetFrom t r processes from end y = (k : ℕ) × (from ≤ k) × (k < end) × IsTargetBy t r (slice_index processes k) y
 
 -- the least set with the seeds and with what a process may write that a member may wake
-pub data Reached (t : WakeTables) (edges : List Edges) (r : Rule) (seeds : ℕ → Type 0) : ℕ → Type 0 where
+pub data Reached (t : WakeTables) (edges : ℕ → Edges) (r : Rule) (seeds : ℕ → Type 0) : ℕ → Type 0 where
   of_seed : (x : ℕ) → seeds x → Reached t edges r seeds x
   of_target : (x p y : ℕ) → Reached t edges r seeds x → MayWakeBy t edges x p → IsTargetBy t r p y → Reached t edges r seeds y
 
 -- a member may wake process p
-abbrev pub IsWoken : WakeTables → List Edges → Rule → (ℕ → Type 0) → ℕ → Type 0
+abbrev pub IsWoken : WakeTables → (ℕ → Edges) → Rule → (ℕ → Type 0) → ℕ → Type 0
 IsWoken t edges r seeds p = (x : ℕ) × Reached t edges r seeds x × MayWakeBy t edges x p

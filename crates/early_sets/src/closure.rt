@@ -3,12 +3,14 @@
 ghost use Rattle.std.specs.Prelude.{◌≡◌, ◌<◌, ◌≤◌, ◌↔◌, ◌+◌, [], ℕ, drop, length, true};
 ghost use Rattle.std.specs.List.{Contains, sum_by};
 ghost use Rattle.early_sets.specs.Adds.{Adds};
+ghost use Rattle.early_sets.specs.Changes.{edges_of};
 ghost use Rattle.early_sets.specs.Once.{IsOnce};
 ghost use Rattle.early_sets.specs.Reached.{IsItem, IsItemWhere, IsRowItem, IsTargetBy, IsTargetFrom, IsWoken, MayWakeBy, Reached};
 ghost use Rattle.early_sets.specs.Turns.{listeners, all_turns, process_turns, target_count};
 
+use crate::changes::Changes;
 use crate::rule::is_apart;
-use crate::{Edges, Rule, Turns};
+use crate::{Rule, Turns};
 use index_sets::IndexSet;
 use wake_tables::WakeTables;
 
@@ -16,20 +18,20 @@ use wake_tables::WakeTables;
 /// that a member may wake. Each member and each process is taken once, with what it wakes or may write.
 pub(crate) fn close<T: Turns>(
     tables: &WakeTables,
-    edges: &[Edges],
+    changes: &Changes,
     rule: Rule,
     things: &mut IndexSet,
     processes: &mut IndexSet,
     turns: &mut T,
 )
-    requires edges { length edges.now ≡ tables.now.things }
+    requires changes { length changes.now.told.items ≡ tables.now.things }
     requires things { things.old.size ≡ tables.now.things }
     requires processes { processes.old.size ≡ tables.now.processes }
     requires none_woken { processes.old.items ≡ [] }
     ensures things_size { things.new.size ≡ things.old.size }
     ensures processes_size { processes.new.size ≡ processes.old.size }
-    ensures things { (x : ℕ) → Contains things.new.items x ↔ Reached tables.now edges.now rule (Contains things.old.items) x }
-    ensures processes { (p : ℕ) → Contains processes.new.items p ↔ IsWoken tables.now edges.now rule (Contains things.old.items) p }
+    ensures things { (x : ℕ) → Contains things.new.items x ↔ Reached tables.now (edges_of changes.now) rule (Contains things.old.items) x }
+    ensures processes { (p : ℕ) → Contains processes.new.items p ↔ IsWoken tables.now (edges_of changes.now) rule (Contains things.old.items) p }
     ensures things_once { IsOnce things.old.items → IsOnce things.new.items }
     ensures processes_once { IsOnce processes.new.items }
     ensures turns { T.counted turns.new ≤ T.counted turns.old + all_turns tables.now things.new.items }
@@ -38,7 +40,7 @@ pub(crate) fn close<T: Turns>(
     'members: while taken < things.len() {
         turns.count();
         let known = processes.len();
-        wake(tables, edges, things.get(taken), processes, turns);
+        wake(tables, changes, things.get(taken), processes, turns);
         write_all(tables, rule, processes, known, things, turns);
         taken += 1;
     }
@@ -47,19 +49,19 @@ pub(crate) fn close<T: Turns>(
 /// Puts in the processes that a change of the thing may wake.
 pub(crate) fn wake<T: Turns>(
     tables: &WakeTables,
-    edges: &[Edges],
+    changes: &Changes,
     thing: usize,
     processes: &mut IndexSet,
     turns: &mut T,
 )
-    requires edges { length edges.now ≡ tables.now.things }
+    requires changes { length changes.now.told.items ≡ tables.now.things }
     requires thing { thing < tables.now.things }
     requires size { processes.old.size ≡ tables.now.processes }
     ensures size { processes.new.size ≡ processes.old.size }
-    ensures adds { Adds (MayWakeBy tables.now edges.now thing) processes.old.items processes.new.items }
+    ensures adds { Adds (MayWakeBy tables.now (edges_of changes.now) thing) processes.old.items processes.new.items }
     ensures turns { T.counted turns.new ≤ T.counted turns.old + length (listeners tables.now thing) }
 {
-    let may_be = edges[thing];
+    let may_be = changes.edges(thing);
     insert_row(true, tables.level.row(thing), None, processes, turns);
     insert_row(
         may_be.rise,
@@ -171,6 +173,7 @@ pub(crate) fn insert_where(
     requires { number < set.old.size }
     ensures size { set.new.size ≡ set.old.size }
     ensures adds { Adds (IsItemWhere condition number except) set.old.items set.new.items }
+    ensures few { length set.new.items ≤ length set.old.items + 1 }
 {
     if condition {
         insert_item(number, except, set);
@@ -182,8 +185,22 @@ fn insert_item(number: usize, except: Option<usize>, set: &mut IndexSet)
     requires { number < set.old.size }
     ensures size { set.new.size ≡ set.old.size }
     ensures adds { Adds (IsItem number except) set.old.items set.new.items }
+    ensures few { length set.new.items ≤ length set.old.items + 1 }
 {
     if is_apart(except, number) {
         let _ = set.insert(number);
+    }
+}
+
+/// Puts in the members of another set.
+pub(crate) fn insert_members<T: Turns>(from: &IndexSet, into: &mut IndexSet, turns: &mut T)
+    requires { from.now.size ≡ into.old.size }
+    ensures size { into.new.size ≡ into.old.size }
+    ensures adds { Adds (λ x. Contains from.now.items x) into.old.items into.new.items }
+    ensures turns { T.counted turns.new ≤ T.counted turns.old + length from.now.items }
+{
+    for place in 0..from.len() {
+        turns.count();
+        let _ = into.insert(from.get(place));
     }
 }

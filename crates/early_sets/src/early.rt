@@ -1,11 +1,14 @@
 //! What is early for a clean block before what it reaches is put in.
 
-ghost use Rattle.std.specs.Prelude.{◌≡◌, ◌<◌, ◌≤◌, ◌+◌, length};
+ghost use Rattle.std.specs.Prelude.{◌≡◌, ◌<◌, ◌≤◌, ◌+◌, if◌then◌else◌, length};
 ghost use Rattle.std.specs.List.{sum_by};
 ghost use Rattle.early_sets.specs.Adds.{Adds};
+ghost use Rattle.early_sets.specs.declared.habit.Habit.TheVariants.{Free};
+ghost use Rattle.early_sets.specs.Changes.{is_told_by};
 ghost use Rattle.early_sets.specs.Early.{IsEarlyInput, IsTriggerTarget, is_event_signal, is_free};
 ghost use Rattle.early_sets.specs.Turns.{process_turns};
 
+use crate::changes::Changes;
 use crate::closure::{insert_row, insert_where};
 use crate::{Habit, Turns};
 use index_sets::IndexSet;
@@ -27,6 +30,18 @@ fn is_free(tables: &WakeTables, habit: Habit, input: usize) -> bool
     match habit {
         Habit::Free => true,
         Habit::Late => is_event_signal(tables, input),
+    }
+}
+
+/// The habit, if the trigger is an input; before another trigger rises or falls any input may move.
+pub(crate) fn habit_for(changes: &Changes, habit: Habit, trigger: usize) -> Habit
+    requires { trigger < length changes.now.told.items }
+    ensures { result ≡ (if is_told_by changes.now.told.items trigger then habit else Free) }
+{
+    if changes.told[trigger] {
+        habit
+    } else {
+        Habit::Free
     }
 }
 

@@ -13,6 +13,18 @@ pub struct Edges {
 }
 
 impl Edges {
+    /// The change is no edge.
+    pub(crate) const NONE: Self = Edges {
+        rise: false,
+        fall: false,
+    };
+
+    /// The change may be each edge.
+    pub(crate) const ANY: Self = Edges {
+        rise: true,
+        fall: true,
+    };
+
     /// The edge from one value of a bit to another, if there is one.
     pub(crate) fn between(old: Bit, new: Bit) -> Self
         ensures { result ≡ edges_between old new }

@@ -1,12 +1,14 @@
-ghost use Rattle.std.specs.Prelude.{◌≡◌, ◌<◌, ◌≤◌, ◌↔◌, ◌+◌, [], ℕ, IfOk, IfSome, IsSome, IsTrue, length, replicate, slice_set};
+ghost use Rattle.std.specs.Prelude.{◌≡◌, ◌<◌, ◌≤◌, ◌↔◌, ◌+◌, ◌*◌, ◌^◌, ◌&&◌, if◌then◌else◌, [], ℕ, IfOk, IfSome, IsFalse, IsSome, IsTrue, false, length, not, slice_set, true};
 ghost use Rattle.std.specs.List.{Contains};
 ghost use Rattle.index_sets.specs.Rows.{row_at};
 ghost use Rattle.early_sets.specs.Adds.{Adds};
 ghost use Rattle.early_sets.specs.Once.{AreOnce, IsOnce};
-ghost use Rattle.early_sets.specs.Sizes.{AreSizes};
+ghost use Rattle.early_sets.specs.Sizes.{AreSizes, AreWriters};
 
-use crate::closure::{close, insert_row, wake};
-use crate::early::{insert_inputs, insert_targets};
+use crate::changes::Changes;
+use crate::closure::{close, insert_members, insert_row, insert_where, wake};
+use crate::early::{habit_for, insert_inputs, insert_targets};
+use crate::rounds::number;
 use crate::{Edges, Habit, Rule, Turns, Uncounted};
 use cov_host::NoMemory;
 use four_state::{Bit, Edge};
@@ -19,61 +21,71 @@ use wake_tables::WakeTables;
 #[derive(Drop)]
 pub struct Wakes {
     tables: WakeTables,
-    /// For each signal or memory whether it is an input whose changes are told.
-    told: Vec<bool>,
-    /// The other inputs.
+    /// The inputs whose changes are never told.
     untold: Vec<u32>,
-    /// For each signal or memory the edges that its change may be, where it may move.
-    edges: Vec<Edges>,
+    /// For each signal or memory the block that writes it, where it may become single.
+    writers: Vec<Option<u32>>,
+    changes: Changes,
     /// The inputs that change, or may change.
     noted: IndexSet,
+    /// What becomes single in the next round.
+    ready: IndexSet,
+    /// For each signal or memory that became single in this step the round in which it did.
+    rounds: Vec<u32>,
     moves: IndexSet,
     woken: IndexSet,
     early: IndexSet,
     /// The processes that what is early may wake.
     early_woken: IndexSet,
-    ghost sizes: { AreSizes tables told.items untold.items edges.items noted moves woken early early_woken },
+    ghost sizes: { AreSizes tables changes.told.items untold.items writers.items noted ready rounds.items moves woken early early_woken },
     ghost once: { AreOnce noted moves woken early },
 }
 
 impl Wakes {
     ghost use Rattle.early_sets.specs.Early.{HasNoBlocking, IsEarlyBy};
-    ghost use Rattle.early_sets.specs.Edges.{any_edges, edges_between};
-    ghost use Rattle.early_sets.specs.Reached.{IsWoken, Reached};
-    ghost use Rattle.early_sets.specs.Turns.{choose_turns, early_turns, settle_turns};
-    ghost use Rattle.early_sets.specs.WakeState.{can_wake_by, is_told, nothing_left, state_of, trigger_of, waker_of, wakes_only_by};
+    ghost use Rattle.early_sets.specs.Edges.{edges_between};
+    ghost use Rattle.early_sets.specs.Rounds.{HasMoves, IsNextRound, becomes_single, is_written_by, round_at, runs_at_most_once, writer_at};
+    ghost use Rattle.early_sets.specs.Settled.{HasSettled};
+    ghost use Rattle.early_sets.specs.Turns.{all_check_turns, choose_turns, early_turns, moves_turns, writer_events};
+    ghost use Rattle.early_sets.specs.WakeState.{can_wake_by, is_single, is_told, state_of, trigger_of, waker_of, wakes_only_by};
 
     /// The sets of a design with these tables, before the first step: for each signal or memory whether it is an input
-    /// whose changes are told, and the other inputs, each of which may change in any step.
+    /// whose changes are told, and the other inputs, each of which may change in any step. `writers` gives for each signal
+    /// that the dump gives too, and that only one block writes, at most once in each evaluation, this block; it may become
+    /// single in a later round than the first. Where it gives none, the sets are those of the first round.
     pub fn new(
         alloc: Global,
         tables: WakeTables,
         told: Vec<bool>,
         untold: Vec<u32>,
+        writers: Vec<Option<u32>>,
     ) -> Result<Self, NoMemory>
+        requires few { tables.things < 2 ^ 32 }
         requires told { length told.items ≡ tables.things }
         requires untold { (x : ℕ) → Contains untold.items x → x < tables.things }
+        requires writers { AreWriters tables.things tables.processes writers.items }
         ensures tables { IfOk result (λ wakes. (state_of wakes).tables ≡ tables) }
         ensures told { IfOk result (λ wakes. (state_of wakes).told ≡ told.items) }
         ensures untold { IfOk result (λ wakes. (state_of wakes).untold ≡ untold.items) }
-        ensures edges { IfOk result (λ wakes. (state_of wakes).edges ≡ replicate tables.things any_edges) }
+        ensures writers { IfOk result (λ wakes. (state_of wakes).writers ≡ writers.items) }
         ensures noted { IfOk result (λ wakes. (state_of wakes).noted ≡ []) }
     {
-        let edges = vec![in alloc; Edges {
-            rise: true,
-            fall: true
-        }; tables.things]?;
+        let changes = Changes::new(alloc, told)?;
         let noted = IndexSet::new(alloc, tables.things)?;
+        let ready = IndexSet::new(alloc, tables.things)?;
+        let rounds = vec![in alloc; 0; tables.things]?;
         let moves = IndexSet::new(alloc, tables.things)?;
         let woken = IndexSet::new(alloc, tables.processes)?;
         let early = IndexSet::new(alloc, tables.things)?;
         let early_woken = IndexSet::new(alloc, tables.processes)?;
         Ok(Wakes {
             tables,
-            told,
             untold,
-            edges,
+            writers,
+            changes,
             noted,
+            ready,
+            rounds,
             moves,
             woken,
             early,
@@ -101,64 +113,61 @@ impl Wakes {
         ensures below { IsTrue result → thing < (state_of self.now).tables.things }
     {
         let place = thing as usize;
-        place < self.told.len() && self.told[place]
+        place < self.changes.told.len() && self.changes.told[place]
+    }
+
+    /// Whether the number is that of a signal, except an input, that may become single. Its changes are to be noted, as those
+    /// of the inputs whose changes are told.
+    pub fn is_candidate(&self, thing: u32) -> bool
+        ensures value { IsTrue result ↔ IsSome (writer_at (state_of self.now) thing) }
+        ensures below { IsTrue result → thing < (state_of self.now).tables.things }
+    {
+        let place = thing as usize;
+        place < self.writers.len() && self.writers[place].is_some()
     }
 
     /// Begins a step, in which no change is told yet. It takes no memory, and time for the inputs that are never told,
     /// whatever the last step did.
     pub fn clear<T: Turns>(&mut self, turns: &mut T)
-        ensures rest { state_of self.new ≡ record (state_of self.old) { noted = (state_of self.new).noted; moves = []; woken = []; early = [] } }
+        ensures rest { state_of self.new ≡ record (state_of self.old) { noted = (state_of self.new).noted; changed = []; derived = []; moves = []; woken = []; early = [] } }
         ensures noted { (x : ℕ) → Contains (state_of self.new).noted x ↔ Contains (state_of self.old).untold x }
         ensures turns { T.counted turns.new ≤ T.counted turns.old + length (state_of self.old).untold }
     {
         self.noted.clear();
         insert_row(true, self.untold.as_slice(), None, &mut self.noted, turns);
+        self.changes.clear();
         self.moves.clear();
         self.woken.clear();
         self.early.clear();
     }
 
-    /// An input whose changes are told changes in this step. `old` and `new` are its lowest bit before and after the step. It takes no memory.
-    pub fn note(&mut self, input: u32, old: Bit, new: Bit)
-        requires { input < (state_of self.old).tables.things }
-        ensures tables { (state_of self.new).tables ≡ (state_of self.old).tables }
-        ensures told { (state_of self.new).told ≡ (state_of self.old).told }
-        ensures untold { (state_of self.new).untold ≡ (state_of self.old).untold }
-        ensures noted { Adds (λ x. input ≡ x) (state_of self.old).noted (state_of self.new).noted }
-        ensures edges { (state_of self.new).edges ≡ slice_set (state_of self.old).edges input (edges_between old new) }
+    /// A signal that the dump gives changes in this step: an input, or one that may become single. `old` and `new` are its
+    /// lowest bit before and after the step. It takes no memory.
+    pub fn note(&mut self, signal: u32, old: Bit, new: Bit)
+        requires { signal < (state_of self.old).tables.things }
+        ensures rest { state_of self.new ≡ record (state_of self.old) { own = slice_set (state_of self.old).own signal (edges_between old new); noted = (state_of self.new).noted; changed = (state_of self.new).changed } }
+        ensures noted { Adds (λ x. (is_told (state_of self.old) signal ≡ true) × (signal ≡ x)) (state_of self.old).noted (state_of self.new).noted }
+        ensures changed { Adds (λ x. (is_told (state_of self.old) signal ≡ false) × (signal ≡ x)) (state_of self.old).changed (state_of self.new).changed }
     {
-        let place = input as usize;
-        self.edges[place] = Edges::between(old, new);
-        let _ = self.noted.insert(place);
+        let place = signal as usize;
+        let told = self.changes.told[place];
+        self.changes.tell(place, Edges::between(old, new));
+        insert_where(told, place, None, &mut self.noted);
     }
 
-    /// Finds what may move in the step and which processes that may wake. It takes no memory, and time for the members,
-    /// the processes that they may wake and what those may write.
+    /// Finds what may move in the step and which processes that may wake, in the last of the rounds. It takes no memory. In
+    /// each round it takes time for the members, the processes that they may wake, what those may write, and the lists of
+    /// edges of the blocks that write members.
     pub fn settle<T: Turns>(&mut self, turns: &mut T)
-        ensures tables { (state_of self.new).tables ≡ (state_of self.old).tables }
-        ensures told { (state_of self.new).told ≡ (state_of self.old).told }
-        ensures untold { (state_of self.new).untold ≡ (state_of self.old).untold }
-        ensures edges { (state_of self.new).edges ≡ (state_of self.old).edges }
-        ensures noted { (state_of self.new).noted ≡ (state_of self.old).noted }
-        ensures moves { (x : ℕ) → Contains (state_of self.new).moves x ↔ Reached (state_of self.old).tables (state_of self.old).edges nothing_left (Contains (state_of self.old).noted) x }
-        ensures woken { (p : ℕ) → Contains (state_of self.new).woken p ↔ IsWoken (state_of self.old).tables (state_of self.old).edges nothing_left (Contains (state_of self.old).noted) p }
-        ensures turns { T.counted turns.new ≤ T.counted turns.old + settle_turns (state_of self.new) }
+        ensures rest { state_of self.new ≡ record (state_of self.old) { derived = (state_of self.new).derived; rounds = (state_of self.new).rounds; moves = (state_of self.new).moves; woken = (state_of self.new).woken } }
+        ensures settled { HasSettled (state_of self.new) (T.counted turns.old) (T.counted turns.new) }
     {
-        self.moves.clear();
-        self.woken.clear();
-        insert_members(&self.noted, &mut self.moves, turns);
-        let rule = Rule {
-            trigger: None,
-            block: None,
-        };
-        close(
-            &self.tables,
-            self.edges.as_slice(),
-            rule,
-            &mut self.moves,
-            &mut self.woken,
-            turns,
-        );
+        self.changes.forget_derived();
+        self.find_moves(turns);
+        let mut round = 0;
+        'rounds: while self.next_round(round, turns) {
+            round += 1;
+        }
     }
 
     /// Whether the signal or memory may move in the step.
@@ -203,14 +212,25 @@ impl Wakes {
         self.find_waker(process, &mut Uncounted)
     }
 
-    /// The trigger of a process, where it is clean: the one event signal by which it can wake, if that is an input
-    /// whose changes are told.
+    /// The trigger of a process, where it is clean: the one event signal by which it can wake, if that is single.
     pub fn trigger(&self, process: u32) -> Option<u32>
         requires { process < (state_of self.now).tables.processes }
         ensures value { result ≡ trigger_of (state_of self.now) process }
         ensures below { IfSome result (λ signal. signal < (state_of self.now).tables.things) }
     {
         self.find_trigger(process, &mut Uncounted)
+    }
+
+    /// The number of the round in which the trigger of a clean process became single.
+    pub fn round(&self, process: u32) -> u32
+        requires process { process < (state_of self.now).tables.processes }
+        requires clean { IsSome (trigger_of (state_of self.now) process) }
+        ensures { IfSome (trigger_of (state_of self.now) process) (λ trigger. result ≡ round_at (state_of self.now) trigger) }
+    {
+        match self.trigger(process) {
+            Some(trigger) => self.round_at(trigger as usize),
+            None => unreachable!(),
+        }
     }
 
     /// Whether a block writes nothing by blocking assignments. What is early for such a block is early for each other such
@@ -254,6 +274,97 @@ impl Wakes {
         self.early.as_slice()
     }
 
+    /// Finds what may move and which processes that may wake, by what is single now.
+    fn find_moves<T: Turns>(&mut self, turns: &mut T)
+        ensures rest { state_of self.new ≡ record (state_of self.old) { moves = (state_of self.new).moves; woken = (state_of self.new).woken } }
+        ensures moves { HasMoves (state_of self.new) }
+        ensures turns { T.counted turns.new ≤ T.counted turns.old + moves_turns (state_of self.new) }
+    {
+        self.moves.clear();
+        self.woken.clear();
+        insert_members(&self.noted, &mut self.moves, turns);
+        let rule = Rule {
+            trigger: None,
+            block: None,
+        };
+        close(
+            &self.tables,
+            &self.changes,
+            rule,
+            &mut self.moves,
+            &mut self.woken,
+            turns,
+        );
+    }
+
+    /// Goes on from a round to the next one, if something becomes single in it.
+    fn next_round<T: Turns>(&mut self, round: u32, turns: &mut T) -> bool
+        requires { round ≤ length (state_of self.old).derived }
+        ensures rest { state_of self.new ≡ record (state_of self.old) { derived = (state_of self.new).derived; rounds = (state_of self.new).rounds; moves = (state_of self.new).moves; woken = (state_of self.new).woken } }
+        ensures last { IsFalse result → (state_of self.new ≡ state_of self.old) × ((x : ℕ) → becomes_single (state_of self.new) x ≡ false) }
+        ensures next { IsTrue result → IsNextRound round (state_of self.old) (state_of self.new) }
+        ensures more { IsTrue result → (length (state_of self.old).derived < length (state_of self.new).derived) × (length (state_of self.new).derived ≤ (state_of self.new).tables.things) }
+        ensures turns { T.counted turns.new ≤ T.counted turns.old + all_check_turns (state_of self.old) + (if result then moves_turns (state_of self.new) else 0) }
+    {
+        self.find_ready(turns);
+        if self.ready.len() == 0 {
+            return false;
+        }
+        self.changes.add_derived(&self.ready, turns);
+        number(&self.ready, round + 1, &mut self.rounds, turns);
+        self.find_moves(turns);
+        true
+    }
+
+    /// Finds what becomes single in the next round.
+    fn find_ready<T: Turns>(&mut self, turns: &mut T)
+        ensures rest { state_of self.new ≡ state_of self.old }
+        ensures ready { (x : ℕ) → Contains self.new.ready.items x ↔ (becomes_single (state_of self.old) x ≡ true) }
+        ensures turns { T.counted turns.new + 2 * length self.new.ready.items ≤ T.counted turns.old + all_check_turns (state_of self.old) }
+    {
+        self.ready.clear();
+        for place in 0..self.moves.len() {
+            turns.count();
+            let thing = self.moves.get(place);
+            let ready = self.is_ready(thing, turns);
+            insert_where(ready, thing, None, &mut self.ready);
+        }
+    }
+
+    /// Whether a thing that may move becomes single in the next round: it is not yet single, and a block that is evaluated
+    /// at most once writes it at most once in each evaluation.
+    fn is_ready<T: Turns>(&self, thing: usize, turns: &mut T) -> bool
+        requires { thing < (state_of self.now).tables.things }
+        ensures value { result ≡ (not (is_single (state_of self.now) thing) && is_written_by (state_of self.now) (writer_at (state_of self.now) thing)) }
+        ensures turns { T.counted turns.new ≤ T.counted turns.old + 3 * writer_events (state_of self.now) (writer_at (state_of self.now) thing) }
+    {
+        match self.writers[thing] {
+            Some(writer) => !self.changes.is_single(thing) && self.runs_at_most_once(writer, turns),
+            None => false,
+        }
+    }
+
+    /// Whether a process is evaluated at most once in the step: it cannot wake, or is clean.
+    fn runs_at_most_once<T: Turns>(&self, process: u32, turns: &mut T) -> bool
+        requires { process < (state_of self.now).tables.processes }
+        ensures value { result ≡ runs_at_most_once (state_of self.now) process }
+        ensures turns { T.counted turns.new ≤ T.counted turns.old + 3 * length (row_at (state_of self.now).tables.events process) }
+    {
+        self.find_waker(process, turns).is_none() || self.find_trigger(process, turns).is_some()
+    }
+
+    /// The number of the round in which a thing became single.
+    fn round_at(&self, thing: usize) -> u32
+        requires { thing < (state_of self.now).tables.things }
+        ensures { result ≡ round_at (state_of self.now) thing }
+    {
+        if self.changes.told[thing] {
+            0
+        } else {
+            self.rounds[thing]
+        }
+    }
+
     /// The first event signal of the list of the process by which it can wake.
     fn find_waker<T: Turns>(&self, process: u32, turns: &mut T) -> Option<u32>
         requires { process < (state_of self.now).tables.processes }
@@ -278,7 +389,7 @@ impl Wakes {
         ensures turns { T.counted turns.new ≤ T.counted turns.old + length (row_at (state_of self.now).tables.events process) + length (row_at (state_of self.now).tables.events process) }
     {
         let signal = self.find_waker(process, turns)?;
-        if self.told[signal as usize] && self.wakes_only_by(process, signal, turns) {
+        if self.changes.is_single(signal as usize) && self.wakes_only_by(process, signal, turns) {
             Some(signal)
         } else {
             None
@@ -296,9 +407,10 @@ impl Wakes {
         self.early.clear();
         self.early_woken.clear();
         let tables = &self.tables;
-        let edges = self.edges.as_slice();
+        let changes = &self.changes;
+        let habit = habit_for(changes, habit, trigger);
         insert_inputs(tables, habit, &self.noted, trigger, &mut self.early, turns);
-        wake(tables, edges, trigger, &mut self.early_woken, turns);
+        wake(tables, changes, trigger, &mut self.early_woken, turns);
         insert_targets(
             tables,
             &self.early_woken,
@@ -314,7 +426,7 @@ impl Wakes {
         };
         close(
             tables,
-            edges,
+            changes,
             rule,
             &mut self.early,
             &mut self.early_woken,
@@ -327,7 +439,7 @@ impl Wakes {
         requires { signal < (state_of self.now).tables.things }
         ensures { result ≡ can_wake_by (state_of self.now) (edge, signal) }
     {
-        self.moves.contains(signal as usize) && self.edges[signal as usize].may_be(edge)
+        self.moves.contains(signal as usize) && self.changes.edges(signal as usize).may_be(edge)
     }
 
     /// Whether the process can wake by no event signal but this one.
@@ -343,18 +455,5 @@ impl Wakes {
             }
         }
         true
-    }
-}
-
-/// Puts in the members of another set.
-fn insert_members<T: Turns>(from: &IndexSet, into: &mut IndexSet, turns: &mut T)
-    requires { from.now.size ≡ into.old.size }
-    ensures size { into.new.size ≡ into.old.size }
-    ensures adds { Adds (λ x. Contains from.now.items x) into.old.items into.new.items }
-    ensures turns { T.counted turns.new ≤ T.counted turns.old + length from.now.items }
-{
-    for place in 0..from.len() {
-        turns.count();
-        let _ = into.insert(from.get(place));
     }
 }

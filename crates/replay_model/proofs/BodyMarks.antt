@@ -21,7 +21,7 @@ use Rattle.body_replay.specs.KnownBits.{Allows}
 use Rattle.body_replay.specs.Replay.{Spot, Visited}
 use Rattle.body_replay.specs.Runs.{Runs}
 use Rattle.body_replay.specs.Store.{AllowsState, Kept}
-use Rattle.replay_model.specs.Sets.{AreSets, Sets}
+use Rattle.replay_model.specs.Sets.{AreFirstSets, Sets}
 use Rattle.design_model.specs.BodyLaws.{all_cells}
 use Rattle.design_model.specs.StepLaws.{CleanEvaluation, IsLeft, StepFacts}
 use Rattle.replay_model.specs.Tables.{Tables}
@@ -38,7 +38,7 @@ use Rattle.replay_model.proofs.Settling as settling
 use Rattle.replay_model.proofs.Targets.{blocks_assigns, blocks_from}
 use Rattle.replay_model.proofs.Trace.{CleanRun, SettleRun, Traced, WeakRun, all_traced, settle_all, settle_keeps, weak_all}
 
-module _ (d : Design) (h : Habit) (dump : BoundDump) (run : Runs) (tables : Tables) (points : List Point) (is : IsReplayOf d h dump run tables points) (laws : StepLaws (machine d) h) (early_law : EarlyLaw (machine d)) (asked : AskedLaws d) (t : ℕ) (window : IsWindow dump (suc t)) (sets : Sets) (are : AreSets d h dump (suc t) sets) (a : Replay) (r : Run) (showing : IsShowing d h dump (suc t) r) (starts : AllowsState a.kept (settled d r t)) (acted : (p : ℕ) → IsComb (process_at d p) → a.acted p ≡ true → IsLeft d p (settled d r t)) where
+module _ (d : Design) (h : Habit) (dump : BoundDump) (run : Runs) (tables : Tables) (points : List Point) (is : IsReplayOf d h dump run tables points) (laws : StepLaws (machine d) h) (early_law : EarlyLaw (machine d)) (asked : AskedLaws d) (t : ℕ) (window : IsWindow dump (suc t)) (sets : Sets) (are : AreFirstSets d h dump (suc t) sets) (a : Replay) (r : Run) (showing : IsShowing d h dump (suc t) r) (starts : AllowsState a.kept (settled d r t)) (acted : (p : ℕ) → IsComb (process_at d p) → a.acted p ≡ true → IsLeft d p (settled d r t)) where
   abbrev st : Closing
   st = closing_at d dump run tables sets t a
 
@@ -48,7 +48,7 @@ module _ (d : Design) (h : Habit) (dump : BoundDump) (run : Runs) (tables : Tabl
   -- what a clean block reads allows the values on which it is evaluated
   pub entry_allowed : (p s : ℕ) → sets.trigger p ≡ Some s → (o : CleanEvaluation d h dump t (settled d r t) (settled d r (suc t)) p (cell s 0)) → AllowsState (entry_kept st p s) o.entry
   entry_allowed p s e o =
-      blocks.reads_entry d is.lawful h early_law dump is.fits run is.runs tables t sets are a (settled d r t) (settled d r (suc t)) facts starts (λ q. ⊥) (opened st) (record { mid = settled d r t; allowed = starts; start_or = λ c. inl refl; unqueued = λ c none k. refl; final = λ q x. absurd x }) (λ q x. absurd x) p (λ x. x) s (are.trigger p s e) o
+      blocks.reads_entry d is.lawful h early_law dump is.fits run is.runs tables t sets are a (settled d r t) (settled d r (suc t)) facts starts (λ q. ⊥) (opened st) (record { mid = settled d r t; allowed = starts; start_or = λ c. inl refl; unqueued = λ c none k. refl; final = λ q x. absurd x }) (λ q x. absurd x) p (λ x. x) s (are.sets.trigger p s e) o
 
   abbrev Mixed : ℕ → Values Bit → Values Bit
   Mixed p v c = if blocking_target d (body_at d p) c then v c else settled d r (suc t) c
@@ -125,7 +125,7 @@ module _ (d : Design) (h : Habit) (dump : BoundDump) (run : Runs) (tables : Tabl
   clean_hit x n p ns k there key e =
       let s = told_hit p ns n there e in
       let b = key_spot x n p s.0 key s.1 in
-      let o = clean_entry d h dump run tables points is laws t window r showing p (cell k.trigger 0) (are.trigger p k.trigger k.is_trigger) in
+      let o = clean_entry d h dump run tables points is laws t window r showing p (cell k.trigger 0) (are.sets.trigger p k.trigger k.is_trigger) in
       (o.0, o.1, visited_hit d r o.0 p o.2.entry o.3 x s.0 b.0 b.1 (is.runs.hits_sound p k.store (suc t) s.0 (subst (HasHitNote s.0) k.notes s.2) o.2.entry (λ c. subst (λ z. Allows z (o.2.entry c)) (sym (k.reads c)) (entry_allowed p k.trigger k.is_trigger o.2 c))))
 
   weak_hit : (x : Point) (n : Marking) (p : ℕ) (ns : List Note) → WeakRun d is.lawful h early_law dump run is.runs tables t sets are a p ns → In n (markings_by p ns) → n.doubt ≡ None → ⊥

@@ -28,7 +28,7 @@ use Rattle.body_replay.specs.Replay.{flush}
 use Rattle.body_replay.specs.Runs.{AreRuns, Runs, seen_of}
 use Rattle.body_replay.specs.Store.{AllowsState, Kept}
 use Rattle.known_state.specs.Join.{join_bit}
-use Rattle.replay_model.specs.Sets.{AreSets, Sets}
+use Rattle.replay_model.specs.Sets.{AreFirstSets, Sets}
 use Rattle.replay_model.specs.Tables.{AreTables, Tables}
 use Rattle.replay_model.specs.Step.{Closing, Replay, Working, after_clocked, clean_store, clocked_run, dumped, is_dumped, opened, plain_store, run_all_clean, run_all_weak, run_clean, run_weak}
 use Rattle.replay_model.specs.Laws.{closing_at}
@@ -76,7 +76,7 @@ pub distinct_left : (xs ys : List ℕ) → AreDistinct (xs ++ ys) → AreDistinc
 distinct_left [] ys once = tt
 distinct_left (x ∷ xs) ys once = (λ h. once.0 (in_left x xs ys h), distinct_left xs ys once.1)
 
-module _ (d : Design) (lawful : IsLawfulDesign d) (h : Habit) (early_law : EarlyLaw (machine d)) (dump : BoundDump) (fits : IsDumpOf d dump) (run : Runs) (runs : AreRuns d run) (tables : Tables) (t : ℕ) (sets : Sets) (are : AreSets d h dump (suc t) sets) (a : Replay) (u w : Values Bit) (facts : StepFacts d h dump t u w) (starts : AllowsState a.kept u) where
+module _ (d : Design) (lawful : IsLawfulDesign d) (h : Habit) (early_law : EarlyLaw (machine d)) (dump : BoundDump) (fits : IsDumpOf d dump) (run : Runs) (runs : AreRuns d run) (tables : Tables) (t : ℕ) (sets : Sets) (are : AreFirstSets d h dump (suc t) sets) (a : Replay) (u w : Values Bit) (facts : StepFacts d h dump t u w) (starts : AllowsState a.kept u) where
   abbrev st : Closing
   st = closing_at d dump run tables sets t a
 
@@ -180,7 +180,7 @@ module _ (d : Design) (lawful : IsLawfulDesign d) (h : Habit) (early_law : Early
     at_other c e late = at_false (λ z. Allows z (evaluated.entry c)) _ _ _ (or_from (c.thing == s) _ e late) (⊎_elim kept moved (inv.start_or c))
       where
         not_early : IsEarlyAt d h dump (suc t) p (cell s 0) c.thing → ⊥
-        not_early x = both_ways _ late ((are.early p (cell s 0) is_clean c.thing).1 x)
+        not_early x = both_ways _ late ((are.sets.early p (cell s 0) is_clean c.thing).1 x)
 
         is_start : evaluated.entry c ≡ u c
         is_start = evaluated.others c (λ q. both_ways _ e (eq-eqb c.thing s q)) not_early
@@ -197,7 +197,7 @@ module _ (d : Design) (lawful : IsLawfulDesign d) (h : Habit) (early_law : Early
     own_shown : IsClocked (process_at d p) → (c : Cell) → body_assigns c.thing (body_at d p) ≡ true → ((c.thing == s) || sets.early p c.thing) ≡ false
     own_shown is c mine =
         or_from (c.thing == s) _ (ne_eqb c.thing s (λ e. input_unassigned d lawful p c.thing (subst (λ z. (signal_at d z).input ≡ true) (sym e) (and_parts (signal_at d s).input _ (single_input d dump (suc t) are.first_round (cell s 0) is_clean.is_single).0).0) mine))
-        (false_from_ne_true _ (λ e. own_not_early d lawful h dump (suc t) early_law are.first_round p (cell s 0) is is_clean c.thing mine ((are.early p (cell s 0) is_clean c.thing).0 e)))
+        (false_from_ne_true _ (λ e. own_not_early d lawful h dump (suc t) early_law are.first_round p (cell s 0) is is_clean c.thing mine ((are.sets.early p (cell s 0) is_clean c.thing).0 e)))
 
     pub clean_leaves : IsClocked (process_at d p) → Leaves p wk (run p (clean_store st p s wk) (clean (suc t)))
     clean_leaves is =
@@ -260,7 +260,7 @@ module _ (d : Design) (lawful : IsLawfulDesign d) (h : Habit) (early_law : Early
       renamed Ran (Wider Ran RanClean p) wk (λ q r. inl r) (λ q r. ⊎_elim (λ x. x) (λ x. absurd (some_none (sets.trigger p) x.1.0 (subst (λ z. sets.trigger z ≡ Some x.1.0) x.0 x.1.1) e)) r) inv
   clean_one Ran wk inv all_clean p fresh is (Some s) e =
       renamed (λ q. Ran q ⊎ (q ≡ p)) (Wider Ran RanClean p) (after_clocked st p (run p (clean_store st p s wk) (clean (suc t))) wk) (λ q r. ⊎_elim (λ x. inl x) (λ x. inr (x, at_process RanClean p q x (s, e))) r) (λ q r. ⊎_elim (λ x. inl x) (λ x. inr x.0) r)
-      (after Ran wk p (run p (clean_store st p s wk) (clean (suc t))) inv fresh is (clean_leaves Ran wk inv all_clean p fresh s (are.trigger p s e) (facts.clean p (cell s 0) (are.trigger p s e)) is))
+      (after Ran wk p (run p (clean_store st p s wk) (clean (suc t))) inv fresh is (clean_leaves Ran wk inv all_clean p fresh s (are.sets.trigger p s e) (facts.clean p (cell s 0) (are.sets.trigger p s e)) is))
 
   abbrev Also : (ℕ → Type 0) → (ℕ → Type 0) → List ℕ → ℕ → Type 0
   Also Ran Of ps q = Ran q ⊎ (In q ps × Of q)
@@ -282,7 +282,7 @@ module _ (d : Design) (lawful : IsLawfulDesign d) (h : Habit) (early_law : Early
   clean_all Ran (p ∷ ps) wk inv all_clean fresh once is =
       renamed (Also (Wider Ran RanClean p) RanClean ps) (Also Ran RanClean (p ∷ ps)) (run_all_clean st ps (run_clean st (sets.trigger p) p wk)) (wider_also Ran RanClean p ps) (also_wider Ran RanClean p ps)
       (clean_all (Wider Ran RanClean p) ps (run_clean st (sets.trigger p) p wk) (clean_one Ran wk inv all_clean p (fresh p (inl refl)) (is p (inl refl)) (sets.trigger p) refl)
-      (λ q r. ⊎_elim (all_clean q) (λ x. (cell x.1.0 0, are.trigger q x.1.0 x.1.1)) r) (λ q h r. ⊎_elim (fresh q (inr h)) (λ x. distinct_head p q ps once h x.0) r) once.1 (λ q h. is q (inr h)))
+      (λ q r. ⊎_elim (all_clean q) (λ x. (cell x.1.0 0, are.sets.trigger q x.1.0 x.1.1)) r) (λ q h r. ⊎_elim (fresh q (inr h)) (λ x. distinct_head p q ps once h x.0) r) once.1 (λ q h. is q (inr h)))
 
   weak_one : (Ran : ℕ → Type 0) (wk : Working) → ClockedSound Ran wk → (p : ℕ) → (RanWeak p → Ran p → ⊥) → IsClocked (process_at d p) → (o : Option ℕ) → sets.trigger p ≡ o → (n : Option ℕ) → sets.wakes p ≡ n → ClockedSound (Wider Ran RanWeak p) (run_weak st o n p wk)
   weak_one Ran wk inv p fresh is (Some s) e n f =
@@ -327,7 +327,7 @@ module _ (d : Design) (lawful : IsLawfulDesign d) (h : Habit) (early_law : Early
         go : (o : Option ℕ) → sets.trigger p ≡ o → (n : Option ℕ) → sets.wakes p ≡ n → Allows (flush (clocked_run st).kept (clocked_run st).queue c) (w c)
         go (Some s) e n f = all_ran.final p (inl (inr (h, (s, e)))) c mine
         go None e (Some s) f = all_ran.final p (inr (h, (e, (s, f)))) c mine
-        go None e None f = asleep (λ r. ⊎_elim (λ x. ⊎_elim (λ y. y) (λ y. some_none (sets.trigger p) y.1.0 y.1.1 e) x) (λ x. some_none (sets.wakes p) x.1.1.0 x.1.1.1 f) r) (are.no_wakes p f)
+        go None e None f = asleep (λ r. ⊎_elim (λ x. ⊎_elim (λ y. y) (λ y. some_none (sets.trigger p) y.1.0 y.1.1 e) x) (λ x. some_none (sets.wakes p) x.1.1.0 x.1.1.1 f) r) (are.sets.no_wakes p f)
 
     -- and all else as it is at the start
     pub others_allowed : (c : Cell) → ((p : ℕ) → In p tables.clocked → body_assigns c.thing (body_at d p) ≡ true → ⊥) → Allows (flush (clocked_run st).kept (clocked_run st).queue c) (u c)

@@ -14,7 +14,7 @@ use Rattle.body_replay.specs.Contract.{Outcome, clean, flushed, weak}
 use Rattle.body_replay.specs.Replay.{flush}
 use Rattle.body_replay.specs.Runs.{Runs, StoreView, seen_of}
 use Rattle.body_replay.specs.Store.{Kept}
-use Rattle.replay_model.specs.Sets.{AreSets, Sets}
+use Rattle.replay_model.specs.Sets.{AreFirstSets, Sets}
 use Rattle.replay_model.specs.Tables.{Tables}
 use Rattle.replay_model.specs.Step.{Closing, Replay, Working, after_clocked, all_run, clean_store, clocked_run, entry_kept, is_dumped, is_loose, is_touched, opened, plain_store, run_all_clean, run_all_settling, run_all_weak, run_clean, run_weak, settle_start}
 use Rattle.replay_model.specs.Laws.{IsReplayOf, closing_at}
@@ -24,7 +24,7 @@ use Rattle.replay_model.proofs.Order.{kept_all, made_all, makes}
 use Rattle.replay_model.proofs.Targets.{one_assigner, target_assigns}
 use Rattle.replay_model.proofs.Trace.{AllClean, KeptOr, RanClean, RanWeak, Wider, one_kept, reads_entry}
 
-module _ (d : Design) (h : Habit) (early_law : EarlyLaw (machine d)) (dump : BoundDump) (run : Runs) (tables : Tables) (points : List Point) (is : IsReplayOf d h dump run tables points) (t : ℕ) (sets : Sets) (are : AreSets d h dump (suc t) sets) (a : Replay) where
+module _ (d : Design) (h : Habit) (early_law : EarlyLaw (machine d)) (dump : BoundDump) (run : Runs) (tables : Tables) (points : List Point) (is : IsReplayOf d h dump run tables points) (t : ℕ) (sets : Sets) (are : AreFirstSets d h dump (suc t) sets) (a : Replay) where
   abbrev st : Closing
   st = closing_at d dump run tables sets t a
 
@@ -107,7 +107,7 @@ module _ (d : Design) (h : Habit) (early_law : EarlyLaw (machine d)) (dump : Bou
               some_same o f g = cc
   find_own p s e is_clocked c mine Ran (q ∷ ps) wk kept all_clean fresh once (inr later) left =
       find_own p s e is_clocked c mine (Wider d is.lawful h early_law dump run is.runs tables t sets are a Ran q) ps (run_clean st (sets.trigger q) q wk) (one_kept d is.lawful h early_law dump run is.runs tables t sets are a Ran wk kept q (sets.trigger q) refl)
-      (λ r x. ⊎_elim (all_clean r) (λ y. (cell y.1.0 0, are.trigger r y.1.0 y.1.1)) x) (λ r x y. ⊎_elim (fresh r (inr x)) (λ z. once.0 (subst (λ v. In v ps) z.0 x)) y) once.1 later
+      (λ r x. ⊎_elim (all_clean r) (λ y. (cell y.1.0 0, are.sets.trigger r y.1.0 y.1.1)) x) (λ r x y. ⊎_elim (fresh r (inr x)) (λ z. once.0 (subst (λ v. In v ps) z.0 x)) y) once.1 later
       (clean_away c a.kept (λ b. b) wk q (sets.trigger q) left (λ ran. away_from c q (λ at. once.0 (subst (λ z. In z ps) (sym (one_assigner d is.lawful p q c.thing is_clocked mine (target_assigns d is.lawful q c at))) later))) refl)
 
   -- at the end of the Clocked

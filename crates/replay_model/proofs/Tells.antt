@@ -28,7 +28,7 @@ use Rattle.body_replay.specs.Contract.{Doubted, HasHitNote, Note, spot_at, sure_
 use Rattle.body_replay.specs.Replay.{Spot}
 use Rattle.body_replay.specs.Runs.{Runs}
 use Rattle.body_replay.specs.Store.{Kept}
-use Rattle.replay_model.specs.Sets.{AreSets, Sets}
+use Rattle.replay_model.specs.Sets.{AreFirstSets, Sets}
 use Rattle.replay_model.specs.Tables.{Tables}
 use Rattle.replay_model.specs.Marks.{IsKeyOf, IsDoubtMarked, IsHitMarked, Marking, markings_by, of_process}
 use Rattle.replay_model.specs.Step.{Closing, Replay, all_point_notes, all_run, are_surely, clocked_run, is_dumped, is_touched, known_bits, may_be, opened, point_notes, run_all_clean, run_all_settling, settle_start, surely_differ, surely_same, tell, mark_toggle}
@@ -84,7 +84,7 @@ at_all f [] s e below = absurd (omega (arith, below))
 at_all f (x ∷ xs) zero e below = (and_parts (f x) _ e).0
 at_all f (x ∷ xs) (suc s) e below = at_all f xs s (and_parts (f x) _ e).1 (omega (arith, below))
 
-module _ (d : Design) (h : Habit) (early_law : EarlyLaw (machine d)) (dump : BoundDump) (run : Runs) (tables : Tables) (points : List Point) (is : IsReplayOf d h dump run tables points) (asked : AskedLaws d) (t : ℕ) (window : IsWindow dump (suc t)) (listed : IsListed dump (suc t)) (sets : Sets) (are : AreSets d h dump (suc t) sets) (a : Replay) (at_start : (x : Thing) (bits : List Bit) → clear d h dump t x bits → sure_in d a.kept x bits) (at_end : (x : Thing) (bits : List Bit) → clear d h dump (suc t) x bits → sure_in d (all_run (closing_at d dump run tables sets t a)).kept x bits) where
+module _ (d : Design) (h : Habit) (early_law : EarlyLaw (machine d)) (dump : BoundDump) (run : Runs) (tables : Tables) (points : List Point) (is : IsReplayOf d h dump run tables points) (asked : AskedLaws d) (t : ℕ) (window : IsWindow dump (suc t)) (listed : IsListed dump (suc t)) (sets : Sets) (are : AreFirstSets d h dump (suc t) sets) (a : Replay) (at_start : (x : Thing) (bits : List Bit) → clear d h dump t x bits → sure_in d a.kept x bits) (at_end : (x : Thing) (bits : List Bit) → clear d h dump (suc t) x bits → sure_in d (all_run (closing_at d dump run tables sets t a)).kept x bits) where
   abbrev st : Closing
   st = closing_at d dump run tables sets t a
 
@@ -228,7 +228,7 @@ module _ (d : Design) (h : Habit) (early_law : EarlyLaw (machine d)) (dump : Bou
         by_clean c = go (sets.trigger p) refl
           where
             go : (o : Option ℕ) → sets.trigger p ≡ o → IsHitMarked d x After
-            go None e = absurd (are.no_trigger p e c.0 c.1)
+            go None e = absurd (are.sets.no_trigger p e c.0 c.1)
             go (Some s) e =
                 let k = clean_told.has p (clocked_known p (edge_clocked (process_at d p) c.1.can_wake.0.0 c.0 c.1.can_wake.0.1), (s, e)) in
                 let n = clean_reached d h dump run tables points is early_law asked t window listed sets are a at_start p k.0 k.1 x c.2 in

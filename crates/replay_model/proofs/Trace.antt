@@ -13,7 +13,7 @@ use Rattle.design_model.specs.Lawful.{IsLawfulDesign}
 use Rattle.design_model.specs.declared.point.Point.{Point}
 use Rattle.body_replay.specs.Contract.{Doubted, Note, clean, weak}
 use Rattle.body_replay.specs.Runs.{AreRuns, Runs, StoreView, seen_of}
-use Rattle.replay_model.specs.Sets.{AreSets, Sets}
+use Rattle.replay_model.specs.Sets.{AreFirstSets, Sets}
 use Rattle.replay_model.specs.Tables.{Tables}
 use Rattle.replay_model.specs.Marks.{IsKeyOf, IsDoubtMarked, IsHitMarked, Marking, markings_by}
 use Rattle.replay_model.specs.Step.{Closing, Replay, Working, all_run, certainty, clean_store, clocked_run, entry, entry_kept, is_touched, opened, plain_store, run_all_clean, run_all_settling, run_all_weak, run_clean, run_settling, run_weak, settle_start, settled_kept}
@@ -75,7 +75,7 @@ traced_weaker Of Of' M N xs ys wider fewer a =
       has = λ p m. let k = a.has p (fewer p m) in (k.0, wider p k.0 k.1, k.2);
     }
 
-module _ (d : Design) (lawful : IsLawfulDesign d) (h : Habit) (early_law : EarlyLaw (machine d)) (dump : BoundDump) (run : Runs) (runs : AreRuns d run) (tables : Tables) (t : ℕ) (sets : Sets) (are : AreSets d h dump (suc t) sets) (a : Replay) where
+module _ (d : Design) (lawful : IsLawfulDesign d) (h : Habit) (early_law : EarlyLaw (machine d)) (dump : BoundDump) (run : Runs) (runs : AreRuns d run) (tables : Tables) (t : ℕ) (sets : Sets) (are : AreFirstSets d h dump (suc t) sets) (a : Replay) where
   abbrev st : Closing
   st = closing_at d dump run tables sets t a
 
@@ -107,7 +107,7 @@ module _ (d : Design) (lawful : IsLawfulDesign d) (h : Habit) (early_law : Early
       same : ((c.thing == s) || sets.early p c.thing) ≡ false → wk.kept c ≡ a.kept c
       same e =
           ⊎_elim (λ x. x)
-          (λ x. absurd (both_ways _ e (Rattle.std.proofs.lemmas.Bool.or_right (c.thing == s) _ ((are.early p (cell s 0) (are.trigger p s is) c.thing).1 (others_early d lawful h dump (suc t) early_law are.first_round p x.0 (cell s 0) (all_clean x.0 x.1).0 (are.trigger p s is) (all_clean x.0 x.1).1 (λ q. fresh (subst Ran q x.1)) c x.2))))) (kept c)
+          (λ x. absurd (both_ways _ e (Rattle.std.proofs.lemmas.Bool.or_right (c.thing == s) _ ((are.sets.early p (cell s 0) (are.sets.trigger p s is) c.thing).1 (others_early d lawful h dump (suc t) early_law are.first_round p x.0 (cell s 0) (all_clean x.0 x.1).0 (are.sets.trigger p s is) (all_clean x.0 x.1).1 (λ q. fresh (subst Ran q x.1)) c x.2))))) (kept c)
 
       go : (b : Bool) → ((c.thing == s) || sets.early p c.thing) ≡ b → (if b then entry st s c else wk.kept c) ≡ (if b then entry st s c else a.kept c)
       go true e = refl
@@ -145,7 +145,7 @@ module _ (d : Design) (lawful : IsLawfulDesign d) (h : Habit) (early_law : Early
       traced_weaker CleanRun CleanRun (λ q. ((q ≡ p) × RanClean q) ⊎ (In q ps × RanClean q)) (λ q. In q (p ∷ ps) × RanClean q) wk.notes (run_all_clean st ps (run_clean st (sets.trigger p) p wk)).notes (λ q ns k. k) (λ q m. ⊎_elim (λ e. inl (sym e, m.1)) (λ k. inr (k, m.1)) m.0)
       (traced_next CleanRun (λ q. (q ≡ p) × RanClean q) (λ q. In q ps × RanClean q) wk.notes (run_clean st (sets.trigger p) p wk).notes (run_all_clean st ps (run_clean st (sets.trigger p) p wk)).notes
       (one_traced Ran wk kept all_clean p (fresh p (inl refl)) (sets.trigger p) refl)
-      (all_traced (Wider Ran p) ps (run_clean st (sets.trigger p) p wk) (one_kept Ran wk kept p (sets.trigger p) refl) (λ q r. ⊎_elim (all_clean q) (λ x. (cell x.1.0 0, are.trigger q x.1.0 x.1.1)) r) (λ q k r. ⊎_elim (fresh q (inr k)) (λ x. distinct_head p q ps once k x.0) r) once.1))
+      (all_traced (Wider Ran p) ps (run_clean st (sets.trigger p) p wk) (one_kept Ran wk kept p (sets.trigger p) refl) (λ q r. ⊎_elim (all_clean q) (λ x. (cell x.1.0 0, are.sets.trigger q x.1.0 x.1.1)) r) (λ q k r. ⊎_elim (fresh q (inr k)) (λ x. distinct_head p q ps once k x.0) r) once.1))
 
   weak_one : (wk : Working) (p : ℕ) (o : Option ℕ) → sets.trigger p ≡ o → (n : Option ℕ) → sets.wakes p ≡ n → Traced WeakRun (λ q. (q ≡ p) × RanWeak q) wk.notes (run_weak st o n p wk).notes
   weak_one wk p (Some s) e n f = traced_none WeakRun (λ q. (q ≡ p) × RanWeak q) (λ q m. some_none (sets.trigger p) s e (subst (λ z. sets.trigger z ≡ None) m.0 m.1.0)) wk.notes

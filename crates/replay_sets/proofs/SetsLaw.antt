@@ -8,9 +8,10 @@ use Rattle.design_model.specs.Shows.{BoundDump}
 use Rattle.design_model.specs.Early.{IsEarlyAt}
 use Rattle.design_model.specs.MayMove.{IsCleanAt}
 use Rattle.early_sets.specs.declared.habit.Habit.{Habit}
-use Rattle.early_sets.specs.WakeState.{WakeState, is_in, trigger_of}
+use Rattle.early_sets.specs.WakeState.{WakeState, trigger_of}
+use Rattle.early_sets.specs.Has.{is_in}
 use Rattle.early_sets.proofs.Membership.{is_in_from, is_in_gives}
-use Rattle.wake_laws.specs.Laws.{AreNotes, AreWakes, IsSettled, habit_of}
+use Rattle.wake_laws.specs.Laws.{AreNotes, AreSingle, AreWakes, IsSettled, habit_of}
 use Rattle.wake_laws.specs.OfDesign.{AreTablesOf}
 use Rattle.wake_laws.proofs.EarlyLaw.{early_law}
 use Rattle.wake_laws.proofs.WakesLaw.{wakes_law}
@@ -20,27 +21,26 @@ use Rattle.replay_sets.specs.SetsOf.{AreChosen, SetsLaw}
 tested : (xs : List ℕ) (x : ℕ) (P : Type 0) → Contains xs x ↔ P → (is_in xs x ≡ true) ↔ P
 tested xs x P h = (λ t. h.0 (is_in_gives xs x t), λ p. let c = h.1 p in is_in_from xs x c.0 c.1 c.2)
 
-module _ (d : Design) (lawful : IsLawfulDesign d) (dump : BoundDump) (t : ℕ) (w : WakeState) (h : Habit) (early : ℕ → List ℕ) (tables : AreTablesOf d w.tables) (notes : AreNotes d dump t w) (settled : IsSettled w) (chosen : AreChosen w h early) where
+module _ (d : Design) (lawful : IsLawfulDesign d) (dump : BoundDump) (t : ℕ) (w : WakeState) (h : Habit) (early : ℕ → List ℕ) (tables : AreTablesOf d w.tables) (notes : AreNotes d dump t w) (single : AreSingle d dump t w) (settled : IsSettled w) (chosen : AreChosen w h early) where
   wakes : AreWakes d dump t w
-  wakes = wakes_law d lawful dump t w tables notes settled
+  wakes = wakes_law d lawful dump t w tables notes single settled
 
   early_by : (p : ℕ) (c : Cell) → IsCleanAt d dump t p c → (o : Option ℕ) → trigger_of w p ≡ o → (x : ℕ) → Contains (early p) x ↔ IsEarlyAt d (habit_of h) dump t p c x
   early_by p c clean None is x = absurd (wakes.no_trigger p is c clean)
   early_by p c clean (Some s) is x =
       let at_s : IsCleanAt d dump t p (cell s 0) = wakes.trigger p s is in
       let same : cell s 0 ≡ c = clean.alone (cell s 0) at_s.can_wake in
-      let law = early_law d lawful dump t w tables notes h p s at_s x in
+      let law = early_law d lawful dump t w tables notes single h p s at_s x in
       subst (λ b. Contains (early p) x ↔ IsEarlyAt d (habit_of h) dump t p b x) same (λ m. law.0 ((chosen p s is x).0 m), λ e. (chosen p s is x).1 (law.1 e))
 
 pub sets_law : (d : Design) → IsLawfulDesign d → SetsLaw d
-sets_law d lawful dump t w h early tables notes settled chosen =
-    let k = wakes d lawful dump t w h early tables notes settled chosen in
+sets_law d lawful dump t w h early tables notes single settled chosen =
+    let k = wakes d lawful dump t w h early tables notes single settled chosen in
     record {
-      first_round = notes.first_round;
       moves = λ x. tested w.moves x _ (k.moves x);
       trigger = k.trigger;
       no_trigger = k.no_trigger;
       wakes = k.wakes;
       no_wakes = k.no_wakes;
-      early = λ p c clean x. tested (early p) x _ (early_by d lawful dump t w h early tables notes settled chosen p c clean (trigger_of w p) refl x);
+      early = λ p c clean x. tested (early p) x _ (early_by d lawful dump t w h early tables notes single settled chosen p c clean (trigger_of w p) refl x);
     }

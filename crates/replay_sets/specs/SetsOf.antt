@@ -5,9 +5,10 @@ use Rattle.design_model.specs.Design.{Design}
 use Rattle.design_model.specs.Shows.{BoundDump}
 use Rattle.early_sets.specs.declared.habit.Habit.{Habit}
 use Rattle.early_sets.specs.Early.{IsEarlyBy}
-use Rattle.early_sets.specs.WakeState.{WakeState, is_in, trigger_of, waker_of}
+use Rattle.early_sets.specs.WakeState.{WakeState, trigger_of, waker_of}
+use Rattle.early_sets.specs.Has.{is_in}
 use Rattle.replay_model.specs.Sets.{AreSets, Sets}
-use Rattle.wake_laws.specs.Laws.{AreNotes, IsSettled, habit_of}
+use Rattle.wake_laws.specs.Laws.{AreNotes, AreSingle, IsSettled, habit_of}
 use Rattle.wake_laws.specs.OfDesign.{AreTablesOf}
 
 -- the answers of a step, with what was found to be early for each process
@@ -22,4 +23,4 @@ AreChosen w h early = (p s : ℕ) → trigger_of w p ≡ Some s → (x : ℕ) �
 abbrev pub SetsLaw : Design → Type 0
 SetsLaw d =
     (dump : BoundDump) (t : ℕ) (w : WakeState) (h : Habit) (early : ℕ → List ℕ)
-    → AreTablesOf d w.tables → AreNotes d dump t w → IsSettled w → AreChosen w h early → AreSets d (habit_of h) dump t (sets_of w early)
+    → AreTablesOf d w.tables → AreNotes d dump t w → AreSingle d dump t w → IsSettled w → AreChosen w h early → AreSets d (habit_of h) dump t (sets_of w early)

@@ -1,25 +1,46 @@
 -- The sets of a design before its first step.
-use Rattle.std.proofs.Common.{◌≡◌, ◌↔◌, ◌∙◌, ℕ, ◌<◌, true, false, List, Bool, Result, Ok, Err, IfOk, get_or, length, replicate, sym, ap, subst}
+use Rattle.std.proofs.Common.{◌≡◌, ◌↔◌, ⊎_elim, ◌∙◌, ℕ, ◌<◌, ◌≤◌, true, false, List, Option, Some, None, Bool, Result, Ok, Err, IfOk, get_or, length, replicate, sym, ap, subst}
 use Rattle.std.specs.List.{Contains}
-use Rattle.std.proofs.lemmas.List.{get_or-replicate}
+use Rattle.std.proofs.lemmas.Bool.{cases_lt}
+use Rattle.std.proofs.lemmas.List.{get_or-replicate, get_or_past, length-replicate}
 use Rattle.design_model.specs.Design.{Design}
-use Rattle.early_sets.specs.Edges.{any_edges}
-use Rattle.early_sets.specs.Reached.{no_edges}
+use Rattle.early_sets.specs.Sizes.{AreWriters}
 use Rattle.early_sets.specs.WakeState.{WakeState}
 use Rattle.step_wakes.specs.Step.{IsOfDesign, flag_at, is_given, is_missing}
 use Rattle.wake_laws.specs.OfDesign.{AreTablesOf}
 use Rattle.wake_tables.specs.declared.tables.WakeTables.{WakeTables}
 
--- what is so of one success, by four facts of it
-pub four_facts : {T E : Type 0} (P Q R S G : T → Type 0) (r : Result T E) → ((x : T) → P x → Q x → R x → S x → G x) → IfOk r P → IfOk r Q → IfOk r R → IfOk r S → IfOk r G
-four_facts P Q R S G (Ok x) f p q s t = f x p q s t
-four_facts P Q R S G (Err e) f p q s t = tt
+-- what is so of one success, by three facts of it
+pub three_facts : {T E : Type 0} (P Q R G : T → Type 0) (r : Result T E) → ((x : T) → P x → Q x → R x → G x) → IfOk r P → IfOk r Q → IfOk r R → IfOk r G
+three_facts P Q R G (Ok x) f p q s = f x p q s
+three_facts P Q R G (Err e) f p q s = tt
 
-pub fresh : (d : Design) (bound : List Bool) (t : WakeTables) (flags : List Bool) (missing : List ℕ) (w : WakeState) → AreTablesOf d t → ((x : ℕ) → x < t.things → flag_at flags x ≡ is_given d bound x) → ((x : ℕ) → Contains missing x ↔ (is_missing d bound x ≡ true)) → w.tables ≡ t → w.told ≡ flags → w.untold ≡ missing → w.edges ≡ replicate t.things any_edges → IsOfDesign d bound w
-fresh d bound t flags missing w are given lost tables told untold edges =
+pub one_fact : {T E : Type 0} (P G : T → Type 0) (r : Result T E) → ((x : T) → P x → G x) → IfOk r P → IfOk r G
+one_fact P G (Ok x) f p = f x p
+one_fact P G (Err e) f p = tt
+
+pub fresh : (d : Design) (bound : List Bool) (t : WakeTables) (flags : List Bool) (missing : List ℕ) (w : WakeState) → AreTablesOf d t → ((x : ℕ) → x < t.things → flag_at flags x ≡ is_given d bound x) → ((x : ℕ) → Contains missing x ↔ (is_missing d bound x ≡ true)) → w.tables ≡ t → w.told ≡ flags → w.untold ≡ missing → IsOfDesign d bound w
+fresh d bound t flags missing w are given lost tables told untold =
     record {
       tables = subst (AreTablesOf d) (sym tables) are;
       told = λ x l. ap (λ xs. get_or xs x false) told ∙ given x (subst (λ s. x < s.things) tables l);
       untold = λ x. subst (λ xs. Contains xs x ↔ (is_missing d bound x ≡ true)) (sym untold) (lost x);
-      others = λ x l out. ap (λ es. get_or es x no_edges) edges ∙ get_or-replicate t.things x any_edges no_edges (subst (λ s. x < s.things) tables l);
     }
+
+-- a list without a writer
+pub none_at : (n x : ℕ) → get_or (replicate n (None {A = ℕ})) x None ≡ None
+none_at n x =
+    ⊎_elim
+    (λ l. get_or-replicate n x None None l)
+    (λ past. get_or_past (replicate n None) x None (subst (λ k. k ≤ x) (sym (length-replicate n None)) past))
+    (cases_lt x n)
+
+pub no_writers : (n processes : ℕ) (xs : List (Option ℕ)) → xs ≡ replicate n None → AreWriters n processes xs
+no_writers n processes xs is =
+    record {
+      count_is = ap length is ∙ length-replicate n None;
+      below = λ x p h. absurd (never x p (sym (ap (λ ys. get_or ys x None) is ∙ none_at n x) ∙ h));
+    }
+  where
+    never : (x p : ℕ) → None ≡ Some p → ⊥
+    never x p e = cc

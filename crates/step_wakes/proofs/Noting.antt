@@ -1,107 +1,144 @@
 -- The changes of a step, noted one after the other.
-use Rattle.std.proofs.Common.{◌≡◌, ◌≢◌, ◌⊎◌, ◌↔◌, inl, inr, ⊎_elim, ◌∙◌, ℕ, ◌-◌, ◌<◌, ◌+◌, ◌==◌, ◌&&◌, Bool, true, false, not, List, [], ◌∷◌, ◌++◌, length, get_or, set, take, refl, sym, ap, ap₂, subst, arith, lt-ltb}
+use Rattle.std.proofs.Common.{◌≡◌, ◌≢◌, ◌⊎◌, ◌↔◌, inl, inr, ⊎_elim, ◌∙◌, ℕ, ◌-◌, ◌<◌, ◌≤◌, ◌+◌, ◌==◌, ◌&&◌, ◌||◌, Bool, true, false, cond, not, List, [], ◌∷◌, ◌++◌, Option, Some, None, length, get_or, set, take, refl, sym, ap, ap₂, subst, arith, lt-ltb}
 use Rattle.std.specs.List.{All, Contains}
-use Rattle.std.proofs.lemmas.Bool.{and_from, and_parts, both_ways, cases_Bool, cases_eq, cases_lt, false≢true}
+use Rattle.std.proofs.lemmas.Bool.{and_from, and_parts, both_ways, cases_Bool, cases_eq, cases_lt, false≢true, or_left, or_right, false_from_ne_true}
 use Rattle.std.proofs.lemmas.List.{get_or-set_other, get_or-set_same, get_or_past, length-set, take_more}
 use Rattle.std.proofs.lemmas.List.Elements.{Contains-append_left, Contains-push, Contains-push_cases}
+use Rattle.four_state.specs.Vector.{same_bit}
+use Rattle.four_state.specs.declared.bit.Bit.{Bit}
+use Rattle.four_state.specs.declared.bit.Bit.TheVariants.{One, X, Z, Zero}
 use Rattle.event_machine.specs.Cell.{Cell}
 use Rattle.design_model.specs.Design.{Design, cell, no_signal, signal_at}
 use Rattle.design_model.specs.Lawful.{IsLawfulDesign}
 use Rattle.design_model.specs.Machine.{machine}
 use Rattle.design_model.specs.Shows.{BoundDump}
 use Rattle.design_model.proofs.AssignLaws.{has_bit}
+use Rattle.design_model.proofs.Lawful.{same_bit_is, same_bit_self}
+use Rattle.design_model.proofs.TargetCells.{target_cells_law}
 use Rattle.early_sets.specs.Adds.{Adds}
-use Rattle.early_sets.specs.Edges.{any_edges, edges_between}
-use Rattle.early_sets.specs.Reached.{Reached, edges_at, no_edges}
-use Rattle.early_sets.specs.WakeState.{WakeState, is_told, nothing_left}
+use Rattle.early_sets.specs.Edges.{edges_between, no_edges}
+use Rattle.early_sets.specs.Has.{is_in}
+use Rattle.early_sets.specs.Rounds.{writer_at}
+use Rattle.early_sets.specs.Settled.{HasSettled}
+use Rattle.early_sets.specs.WakeState.{WakeState, is_told, own_edges, trigger_of}
+use Rattle.early_sets.proofs.Membership.{is_in_from, is_in_gives}
 use Rattle.replay_sets.proofs.SetsLaw.{sets_law}
-use Rattle.wake_laws.specs.Laws.{AreNotes, IsChangedInput}
+use Rattle.wake_laws.specs.Laws.{AreInRounds, AreNotes, IsChangedInput, IsFirstSingle, IsRoundOf, habit_of}
 use Rattle.wake_laws.specs.OfDesign.{AreTablesOf}
+use Rattle.wake_laws.proofs.MovesLaw.{moves_by, reached_below}
+use Rattle.wake_laws.proofs.RoundsLaw.{has_moves, rounds_law}
 use Rattle.step_wakes.specs.Step.{AreChanges, IsOfDesign, StepSets, flag_at, is_given, is_missing}
-use Rattle.step_wakes.specs.declared.step.InputChange.{InputChange}
+use Rattle.step_wakes.specs.declared.step.SignalChange.{SignalChange}
 
 -- these changes, and no others, are noted since the state before, beside the inputs that are never told
-pub record IsNoted (before : WakeState) (changes : List InputChange) (after : WakeState) : Type 0 where
+pub record IsNoted (before : WakeState) (changes : List SignalChange) (after : WakeState) : Type 0 where
   pub tables : after.tables ≡ before.tables
   pub told : after.told ≡ before.told
   pub untold : after.untold ≡ before.untold
-  pub size : length after.edges ≡ length before.edges
-  pub only : (x : ℕ) → Contains after.noted x → Contains before.untold x ⊎ ((c : InputChange) × (c.input ≡ x) × Contains changes c)
+  pub writers : after.writers ≡ before.writers
+  pub size : length after.own ≡ length before.own
+  pub only : (x : ℕ) → Contains after.noted x → Contains before.untold x ⊎ ((c : SignalChange) × (c.signal ≡ x) × Contains changes c × (is_told before x ≡ true))
   pub any : (x : ℕ) → Contains before.untold x → Contains after.noted x
-  pub all : (c : InputChange) → Contains changes c → Contains after.noted c.input
-  pub edges : (c : InputChange) → Contains changes c → (e : InputChange) × (e.input ≡ c.input) × Contains changes e × (edges_at after.edges c.input ≡ edges_between e.old e.new)
-  pub others : (x : ℕ) → ((c : InputChange) → Contains changes c → c.input ≡ x → ⊥) → edges_at after.edges x ≡ edges_at before.edges x
+  pub all : (c : SignalChange) → Contains changes c → is_told before c.signal ≡ true → Contains after.noted c.signal
+  pub known : (x : ℕ) → Contains after.changed x → (c : SignalChange) × (c.signal ≡ x) × Contains changes c
+  pub every : (c : SignalChange) → Contains changes c → is_told before c.signal ≡ false → Contains after.changed c.signal
+  pub own : (c : SignalChange) → Contains changes c → (e : SignalChange) × (e.signal ≡ c.signal) × Contains changes e × (get_or after.own c.signal no_edges ≡ edges_between e.old e.new)
 
-pub noted_none : (before after : WakeState) → after.tables ≡ before.tables → after.told ≡ before.told → after.untold ≡ before.untold → after.edges ≡ before.edges → ((x : ℕ) → Contains after.noted x ↔ Contains before.untold x) → IsNoted before [] after
-noted_none before after tables told untold edges noted =
+pub noted_none : (before after : WakeState) → after ≡ record before { noted = after.noted; changed = []; derived = []; moves = []; woken = []; early = [] } → ((x : ℕ) → Contains after.noted x ↔ Contains before.untold x) → IsNoted before [] after
+noted_none before after rest noted =
     record {
-      tables = tables;
-      told = told;
-      untold = untold;
-      size = ap length edges;
+      tables = ap (λ w. w.tables) rest;
+      told = ap (λ w. w.told) rest;
+      untold = ap (λ w. w.untold) rest;
+      writers = ap (λ w. w.writers) rest;
+      size = ap (λ w. length w.own) rest;
       only = λ x c. inl ((noted x).0 c);
       any = λ x c. (noted x).1 c;
       all = λ c m. absurd (omega (arith, m.1));
-      edges = λ c m. absurd (omega (arith, m.1));
-      others = λ x never. ap (λ es. edges_at es x) edges;
+      known = λ x c. let m = subst (λ w. Contains w.changed x) rest c in absurd (omega (arith, m.1));
+      every = λ c m. absurd (omega (arith, m.1));
+      own = λ c m. absurd (omega (arith, m.1));
     }
 
-module _ (before s after : WakeState) (xs : List InputChange) (c : InputChange) (below : c.input < length s.edges) (tables : after.tables ≡ s.tables) (told : after.told ≡ s.told) (untold : after.untold ≡ s.untold) (noted : Adds (λ x. c.input ≡ x) s.noted after.noted) (edges : after.edges ≡ set s.edges c.input (edges_between c.old c.new)) (so : IsNoted before xs s) where
-  same_edges : edges_at after.edges c.input ≡ edges_between c.old c.new
-  same_edges = ap (λ es. edges_at es c.input) edges ∙ get_or-set_same s.edges c.input (edges_between c.old c.new) no_edges below
+module _ (before s after : WakeState) (xs : List SignalChange) (c : SignalChange) (below : c.signal < length s.own) (rest : after ≡ record s { own = set s.own c.signal (edges_between c.old c.new); noted = after.noted; changed = after.changed }) (noted : Adds (λ x. (is_told s c.signal ≡ true) × (c.signal ≡ x)) s.noted after.noted) (changed : Adds (λ x. (is_told s c.signal ≡ false) × (c.signal ≡ x)) s.changed after.changed) (so : IsNoted before xs s) where
+  told_same : (x : ℕ) → is_told s x ≡ is_told before x
+  told_same x = ap (λ ts. get_or ts x false) so.told
 
-  other_edges : (x : ℕ) → x ≢ c.input → edges_at after.edges x ≡ edges_at s.edges x
-  other_edges x ne = ap (λ es. edges_at es x) edges ∙ get_or-set_other s.edges c.input x (edges_between c.old c.new) no_edges ne
+  own_is : after.own ≡ set s.own c.signal (edges_between c.old c.new)
+  own_is = ap (λ w. w.own) rest
+
+  same_own : get_or after.own c.signal no_edges ≡ edges_between c.old c.new
+  same_own = ap (λ es. get_or es c.signal no_edges) own_is ∙ get_or-set_same s.own c.signal (edges_between c.old c.new) no_edges below
+
+  other_own : (x : ℕ) → x ≢ c.signal → get_or after.own x no_edges ≡ get_or s.own x no_edges
+  other_own x ne = ap (λ es. get_or es x no_edges) own_is ∙ get_or-set_other s.own c.signal x (edges_between c.old c.new) no_edges ne
+
+  more : (e : SignalChange) → Contains xs e → Contains (xs ++ c ∷ []) e
+  more e m = Contains-append_left xs (c ∷ []) e m
 
   kept : (x : ℕ) → Contains s.noted x → Contains after.noted x
   kept x m = subst (λ ys. Contains ys x) (sym noted.extends.is) (Contains-append_left s.noted noted.extends.more x m)
 
-  more_only : (x : ℕ) → Contains after.noted x → Contains before.untold x ⊎ ((e : InputChange) × (e.input ≡ x) × Contains (xs ++ c ∷ []) e)
+  kept_changed : (x : ℕ) → Contains s.changed x → Contains after.changed x
+  kept_changed x m = subst (λ ys. Contains ys x) (sym changed.extends.is) (Contains-append_left s.changed changed.extends.more x m)
+
+  more_only : (x : ℕ) → Contains after.noted x → Contains before.untold x ⊎ ((e : SignalChange) × (e.signal ≡ x) × Contains (xs ++ c ∷ []) e × (is_told before x ≡ true))
   more_only x m =
       ⊎_elim
-      (λ k. ⊎_elim (λ u. inl u) (λ e. inr (e.0, e.1, Contains-append_left xs (c ∷ []) e.0 e.2)) (so.only x k))
-      (λ here. inr (c, here, Contains-push xs c))
+      (λ k. ⊎_elim (λ u. inl u) (λ e. inr (e.0, e.1, more e.0 e.2, e.3)) (so.only x k))
+      (λ here. inr (c, here.1, Contains-push xs c, subst (λ y. is_told before y ≡ true) here.1 (sym (told_same c.signal) ∙ here.0)))
       (noted.only x m)
 
-  more_all : (e : InputChange) → Contains (xs ++ c ∷ []) e → Contains after.noted e.input
-  more_all e m =
+  more_all : (e : SignalChange) → Contains (xs ++ c ∷ []) e → is_told before e.signal ≡ true → Contains after.noted e.signal
+  more_all e m told =
       ⊎_elim
-      (λ k. kept e.input (so.all e k))
-      (λ here. noted.all e.input (ap (λ z. z.input) here))
+      (λ k. kept e.signal (so.all e k told))
+      (λ here. noted.all e.signal (told_same c.signal ∙ subst (λ z. is_told before z.signal ≡ true) (sym here) told, ap (λ z. z.signal) here))
       (Contains-push_cases xs c e m)
 
-  more_edges : (e : InputChange) → Contains (xs ++ c ∷ []) e → (f : InputChange) × (f.input ≡ e.input) × Contains (xs ++ c ∷ []) f × (edges_at after.edges e.input ≡ edges_between f.old f.new)
-  more_edges e m =
+  more_known : (x : ℕ) → Contains after.changed x → (e : SignalChange) × (e.signal ≡ x) × Contains (xs ++ c ∷ []) e
+  more_known x m =
       ⊎_elim
-      (λ here. (c, sym here, Contains-push xs c, ap (edges_at after.edges) here ∙ same_edges))
-      (λ ne. ⊎_elim
-      (λ k. let f = so.edges e k in (f.0, f.1, Contains-append_left xs (c ∷ []) f.0 f.2, other_edges e.input ne ∙ f.3))
-      (λ here. absurd (ne (sym (ap (λ z. z.input) here))))
-      (Contains-push_cases xs c e m))
-      (cases_eq e.input c.input)
+      (λ k. let e = so.known x k in (e.0, e.1, more e.0 e.2))
+      (λ here. (c, here.1, Contains-push xs c))
+      (changed.only x m)
 
-  more_others : (x : ℕ) → ((e : InputChange) → Contains (xs ++ c ∷ []) e → e.input ≡ x → ⊥) → edges_at after.edges x ≡ edges_at before.edges x
-  more_others x never =
-      other_edges x (λ here. never c (Contains-push xs c) (sym here))
-      ∙ so.others x (λ e m here. never e (Contains-append_left xs (c ∷ []) e m) here)
+  more_every : (e : SignalChange) → Contains (xs ++ c ∷ []) e → is_told before e.signal ≡ false → Contains after.changed e.signal
+  more_every e m out =
+      ⊎_elim
+      (λ k. kept_changed e.signal (so.every e k out))
+      (λ here. changed.all e.signal (told_same c.signal ∙ subst (λ z. is_told before z.signal ≡ false) (sym here) out, ap (λ z. z.signal) here))
+      (Contains-push_cases xs c e m)
+
+  more_own : (e : SignalChange) → Contains (xs ++ c ∷ []) e → (f : SignalChange) × (f.signal ≡ e.signal) × Contains (xs ++ c ∷ []) f × (get_or after.own e.signal no_edges ≡ edges_between f.old f.new)
+  more_own e m =
+      ⊎_elim
+      (λ here. (c, sym here, Contains-push xs c, ap (λ x. get_or after.own x no_edges) here ∙ same_own))
+      (λ ne. ⊎_elim
+      (λ k. let f = so.own e k in (f.0, f.1, more f.0 f.2, other_own e.signal ne ∙ f.3))
+      (λ here. absurd (ne (sym (ap (λ z. z.signal) here))))
+      (Contains-push_cases xs c e m))
+      (cases_eq e.signal c.signal)
 
   noted_one : IsNoted before (xs ++ c ∷ []) after
   noted_one =
       record {
-        tables = tables ∙ so.tables;
-        told = told ∙ so.told;
-        untold = untold ∙ so.untold;
-        size = ap length edges ∙ length-set s.edges c.input (edges_between c.old c.new) ∙ so.size;
+        tables = ap (λ w. w.tables) rest ∙ so.tables;
+        told = ap (λ w. w.told) rest ∙ so.told;
+        untold = ap (λ w. w.untold) rest ∙ so.untold;
+        writers = ap (λ w. w.writers) rest ∙ so.writers;
+        size = ap length own_is ∙ length-set s.own c.signal (edges_between c.old c.new) ∙ so.size;
         only = more_only;
         any = λ x m. kept x (so.any x m);
         all = more_all;
-        edges = more_edges;
-        others = more_others;
+        known = more_known;
+        every = more_every;
+        own = more_own;
       }
 
-pub noted_more : (before s after : WakeState) (xs : List InputChange) (i : ℕ) (c : InputChange) → i < length xs → c ≡ get_or xs i c → c.input < length s.edges → after.tables ≡ s.tables → after.told ≡ s.told → after.untold ≡ s.untold → Adds (λ x. c.input ≡ x) s.noted after.noted → after.edges ≡ set s.edges c.input (edges_between c.old c.new) → IsNoted before (take i xs) s → IsNoted before (take (i + 1) xs) after
-noted_more before s after xs i c l e below tables told untold noted edges so =
-    subst (λ ys. IsNoted before ys after) (ap (λ z. take i xs ++ z ∷ []) e ∙ sym (take_more xs i c l)) (noted_one before s after (take i xs) c below tables told untold noted edges so)
+pub noted_more : (before s after : WakeState) (xs : List SignalChange) (i : ℕ) (c : SignalChange) → i < length xs → c ≡ get_or xs i c → c.signal < length s.own → after ≡ record s { own = set s.own c.signal (edges_between c.old c.new); noted = after.noted; changed = after.changed } → Adds (λ x. (is_told s c.signal ≡ true) × (c.signal ≡ x)) s.noted after.noted → Adds (λ x. (is_told s c.signal ≡ false) × (c.signal ≡ x)) s.changed after.changed → IsNoted before (take i xs) s → IsNoted before (take (i + 1) xs) after
+noted_more before s after xs i c l e below rest noted changed so =
+    subst (λ ys. IsNoted before ys after) (ap (λ z. take i xs ++ z ∷ []) e ∙ sym (take_more xs i c l)) (noted_one before s after (take i xs) c below rest noted changed so)
 
 -- whether a signal is an input and given, where the flags agree on inputs
 same_given : (i a b : Bool) → (i ≡ true → a ≡ b) → (i && b) ≡ (i && a)
@@ -123,7 +160,17 @@ is_missing_from true false p q = refl
 is_missing_from true true p q = absurd (false≢true (sym q))
 is_missing_from false b p q = absurd (false≢true p)
 
-module _ (d : Design) (bound : List Bool) (before noted : WakeState) (changes : List InputChange) (of : IsOfDesign d bound before) (told : (c : InputChange) → Contains changes c → is_told before c.input ≡ true) (so : IsNoted before changes noted) where
+-- no edge is from a bit to itself
+no_change : (v : Bit) → edges_between v v ≡ no_edges
+no_change Zero = refl
+no_change One = refl
+no_change X = refl
+no_change Z = refl
+
+some_writer : (p : ℕ) → None ≡ Some p → ⊥
+some_writer p e = cc
+
+module _ (d : Design) (bound : List Bool) (before noted : WakeState) (changes : List SignalChange) (of : IsOfDesign d bound before) (so : IsNoted before changes noted) where
   told_is : (x : ℕ) → is_told noted x ≡ is_told before x
   told_is x = ap (λ xs. get_or xs x false) so.told
 
@@ -134,12 +181,20 @@ module _ (d : Design) (bound : List Bool) (before noted : WakeState) (changes : 
         tables = subst (AreTablesOf d) (sym so.tables) of.tables;
         told = λ x l. told_is x ∙ of.told x (subst (λ t. x < t.things) so.tables l);
         untold = λ x. subst (λ xs. Contains xs x ↔ (is_missing d bound x ≡ true)) (sym so.untold) (of.untold x);
-        others = λ x l out. so.others x (λ c m here. both_ways _ (sym (told_is x) ∙ out) (subst (λ y. is_told before y ≡ true) here (told c m))) ∙ of.others x (subst (λ t. x < t.things) so.tables l) (sym (told_is x) ∙ out);
       }
 
-  module _ (lawful : IsLawfulDesign d) (dump : BoundDump) (t : ℕ) (first : dump.round t ≡ 0) (same : (x : ℕ) → (signal_at d x).input ≡ true → dump.bound x ≡ flag_at bound x) (are : AreChanges d dump t changes) where
+  module _ (lawful : IsLawfulDesign d) (dump : BoundDump) (t : ℕ) (sized : length before.told ≡ before.tables.things) (round : IsRoundOf d dump t noted) (same : (x : ℕ) → (signal_at d x).input ≡ true → dump.bound x ≡ flag_at bound x) (are : AreChanges d dump t noted changes) where
     input_below : (x : ℕ) → (signal_at d x).input ≡ true → x < length d.signals
     input_below x h = ⊎_elim (λ l. l) (λ past. absurd (both_ways _ (ap (λ s. s.input) (get_or_past d.signals x no_signal past)) h)) (cases_lt x (length d.signals))
+
+    told_below : (x : ℕ) → (signal_at d x).input ≡ true → x < before.tables.things
+    told_below x h = let l = input_below x h in omega (arith, l, of.tables.things_are)
+
+    -- what is told is an input that the dump gives
+    given_told : (x : ℕ) → is_told before x ≡ true → is_given d bound x ≡ true
+    given_told x h =
+        let l : x < before.tables.things = ⊎_elim (λ l. l) (λ past. absurd (both_ways _ (get_or_past before.told x false (omega (arith, past, sized))) h)) (cases_lt x before.tables.things) in
+        sym (of.told x l) ∙ h
 
     -- an input that is never told may change in each step
     missing_changes : (x : ℕ) → is_missing d bound x ≡ true → IsChangedInput d dump t x
@@ -152,7 +207,7 @@ module _ (d : Design) (bound : List Bool) (before noted : WakeState) (changes : 
     noted_changes x m =
         ⊎_elim
         (λ u. missing_changes x ((of.untold x).0 u))
-        (λ k. subst (IsChangedInput d dump t) k.1 (are.only k.0 k.2))
+        (λ k. subst (IsChangedInput d dump t) k.1 (are.only k.0 k.2 (subst (λ y. (signal_at d y).input ≡ true) (sym k.1) (and_parts (signal_at d x).input _ (given_told x k.3)).0)))
         (so.only x m)
 
     input_of : (x : ℕ) → IsChangedInput d dump t x → (signal_at d x).input ≡ true
@@ -160,66 +215,98 @@ module _ (d : Design) (bound : List Bool) (before noted : WakeState) (changes : 
 
     changes_noted : (x : ℕ) → IsChangedInput d dump t x → Contains noted.noted x
     changes_noted x h =
+        let input = input_of x h in
         ⊎_elim
-        (λ b. let k = are.all x b h in subst (Contains noted.noted) k.1 (so.all k.0 k.2))
-        (λ b. so.any x ((of.untold x).1 (is_missing_from (signal_at d x).input (flag_at bound x) (input_of x h) (sym (same x (input_of x h)) ∙ b))))
+        (λ b. let k = are.inputs x b h in
+        let told : is_told before x ≡ true = of.told x (told_below x input) ∙ and_from (signal_at d x).input (flag_at bound x) input (sym (same x input) ∙ b) in
+        subst (Contains noted.noted) k.1 (so.all k.0 k.2 (subst (λ y. is_told before y ≡ true) (sym k.1) told)))
+        (λ b. so.any x ((of.untold x).1 (is_missing_from (signal_at d x).input (flag_at bound x) input (sym (same x input) ∙ b))))
         (cases_Bool (dump.bound x))
 
-    told_below : (x : ℕ) → (signal_at d x).input ≡ true → x < before.tables.things
-    told_below x h = let l = input_below x h in omega (arith, l, of.tables.things_are)
+    -- the edges of a change of the list
+    listed_own : (c : SignalChange) → Contains changes c → get_or noted.own c.signal no_edges ≡ edges_between (dump.values (t - 1) (cell c.signal 0)) (dump.values t (cell c.signal 0))
+    listed_own c m =
+        let f = so.own c m in
+        f.3 ∙ ap₂ edges_between (are.old f.0 f.2 ∙ ap (λ z. dump.values (t - 1) (cell z 0)) f.1) (are.new f.0 f.2 ∙ ap (λ z. dump.values t (cell z 0)) f.1)
+
+    own_at : (x : ℕ) (c : SignalChange) → c.signal ≡ x → Contains changes c → get_or noted.own x no_edges ≡ edges_between (dump.values (t - 1) (cell x 0)) (dump.values t (cell x 0))
+    own_at x c is m = subst (λ y. get_or noted.own y no_edges ≡ edges_between (dump.values (t - 1) (cell y 0)) (dump.values t (cell y 0))) is (listed_own c m)
 
     -- the edges of an input that is told and noted
-    told_edges : (x : ℕ) → Contains noted.noted x → is_told noted x ≡ true → edges_at noted.edges x ≡ edges_between (dump.values (t - 1) (cell x 0)) (dump.values t (cell x 0))
-    told_edges x m h =
-        ⊎_elim
-        (λ u. absurd (not_given (signal_at d x).input (flag_at bound x) ((of.untold x).0 u) (sym (of.told x (told_below x (and_parts (signal_at d x).input _ ((of.untold x).0 u)).0)) ∙ sym (told_is x) ∙ h)))
-        (λ k. let f = so.edges k.0 k.2 in
-        ap (edges_at noted.edges) (sym k.1) ∙ f.3 ∙ ap₂ edges_between (are.old f.0 f.2 ∙ ap (λ z. dump.values (t - 1) (cell z 0)) (f.1 ∙ k.1)) (are.new f.0 f.2 ∙ ap (λ z. dump.values t (cell z 0)) (f.1 ∙ k.1)))
+    told_own : (x : ℕ) → Contains noted.noted x → is_told noted x ≡ true → own_edges noted x ≡ edges_between (dump.values (t - 1) (cell x 0)) (dump.values t (cell x 0))
+    told_own x m h =
+        ap (λ b. cond b (get_or noted.own x no_edges) no_edges) (or_left (is_told noted x) (is_in noted.changed x) h)
+        ∙ ⊎_elim
+        (λ u. absurd (not_given (signal_at d x).input (flag_at bound x) ((of.untold x).0 u) (given_told x (sym (told_is x) ∙ h))))
+        (λ k. own_at x k.0 k.1 k.2)
         (so.only x m)
+
+    -- what may become single is no input
+    candidate_untold : (x p : ℕ) → writer_at noted x ≡ Some p → is_told noted x ≡ false
+    candidate_untold x p is = ⊎_elim (λ none. absurd (some_writer p (sym (none.0 x) ∙ is))) by_writers round
+      where
+        by_writers : _ → is_told noted x ≡ false
+        by_writers r =
+            false_from_ne_true (is_told noted x) (λ h.
+            let given = given_told x (sym (told_is x) ∙ h) in
+            let input = (and_parts (signal_at d x).input _ given).0 in
+            let l : x < noted.tables.things = subst (λ s. x < s.things) (sym so.tables) (told_below x input) in
+            let o = (r.0.is x p l).0 is in
+            both_ways _ (lawful.no_input p x (target_cells_law d p (cell x 0) o.writes)) input)
+
+    -- the edges of what may become single
+    candidate_own : (x p : ℕ) → writer_at noted x ≡ Some p → own_edges noted x ≡ edges_between (dump.values (t - 1) (cell x 0)) (dump.values t (cell x 0))
+    candidate_own x p is =
+        let out = candidate_untold x p is in
+        let old = dump.values (t - 1) (cell x 0) in
+        let new = dump.values t (cell x 0) in
+        ⊎_elim
+        (λ h. let k = so.known x (is_in_gives noted.changed x h) in
+        ap (λ b. cond b (get_or noted.own x no_edges) no_edges) (or_right (is_told noted x) (is_in noted.changed x) h) ∙ own_at x k.0 k.1 k.2)
+        (λ h. let never : old ≢ new → ⊥ = λ ne.
+        let k = are.candidates x p is ne in
+        let c = so.every k.0 k.2 (subst (λ y. is_told before y ≡ false) (sym k.1) (sym (told_is x) ∙ out)) in
+        let m = subst (Contains noted.changed) k.1 c in
+        both_ways _ h (is_in_from noted.changed x m.0 m.1 m.2) in
+        let still : old ≡ new = ⊎_elim (same_bit_is old new) (λ differs. absurd (never (λ e. both_ways _ differs (subst (λ v. same_bit old v ≡ true) e (same_bit_self old))))) (cases_Bool (same_bit old new)) in
+        ap (λ b. cond b (get_or noted.own x no_edges) no_edges) (ap₂ (λ a b. a || b) out h) ∙ sym (ap (λ v. edges_between old v) (sym still) ∙ no_change old))
+        (cases_Bool (is_in noted.changed x))
 
     -- what was noted is what the dump says
     pub notes_are : AreNotes d dump t noted
     notes_are =
         record {
-          first_round = first;
           told_are = λ x l. still_of.told x l ∙ same_given (signal_at d x).input (dump.bound x) (flag_at bound x) (same x);
           noted_are = λ x. (noted_changes x, changes_noted x);
-          changes = told_edges;
-          others = still_of.others;
+          changes = told_own;
+          others = candidate_own;
         }
 
 -- what is found does not change of which design the state is
-pub found_of : (d : Design) (bound : List Bool) (noted after : WakeState) → after.tables ≡ noted.tables → after.told ≡ noted.told → after.untold ≡ noted.untold → after.edges ≡ noted.edges → IsOfDesign d bound noted → IsOfDesign d bound after
-found_of d bound noted after tables told untold edges of =
+pub found_of : (d : Design) (bound : List Bool) (noted after : WakeState) → after ≡ record noted { derived = after.derived; rounds = after.rounds; moves = after.moves; woken = after.woken } → IsOfDesign d bound noted → IsOfDesign d bound after
+found_of d bound noted after rest of =
     record {
-      tables = subst (AreTablesOf d) (sym tables) of.tables;
-      told = λ x l. ap (λ xs. get_or xs x false) told ∙ of.told x (subst (λ t. x < t.things) tables l);
-      untold = λ x. subst (λ xs. Contains xs x ↔ (is_missing d bound x ≡ true)) (sym untold) (of.untold x);
-      others = λ x l out. ap (λ es. edges_at es x) edges ∙ of.others x (subst (λ t. x < t.things) tables l) (sym (ap (λ xs. get_or xs x false) told) ∙ out);
+      tables = subst (AreTablesOf d) (sym (ap (λ w. w.tables) rest)) of.tables;
+      told = λ x l. ap (λ w. is_told w x) rest ∙ of.told x (subst (λ w. x < w.tables.things) rest l);
+      untold = λ x. subst (λ xs. Contains xs x ↔ (is_missing d bound x ≡ true)) (sym (ap (λ w. w.untold) rest)) (of.untold x);
     }
 
-found_notes : (d : Design) (dump : BoundDump) (t : ℕ) (noted after : WakeState) → after.tables ≡ noted.tables → after.told ≡ noted.told → after.edges ≡ noted.edges → after.noted ≡ noted.noted → AreNotes d dump t noted → AreNotes d dump t after
-found_notes d dump t noted after tables told edges same notes =
+found_notes : (d : Design) (dump : BoundDump) (t : ℕ) (noted after : WakeState) → after ≡ record noted { derived = after.derived; rounds = after.rounds; moves = after.moves; woken = after.woken } → AreNotes d dump t noted → AreNotes d dump t after
+found_notes d dump t noted after rest notes =
+    subst (AreNotes d dump t) (sym rest) (record { told_are = notes.told_are; noted_are = notes.noted_are; changes = notes.changes; others = notes.others })
+
+pub step_sets : (d : Design) (bound : List Bool) (before noted after : WakeState) (changes : List SignalChange) (start end : ℕ) → length before.told ≡ before.tables.things → IsOfDesign d bound before → IsNoted before changes noted → after ≡ record noted { derived = after.derived; rounds = after.rounds; moves = after.moves; woken = after.woken } → HasSettled after start end → StepSets d bound changes after
+step_sets d bound before noted after changes start end sized of so rest settled dump t h early lawful round same are chosen =
+    let back : AreChanges d dump t noted changes = record { only = are.only; old = are.old; new = are.new; inputs = are.inputs; candidates = λ x p is. are.candidates x p (ap (λ w. writer_at w x) rest ∙ is) } in
+    let round' : IsRoundOf d dump t noted = subst (IsRoundOf d dump t) rest round in
+    let tables = subst (AreTablesOf d) (sym (ap (λ w. w.tables) rest)) (still_of d bound before noted changes of so).tables in
+    let notes = found_notes d dump t noted after rest (notes_are d bound before noted changes of so lawful dump t sized round' same back) in
+    let rounds = rounds_law d lawful dump t after settled.earlier tables notes round settled.rounds settled.is_last in
+    let sets = sets_law d lawful dump t after h early tables notes rounds.single (record { moves_are = (has_moves after settled.earlier settled.rounds).moves }) chosen in
     record {
-      first_round = notes.first_round;
-      told_are = λ x l. ap (λ xs. get_or xs x false) told ∙ notes.told_are x (subst (λ s. x < s.things) tables l);
-      noted_are = λ x. subst (λ xs. Contains xs x ↔ IsChangedInput d dump t x) (sym same) (notes.noted_are x);
-      changes = λ x m h. ap (λ es. edges_at es x) edges ∙ notes.changes x (subst (λ xs. Contains xs x) same m) (sym (ap (λ xs. get_or xs x false) told) ∙ h);
-      others = λ x l out. ap (λ es. edges_at es x) edges ∙ notes.others x (subst (λ s. x < s.things) tables l) (sym (ap (λ xs. get_or xs x false) told) ∙ out);
+      sets = sets;
+      rounds = λ p s is.
+          let clean = sets.trigger p s is in
+          let m = moves_by d lawful dump t after tables notes rounds.single s clean.can_wake.1 in
+          rounds.first s (reached_below d lawful dump t after tables notes s m) (rounds.single.complete s m clean.is_single);
     }
-
-pub step_sets : (d : Design) (bound : List Bool) (before noted after : WakeState) (changes : List InputChange) → IsOfDesign d bound before → ((c : InputChange) → Contains changes c → is_told before c.input ≡ true) → IsNoted before changes noted → after.tables ≡ noted.tables → after.told ≡ noted.told → after.edges ≡ noted.edges → after.noted ≡ noted.noted → ((x : ℕ) → Contains after.moves x ↔ Reached noted.tables noted.edges nothing_left (Contains noted.noted) x) → StepSets d bound changes after
-step_sets d bound before noted after changes of told so tables told_same edges noted_same moves dump t h early lawful first same are chosen =
-    sets_law d lawful dump t after h early
-    (subst (AreTablesOf d) (sym tables) (still_of d bound before noted changes of told so).tables)
-    (found_notes d dump t noted after tables told_same edges noted_same (notes_are d bound before noted changes of told so lawful dump t first same are))
-    (record { moves_are = λ x. rw (tables, edges, noted_same) (moves x) })
-    chosen
-
--- what is told is of the design
-pub told_inside : (told : List Bool) (n x : ℕ) → length told ≡ n → get_or told x false ≡ true → x < n
-told_inside told n x counted h =
-    ⊎_elim
-    (λ l. omega (arith, l, counted))
-    (λ past. absurd (both_ways _ (get_or_past told x false past) h))
-    (cases_lt x (length told))

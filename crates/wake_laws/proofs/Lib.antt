@@ -2,3 +2,5 @@ pub mod MovesLaw
 pub mod EdgeLists
 pub mod WakesLaw
 pub mod EarlyLaw
+pub mod OnceWriters
+pub mod RoundsLaw

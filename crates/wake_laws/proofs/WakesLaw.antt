@@ -14,16 +14,17 @@ use Rattle.design_model.specs.MayMove.{CanWakeAt, CanWakeSome, IsCleanAt, IsSing
 use Rattle.index_sets.specs.Rows.{row_at}
 use Rattle.wake_laws.specs.OfDesign.{AreTablesOf}
 use Rattle.early_sets.specs.Edges.{may_be}
-use Rattle.wake_laws.specs.Laws.{AreNotes, AreWakes, IsSettled, WakesLaw}
-use Rattle.early_sets.specs.Reached.{Reached, edges_at}
-use Rattle.early_sets.specs.WakeState.{WakeState, can_wake_by, first_signal, is_in, is_told, nothing_left, trigger_by, waker_of, wakes_only_by}
+use Rattle.wake_laws.specs.Laws.{AreNotes, AreSingle, AreWakes, IsSettled, WakesLaw}
+use Rattle.early_sets.specs.Reached.{Reached}
+use Rattle.early_sets.specs.Has.{is_in}
+use Rattle.early_sets.specs.WakeState.{WakeState, can_wake_by, edges_at, first_signal, is_single, nothing_left, trigger_by, waker_of, wakes_only_by}
 use Rattle.early_sets.proofs.Membership.{is_in_from, is_in_gives}
 use Rattle.wake_laws.proofs.EdgeLists.{Listed, all_from, all_gives, first_gives, first_none, listed_by, listed_of, no_level}
-use Rattle.wake_laws.proofs.MovesLaw.{edge_place, is_fall, is_rise, fall_is, lowest, moves_by, moves_of, reached_below, rise_is, single_told, told_single}
+use Rattle.wake_laws.proofs.MovesLaw.{edge_place, is_fall, is_rise, fall_is, lowest, moves_by, moves_of, reached_below, rise_is}
 
-module _ (d : Design) (lawful : IsLawfulDesign d) (dump : BoundDump) (t : ℕ) (w : WakeState) (tables : AreTablesOf d w.tables) (notes : AreNotes d dump t w) (settled : IsSettled w) where
+module _ (d : Design) (lawful : IsLawfulDesign d) (dump : BoundDump) (t : ℕ) (w : WakeState) (tables : AreTablesOf d w.tables) (notes : AreNotes d dump t w) (single : AreSingle d dump t w) (settled : IsSettled w) where
   abbrev R : ℕ → Type 0
-  R x = Reached w.tables w.edges nothing_left (Contains w.noted) x
+  R x = Reached w.tables (edges_at w) nothing_left (Contains w.noted) x
 
   -- the list of edges of a process
   abbrev Events : ℕ → List Listed
@@ -38,17 +39,17 @@ module _ (d : Design) (lawful : IsLawfulDesign d) (dump : BoundDump) (t : ℕ) (
   -- an edge of the list by which a process can wake
   wakes_of : (p : ℕ) (e : Edge) (s : ℕ) → In (e, s) (Events p) → can_wake_by w (e, s) ≡ true → CanWakeAt d dump t (cell s 0) p
   wakes_of p Pos s i h =
-      let both = and_parts (is_in w.moves s) (may_be (edges_at w.edges s) Pos) h in
+      let both = and_parts (is_in w.moves s) (may_be (edges_at w s) Pos) h in
       let m = moved s both.0 in
-      ((Posedge, listed_of (process_at d p) (Pos, s) Posedge i refl, rise_is d lawful dump t w tables notes s m both.1), moves_of d lawful dump t w tables notes s m)
+      ((Posedge, listed_of (process_at d p) (Pos, s) Posedge i refl, rise_is d lawful dump t w tables notes single s m both.1), moves_of d lawful dump t w tables notes single s m)
   wakes_of p Neg s i h =
-      let both = and_parts (is_in w.moves s) (may_be (edges_at w.edges s) Neg) h in
+      let both = and_parts (is_in w.moves s) (may_be (edges_at w s) Neg) h in
       let m = moved s both.0 in
-      ((Negedge, listed_of (process_at d p) (Neg, s) Negedge i refl, fall_is d lawful dump t w tables notes s m both.1), moves_of d lawful dump t w tables notes s m)
+      ((Negedge, listed_of (process_at d p) (Neg, s) Negedge i refl, fall_is d lawful dump t w tables notes single s m both.1), moves_of d lawful dump t w tables notes single s m)
 
-  can_be : (s : ℕ) → R s → (e : Edge) (m : MachineEdge) → same_edge e m ≡ true → (IsSingleAt d dump t (cell s 0) → (machine d).is_edge m ((told_at dump t).old (cell s 0)) ((told_at dump t).new (cell s 0)) ≡ true) → may_be (edges_at w.edges s) e ≡ true
-  can_be s r Pos Posedge same f = is_rise d lawful dump t w tables notes s r f
-  can_be s r Neg Negedge same f = is_fall d lawful dump t w tables notes s r f
+  can_be : (s : ℕ) → R s → (e : Edge) (m : MachineEdge) → same_edge e m ≡ true → (IsSingleAt d dump t (cell s 0) → (machine d).is_edge m ((told_at dump t).old (cell s 0)) ((told_at dump t).new (cell s 0)) ≡ true) → may_be (edges_at w s) e ≡ true
+  can_be s r Pos Posedge same f = is_rise d lawful dump t w tables notes single s r f
+  can_be s r Neg Negedge same f = is_fall d lawful dump t w tables notes single s r f
   can_be s r Pos Negedge same f = absurd (false≢true same)
   can_be s r Neg Posedge same f = absurd (false≢true same)
 
@@ -63,7 +64,7 @@ module _ (d : Design) (lawful : IsLawfulDesign d) (dump : BoundDump) (t : ℕ) (
   wakes_by p c ((m, listed, f), moves) =
       let e = listed_by (process_at d p) m c listed in
       let low : c ≡ cell e.0.1 0 = lowest c e.0.1 (sym e.3) (edge_place (process_at d p) m c listed) in
-      let r : R e.0.1 = subst R (sym e.3) (moves_by d lawful dump t w tables notes c.thing moves) in
+      let r : R e.0.1 = subst R (sym e.3) (moves_by d lawful dump t w tables notes single c.thing moves) in
       let f' = subst (λ b. IsSingleAt d dump t b → (machine d).is_edge m ((told_at dump t).old b) ((told_at dump t).new b) ≡ true) low f in
       record { listed = e.0; is_listed = e.1; is_cell = low; can = and_from (is_in w.moves e.0.1) _ (is_moved e.0.1 r) (can_be e.0.1 r e.0.0 m e.2 f') }
 
@@ -102,18 +103,18 @@ module _ (d : Design) (lawful : IsLawfulDesign d) (dump : BoundDump) (t : ℕ) (
 
   -- an event signal is of the design
   waker_below : (p s : ℕ) → CanWakeAt d dump t (cell s 0) p → s < w.tables.things
-  waker_below p s can = reached_below d lawful dump t w tables notes s (moves_by d lawful dump t w tables notes s can.1)
+  waker_below p s can = reached_below d lawful dump t w tables notes s (moves_by d lawful dump t w tables notes single s can.1)
 
   level_none : (p s : ℕ) → CanWakeAt d dump t (cell s 0) p → (x : ℕ) → (machine d).level p x ≡ false
   level_none p s can x = let b = wakes_by p (cell s 0) can in no_level (process_at d p) b.listed b.is_listed x
 
-  clean_by : (p s : ℕ) → CanWakeAt d dump t (cell s 0) p → is_told w s ≡ true → list_all (is_other s) (Events p) ≡ true → IsCleanAt d dump t p (cell s 0)
+  clean_by : (p s : ℕ) → CanWakeAt d dump t (cell s 0) p → is_single w s ≡ true → list_all (is_other s) (Events p) ≡ true → IsCleanAt d dump t p (cell s 0)
   clean_by p s can told only =
       record {
         clocked = level_none p s can;
         can_wake = can;
         alone = only_by p s only;
-        is_single = told_single d lawful dump t w tables notes s (waker_below p s can) told;
+        is_single = single.sound s (waker_below p s can) told;
       }
 
   row_of : (p : ℕ) → row_at w.tables.events p ≡ Events p
@@ -136,8 +137,8 @@ module _ (d : Design) (lawful : IsLawfulDesign d) (dump : BoundDump) (t : ℕ) (
   trigger_some : (p s : ℕ) (o : Option ℕ) → waker_of w p ≡ o → trigger_by w p o ≡ Some s → IsCleanAt d dump t p (cell s 0)
   trigger_some p s None is h = absurd (cc)
   trigger_some p s (Some x) is h =
-      let r = cond_some (is_told w x && wakes_only_by w p x) x s h in
-      let both = and_parts (is_told w x) (wakes_only_by w p x) r.0 in
+      let r = cond_some (is_single w x && wakes_only_by w p x) x s h in
+      let both = and_parts (is_single w x) (wakes_only_by w p x) r.0 in
       subst (λ y. IsCleanAt d dump t p (cell y 0)) r.1 (clean_by p x (waker_some p x (waker_is p (Some x) is)) both.0 (sym (only_is p x) ∙ both.1))
 
   trigger_none : (p : ℕ) (o : Option ℕ) → waker_of w p ≡ o → trigger_by w p o ≡ None → (c : Cell) → IsCleanAt d dump t p c → ⊥
@@ -145,15 +146,15 @@ module _ (d : Design) (lawful : IsLawfulDesign d) (dump : BoundDump) (t : ℕ) (
   trigger_none p (Some x) is h c clean =
       let can = waker_some p x (waker_is p (Some x) is) in
       let same : cell x 0 ≡ c = clean.alone (cell x 0) can in
-      let single : IsSingleAt d dump t (cell x 0) = subst (IsSingleAt d dump t) (sym same) clean.is_single in
-      let told : is_told w x ≡ true = single_told d lawful dump t w tables notes x (waker_below p x can) single in
+      let one : IsSingleAt d dump t (cell x 0) = subst (IsSingleAt d dump t) (sym same) clean.is_single in
+      let told : is_single w x ≡ true = single.complete x (moves_by d lawful dump t w tables notes single x can.1) one in
       let only : wakes_only_by w p x ≡ true = only_is p x ∙ by_only p x (λ e can'. clean.alone e can' ∙ sym same) in
-      both_ways _ (cond_none _ x h) (and_from (is_told w x) (wakes_only_by w p x) told only)
+      both_ways _ (cond_none _ x h) (and_from (is_single w x) (wakes_only_by w p x) told only)
 
   pub wakes_are : AreWakes d dump t w
   wakes_are =
       record {
-        moves = λ x. (λ c. moves_of d lawful dump t w tables notes x ((settled.moves_are x).0 c), λ m. (settled.moves_are x).1 (moves_by d lawful dump t w tables notes x m));
+        moves = λ x. (λ c. moves_of d lawful dump t w tables notes single x ((settled.moves_are x).0 c), λ m. (settled.moves_are x).1 (moves_by d lawful dump t w tables notes single x m));
         wakes = λ p s h. waker_some p s (waker_is p (Some s) h);
         no_wakes = λ p h. waker_none p (waker_is p None h);
         trigger = λ p s h. trigger_some p s (waker_of w p) refl h;
@@ -161,4 +162,4 @@ module _ (d : Design) (lawful : IsLawfulDesign d) (dump : BoundDump) (t : ℕ) (
       }
 
 pub wakes_law : (d : Design) → IsLawfulDesign d → WakesLaw d
-wakes_law d lawful dump t w tables notes settled = wakes_are d lawful dump t w tables notes settled
+wakes_law d lawful dump t w tables notes single settled = wakes_are d lawful dump t w tables notes single settled

@@ -8,6 +8,8 @@ mod designs;
 #[cfg(test)]
 mod orders;
 #[cfg(test)]
+mod rounds;
+#[cfg(test)]
 mod steps;
 #[cfg(test)]
 mod tests;

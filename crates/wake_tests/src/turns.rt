@@ -1,9 +1,10 @@
 //! How many turns the loops of a step take, counted by a ledger.
 
-ghost use Rattle.std.specs.Prelude.{◌≡◌, ◌<◌, ◌≤◌, true};
+ghost use Rattle.std.specs.Prelude.{◌≡◌, ◌<◌};
 ghost use Rattle.std.specs.List.{All};
-ghost use Rattle.early_sets.specs.WakeState.{is_told, state_of};
-ghost use Rattle.step_wakes.specs.Step.{step_turns};
+ghost use Rattle.early_sets.specs.Settled.{HasSettled};
+ghost use Rattle.early_sets.specs.WakeState.{state_of};
+ghost use Rattle.step_wakes.specs.Step.{note_turns};
 
 use crate::designs::design_of;
 use crate::steps::all_except;
@@ -11,15 +12,15 @@ use early_sets::{TurnCount, Wakes};
 use std::alloc::Global;
 use std::marker::Brand;
 use std::sync::ledger::{Blank, Ledger};
-use step_wakes::{InputChange, find, wakes_of};
+use step_wakes::{SignalChange, find, wakes_of};
 
 /// Takes a step and counts each turn: there are no more than the members of the sets have.
-fn counted<L: Ledger>(wakes: &mut Wakes, changes: &[InputChange], blank: Blank) -> TurnCount<L>
-    requires told { All (λ change. is_told (state_of wakes.old) change.input ≡ true) changes.now }
+fn counted<L: Ledger>(wakes: &mut Wakes, changes: &[SignalChange], blank: Blank) -> TurnCount<L>
+    requires below { All (λ change. change.signal < (state_of wakes.old).tables.things) changes.now }
     requires name { blank.name ≡ L.name }
     requires parts { blank.parts ≡ L.parts }
     requires some { 0 < blank.parts }
-    ensures { result ≤ step_turns changes.now (state_of wakes.new) }
+    ensures { HasSettled (state_of wakes.new) (note_turns changes.now (state_of wakes.new)) result }
 {
     let mut count = TurnCount::new(blank);
     find(wakes, changes, &mut count);

@@ -1,5 +1,6 @@
 use Rattle.std.proofs.Common.{◌∙◌, length, refl, sym, ap, subst, arith, length-append}
 use Rattle.std.proofs.lemmas.List.Sums.{sum_by-take-le}
+use Rattle.early_sets.specs.Changes.{edges_of}
 use Rattle.early_sets.specs.Once.{IsOnce}
 use Rattle.early_sets.specs.Turns.{member_turns}
 use Rattle.early_sets.proofs.Counting.{member_counted, once_none}
@@ -8,8 +9,8 @@ use Rattle.early_sets.proofs.closure.close.Goals as goal
 
 pub members-init : goal.members-init
 members-init g c =
-    let none = closing_none c.args.tables.now c.args.edges.now c.args.rule c.args.things.now.items in
-    (refl, refl, omega arith, subst (λ ps. IsClosing c.args.tables.now c.args.edges.now c.args.rule c.args.things.now.items c.args.things.now.items ps 0) (sym c.requires.none_woken) none, λ o. o, subst IsOnce (sym c.requires.none_woken) once_none, omega (arith, sum_by-take-le (member_turns c.args.tables.now) c.args.things.now.items 0))
+    let none = closing_none c.args.tables.now (edges_of c.args.changes.now) c.args.rule c.args.things.now.items in
+    (refl, refl, omega arith, subst (λ ps. IsClosing c.args.tables.now (edges_of c.args.changes.now) c.args.rule c.args.things.now.items c.args.things.now.items ps 0) (sym c.requires.none_woken) none, λ o. o, subst IsOnce (sym c.requires.none_woken) once_none, omega (arith, sum_by-take-le (member_turns c.args.tables.now) c.args.things.now.items 0))
 
 pub members-preserved : goal.members-preserved
 members-preserved g c =
@@ -18,21 +19,21 @@ members-preserved g c =
     let more = length-append c.members.things.items written.extends.more in
     let turns = rw (c.len-known.ensures.value) at c.write_all.ensures.turns in
     let wake = rw c.get.ensures.value at c.wake.ensures.turns in
-    let counted = member_counted c.args.tables.now c.args.edges.now c.members.things.items c.members.processes.items c.write_all.new.things.items c.wake.new.processes.items c.members.taken (omega (arith, c.len.ensures.value)) written.extends c.members.invariant.5 woken (g.T.Turns.counted c.args.turns.now) (g.T.Turns.counted c.members.turns) (g.T.Turns.counted c.count.new.self) (g.T.Turns.counted c.wake.new.turns) (g.T.Turns.counted c.write_all.new.turns) c.members.invariant.6 c.count.ensures wake turns in (
+    let counted = member_counted c.args.tables.now (edges_of c.args.changes.now) c.members.things.items c.members.processes.items c.write_all.new.things.items c.wake.new.processes.items c.members.taken (omega (arith, c.len.ensures.value)) written.extends c.members.invariant.5 woken (g.T.Turns.counted c.args.turns.now) (g.T.Turns.counted c.members.turns) (g.T.Turns.counted c.count.new.self) (g.T.Turns.counted c.wake.new.turns) (g.T.Turns.counted c.write_all.new.turns) c.members.invariant.6 c.count.ensures wake turns in (
       c.write_all.ensures.size ∙ c.members.invariant.0,
       c.wake.ensures.size ∙ c.members.invariant.1,
       omega (arith, ap length written.extends.is, more, c.len.ensures.value),
-      closing_more c.args.tables.now c.args.edges.now c.args.rule c.args.things.now.items c.members.things.items c.members.processes.items c.write_all.new.things.items c.wake.new.processes.items c.members.taken c.members.invariant.3 (omega (arith, c.len.ensures.value)) woken written,
+      closing_more c.args.tables.now (edges_of c.args.changes.now) c.args.rule c.args.things.now.items c.members.things.items c.members.processes.items c.write_all.new.things.items c.wake.new.processes.items c.members.taken c.members.invariant.3 (omega (arith, c.len.ensures.value)) woken written,
       λ o. written.once (c.members.invariant.4 o),
       woken.once c.members.invariant.5,
       counted,
     )
 
 pub returns-clause-things : goal.returns-clause-things
-returns-clause-things g c = closed_things c.args.tables.now c.args.edges.now c.args.rule c.args.things.now.items c.members.things.items c.members.processes.items c.members.taken c.members.invariant.3 (omega (arith, c.len.ensures.value))
+returns-clause-things g c = closed_things c.args.tables.now (edges_of c.args.changes.now) c.args.rule c.args.things.now.items c.members.things.items c.members.processes.items c.members.taken c.members.invariant.3 (omega (arith, c.len.ensures.value))
 
 pub returns-clause-processes : goal.returns-clause-processes
-returns-clause-processes g c = closed_processes c.args.tables.now c.args.edges.now c.args.rule c.args.things.now.items c.members.things.items c.members.processes.items c.members.taken c.members.invariant.3 (omega (arith, c.len.ensures.value))
+returns-clause-processes g c = closed_processes c.args.tables.now (edges_of c.args.changes.now) c.args.rule c.args.things.now.items c.members.things.items c.members.processes.items c.members.taken c.members.invariant.3 (omega (arith, c.len.ensures.value))
 
 pub returns-clause-things_once : goal.returns-clause-things_once
 returns-clause-things_once g c = c.members.invariant.4

@@ -1,6 +1,7 @@
 use Rattle.std.proofs.Common.{◌++◌, length-append, subst, arith}
 use Rattle.std.specs.List.{Contains}
 use Rattle.index_sets.specs.Rows.{row_at}
+use Rattle.early_sets.specs.Changes.{edges_of}
 use Rattle.early_sets.proofs.Adding.{wake_added}
 use Rattle.early_sets.proofs.closure.wake.Goals as goal
 
@@ -25,9 +26,9 @@ insert_row-requires-3 g c = λ x h. omega (arith, c.requires.size, c.insert_row.
 pub returns-clause-adds : goal.returns-clause-adds
 returns-clause-adds g c =
     let a = rw c.row.ensures at c.insert_row.ensures.adds in
-    let b = rw c.row-2.ensures at c.insert_row-2.ensures.adds in
-    let f = rw c.row-3.ensures at c.insert_row-3.ensures.adds in
-    wake_added c.args.tables.now c.args.edges.now c.args.thing c.args.processes.now.items c.insert_row.new.set.items c.insert_row-2.new.set.items c.insert_row-3.new.set.items a b f
+    let b = rw (c.row-2.ensures, c.edges-may_be.ensures) at c.insert_row-2.ensures.adds in
+    let f = rw (c.row-3.ensures, c.edges-may_be.ensures) at c.insert_row-3.ensures.adds in
+    wake_added c.args.tables.now (edges_of c.args.changes.now) c.args.thing c.args.processes.now.items c.insert_row.new.set.items c.insert_row-2.new.set.items c.insert_row-3.new.set.items a b f
 
 pub returns-clause-turns : goal.returns-clause-turns
 returns-clause-turns g c =

@@ -1,52 +1,60 @@
-use Rattle.std.proofs.Common.{◌≡◌, ◌∙◌, true, false, get_or, length, ap, subst, arith}
+use Rattle.std.proofs.Common.{◌≡◌, ◌<◌, ◌∙◌, get_or, length, ap, subst, arith}
 use Rattle.std.proofs.lemmas.List.{get_or_default, take_all}
-use Rattle.std.proofs.lemmas.List.Elements.{All-contains}
 use Rattle.four_state.specs.declared.bit.Bit.TheVariants.{Zero}
-use Rattle.early_sets.specs.WakeState.{is_told, state_of}
-use Rattle.step_wakes.proofs.Noting.{IsNoted, found_of, noted_more, noted_none, step_sets, still_of, told_inside}
-use Rattle.step_wakes.specs.declared.step.InputChange.{InputChange}
+use Rattle.early_sets.specs.WakeState.{state_of}
+use Rattle.step_wakes.proofs.Noting.{IsNoted, found_of, noted_more, noted_none, step_sets, still_of}
+use Rattle.step_wakes.specs.declared.step.SignalChange.{SignalChange}
 use Rattle.step_wakes.proofs.step.find.Goals as goal
 
 pub loop-change-init : goal.loop-change-init
 loop-change-init g c =
-    let rest = c.clear.ensures.rest in
-    (noted_none (state_of c.args.wakes.now) (state_of c.clear.new.self) (ap (λ w. w.tables) rest) (ap (λ w. w.told) rest) (ap (λ w. w.untold) rest) (ap (λ w. w.edges) rest) c.clear.ensures.noted, omega arith, omega (arith, c.clear.ensures.turns))
+    (noted_none (state_of c.args.wakes.now) (state_of c.clear.new.self) c.clear.ensures.rest c.clear.ensures.noted, omega arith, omega (arith, c.clear.ensures.turns))
 
 -- what the code reads where there is no change
-abbrev none : InputChange
-none = record { input = 0; old = Zero; new = Zero }
+abbrev none : SignalChange
+none = record { signal = 0; old = Zero; new = Zero }
 
 pub tell-requires : goal.tell-requires
 tell-requires g c =
-    let xs = c.args.changes.now in
-    let item = get_or xs c.loop-change.change-index none in
-    let told : is_told (state_of c.args.wakes.now) item.input ≡ true = c.requires c.loop-change.change-index none c.loop-change-test.true in
-    told_inside c.loop-change.wakes.told.items c.loop-change.wakes.tables.things item.input c.loop-change.wakes.sizes.told_are (ap (λ fs. get_or fs item.input false) c.loop-change.invariant.0.told ∙ told)
+    let inside = c.requires c.loop-change.change-index none c.loop-change-test.true in
+    subst (λ t. (get_or c.args.changes.now c.loop-change.change-index none).signal < t.things) (sym c.loop-change.invariant.0.tables) inside
 
 pub loop-change-preserved : goal.loop-change-preserved
 loop-change-preserved g c =
     let xs = c.args.changes.now in
     let i = c.loop-change.change-index in
     let item = get_or xs i none in
-    let told : is_told (state_of c.args.wakes.now) item.input ≡ true = c.requires i none c.loop-change-test.true in
-    let below = told_inside c.loop-change.wakes.told.items c.loop-change.wakes.tables.things item.input c.loop-change.wakes.sizes.told_are (ap (λ fs. get_or fs item.input false) c.loop-change.invariant.0.told ∙ told) in
-    (noted_more (state_of c.args.wakes.now) (state_of c.loop-change.wakes) (state_of c.tell.new.wakes) xs i item c.loop-change-test.true (get_or_default xs i none item c.loop-change-test.true) (omega (arith, below, c.loop-change.wakes.sizes.edges_are)) c.tell.ensures.tables c.tell.ensures.told c.tell.ensures.untold c.tell.ensures.noted c.tell.ensures.edges c.loop-change.invariant.0, omega (arith, c.loop-change-test.true), omega (arith, c.count.ensures, c.loop-change.invariant.2))
+    let inside = c.requires i none c.loop-change-test.true in
+    let w = c.loop-change.wakes in
+    let below : item.signal < length (state_of w).own = omega (arith, inside, ap (λ t. t.things) c.loop-change.invariant.0.tables, w.sizes.told_are, w.changes.sizes.own_are) in
+    (noted_more (state_of c.args.wakes.now) (state_of w) (state_of c.tell.new.wakes) xs i item c.loop-change-test.true (get_or_default xs i none item c.loop-change-test.true) below c.tell.ensures.rest c.tell.ensures.noted c.tell.ensures.changed c.loop-change.invariant.0, omega (arith, c.loop-change-test.true), omega (arith, c.count.ensures, c.loop-change.invariant.2))
 
 pub returns-clause-design : goal.returns-clause-design
 returns-clause-design g c d bound of =
     let changes = c.args.changes.now in
     let so : IsNoted (state_of c.args.wakes.now) changes (state_of c.loop-change.wakes) = subst (λ xs. IsNoted (state_of c.args.wakes.now) xs (state_of c.loop-change.wakes)) (take_all c.loop-change.change-index changes c.loop-change-test.false) c.loop-change.invariant.0 in
-    found_of d bound (state_of c.loop-change.wakes) (state_of c.settle.new.self) c.settle.ensures.tables c.settle.ensures.told c.settle.ensures.untold c.settle.ensures.edges
-    (still_of d bound (state_of c.args.wakes.now) (state_of c.loop-change.wakes) changes of (λ x m. All-contains (λ z. is_told (state_of c.args.wakes.now) z.input ≡ true) changes x c.requires m) so)
+    found_of d bound (state_of c.loop-change.wakes) (state_of c.settle.new.self) c.settle.ensures.rest (still_of d bound (state_of c.args.wakes.now) (state_of c.loop-change.wakes) changes of so)
+
+pub returns-clause-tables : goal.returns-clause-tables
+returns-clause-tables g c = ap (λ w. w.tables) c.settle.ensures.rest ∙ c.loop-change.invariant.0.tables
+
+pub returns-clause-writers : goal.returns-clause-writers
+returns-clause-writers g c = ap (λ w. w.writers) c.settle.ensures.rest ∙ c.loop-change.invariant.0.writers
 
 pub returns-clause-sets : goal.returns-clause-sets
 returns-clause-sets g c d bound of =
     let changes = c.args.changes.now in
     let so : IsNoted (state_of c.args.wakes.now) changes (state_of c.loop-change.wakes) = subst (λ xs. IsNoted (state_of c.args.wakes.now) xs (state_of c.loop-change.wakes)) (take_all c.loop-change.change-index changes c.loop-change-test.false) c.loop-change.invariant.0 in
-    step_sets d bound (state_of c.args.wakes.now) (state_of c.loop-change.wakes) (state_of c.settle.new.self) changes of (λ x m. All-contains (λ z. is_told (state_of c.args.wakes.now) z.input ≡ true) changes x c.requires m) so c.settle.ensures.tables c.settle.ensures.told c.settle.ensures.edges c.settle.ensures.noted c.settle.ensures.moves
+    step_sets d bound (state_of c.args.wakes.now) (state_of c.loop-change.wakes) (state_of c.settle.new.self) changes (g.T.Turns.counted c.loop-change.turns) (g.T.Turns.counted c.settle.new.turns) c.args.wakes.now.sizes.told_are of so c.settle.ensures.rest c.settle.ensures.settled
 
 pub returns-clause-turns : goal.returns-clause-turns
 returns-clause-turns g c =
-    let untold = ap length c.settle.ensures.untold in
+    let settled = c.settle.ensures.settled in
+    let untold = ap (λ w. length w.untold) c.settle.ensures.rest in
     let same = ap length c.loop-change.invariant.0.untold in
-    omega (arith, c.loop-change.invariant.1, c.loop-change.invariant.2, c.settle.ensures.turns, untold, same)
+    record {
+      earlier = settled.earlier;
+      rounds = settled.rounds;
+      is_last = settled.is_last;
+      turns = omega (arith, c.loop-change.invariant.1, c.loop-change.invariant.2, settled.turns, untold, same);
+    }

@@ -19,9 +19,9 @@ pub invariant_of-self-clause-once : goal.invariant_of-self-clause-once
 invariant_of-self-clause-once g c =
     record {
       noted_once = c.insert_row.ensures.adds.once (subst IsOnce (sym c.clear.ensures.items) once_none);
-      moves_once = subst IsOnce (sym c.clear-2.ensures.items) once_none;
-      woken_once = subst IsOnce (sym c.clear-3.ensures.items) once_none;
-      early_once = subst IsOnce (sym c.clear-4.ensures.items) once_none;
+      moves_once = subst IsOnce (sym c.clear-3.ensures.items) once_none;
+      woken_once = subst IsOnce (sym c.clear-4.ensures.items) once_none;
+      early_once = subst IsOnce (sym c.clear-5.ensures.items) once_none;
     }
 
 pub returns-clause-turns : goal.returns-clause-turns

@@ -1,7 +1,7 @@
 use Rattle.std.proofs.Common.{◌≡◌, ◌+◌, ◌≤◌, take}
 use Rattle.std.specs.List.{Contains}
 use Rattle.early_sets.specs.Adds.{Adds}
-use Rattle.early_sets.proofs.wakes.insert_members.Given as goal
+use Rattle.early_sets.proofs.closure.insert_members.Given as goal
 
 -- the members so far are put in, each in a turn
 abbrev pub invariant-loop-place : goal.invariant-loop-place

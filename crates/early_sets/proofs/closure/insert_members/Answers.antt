@@ -3,7 +3,7 @@ use Rattle.std.specs.List.{Contains}
 use Rattle.std.proofs.lemmas.List.{take_all}
 use Rattle.early_sets.specs.Adds.{Adds}
 use Rattle.early_sets.proofs.Adding.{members_more, members_none, one_added}
-use Rattle.early_sets.proofs.wakes.insert_members.Goals as goal
+use Rattle.early_sets.proofs.closure.insert_members.Goals as goal
 
 pub loop-place-init : goal.loop-place-init
 loop-place-init g c = (refl, members_none c.args.from.now.items c.args.into.now.items, omega arith)
