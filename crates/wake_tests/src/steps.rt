@@ -39,7 +39,7 @@ fn noted_named(design: &Design, wakes: &Wakes, name: &str) -> Option<u32>
 }
 
 /// The signal with this name.
-pub(crate) fn signal_named(design: &Design, name: &str) -> Option<u32> {
+fn signal_named(design: &Design, name: &str) -> Option<u32> {
     for (place, signal) in design.signals.as_slice().iter().enumerate() {
         if signal.name.as_slice() == name.as_bytes() {
             return u32::try_from(place).ok();
