@@ -27,20 +27,24 @@ fresh d bound t flags missing w are given lost tables told untold =
       untold = λ x. subst (λ xs. Contains xs x ↔ (is_missing d bound x ≡ true)) (sym untold) (lost x);
     }
 
+-- no writer
+abbrev pub nothing : Option ℕ
+nothing = None
+
 -- a list without a writer
-pub none_at : (n x : ℕ) → get_or (replicate n (None {A = ℕ})) x None ≡ None
+pub none_at : (n x : ℕ) → get_or (replicate n nothing) x nothing ≡ nothing
 none_at n x =
     ⊎_elim
-    (λ l. get_or-replicate n x None None l)
-    (λ past. get_or_past (replicate n None) x None (subst (λ k. k ≤ x) (sym (length-replicate n None)) past))
+    (λ l. get_or-replicate n x nothing nothing l)
+    (λ past. get_or_past (replicate n nothing) x nothing (subst (λ k. k ≤ x) (sym (length-replicate n nothing)) past))
     (cases_lt x n)
 
-pub no_writers : (n processes : ℕ) (xs : List (Option ℕ)) → xs ≡ replicate n None → AreWriters n processes xs
+pub no_writers : (n processes : ℕ) (xs : List (Option ℕ)) → xs ≡ replicate n nothing → AreWriters n processes xs
 no_writers n processes xs is =
     record {
-      count_is = ap length is ∙ length-replicate n None;
-      below = λ x p h. absurd (never x p (sym (ap (λ ys. get_or ys x None) is ∙ none_at n x) ∙ h));
+      count_is = ap length is ∙ length-replicate n nothing;
+      below = λ x p h. absurd (never x p (sym (ap (λ ys. get_or ys x nothing) is ∙ none_at n x) ∙ h));
     }
   where
-    never : (x p : ℕ) → None ≡ Some p → ⊥
+    never : (x p : ℕ) → nothing ≡ Some p → ⊥
     never x p e = cc

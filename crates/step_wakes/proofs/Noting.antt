@@ -1,16 +1,17 @@
 -- The changes of a step, noted one after the other.
-use Rattle.std.proofs.Common.{◌≡◌, ◌≢◌, ◌⊎◌, ◌↔◌, inl, inr, ⊎_elim, ◌∙◌, ℕ, ◌-◌, ◌<◌, ◌≤◌, ◌+◌, ◌==◌, ◌&&◌, ◌||◌, Bool, true, false, cond, not, List, [], ◌∷◌, ◌++◌, Option, Some, None, length, get_or, set, take, refl, sym, ap, ap₂, subst, arith, lt-ltb}
-use Rattle.std.specs.List.{All, Contains}
+use Rattle.std.proofs.Common.{◌≡◌, ◌≢◌, ◌⊎◌, ◌↔◌, inl, inr, ⊎_elim, ◌∙◌, ℕ, ◌-◌, ◌<◌, ◌+◌, ◌&&◌, ◌||◌, Bool, true, false, cond, not, List, [], ◌∷◌, ◌++◌, Some, None, length, get_or, set, take, refl, sym, ap, ap₂, subst, arith, lt-ltb}
+use Rattle.std.specs.List.{Contains}
 use Rattle.std.proofs.lemmas.Bool.{and_from, and_parts, both_ways, cases_Bool, cases_eq, cases_lt, false≢true, or_left, or_right, false_from_ne_true}
 use Rattle.std.proofs.lemmas.List.{get_or-set_other, get_or-set_same, get_or_past, length-set, take_more}
 use Rattle.std.proofs.lemmas.List.Elements.{Contains-append_left, Contains-push, Contains-push_cases}
 use Rattle.four_state.specs.Vector.{same_bit}
 use Rattle.four_state.specs.declared.bit.Bit.{Bit}
 use Rattle.four_state.specs.declared.bit.Bit.TheVariants.{One, X, Z, Zero}
-use Rattle.event_machine.specs.Cell.{Cell}
+use Rattle.event_machine.specs.Single.{IsLastRound}
 use Rattle.design_model.specs.Design.{Design, cell, no_signal, signal_at}
 use Rattle.design_model.specs.Lawful.{IsLawfulDesign}
 use Rattle.design_model.specs.Machine.{machine}
+use Rattle.design_model.specs.MayMove.{told_at}
 use Rattle.design_model.specs.Shows.{BoundDump}
 use Rattle.design_model.proofs.AssignLaws.{has_bit}
 use Rattle.design_model.proofs.Lawful.{same_bit_is, same_bit_self}
@@ -20,11 +21,11 @@ use Rattle.early_sets.specs.Edges.{edges_between, no_edges}
 use Rattle.early_sets.specs.Has.{is_in}
 use Rattle.early_sets.specs.Rounds.{writer_at}
 use Rattle.early_sets.specs.Settled.{HasSettled}
-use Rattle.early_sets.specs.WakeState.{WakeState, is_told, own_edges, trigger_of}
+use Rattle.early_sets.specs.WakeState.{WakeState, is_told, own_edges}
 use Rattle.early_sets.proofs.Membership.{is_in_from, is_in_gives}
 use Rattle.replay_sets.proofs.SetsLaw.{sets_law}
-use Rattle.wake_laws.specs.Laws.{AreInRounds, AreNotes, IsChangedInput, IsFirstSingle, IsRoundOf, habit_of}
-use Rattle.wake_laws.specs.OfDesign.{AreTablesOf}
+use Rattle.wake_laws.specs.Laws.{AreNotes, IsChangedInput, IsRoundOf}
+use Rattle.wake_laws.specs.OfDesign.{AreTablesOf, AreWritersOf}
 use Rattle.wake_laws.proofs.MovesLaw.{moves_by, reached_below}
 use Rattle.wake_laws.proofs.RoundsLaw.{has_moves, rounds_law}
 use Rattle.step_wakes.specs.Step.{AreChanges, IsOfDesign, StepSets, flag_at, is_given, is_missing}
@@ -245,7 +246,7 @@ module _ (d : Design) (bound : List Bool) (before noted : WakeState) (changes : 
     candidate_untold : (x p : ℕ) → writer_at noted x ≡ Some p → is_told noted x ≡ false
     candidate_untold x p is = ⊎_elim (λ none. absurd (some_writer p (sym (none.0 x) ∙ is))) by_writers round
       where
-        by_writers : _ → is_told noted x ≡ false
+        by_writers : AreWritersOf d dump.bound noted.tables.things noted.writers × IsLastRound (machine d) (told_at dump t) (dump.round t) → is_told noted x ≡ false
         by_writers r =
             false_from_ne_true (is_told noted x) (λ h.
             let given = given_told x (sym (told_is x) ∙ h) in

@@ -1,4 +1,4 @@
-//! A step of a design, by the inputs that change.
+//! A step of a design, by the signals that change.
 
 ghost use Rattle.std.specs.Prelude.{◌<◌, IfSome};
 ghost use Rattle.early_sets.specs.WakeState.{state_of};

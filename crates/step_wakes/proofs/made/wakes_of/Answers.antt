@@ -1,9 +1,6 @@
-use Rattle.std.proofs.Common.{◌≡◌, ◌∙◌, ℕ, None, Option, get_or, length, replicate, ap, arith}
+use Rattle.std.proofs.Common.{arith}
 use Rattle.design_model.specs.View.{design_view}
-use Rattle.early_sets.specs.WakeState.{state_of}
 use Rattle.step_wakes.proofs.Few.{few_memories}
-use Rattle.step_wakes.proofs.Fresh.{no_writers, none_at, one_fact}
-use Rattle.wake_laws.specs.Laws.{HasNoWriters}
 use Rattle.step_wakes.proofs.made.wakes_of.Goals as goal
 
 pub overflow_add-things : goal.overflow_add-things
