@@ -1,5 +1,6 @@
 //! Measures the sets of a step: `wake_bench FILE STEPS` elaborates the module `top` of a file, and prints the time in which
-//! the sets of its steps are made, and that of so many steps in which its first signal, a clock, rises.
+//! the sets of its steps are made, and that of so many steps in which its first signal, a clock, rises, and with it the
+//! first signal that may become single, if there is one.
 //!
 //! Nothing is proved of it except that it is safe and ends. `bench/README.md` has the command and the figures.
 #![tactic(auto)]
@@ -8,14 +9,16 @@ ghost use Rattle.design_model.specs.Lawful.{IsLawfulDesign};
 ghost use Rattle.design_model.specs.View.{design_view};
 
 use anyhow::Result;
-use cov_host::Bytes;
+use cov_host::{Bytes, NoMemory};
 use design_model::Design;
+use once_writers::once_writers;
 use early_sets::{Habit, Uncounted, Wakes};
 use four_state::Bit;
+use std::alloc::Global;
 use std::rt::{Clock, Files};
 use std::time::Instant;
 use std::{env, fs};
-use step_wakes::wakes_of;
+use step_wakes::wakes_in_rounds;
 use text_designs::design_of;
 use verilog_lexer::Sources;
 
@@ -54,13 +57,21 @@ fn measure_design(
 {
     let bound = vec![in rt.alloc(); true; design.signals.len()]?;
     let start = Instant::now(rt)?;
-    match wakes_of(rt.alloc(), design, bound.as_slice()) {
+    match wakes_of_design(rt.alloc(), design, bound.as_slice()) {
         Ok(wakes) => {
             let mut wakes = wakes;
             measure_steps(rt, &mut wakes, start, steps)
         }
         Err(_) => say(rt, "no memory"),
     }
+}
+
+/// The sets of a design, of which each step is judged by its last round.
+fn wakes_of_design(alloc: Global, design: &Design, bound: &[bool]) -> std::result::Result<Wakes, NoMemory>
+    requires { IsLawfulDesign (design_view design.now) }
+{
+    let writers = once_writers(alloc, design, bound)?;
+    wakes_in_rounds(alloc, design, bound, writers)
 }
 
 /// Takes so many steps with the sets that were begun at `start`, and prints the times.
@@ -72,7 +83,7 @@ fn measure_steps(
 ) -> Result<()> {
     let made = start.elapsed(rt)?.as_millis();
     let start = Instant::now(rt)?;
-    let found = take_steps(wakes, steps);
+    let found = take_steps(wakes, first_candidate(wakes), steps);
     let nanoseconds = start.elapsed(rt)?.as_nanos();
     let processes = wakes.processes();
     println!(rt;
@@ -81,23 +92,38 @@ fn measure_steps(
     Ok(())
 }
 
+/// The first signal that may become single.
+fn first_candidate(wakes: &Wakes) -> Option<u32> {
+    for signal in 0..65_536 {
+        if wakes.is_candidate(signal) {
+            return Some(signal);
+        }
+    }
+    None
+}
+
 /// Takes so many steps, and adds up what they find.
-fn take_steps(wakes: &mut Wakes, steps: u32) -> u64 {
+fn take_steps(wakes: &mut Wakes, derived: Option<u32>, steps: u32) -> u64 {
     let mut found = 0u64;
     for _ in 0..steps {
-        found = found.wrapping_add(step(wakes));
+        found = found.wrapping_add(step(wakes, derived));
     }
     found
 }
 
-/// Takes a step in which the first signal rises, and counts what may move and the clean blocks, for which it finds what is
-/// early.
-fn step(wakes: &mut Wakes) -> u64 {
+/// Takes a step in which the first signal rises and this one too, and counts what may move and the clean blocks, for which
+/// it finds what is early.
+fn step(wakes: &mut Wakes, derived: Option<u32>) -> u64 {
     if !wakes.is_told(0) {
         return 0;
     }
     wakes.clear(&mut Uncounted);
     wakes.note(0, Bit::Zero, Bit::One);
+    if let Some(derived) = derived {
+        if wakes.is_candidate(derived) {
+            wakes.note(derived, Bit::Zero, Bit::One);
+        }
+    }
     wakes.settle(&mut Uncounted);
     let mut found = wakes.moves().len() as u64;
     for place in 0..wakes.woken().len() {

@@ -1,7 +1,8 @@
 //! The answers of a step, in words.
 //!
 //! The first line has the names of what may move. Then comes a line for each process that can wake: its number and
-//! `not clean`, or its number, its trigger, and the names of what is early for it by both habits.
+//! `not clean`, or its number, its trigger, `in` and the number of the round in which that became single, if it is not the
+//! first one, and the names of what is early for it by both habits.
 use cov_host::NoMemory;
 use design_model::Design;
 use early_sets::{Habit, Uncounted, Wakes};
@@ -44,16 +45,32 @@ fn push_process(
     if number as usize >= wakes.processes() || !wakes.can_wake(number) {
         return Ok(());
     }
-    text.extend_from_slice(itoa::Buffer::new().format(number).as_bytes())?;
+    push_number(number, text)?;
     match wakes.trigger(number) {
         Some(trigger) => {
             push_name(design, trigger as usize, text)?;
+            push_round(wakes.round(number), text)?;
             push_early(design, wakes, Habit::Free, number, text)?;
             push_early(design, wakes, Habit::Late, number, text)?;
         }
         None => text.extend_from_slice(b" not clean")?,
     }
     text.push(b'\n')?;
+    Ok(())
+}
+
+/// Adds the number of a round, unless it is the first one.
+fn push_round(round: u32, text: &mut Vec<u8>) -> Result<(), NoMemory> {
+    if round > 0 {
+        text.extend_from_slice(b" in ")?;
+        push_number(round, text)?;
+    }
+    Ok(())
+}
+
+/// Adds a number.
+fn push_number(number: u32, text: &mut Vec<u8>) -> Result<(), NoMemory> {
+    text.extend_from_slice(itoa::Buffer::new().format(number).as_bytes())?;
     Ok(())
 }
 

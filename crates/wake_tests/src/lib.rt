@@ -10,6 +10,8 @@ mod designs;
 #[cfg(test)]
 mod orders;
 #[cfg(test)]
+mod rounds;
+#[cfg(test)]
 mod steps;
 #[cfg(test)]
 mod targets;

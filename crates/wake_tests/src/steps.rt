@@ -1,4 +1,4 @@
-//! A step of a design, by the inputs that change.
+//! A step of a design, by the signals that change.
 
 ghost use Rattle.std.specs.Prelude.{◌<◌, IfSome};
 ghost use Rattle.early_sets.specs.WakeState.{state_of};
@@ -9,16 +9,16 @@ use early_sets::{Uncounted, Wakes};
 use four_state::Bit;
 use std::alloc::Global;
 
-/// An input that changes, by name, with its lowest bit before and after.
+/// A signal that changes, by name, with its lowest bit before and after.
 pub(crate) type Change = (&'static str, Bit, Bit);
 
 /// Tells the changes of a step and finds what may move, and says whether each change is that of an input that the dump
-/// gives.
+/// gives or of a signal that may become single.
 pub(crate) fn take_step(design: &Design, wakes: &mut Wakes, changes: &[Change]) -> bool {
     wakes.clear(&mut Uncounted);
     for (name, old, new) in changes {
-        match input_named(design, wakes, name) {
-            Some(input) => wakes.note(input, *old, *new),
+        match noted_named(design, wakes, name) {
+            Some(signal) => wakes.note(signal, *old, *new),
             None => return false,
         }
     }
@@ -26,13 +26,13 @@ pub(crate) fn take_step(design: &Design, wakes: &mut Wakes, changes: &[Change]) 
     true
 }
 
-/// The input with this name that the dump gives.
-fn input_named(design: &Design, wakes: &Wakes, name: &str) -> Option<u32>
-    ensures { IfSome result (λ input. input < (state_of wakes.now).tables.things) }
+/// The signal with this name, if its changes are to be noted.
+fn noted_named(design: &Design, wakes: &Wakes, name: &str) -> Option<u32>
+    ensures { IfSome result (λ signal. signal < (state_of wakes.now).tables.things) }
 {
-    let input = signal_named(design, name)?;
-    if wakes.is_told(input) {
-        Some(input)
+    let signal = signal_named(design, name)?;
+    if wakes.is_told(signal) || wakes.is_candidate(signal) {
+        Some(signal)
     } else {
         None
     }
