@@ -11,9 +11,9 @@ ghost use Rattle.design_model.specs.View.{design_view};
 use anyhow::Result;
 use cov_host::{Bytes, NoMemory};
 use design_model::Design;
-use once_writers::once_writers;
 use early_sets::{Habit, Uncounted, Wakes};
 use four_state::Bit;
+use once_writers::once_writers;
 use std::alloc::Global;
 use std::rt::{Clock, Files};
 use std::time::Instant;
@@ -67,7 +67,11 @@ fn measure_design(
 }
 
 /// The sets of a design, of which each step is judged by its last round.
-fn wakes_of_design(alloc: Global, design: &Design, bound: &[bool]) -> std::result::Result<Wakes, NoMemory>
+fn wakes_of_design(
+    alloc: Global,
+    design: &Design,
+    bound: &[bool],
+) -> std::result::Result<Wakes, NoMemory>
     requires { IsLawfulDesign (design_view design.now) }
 {
     let writers = once_writers(alloc, design, bound)?;
