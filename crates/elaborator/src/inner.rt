@@ -50,11 +50,11 @@ pub(crate) fn is_declared_here(declared: &Declarations, name: &Named) -> bool
 }
 
 /// The names of a module's port list.
-fn port_names<'a>(alloc: Global, module: &'a Module) -> Result<Vec<NameAt<'a>>, NoMemory>
-    ensures { IfOk result (λ names. names_view names.items ≡ (module_view «module».now).ports) }
+fn port_names<'a>(alloc: Global, inner: &'a Module) -> Result<Vec<NameAt<'a>>, NoMemory>
+    ensures { IfOk result (λ names. names_view names.items ≡ (module_view inner.now).ports) }
 {
     let mut names = Vec::new(alloc);
-    for port in module.ports.as_slice() {
+    for port in inner.ports.as_slice() {
         names.push(NameAt::of(port))?;
     }
     Ok(names)
@@ -65,13 +65,13 @@ fn port_names<'a>(alloc: Global, module: &'a Module) -> Result<Vec<NameAt<'a>>, 
 fn declared_names<'a>(
     alloc: Global,
     overrides: &[Override],
-    module: &'a Module,
+    inner: &'a Module,
 ) -> Result<Declarations<'a>, NoMemory>
-    ensures { IfOk result (λ declared. declared ≡ of_instances.declared (overrides_view overrides.now) (module_view «module».now)) }
+    ensures { IfOk result (λ declared. declared ≡ of_instances.declared (overrides_view overrides.now) (module_view inner.now)) }
 {
     let mut untold = Tally::new(alloc);
-    let constants = check_constants(alloc, overrides, module, &mut untold)?;
-    check_declarations(alloc, &constants.scope, module, &mut untold)
+    let constants = check_constants(alloc, overrides, inner, &mut untold)?;
+    check_declarations(alloc, &constants.scope, inner, &mut untold)
 }
 
 /// The ports of an instance that its item joins to expressions, and how, with what is wrong with the connections.
@@ -166,12 +166,12 @@ fn dotted(alloc: Global, path: &Name, name: &Name) -> Result<Name, NoMemory>
 fn with_module<'a>(
     alloc: Global,
     around: &[&'a Module],
-    module: &'a Module,
+    inner: &'a Module,
 ) -> Result<Vec<&'a Module>, NoMemory>
-    ensures { IfOk result (λ longer. around_view longer.items ≡ (module_view «module».now).name.name ∷ around_view around.now) }
+    ensures { IfOk result (λ longer. around_view longer.items ≡ (module_view inner.now).name.name ∷ around_view around.now) }
 {
     let mut longer = Vec::from_slice(alloc, around)?;
-    longer.push(module)?;
+    longer.push(inner)?;
     Ok(longer)
 }
 

@@ -37,18 +37,18 @@ pub(crate) struct InstancesOf<'a> {
 }
 
 /// Whether two modules have one name.
-fn has_name_of(module: &Module, other: &Module) -> bool
-    ensures { result ≡ bytes_eq (module_view «module».now).name.name (module_view other.now).name.name }
+fn has_name_of(one: &Module, other: &Module) -> bool
+    ensures { result ≡ bytes_eq (module_view one.now).name.name (module_view other.now).name.name }
 {
-    module.name.name.as_slice() == other.name.name.as_slice()
+    one.name.name.as_slice() == other.name.name.as_slice()
 }
 
 /// Whether a module is one of these.
-fn is_around(around: &[&Module], module: &Module) -> bool
-    ensures { result ≡ list_any (bytes_eq (module_view «module».now).name.name) (around_view around.now) }
+fn is_around(around: &[&Module], inner: &Module) -> bool
+    ensures { result ≡ list_any (bytes_eq (module_view inner.now).name.name) (around_view around.now) }
 {
     for other in around {
-        if has_name_of(module, other) {
+        if has_name_of(inner, other) {
             return true;
         }
     }

@@ -55,11 +55,11 @@ impl States {
 
     /// Adds a machine. One of the same module and variable takes the place of the earlier. After a refusal nothing has
     /// changed.
-    pub fn add(&mut self, module: &str, variable: &str, names: &Words) -> Result<(), NoMemory>
-        ensures ok { OnOk result (self.new ≡ with_machine (machine_of «module».now variable.now names.now) self.old) }
+    pub fn add(&mut self, of_module: &str, variable: &str, names: &Words) -> Result<(), NoMemory>
+        ensures ok { OnOk result (self.new ≡ with_machine (machine_of of_module.now variable.now names.now) self.old) }
         ensures err { OnErr result (self.new ≡ self.old) }
     {
-        let variable = variable_of(self.alloc, module, variable)?;
+        let variable = variable_of(self.alloc, of_module, variable)?;
         let names = names_of(self.alloc, names)?;
         let _ = self.machines.insert(variable, names)?;
         Ok(())
@@ -89,11 +89,11 @@ impl States {
 }
 
 /// The variable with this name in a module.
-fn variable_of(alloc: Global, module: &str, name: &str) -> Result<Variable, NoMemory>
-    ensures { IfOk result (λ variable. (variable.module.items ≡ «module».now) × (variable.name.items ≡ name.now)) }
+fn variable_of(alloc: Global, of_module: &str, name: &str) -> Result<Variable, NoMemory>
+    ensures { IfOk result (λ variable. (variable.module.items ≡ of_module.now) × (variable.name.items ≡ name.now)) }
 {
     Ok(Variable {
-        module: Vec::from_slice(alloc, module.as_bytes())?,
+        module: Vec::from_slice(alloc, of_module.as_bytes())?,
         name: Vec::from_slice(alloc, name.as_bytes())?,
     })
 }

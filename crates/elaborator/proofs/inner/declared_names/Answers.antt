@@ -9,6 +9,6 @@ use Rattle.elaborator.proofs.inner.declared_names.Goals as goal
 
 pub returns : goal.returns
 returns c =
-    let m = module_view c.args.module.now in
+    let m = module_view c.args.inner.now in
     let scope = c.in_ok-constants.ensures.scope in
     IfOk-weaker c.check_declarations.result (λ d. d ≡ declarations (binding_of c.in_ok-constants.constants.scope) m) (λ d. d ≡ declared (overrides_view c.args.overrides.now) m) (λ d is. is ∙ ap (λ g. declarations g m) scope) c.check_declarations.ensures.names

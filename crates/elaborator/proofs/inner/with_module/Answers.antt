@@ -5,4 +5,4 @@ use Rattle.elaborator.proofs.InnerLemmas.{around_more}
 use Rattle.elaborator.proofs.inner.with_module.Goals as goal
 
 pub returns : goal.returns
-returns c = ap around_view c.in_ok-push.ensures.items ∙ around_more c.in_ok-longer.longer.items c.args.module ∙ ap (λ ms. (module_view c.args.module.now).name.name ∷ around_view ms) c.in_ok-longer.ensures.items
+returns c = ap around_view c.in_ok-push.ensures.items ∙ around_more c.in_ok-longer.longer.items c.args.inner ∙ ap (λ ms. (module_view c.args.inner.now).name.name ∷ around_view ms) c.in_ok-longer.ensures.items

@@ -5,4 +5,4 @@ use Rattle.elaborator.proofs.naming.is_around.Given as goal
 
 -- the modules that are left decide
 abbrev pub invariant-loop-other : goal.invariant-loop-other
-invariant-loop-other l = list_any (bytes_eq l.module.name.name) (map (λ m. m.now.name.name) (drop l.other-index l.around)) ≡ list_any (bytes_eq l.fn.module.name.name) (map (λ m. m.now.name.name) l.fn.around)
+invariant-loop-other l = list_any (bytes_eq l.inner.name.name) (map (λ m. m.now.name.name) (drop l.other-index l.around)) ≡ list_any (bytes_eq l.fn.inner.name.name) (map (λ m. m.now.name.name) l.fn.around)
