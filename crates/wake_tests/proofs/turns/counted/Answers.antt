@@ -8,5 +8,5 @@ pub returns : goal.returns
 returns g c =
     let w = state_of c.find.new.wakes in
     let turns = note_turns c.args.changes.now w in
-    let none : c.new.result + turns ≡ turns = omega (arith, c.new.ensures) in
+    let none : c.new-count.result + turns ≡ turns = omega (arith, c.new-count.ensures) in
     subst (λ n. HasSettled w n c.find.new.turns) none c.find.ensures.turns
