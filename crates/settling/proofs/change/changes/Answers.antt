@@ -1,4 +1,4 @@
-use Rattle.std.proofs.Common.{◌∙◌, ap, length, not, sym, ◌≡◌, false, true}
+use Rattle.std.proofs.Common.{◌∙◌, ap, length, sym, ◌≡◌, false, true}
 use Rattle.known_state.specs.Partly.{Partly}
 use Rattle.early_sets.specs.WakeState.{is_in, state_of}
 use Rattle.early_sets.proofs.Membership.{is_in_is}
