@@ -1,11 +1,6 @@
-use Rattle.std.proofs.Common.{◌<◌, length, subst, sym}
-use Rattle.design_model.specs.Design.{Design}
 use Rattle.design_model.specs.View.{design_view}
 use Rattle.body_bench.proofs.Idle.{still_idle}
 use Rattle.body_bench.proofs.stores.put_input.Goals as goal
-
-pub set-requires-clause-place : goal.set-requires-clause-place
-set-requires-clause-place c = subst (λ (d : Design). c.args.number < length d.signals) (sym c.requires.idle.design) c.requires.place
 
 pub returns-in-Ok : goal.returns-in-Ok
 returns-in-Ok c =
