@@ -1,14 +1,12 @@
 -- What stays ready for the run of a body, and what the run then asks.
-use Rattle.std.proofs.Common.{◌≡◌, ◌<◌, ◌≤◌, ◌∙◌, ℕ, List, [], ◌∷◌, ap, arith, length, slice_index_or, suc, zero, subst, sym}
+use Rattle.std.proofs.Common.{◌≡◌, ◌∙◌, [], ap, subst, sym}
 use Rattle.design_model.specs.declared.design.Design as m
-use Rattle.design_model.specs.Design.{body, body_at, no_process}
-use Rattle.design_model.specs.Tree.{Process}
+use Rattle.design_model.specs.Design.{body_at}
 use Rattle.design_model.specs.View.{design_view}
 use Rattle.body_replay.specs.Store.{Kept}
 use Rattle.body_calls.specs.Own.{IsOwn}
 use Rattle.body_calls.specs.Under.{kept_with}
 use Rattle.open_tests.specs.Weights.{HasRoomFor}
-use Rattle.value_store.specs.Rooms.{processes_queued, queued_parts}
 use Rattle.body_store.specs.declared.store.Store.{Store}
 use Rattle.body_store.specs.Bodies.{around_of, rooms_of}
 use Rattle.body_store.specs.Held.{HoldsStore}
@@ -45,9 +43,3 @@ kept_own d x r law under = subst IsOwn (sym (under x)) (law x r.known (held_here
 -- so is what bodies read
 pub read_own : (d : m.Design) (x : Store) → IsReady d x → KeptOwnLaw → SameLaw → IsOwn (scene_of x)
 read_own d x r law same = subst IsOwn (same x r.plain) (law x r.known (held_here d x r))
-
--- the parts that one body queues are among those that all queue
-pub queued_in : (ps : List Process) (p : ℕ) → p < length ps → queued_parts (body (slice_index_or ps p no_process)) ≤ processes_queued ps
-queued_in [] p l = omega (arith, l)
-queued_in (x ∷ ps) zero l = omega arith
-queued_in (x ∷ ps) (suc p) l = let rest = queued_in ps p (omega (arith, l)) in omega (arith, rest)

@@ -7,31 +7,22 @@ ghost use Rattle.design_model.specs.View.{design_view};
 ghost use Rattle.body_trials.specs.Ready.{IsReady};
 
 use crate::Given;
-use body_rooms::rooms_law;
-use body_store::{Store, StoreRoom, premises_law};
+use body_rooms::store_rooms_law;
+use body_store::{Store, premises_law};
 use cov_host::NoMemory;
 use design_model::Design;
 use four_state::Four;
 use known_state::Known;
 use std::alloc::Global;
-use value_store::{log_room, queue_room};
 
-/// A store of which nothing is known, with room for a run of any body. What all bodies queue is less than a `usize` holds.
+/// A store of which nothing is known.
 pub(crate) fn store_of<'a>(alloc: Global, design: &'a Design) -> Result<Store<'a>, NoMemory>
     requires { IsLawfulDesign (design_view design.now) }
     ensures { IfOk result (λ store. IsReady design.now store) }
 {
     premises_law();
-    rooms_law();
-    let updates = queue_room(design.processes.as_slice());
-    if updates == usize::MAX {
-        return Err(NoMemory);
-    }
-    let room = StoreRoom {
-        log: log_room(design),
-        updates,
-    };
-    Store::new(alloc, design, room)
+    store_rooms_law();
+    Store::new(alloc, design)
 }
 
 /// Keeps all that is given. The answer is whether the design has these signals, and its first memory these words, with so many
