@@ -1,0 +1,10 @@
+use denote.Text.{Utf8}
+use denote.Shadow.{shadow}
+use Rattle.body_tests.proofs.script.first_fault.Given as goal
+
+-- what was given last is text
+abbrev pub invariant-loop-place : goal.invariant-loop-place
+invariant-loop-place l =
+    (goal.iterator-loop-place).can_next l.place-iterator ×
+    (goal.iterator-loop-place).is_finite l.place-iterator ×
+    shadow (Utf8 l.known)
