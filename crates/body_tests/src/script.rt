@@ -18,7 +18,7 @@ ghost use Rattle.design_model.specs.Lawful.{IsLawfulDesign};
 ghost use Rattle.design_model.specs.View.{design_view};
 
 use block_runs::Certainty;
-use body_trials::{Outcome, given_of, run_block, thing_named};
+use body_trials::{Given, Outcome, given_of, run_block, thing_named};
 use design_model::Design;
 use lent_designs::{DesignUser, lend_design};
 use std::alloc::Global;
@@ -58,20 +58,20 @@ pub(crate) fn fault_of(alloc: Global, script: &'static str) -> Option<(usize, us
 fn first_fault(alloc: Global, design: &Design, text: &str) -> usize
     requires { IsLawfulDesign (design_view design.now) }
 {
-    let mut known = "";
+    let mut given = Some(Vec::new(alloc));
     let mut outcome = None;
     for (place, line) in text.lines().enumerate() {
         let (word, rest) = line.split_once(' ').unwrap_or((line, ""));
         let holds = match word {
             "#" => true,
             "known" => {
-                known = rest;
-                true
+                given = given_of(alloc, design, rest);
+                given.is_some()
             }
             "notes" => has_noted(alloc, design, &outcome, rest),
             "keeps" => keeps(alloc, design, &outcome, rest),
             _ => {
-                outcome = run_line(alloc, design, known, word, rest);
+                outcome = run_line(alloc, design, &given, word, rest);
                 outcome.is_some()
             }
         };
@@ -102,13 +102,19 @@ fn keeps(alloc: Global, design: &Design, outcome: &Option<Outcome>, values: &str
 }
 
 /// What the run of a line gives.
-fn run_line(alloc: Global, design: &Design, known: &str, way: &str, rest: &str) -> Option<Outcome>
+fn run_line(
+    alloc: Global,
+    design: &Design,
+    given: &Option<Vec<Given>>,
+    way: &str,
+    rest: &str,
+) -> Option<Outcome>
     requires { IsLawfulDesign (design_view design.now) }
 {
     let (number, thing) = rest.split_once(' ').unwrap_or((rest, ""));
     let process = number.parse::<usize>().ok()?;
     let how = way_of(design, way, thing)?;
-    let given = given_of(alloc, design, known)?;
+    let given = given.as_ref()?;
     run_block(alloc, design, given.as_slice(), process, how).ok()?
 }
 
