@@ -25,8 +25,9 @@ use Rattle.design_wakes.proofs.Tables.{names_row}
 use Rattle.index_sets.specs.Rows.{row_at}
 use Rattle.process_names.specs.Names.{level_names}
 use Rattle.process_names.proofs.NamesLaw.{level_is}
+use Rattle.wake_laws.specs.OfDesign.{IsOnceWriter}
 use Rattle.once_writers.specs.Lists.{first_of, is_clocked, is_listed, marked_targets, once_written}
-use Rattle.once_writers.specs.Writers.{AreOnceWriters, IsOnceWriter, flag_at, writer_at}
+use Rattle.once_writers.specs.Writers.{AreOnceWriters, flag_at, writer_at}
 use Rattle.once_writers.proofs.Picked.{first_in, flagged, has_first, passed, passes}
 
 no_item : (x : ℕ) → Contains [] x → ⊥
