@@ -1,12 +1,12 @@
 -- The writers that are found are those of the design.
-use Rattle.std.proofs.Common.{◌≡◌, ◌≢◌, ◌∙◌, ◌⊎◌, inl, inr, ⊎_elim, eq-eqb, ℕ, ◌+◌, ◌<◌, ◌≤◌, Bool, true, false, not, cond, ◌==◌, ◌&&◌, List, [], ◌∷◌, length, map, Option, Some, None, refl, sym, ap, subst, arith}
+use Rattle.std.proofs.Common.{◌≡◌, ◌∙◌, inl, inr, ⊎_elim, eq-eqb, ℕ, ◌+◌, ◌<◌, ◌≤◌, Bool, true, false, not, cond, ◌==◌, ◌&&◌, List, [], ◌∷◌, length, map, Option, Some, None, refl, sym, ap, subst, arith}
 use Rattle.std.specs.List.{All, Contains, filter, list_any}
 use Rattle.std.proofs.lemmas.Bool.{and_from, and_parts, both_ways, cases_lt, eqb-true, false≢true, ne_eqb, or_cases, or_left, or_right}
 use Rattle.std.proofs.lemmas.List.{get_or-map, get_or_past, length-map, nil_from_length}
 use Rattle.std.proofs.lemmas.List.Elements.{Contains-append_cases, Contains-append_left, Contains-append_right}
 use Rattle.std.proofs.lemmas.Option.{none-some}
 use Rattle.event_machine.specs.Cell.{Cell}
-use Rattle.event_machine.specs.Machine.{Edge as MachineEdge, IsLawful, IsTarget, Machine, Negedge, Posedge}
+use Rattle.event_machine.specs.Machine.{Edge as MachineEdge, IsLawful, IsTarget, Negedge, Posedge}
 use Rattle.design_model.specs.Design.{Design, body, body_at, cell, no_process, process_at}
 use Rattle.design_model.specs.Lawful.{IsLawfulDesign}
 use Rattle.design_model.specs.Machine.{is_event_signal, is_level, lists_edge, machine}
@@ -25,8 +25,9 @@ use Rattle.design_wakes.proofs.Tables.{names_row}
 use Rattle.index_sets.specs.Rows.{row_at}
 use Rattle.process_names.specs.Names.{level_names}
 use Rattle.process_names.proofs.NamesLaw.{level_is}
+use Rattle.wake_laws.specs.OfDesign.{IsOnceWriter}
 use Rattle.once_writers.specs.Lists.{first_of, is_clocked, is_listed, marked_targets, once_written}
-use Rattle.once_writers.specs.Writers.{AreOnceWriters, IsOnceWriter, flag_at, writer_at}
+use Rattle.once_writers.specs.Writers.{AreOnceWriters, flag_at, writer_at}
 use Rattle.once_writers.proofs.Picked.{first_in, flagged, has_first, passed, passes}
 
 no_item : (x : ℕ) → Contains [] x → ⊥

@@ -1,5 +1,5 @@
 -- The writers that are found are those that the sets of the rounds take.
-use Rattle.std.proofs.Common.{◌≡◌, ◌∙◌, ℕ, ◌+◌, Bool, List, Option, None, Result, Ok, Err, IfOk, get_or, length, sym, ap}
+use Rattle.std.proofs.Common.{◌≡◌, ◌∙◌, ℕ, ◌+◌, Bool, List, Option, Result, Ok, Err, IfOk, length, sym, subst}
 use Rattle.design_model.specs.Design.{Design}
 use Rattle.early_sets.specs.WakeState.{WakeState}
 use Rattle.once_writers.specs.Writers.{AreOnceWriters}
@@ -13,10 +13,5 @@ two_facts P Q G (Err e) f p q = tt
 
 pub joined : (d : Design) (bound : List Bool) (writers : List (Option ℕ)) (w : WakeState) → length writers ≡ length d.signals + length d.memories → AreOnceWriters d (flag_at bound) writers → IsOfDesign d bound w → w.writers ≡ writers → AreWritersOf d (flag_at bound) w.tables.things w.writers
 joined d bound writers w count are made is =
-    record {
-      count_is = ap length is ∙ count ∙ sym made.tables.things_are;
-      is = λ x p l. (
-        λ h. let o = (are x p).0 (ap (λ ws. get_or ws x None) (sym is) ∙ h) in record { is_bound = o.is_bound; is_event = o.is_event; clocked = o.clocked; writes = o.writes; once = o.once },
-        λ o. ap (λ ws. get_or ws x None) is ∙ (are x p).1 (record { is_bound = o.is_bound; is_event = o.is_event; clocked = o.clocked; writes = o.writes; once = o.once }),
-      );
-    }
+    subst (AreWritersOf d (flag_at bound) w.tables.things) (sym is)
+    (record { count_is = count ∙ sym made.tables.things_are; is = λ x p l. are x p })

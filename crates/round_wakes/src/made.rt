@@ -12,9 +12,9 @@ use once_writers::once_writers;
 use std::alloc::Global;
 use step_wakes::wakes_in_rounds;
 
-/// The sets of the steps of a design, before the first one, each by its last round. `bound` says for each signal whether the
-/// dump gives it. An input that the dump does not give may change in any step. It takes time for the text of the design; no
-/// call after it takes memory.
+/// The sets of the steps of a design, before the first one, each by its last round: those of `wakes_in_rounds` with the writers
+/// that `once_writers` finds. `bound` says for each signal whether the dump gives it. An input that the dump does not give may
+/// change in any step. It takes the time that these two take; no call after it takes memory.
 pub fn wakes_by_rounds(alloc: Global, design: &Design, bound: &[bool]) -> Result<Wakes, NoMemory>
     requires { IsLawfulDesign (design_view design.now) }
     ensures design { IfOk result (λ wakes. IsOfDesign (design_view design.now) bound.now (state_of wakes)) }
