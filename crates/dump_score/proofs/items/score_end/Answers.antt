@@ -1,7 +1,6 @@
-use Rattle.std.proofs.Common.{◌≡◌, ap, inl, inr}
+use Rattle.std.proofs.Common.{ap, inl, inr}
 use Rattle.std.proofs.lemmas.Result.{err_from_is_err_and}
 use Rattle.vcd_reader.specs.Wanted.{item_by, saying_more}
-use Rattle.vcd_reader.specs.declared.item.Item.TheVariants as item
 use Rattle.dump_score.proofs.Stepping.{EndStepped, IfErr-map, OnOk-map, Passed, end_again, end_fault, end_heard, none_passed, saying_in, scored_end}
 use Rattle.dump_score.proofs.items.score_end.Goals as goal
 

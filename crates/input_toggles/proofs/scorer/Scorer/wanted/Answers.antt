@@ -1,6 +1,3 @@
-use Rattle.std.proofs.Common.{sym, subst, List, Bool}
-use Rattle.std.specs.List.{All}
-use Rattle.vcd_reader.specs.Wanted.{IsUnwanted}
 use Rattle.input_toggles.proofs.BoundLemmas.{scores_passed}
 use Rattle.input_toggles.proofs.scorer.Scorer.wanted.Goals as goal
 
