@@ -88,12 +88,18 @@ def measure(program, folder, variables, megabytes, reader):
     write_dump(dump, variables, megabytes * 1_000_000)
     write_dump(short, variables, megabytes * 250_000)
     score = [program, "score", "-t", "wide", "-i", "tb.dut", "-v", source, "-o", out, "-vcd"]
+    print(f"{variables} variables")
+    show(score, reader, dump, short, f"{folder}/long.fst")
+
+
+def show(score, reader, dump, short, fst):
+    """Prints the figures of the command, and of the reader if there is one, for a dump and for a short one."""
     seconds, memory = least([*score, dump])
     _, short_memory = run([*score, short])
     plain, _ = least(["wc", "-l", dump])
     size = os.path.getsize(dump) / 1_000_000
-    other = least(["vcd2fst", dump, f"{folder}/long.fst"])[0] if shutil.which("vcd2fst") else None
-    print(f"{variables} variables, {size:.0f} MB: {figures(size, seconds, plain, other)}, "
+    other = least(["vcd2fst", dump, fst])[0] if shutil.which("vcd2fst") else None
+    print(f"  {size:.0f} MB: {figures(size, seconds, plain, other)}, "
           f"{memory} kB resident ({short_memory} kB for a quarter of it)")
     if reader:
         print(f"  the reader alone: {figures(size, least([reader, dump])[0], plain, other)}")

@@ -1,5 +1,5 @@
 -- One step of a body, and what the scorer stands for behind it.
-use Rattle.std.proofs.Common.{◌≡◌, ℕ, ◌+◌, ◌<◌, ◌≤◌, List, [], ◌∷◌, ◌++◌, length, take, drop, None, refl, sym, ap, subst, ◌∙◌, append_assoc, append-nil, arith, take-append-drop}
+use Rattle.std.proofs.Common.{◌≡◌, ℕ, Bool, ◌+◌, ◌<◌, ◌≤◌, List, [], ◌∷◌, ◌++◌, length, take, drop, None, refl, sym, ap, subst, ◌∙◌, append_assoc, append-nil, arith, take-append-drop}
 use Rattle.std.proofs.Math.Seq.{take-add, take-length}
 use Rattle.design_model.specs.declared.design.Design.{Design}
 use Rattle.vcd_reader.proofs.RisingTimes.{times_rise, times_rise_so_far}
@@ -7,11 +7,18 @@ use Rattle.vcd_reader.specs.Pieces.{BodyHasRead, IsFaultAt, StepsTo}
 use Rattle.vcd_reader.specs.Reading.{Body}
 use Rattle.vcd_reader.specs.Text.{EndsAs, HasFault}
 use Rattle.vcd_reader.specs.Times.{Rises}
+use Rattle.vcd_reader.specs.Wanted.{IsUnwanted, item_by, saying_more}
+use Rattle.vcd_reader.specs.WantedPieces.{HearsTo, kept_value}
+use Rattle.four_state.specs.Vector.{Vector}
+use Rattle.std.specs.List.{All}
+use Rattle.std.proofs.lemmas.List.Elements.{All-nil}
 use Rattle.vcd_reader.specs.declared.body.Body.{Body as BodyRow}
 use Rattle.vcd_reader.specs.declared.entry.Entry.{Entry}
 use Rattle.vcd_reader.specs.declared.fault.DumpFault.{DumpFault}
 use Rattle.std.specs.Prelude.{Result, Ok, Err, OnOk, IfErr}
-use Rattle.vcd_reader.specs.declared.item.Step.{Step}
+use Rattle.vcd_reader.specs.declared.item.Heard.{Heard}
+use Rattle.vcd_reader.specs.declared.item.Saying.{Saying}
+use Rattle.vcd_reader.specs.declared.item.Saying.TheVariants as saying
 use Rattle.vcd_reader.specs.declared.item.Item.{Item}
 use Rattle.vcd_reader.specs.declared.item.Item.TheVariants as item
 use Rattle.vcd_reader.specs.declared.vars.Var.{Var}
@@ -48,9 +55,26 @@ stepped item.More used body text (byte ∷ piece) b some s =
     }
 stepped item.End used body text (byte ∷ piece) b some s = absurd s.steps
 
+-- it holds of the body with some more changes, of codes that are not wanted
+pub record Passed (wanted : List Bool) (b : Body) (P : Body → Type 0) : Type 0 where
+  pub passed : List Entry
+  pub unwanted : All (IsUnwanted wanted) passed
+  pub then : P (saying_more b passed)
+
+pub none_passed : (wanted : List Bool) (b : Body) (P : Body → Type 0) → P b → Passed wanted b P
+none_passed wanted b P p = record { passed = []; unwanted = All-nil (IsUnwanted wanted); then = subst (λ (items : List Entry). P (record b { items = items })) (sym (append-nil b.items)) p }
+
+pub heard : (wanted : List Bool) (says : Saying) (value : Vector) (used : ℕ) (body : BodyRow) (text piece : List ℕ) (b : Body) → value ≡ kept_value body → HearsTo wanted says used body text piece b → Passed wanted b (StepsTo (item_by says value) used body text piece)
+heard wanted says value used body text piece b is h =
+    record { passed = h.passed; unwanted = h.unwanted; then = subst (λ (v : Vector). StepsTo (item_by says v) used body text piece (saying_more b h.passed)) (sym is) h.steps }
+
 -- the calls of a step
-abbrev pub Steps : Item → ℕ → BodyRow → BodyRow → List ℕ → Type 0
-Steps says used body new piece = (text : List ℕ) (b : Body) → BodyHasRead body text b → StepsTo says used new text piece b
+abbrev pub Steps : List Bool → Item → ℕ → BodyRow → BodyRow → List ℕ → Type 0
+Steps wanted says used body new piece = (text : List ℕ) (b : Body) → BodyHasRead body text b → Passed wanted b (StepsTo says used new text piece)
+
+-- what is not wanted changes nothing
+abbrev pub PassesOver : List Bool → Scorer → Type 0
+PassesOver wanted scorer = (design : Design) (vars : List Var) (instance : List ℕ) (entries passed : List Entry) → Scores scorer design vars instance entries → All (IsUnwanted wanted) passed → Scores scorer design vars instance (entries ++ passed)
 
 abbrev pub Says : Item → Scorer → Scorer → Type 0
 Says says scorer told = (design : Design) (vars : List Var) (instance : List ℕ) (entries : List Entry) → Rises None (entries ++ entries_of says) → Scores scorer design vars instance entries → Scores told design vars instance (entries ++ entries_of says)
@@ -58,20 +82,22 @@ Says says scorer told = (design : Design) (vars : List Var) (instance : List ℕ
 rises_read : (body : BodyRow) (text : List ℕ) (b : Body) → BodyHasRead body text b → Rises None b.items
 rises_read body text b read = times_rise_so_far text read.stands.word b read.stands.stands
 
-pub reading_step : (says : Item) (used : ℕ) (body new : BodyRow) (piece : List ℕ) → 0 < length piece → Steps says used body new piece → IsReading body → IsReading new × (1 ≤ used) × (used ≤ length piece)
-reading_step says used body new piece some steps (text, b, read) =
-    let s = stepped says used new text piece b some (steps text b read) in
+pub reading_step : (wanted : List Bool) (says : Item) (used : ℕ) (body new : BodyRow) (piece : List ℕ) → 0 < length piece → Steps wanted says used body new piece → IsReading body → IsReading new × (1 ≤ used) × (used ≤ length piece)
+reading_step wanted says used body new piece some steps (text, b, read) =
+    let p = steps text b read in
+    let s = stepped says used new text piece (saying_more b p.passed) some p.then in
     ((text ++ take used piece, s.next, s.read), s.at_least, s.at_most)
 
-pub scored_step : (says : Item) (used : ℕ) (body new : BodyRow) (scorer told : Scorer) (piece : List ℕ) (design : Design) (vars : List Var) (instance text : List ℕ) → 0 < length piece → Steps says used body new piece → Says says scorer told → IsScoring body scorer design vars instance text → IsScoring new told design vars instance (text ++ take used piece)
-scored_step says used body new scorer told piece design vars instance text some steps tells is =
-    let s = stepped says used new text piece is.b some (steps text is.b is.stands) in
+pub scored_step : (wanted : List Bool) (says : Item) (used : ℕ) (body new : BodyRow) (scorer told : Scorer) (piece : List ℕ) (design : Design) (vars : List Var) (instance text : List ℕ) → 0 < length piece → Steps wanted says used body new piece → PassesOver wanted scorer → Says says scorer told → IsScoring body scorer design vars instance text → IsScoring new told design vars instance (text ++ take used piece)
+scored_step wanted says used body new scorer told piece design vars instance text some steps passes tells is =
+    let p = steps text is.b is.stands in
+    let s = stepped says used new text piece (saying_more is.b p.passed) some p.then in
     let rises = subst (Rises None) s.items (rises_read new (text ++ take used piece) s.next s.read) in
     record {
       b = s.next;
       stands = s.read;
       vars_are = s.vars ∙ is.vars_are;
-      scores = subst (λ entries. Scores told design vars instance entries) (sym s.items) (tells design vars instance is.b.items rises is.scores);
+      scores = subst (λ entries. Scores told design vars instance entries) (sym s.items) (tells design vars instance (is.b.items ++ p.passed) rises (passes design vars instance is.b.items p.passed is.scores p.unwanted));
     }
 
 -- the text of a part of a piece, and then of what is left of it
@@ -105,13 +131,14 @@ saying_ends design vars instance text b entries (fault.Refused call) e g ends h 
 saying_ends design vars instance text b entries (fault.Dump f) e g ends h = absurd h
 saying_ends design vars instance text b entries (fault.Bind f) e g ends h = absurd h
 
-pub step_found : (says : Item) (used : ℕ) (body new : BodyRow) (scorer : Scorer) (piece : List ℕ) (design : Design) (vars : List Var) (instance text : List ℕ) (f : ScoreFault) → 0 < length piece → Steps says used body new piece
+pub step_found : (wanted : List Bool) (says : Item) (used : ℕ) (body new : BodyRow) (scorer : Scorer) (piece : List ℕ) (design : Design) (vars : List Var) (instance text : List ℕ) (f : ScoreFault) → 0 < length piece → Steps wanted says used body new piece → PassesOver wanted scorer
     → ((design : Design) (vars : List Var) (instance : List ℕ) (entries : List Entry) → Scores scorer design vars instance entries → IsSayingFault vars instance design (entries ++ entries_of says) f)
     → IsScoring body scorer design vars instance text → IsFoundFault design instance (text ++ piece) f
-step_found says used body new scorer piece design vars instance text f some steps faults is =
-    let s = stepped says used new text piece is.b some (steps text is.b is.stands) in
+step_found wanted says used body new scorer piece design vars instance text f some steps passes faults is =
+    let p = steps text is.b is.stands in
+    let s = stepped says used new text piece (saying_more is.b p.passed) some p.then in
     subst (λ t. IsFoundFault design instance t f) (all_of text piece used)
-    (saying_found design vars instance (text ++ take used piece) (drop used piece) new s.next (is.b.items ++ entries_of says) f (s.vars ∙ is.vars_are) s.items s.read (faults design vars instance is.b.items is.scores))
+    (saying_found design vars instance (text ++ take used piece) (drop used piece) new s.next ((is.b.items ++ p.passed) ++ entries_of says) f (s.vars ∙ is.vars_are) s.items s.read (faults design vars instance (is.b.items ++ p.passed) (passes design vars instance is.b.items p.passed is.scores p.unwanted)))
 
 -- ---- the end
 
@@ -127,6 +154,11 @@ end_stepped (item.Time time) used body text b s = record { next = s.steps.next; 
 end_stepped (item.Value code value) used body text b s = record { next = s.steps.next; ends = s.steps.ended.ends; items = s.steps.said.items; vars = s.steps.said.vars }
 end_stepped item.More used body text b s = absurd s.steps
 end_stepped item.End used body text b s = record { next = s.steps.next; ends = s.steps.ended.ends; items = s.steps.said.items; vars = s.steps.said.vars }
+
+pub end_heard : (wanted : List Bool) (says : Saying) (value : Vector) (used : ℕ) (body : BodyRow) (text : List ℕ) (b : Body) → value ≡ kept_value body → HearsTo wanted says used body text [] b → Passed wanted b (EndStepped (item_by says value) text)
+end_heard wanted says value used body text b is h =
+    let p = heard wanted says value used body text [] b is h in
+    record { passed = p.passed; unwanted = p.unwanted; then = end_stepped (item_by says value) used body text (saying_more b p.passed) p.then }
 
 pub ended_again : (text : List ℕ) (b : Body) → EndsAs text b → EndStepped item.End text b
 ended_again text b ends = record { next = b; ends = ends; items = sym (append-nil b.items); vars = refl }
@@ -152,15 +184,15 @@ end_fault says scorer design vars instance text b f s faults vars_are scores =
 pub found_in_piece : (text piece : List ℕ) (used : ℕ) (f : DumpFault) → 0 < length (drop used piece) → IsFaultAt (text ++ take used piece) (drop used piece) f → HasFault (text ++ piece) f
 found_in_piece text piece used f some is = subst (λ t. HasFault t f) (all_of text piece used) (found_at (text ++ take used piece) (drop used piece) f some is)
 
-pub say_found_in_piece : (says : Item) (step used : ℕ) (body new : BodyRow) (scorer : Scorer) (piece : List ℕ) (design : Design) (vars : List Var) (instance text : List ℕ) (f : ScoreFault) → 0 < length (drop used piece) → Steps says step body new (drop used piece)
+pub say_found_in_piece : (wanted : List Bool) (says : Item) (step used : ℕ) (body new : BodyRow) (scorer : Scorer) (piece : List ℕ) (design : Design) (vars : List Var) (instance text : List ℕ) (f : ScoreFault) → 0 < length (drop used piece) → Steps wanted says step body new (drop used piece) → PassesOver wanted scorer
     → ((design : Design) (vars : List Var) (instance : List ℕ) (entries : List Entry) → Scores scorer design vars instance entries → IsSayingFault vars instance design (entries ++ entries_of says) f)
     → IsScoring body scorer design vars instance (text ++ take used piece) → IsFoundFault design instance (text ++ piece) f
-say_found_in_piece says step used body new scorer piece design vars instance text f some steps faults is =
-    subst (λ t. IsFoundFault design instance t f) (all_of text piece used) (step_found says step body new scorer (drop used piece) design vars instance (text ++ take used piece) f some steps faults is)
+say_found_in_piece wanted says step used body new scorer piece design vars instance text f some steps passes faults is =
+    subst (λ t. IsFoundFault design instance t f) (all_of text piece used) (step_found wanted says step body new scorer (drop used piece) design vars instance (text ++ take used piece) f some steps passes faults is)
 
-pub scored_further : (says : Item) (step used : ℕ) (body new : BodyRow) (scorer told : Scorer) (piece : List ℕ) (design : Design) (vars : List Var) (instance text : List ℕ) → 0 < length (drop used piece) → Steps says step body new (drop used piece) → Says says scorer told → IsScoring body scorer design vars instance (text ++ take used piece) → IsScoring new told design vars instance (text ++ take (used + step) piece)
-scored_further says step used body new scorer told piece design vars instance text some steps tells is =
-    subst (λ t. IsScoring new told design vars instance t) (further text piece used step) (scored_step says step body new scorer told (drop used piece) design vars instance (text ++ take used piece) some steps tells is)
+pub scored_further : (wanted : List Bool) (says : Item) (step used : ℕ) (body new : BodyRow) (scorer told : Scorer) (piece : List ℕ) (design : Design) (vars : List Var) (instance text : List ℕ) → 0 < length (drop used piece) → Steps wanted says step body new (drop used piece) → PassesOver wanted scorer → Says says scorer told → IsScoring body scorer design vars instance (text ++ take used piece) → IsScoring new told design vars instance (text ++ take (used + step) piece)
+scored_further wanted says step used body new scorer told piece design vars instance text some steps passes tells is =
+    subst (λ t. IsScoring new told design vars instance t) (further text piece used step) (scored_step wanted says step body new scorer told (drop used piece) design vars instance (text ++ take used piece) some steps passes tells is)
 
 pub OnOk-map : {T E P Q : Type 0} (result : Result T E) → (P → Q) → OnOk result P → OnOk result Q
 OnOk-map (Ok value) step holds = step holds
@@ -171,9 +203,9 @@ IfErr-map (Ok value) step holds = tt
 IfErr-map (Err fault) step holds = step fault holds
 
 -- what a step said
-abbrev pub item_in : Result Step DumpFault → Item
-item_in (Ok step) = step.item
-item_in (Err f) = item.End
+abbrev pub saying_in : Result Heard DumpFault → Saying
+saying_in (Ok heard) = heard.saying
+saying_in (Err f) = saying.End
 
 -- at the end of the input nothing more is said
 pub end_again : (says : Item) (text : List ℕ) (b : Body) → says ≡ item.End → EndsAs text b → EndStepped says text b

@@ -2,6 +2,7 @@ ghost use Rattle.std.specs.Prelude.{◌≡◌, ◌<◌, ◌≤◌, ◌++◌, ℕ
 ghost use Rattle.cov_host.specs.Outside.{Outside};
 ghost use Rattle.design_model.specs.declared.design.Design.{Design as SpecDesign};
 ghost use Rattle.vcd_reader.specs.Times.{Rises};
+ghost use Rattle.vcd_reader.specs.Wanted.{item_by};
 ghost use Rattle.vcd_reader.specs.declared.entry.Entry.{Entry};
 ghost use Rattle.vcd_reader.specs.declared.vars.Var.{Var as SpecVar};
 ghost use Rattle.input_toggles.specs.Scores.{Scores};
@@ -14,23 +15,24 @@ use crate::ScoreFault;
 use crate::header::Span;
 use crate::pieces::read;
 use cov_host::Host;
+use four_state::Four;
 use input_toggles::Scorer;
-use vcd_reader::{Body, DumpFault, DumpKind, Item};
+use vcd_reader::{Body, DumpFault, DumpKind, Saying};
 
 /// The longest dump, in bytes.
 const LONGEST_DUMP: u64 = 1_099_511_627_776;
 
-/// Gives the scorer what the body says.
-pub(crate) fn say(scorer: &mut Scorer, item: Item) -> Result<(), ScoreFault>
-    ensures ok { OnOk result ((design : SpecDesign) (vars : List SpecVar) (instance : List ℕ) (entries : List Entry) → Rises None (entries ++ entries_of item)
-        → Scores scorer.old design vars instance entries → Scores scorer.new design vars instance (entries ++ entries_of item)) }
+/// Gives the scorer what the body says, where a change is one to this value.
+pub(crate) fn say(scorer: &mut Scorer, saying: Saying, value: &Four) -> Result<(), ScoreFault>
+    ensures ok { OnOk result ((design : SpecDesign) (vars : List SpecVar) (instance : List ℕ) (entries : List Entry) → Rises None (entries ++ entries_of (item_by saying value.now))
+        → Scores scorer.old design vars instance entries → Scores scorer.new design vars instance (entries ++ entries_of (item_by saying value.now))) }
     ensures fault { IfErr result (λ fault. (design : SpecDesign) (vars : List SpecVar) (instance : List ℕ) (entries : List Entry)
-        → Scores scorer.old design vars instance entries → IsSayingFault vars instance design (entries ++ entries_of item) fault) }
+        → Scores scorer.old design vars instance entries → IsSayingFault vars instance design (entries ++ entries_of (item_by saying value.now)) fault) }
 {
-    match item {
-        Item::Time(time) => scorer.open_step(time)?,
-        Item::Value { code, value } => scorer.change(code, value),
-        Item::More | Item::End => {}
+    match saying {
+        Saying::Time(time) => scorer.open_step(time)?,
+        Saying::Change(code) => scorer.change(code, value),
+        Saying::More | Saying::End => {}
     }
     Ok(())
 }
@@ -51,9 +53,9 @@ pub(crate) fn score_piece(
     let mut used = 0;
     while used < piece.len() {
         let (_, rest) = piece.split_at(used);
-        let step = body.next(rest)?;
-        say(scorer, step.item)?;
-        used += step.used;
+        let heard = body.next_of(rest, scorer.wanted())?;
+        say(scorer, heard.saying, body.value())?;
+        used += heard.used;
     }
     Ok(())
 }
@@ -126,6 +128,6 @@ pub(crate) fn score_end(body: &mut Body, scorer: &mut Scorer) -> Result<(), Scor
     ensures fault { IfErr result (λ fault. (design : SpecDesign) (vars : List SpecVar) (instance text : List ℕ) → CanEnd body.old scorer.old design vars instance text
         → IsEndFault design instance text fault) }
 {
-    let step = body.next(b"")?;
-    say(scorer, step.item)
+    let heard = body.next_of(b"", scorer.wanted())?;
+    say(scorer, heard.saying, body.value())
 }

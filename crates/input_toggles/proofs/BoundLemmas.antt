@@ -1,5 +1,5 @@
 -- The signals of a design that are bound, and those that lack a first value.
-use Rattle.std.proofs.Common.{◌≡◌, ℕ, zero, suc, ◌<◌, ◌≤◌, true, false, Option, Some, None, IsSome, IsTrue, IfSome, is_some, List, [], ◌∷◌, ◌++◌, length, map, get_or, refl, sym, ap, subst, ◌∙◌, arith}
+use Rattle.std.proofs.Common.{◌≡◌, ℕ, zero, suc, ◌<◌, ◌≤◌, true, false, Option, Some, None, IsSome, IsTrue, IfSome, is_some, List, [], ◌∷◌, ◌++◌, length, map, get_or, refl, sym, ap, subst, ◌∙◌, append_assoc, append-nil, arith}
 use Rattle.std.specs.Prelude.{nat_lt, IsSomeAnd, take}
 use Rattle.std.specs.List.{All}
 use Rattle.std.proofs.lemmas.Bool.Decides.{nat_tests}
@@ -11,15 +11,17 @@ use Rattle.design_model.specs.declared.design.Signal.{Signal}
 use Rattle.four_state.specs.Vector.{Vector}
 use Rattle.vcd_reader.specs.Dump.{steps_of}
 use Rattle.vcd_reader.specs.Times.{last_time}
+use Rattle.vcd_reader.specs.Wanted.{IsUnwanted, is_wanted}
 use Rattle.vcd_reader.specs.declared.entry.Entry.{Entry}
 use Rattle.vcd_reader.specs.declared.entry.Entry.TheVariants.{Time, Value}
 use Rattle.vcd_reader.specs.declared.vars.Var.{Var}
 use Rattle.input_toggles.specs.Binding.{AreBound, AreCodes, code_of}
 use Rattle.input_toggles.specs.Scored.{HasNoBaseline, IsBound, first_value}
 use Rattle.input_toggles.specs.Scores.{LacksValue, Scores}
-use Rattle.input_toggles.specs.Tracked.{Follows, IsTracked, count_of, has_value, value_so_far}
+use Rattle.input_toggles.specs.Tracked.{Follows, IsTracked, count_of, has_value, track_of, value_so_far}
 use Rattle.input_toggles.specs.declared.scorer.Scorer.{Scorer}
-use Rattle.input_toggles.proofs.FollowLemmas.{has_value_is}
+use Rattle.input_toggles.specs.declared.track.Track.{Track}
+use Rattle.input_toggles.proofs.FollowLemmas.{follows_value, has_value_is, not_followed}
 use Rattle.input_toggles.proofs.OpenSteps.{before_value, count_first, count_later, count_some, count_value, value_later}
 use Rattle.input_toggles.proofs.TimeLemmas.{count_is, count_of_two, first_value_is}
 
@@ -134,34 +136,35 @@ no_baseline_of scorer design vars instance entries time signal first last lacks 
     no_baseline scorer design vars instance entries before.0 time signal first before.1 lacks s
 
 -- the scorer behind a time, where each code has a first value if there is a second time
-opened_with : (old new : Scorer) (design : Design) (vars : List Var) (instance : List ℕ) (entries : List Entry) (time : ℕ) → new.codes ≡ old.codes → Follows new.tracks (entries ++ Time time ∷ []) → ((other : ℕ) → IsTracked old.tracks other → IsTracked new.tracks other)
+opened_with : (old new : Scorer) (design : Design) (vars : List Var) (instance : List ℕ) (entries : List Entry) (time : ℕ) → new.codes ≡ old.codes → ((code : ℕ) → is_wanted new.wanted.items code ≡ is_some (track_of new.tracks.tracks.items code)) → Follows new.tracks (entries ++ Time time ∷ []) → ((other : ℕ) → IsTracked old.tracks other → IsTracked new.tracks other)
     → (2 ≤ count_of (entries ++ Time time ∷ []) → All (λ code. IsSome (value_so_far (entries ++ Time time ∷ []) code 1)) old.codes.items) → Scores old design vars instance entries → Scores new design vars instance (entries ++ Time time ∷ [])
-opened_with old new design vars instance entries time same follows kept based s = record {
+opened_with old new design vars instance entries time same wanted follows kept based s = record {
   instance_is = s.instance_is;
   codes_are = subst (λ cs. AreCodes design vars instance design.signals cs.items) (sym same) s.codes_are;
   follows = follows;
   tracked = subst (λ cs. All (IsTracked new.tracks) cs.items) (sym same) (All-weaker (IsTracked old.tracks) (IsTracked new.tracks) kept old.codes.items s.tracked);
+  wanted = wanted;
   based = λ two. subst (λ cs. All (λ code. IsSome (value_so_far (entries ++ Time time ∷ []) code 1)) cs.items) (sym same) (based two);
 }
 
-pub opened_second : (old new : Scorer) (design : Design) (vars : List Var) (instance : List ℕ) (entries : List Entry) (time : ℕ) → new.codes ≡ old.codes → is_some old.tracks.last ≡ true → Follows new.tracks (entries ++ Time time ∷ []) → ((other : ℕ) → IsTracked old.tracks other → IsTracked new.tracks other)
+pub opened_second : (old new : Scorer) (design : Design) (vars : List Var) (instance : List ℕ) (entries : List Entry) (time : ℕ) → new.codes ≡ old.codes → ((code : ℕ) → is_wanted new.wanted.items code ≡ is_some (track_of new.tracks.tracks.items code)) → is_some old.tracks.last ≡ true → Follows new.tracks (entries ++ Time time ∷ []) → ((other : ℕ) → IsTracked old.tracks other → IsTracked new.tracks other)
     → old.tracks.is_first ≡ true → All (λ code. IsTrue (has_value old.tracks code)) old.codes.items → Scores old design vars instance entries → Scores new design vars instance (entries ++ Time time ∷ [])
-opened_second old new design vars instance entries time same last follows kept first valued s =
+opened_second old new design vars instance entries time same wanted last follows kept first valued s =
     let before = last_of old.tracks.last last in
     let there : last_time None entries ≡ Some before.0 = sym s.follows.last ∙ before.1 in
     let one : count_of entries ≡ 1 = first_count entries (sym s.follows.first ∙ first) in
     let based : All (λ code. IsSome (value_so_far entries code 1)) old.codes.items = λ k d l. ap (λ n. is_some (value_so_far entries (get_or old.codes.items k d) n)) (sym one) ∙ sym (has_value_is old.tracks entries (get_or old.codes.items k d) s.follows (s.tracked k d l)) ∙ valued k d l in
-    opened_with old new design vars instance entries time same follows kept (λ two. based_later old.codes.items entries before.0 time there based) s
+    opened_with old new design vars instance entries time same wanted follows kept (λ two. based_later old.codes.items entries before.0 time there based) s
 
-pub opened_first : (old new : Scorer) (design : Design) (vars : List Var) (instance : List ℕ) (entries : List Entry) (time : ℕ) → new.codes ≡ old.codes → is_some old.tracks.last ≡ false → Follows new.tracks (entries ++ Time time ∷ []) → ((other : ℕ) → IsTracked old.tracks other → IsTracked new.tracks other)
+pub opened_first : (old new : Scorer) (design : Design) (vars : List Var) (instance : List ℕ) (entries : List Entry) (time : ℕ) → new.codes ≡ old.codes → ((code : ℕ) → is_wanted new.wanted.items code ≡ is_some (track_of new.tracks.tracks.items code)) → is_some old.tracks.last ≡ false → Follows new.tracks (entries ++ Time time ∷ []) → ((other : ℕ) → IsTracked old.tracks other → IsTracked new.tracks other)
     → Scores old design vars instance entries → Scores new design vars instance (entries ++ Time time ∷ [])
-opened_first old new design vars instance entries time same last follows kept s =
+opened_first old new design vars instance entries time same wanted last follows kept s =
     let empty : last_time None entries ≡ None = sym s.follows.last ∙ no_last old.tracks.last last in
-    opened_with old new design vars instance entries time same follows kept (λ two. absurd (omega (arith, two, count_first entries time empty))) s
+    opened_with old new design vars instance entries time same wanted follows kept (λ two. absurd (omega (arith, two, count_first entries time empty))) s
 
-pub opened_later : (old new : Scorer) (design : Design) (vars : List Var) (instance : List ℕ) (entries : List Entry) (time : ℕ) → new.codes ≡ old.codes → old.tracks.is_first ≡ false → Follows new.tracks (entries ++ Time time ∷ []) → ((other : ℕ) → IsTracked old.tracks other → IsTracked new.tracks other)
+pub opened_later : (old new : Scorer) (design : Design) (vars : List Var) (instance : List ℕ) (entries : List Entry) (time : ℕ) → new.codes ≡ old.codes → ((code : ℕ) → is_wanted new.wanted.items code ≡ is_some (track_of new.tracks.tracks.items code)) → old.tracks.is_first ≡ false → Follows new.tracks (entries ++ Time time ∷ []) → ((other : ℕ) → IsTracked old.tracks other → IsTracked new.tracks other)
     → Scores old design vars instance entries → Scores new design vars instance (entries ++ Time time ∷ [])
-opened_later old new design vars instance entries time same first follows kept s = go old.tracks.last refl
+opened_later old new design vars instance entries time same wanted first follows kept s = go old.tracks.last refl
   where
     no : nat_lt (count_of entries) 2 ≡ false
     no = sym s.follows.first ∙ first
@@ -172,5 +175,32 @@ opened_later old new design vars instance entries time same first follows kept s
     go : (o : Option ℕ) → old.tracks.last ≡ o → Scores new design vars instance (entries ++ Time time ∷ [])
     go None e =
         let empty : last_time None entries ≡ None = sym s.follows.last ∙ e in
-        opened_with old new design vars instance entries time same follows kept (λ two. absurd (omega (arith, two, count_first entries time empty))) s
-    go (Some before) e = opened_with old new design vars instance entries time same follows kept (λ two. based_later old.codes.items entries before time (sym s.follows.last ∙ e) (s.based more)) s
+        opened_with old new design vars instance entries time same wanted follows kept (λ two. absurd (omega (arith, two, count_first entries time empty))) s
+    go (Some before) e = opened_with old new design vars instance entries time same wanted follows kept (λ two. based_later old.codes.items entries before time (sym s.follows.last ∙ e) (s.based more)) s
+
+-- changes of codes that are not wanted
+pub scores_passed : (scorer : Scorer) (design : Design) (vars : List Var) (instance : List ℕ) (passed entries : List Entry) → All (IsUnwanted scorer.wanted.items) passed → Scores scorer design vars instance entries → Scores scorer design vars instance (entries ++ passed)
+scores_passed scorer design vars instance [] entries unwanted s = subst (λ (es : List Entry). Scores scorer design vars instance es) (sym (append-nil entries)) s
+scores_passed scorer design vars instance (Time time ∷ passed) entries unwanted s = absurd (All-head (IsUnwanted scorer.wanted.items) (Time time) passed unwanted)
+scores_passed scorer design vars instance (Value code value ∷ passed) entries unwanted s =
+    let off : is_wanted scorer.wanted.items code ≡ false = All-head (IsUnwanted scorer.wanted.items) (Value code value) passed unwanted in
+    let none : track_of scorer.tracks.tracks.items code ≡ None = no_track (track_of scorer.tracks.tracks.items code) (sym (s.wanted code) ∙ off) in
+    let next : Scores scorer design vars instance (entries ++ Value code value ∷ []) = record {
+      instance_is = s.instance_is;
+      codes_are = s.codes_are;
+      follows = follows_value scorer.tracks scorer.tracks entries code value refl refl refl (λ other apart. refl) (not_followed _ _ none) s.follows;
+      tracked = s.tracked;
+      wanted = s.wanted;
+      based = based_value scorer.codes.items entries code value s.based;
+    } in
+    subst (λ (es : List Entry). Scores scorer design vars instance es) (append_assoc entries (Value code value ∷ []) passed) (scores_passed scorer design vars instance passed (entries ++ Value code value ∷ []) (All-tail (IsUnwanted scorer.wanted.items) (Value code value) passed unwanted) next)
+  where
+    no_track : (o : Option Track) → is_some o ≡ false → o ≡ None
+    no_track None e = refl
+    no_track (Some track) e = absurd (cc)
+
+-- which codes are followed, in a list
+pub followed_at : (tracks : List (Option Track)) (code : ℕ) → is_wanted (map is_some tracks) code ≡ is_some (track_of tracks code)
+followed_at [] code = refl
+followed_at (track ∷ tracks) zero = refl
+followed_at (track ∷ tracks) (suc code) = followed_at tracks code

@@ -111,6 +111,21 @@ there tracks code track found = go (cases_lt code (length tracks))
 pub set_here : (tracks : List (Option Track)) (code : ℕ) (old new : Track) (P : Track → Type 0) → track_of tracks code ≡ Some old → P new → IfSome (track_of (slice_set tracks code (Some new)) code) P
 set_here tracks code old new P found p = subst (λ o. IfSome o P) (sym (get_or-set_same tracks code (Some new) None (there tracks code old found))) p
 
+pub set_is : (tracks : List (Option Track)) (code : ℕ) (track : Option Track) → code < length tracks → track_of (slice_set tracks code track) code ≡ track
+set_is tracks code track within = get_or-set_same tracks code track None within
+
+-- writing one code leaves which codes are followed
+pub followed_same : (tracks : List (Option Track)) (code other : ℕ) (old track : Option Track) → code < length tracks → old ≡ track_of tracks code → is_some track ≡ is_some old → is_some (track_of (slice_set tracks code track) other) ≡ is_some (track_of tracks other)
+followed_same tracks code other old track within there same =
+    elim (cases_Bool (code == other)) [
+      | inl here ↦ subst (λ (o : ℕ). is_some (track_of (slice_set tracks code track) o) ≡ is_some (track_of tracks o)) (eqb-true code other here) (ap is_some (set_is tracks code track within) ∙ same ∙ ap is_some there)
+      | inr apart ↦ ap is_some (set_other tracks code other track apart)
+    ]
+
+-- past the end no code is followed
+pub none_past : (tracks : List (Option Track)) (code : ℕ) → length tracks ≤ code → track_of tracks code ≡ None
+none_past tracks code past = get_or_past tracks code None past
+
 pub not_followed : (o : Option Track) (P : Track → Type 0) → o ≡ None → IfSome o P
 not_followed o P none = subst (λ o. IfSome o P) (sym none) tt
 

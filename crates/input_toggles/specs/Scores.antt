@@ -1,17 +1,18 @@
 -- What a scorer keeps: a design under what a dump has said so far.
-use Rattle.std.specs.Prelude.{◌≡◌, ◌-◌, ◌<◌, ◌≤◌, ◌↔◌, ℕ, Bool, true, false, IsTrue, IsSome, List, [], map, length, take, slice_index_or, All}
+use Rattle.std.specs.Prelude.{◌≡◌, ◌-◌, ◌<◌, ◌≤◌, ◌↔◌, ℕ, Bool, true, false, IsTrue, is_some, IsSome, List, [], map, length, take, slice_index_or, All}
 use Rattle.std.specs.List.{list_any}
 use Rattle.coverage_db.specs.declared.db.Db.{Db}
 use Rattle.design_model.specs.Shows.{AreRising}
 use Rattle.design_model.specs.declared.design.Design.{Design}
 use Rattle.design_model.specs.declared.design.Signal.{Signal}
 use Rattle.vcd_reader.specs.Dump.{steps_of, times_of}
+use Rattle.vcd_reader.specs.Wanted.{is_wanted}
 use Rattle.vcd_reader.specs.declared.entry.Entry.{Entry}
 use Rattle.vcd_reader.specs.declared.vars.Var.{Var}
 use Rattle.input_toggles.specs.Binding.{AreCodes, stands_in}
 use Rattle.input_toggles.specs.Scored.{IsToggleTable}
 use Rattle.input_toggles.specs.Toggling.{has_toggle}
-use Rattle.input_toggles.specs.Tracked.{Follows, IsTracked, ToggledBy, count_of, has_value, value_so_far}
+use Rattle.input_toggles.specs.Tracked.{Follows, IsTracked, ToggledBy, count_of, has_value, track_of, value_so_far}
 use Rattle.input_toggles.specs.Watched.{signals_of}
 use Rattle.input_toggles.specs.declared.scorer.Scorer.{Scorer}
 use Rattle.input_toggles.specs.declared.tracks.Tracks.{Tracks}
@@ -28,6 +29,7 @@ pub record Scores (scorer : Scorer) (design : Design) (vars : List Var) (instanc
   pub codes_are : AreCodes design vars instance design.signals scorer.codes.items
   pub follows : Follows scorer.tracks entries
   pub tracked : All (IsTracked scorer.tracks) scorer.codes.items
+  pub wanted : (code : ℕ) → is_wanted scorer.wanted.items code ≡ is_some (track_of scorer.tracks.tracks.items code)
   pub based : 2 ≤ count_of entries → All (λ code. IsSome (value_so_far entries code 1)) scorer.codes.items
 
 -- the code of the signal with this number is the first that has no value

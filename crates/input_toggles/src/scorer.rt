@@ -1,6 +1,7 @@
 ghost use Rattle.std.specs.Prelude.{◌≡◌, ◌++◌, ◌∷◌, [], ℕ, List, None, IfErr, IfOk, OnErr, OnOk, IsTrue, All, length};
 ghost use Rattle.design_model.specs.declared.design.Design.{Design as SpecDesign};
 ghost use Rattle.vcd_reader.specs.Times.{Rises};
+ghost use Rattle.vcd_reader.specs.Wanted.{IsUnwanted};
 ghost use Rattle.vcd_reader.specs.declared.entry.Entry.{Entry};
 ghost use Rattle.vcd_reader.specs.declared.entry.Entry.TheVariants as entry;
 ghost use Rattle.vcd_reader.specs.declared.vars.Var.{Var as SpecVar};
@@ -30,6 +31,8 @@ pub struct Scorer {
     /// The codes of the signals in order.
     pub(crate) codes: Vec<u32>,
     pub(crate) tracks: Tracks,
+    /// By code, whether a signal has it.
+    pub(crate) wanted: Vec<bool>,
 }
 
 impl Scorer {
@@ -46,13 +49,27 @@ impl Scorer {
     {
         let codes = bind(alloc, design, vars, instance)?;
         let tracks = follow(alloc, codes.as_slice())?;
-        Ok(Scorer { codes, tracks })
+        let wanted = tracks.followed(alloc)?;
+        Ok(Scorer {
+            codes,
+            tracks,
+            wanted,
+        })
+    }
+
+    /// By code, whether its changes are wanted. They are those of the codes that signals have, and to pass over any others
+    /// changes nothing.
+    pub fn wanted(&self) -> &[bool]
+        ensures { (design : SpecDesign) (vars : List SpecVar) (instance : List ℕ) (entries passed : List Entry) → Scores self.now design vars instance entries
+            → All (IsUnwanted result.now) passed → Scores self.now design vars instance (entries ++ passed) }
+    {
+        self.wanted.as_slice()
     }
 
     /// Takes a change of a code.
-    pub fn change(&mut self, code: u32, value: Four)
+    pub fn change(&mut self, code: u32, value: &Four)
         ensures { (design : SpecDesign) (vars : List SpecVar) (instance : List ℕ) (entries : List Entry) → Scores self.old design vars instance entries
-            → Scores self.new design vars instance (entries ++ entry.Value code value ∷ []) }
+            → Scores self.new design vars instance (entries ++ entry.Value code value.now ∷ []) }
     {
         self.tracks.change(code, value);
     }

@@ -32,32 +32,23 @@ impl Track {
         }
     }
 
-    /// With a change to this value in the open step, which has this mark.
-    pub(crate) fn changed(&self, mark: u64, value: Four) -> Self
-        ensures { (values after : ℕ → Option Vector) (count : ℕ) → IsTrack values count mark self.now
-            → ((k : ℕ) → k + 1 ≤ count → after k ≡ values k) → after count ≡ Some value → IsTrack after count mark result }
+    /// Takes a change to this value in the open step, which has this mark.
+    pub(crate) fn change(&mut self, mark: u64, value: &Four)
+        ensures { (values after : ℕ → Option Vector) (count : ℕ) → IsTrack values count mark self.old
+            → ((k : ℕ) → k + 1 ≤ count → after k ≡ values k) → after count ≡ Some value.now → IsTrack after count mark self.new }
     {
-        let closed = self.closed(mark);
-        Track {
-            before: closed.before,
-            value: Some(value),
-            toggles: closed.toggles,
-            mark,
-        }
+        self.close(mark);
+        self.value = Some(*value);
     }
 
-    /// With all steps closed before the open one, which has this mark.
-    pub(crate) fn closed(&self, mark: u64) -> Self
-        ensures { (values : ℕ → Option Vector) (count : ℕ) → IsTrack values count mark self.now → IsClosed values count mark result }
+    /// Closes all steps before the open one, which has this mark.
+    pub(crate) fn close(&mut self, mark: u64)
+        ensures { (values : ℕ → Option Vector) (count : ℕ) → IsTrack values count mark self.old → IsClosed values count mark self.new }
     {
-        if self.mark == mark {
-            return *self;
-        }
-        Track {
-            before: self.value,
-            value: self.value,
-            toggles: self.closed_toggles(),
-            mark,
+        if self.mark != mark {
+            self.toggles = self.closed_toggles();
+            self.before = self.value;
+            self.mark = mark;
         }
     }
 

@@ -1,9 +1,10 @@
-ghost use Rattle.std.specs.Prelude.{◌≡◌, ◌↔◌, ◌++◌, ◌∷◌, ◌-◌, ◌<◌, ◌^◌, [], ℕ, Bool, List, IsTrue, None, Some, IsSome, OnOk, vec_len};
+ghost use Rattle.std.specs.Prelude.{◌≡◌, ◌↔◌, ◌++◌, ◌∷◌, ◌+◌, ◌-◌, ◌<◌, ◌≤◌, ◌^◌, [], ℕ, Bool, List, IsTrue, None, Some, Option, IsSome, IfSome, is_some, map, IfOk, OnOk, vec_len};
+ghost use Rattle.four_state.specs.Vector.{Vector};
 ghost use Rattle.vcd_reader.specs.Times.{Rises};
 ghost use Rattle.vcd_reader.specs.declared.entry.Entry.{Entry};
 ghost use Rattle.vcd_reader.specs.declared.entry.Entry.TheVariants as entry;
 ghost use Rattle.input_toggles.specs.Toggling.{has_toggle};
-ghost use Rattle.input_toggles.specs.Tracked.{Follows, IsTracked, ToggledBy, count_of, has_value, track_of, value_so_far};
+ghost use Rattle.input_toggles.specs.Tracked.{Follows, IsTrack, IsTracked, ToggledBy, count_of, has_value, track_of, value_so_far};
 
 use crate::toggles::Toggles;
 use crate::track::Track;
@@ -50,20 +51,34 @@ impl Tracks {
     }
 
     /// Takes a change of a code. It takes no memory.
-    pub(crate) fn change(&mut self, code: u32, value: Four)
-        ensures follows { (entries : List Entry) → Follows self.old entries → Follows self.new (entries ++ entry.Value code value ∷ []) }
+    pub(crate) fn change(&mut self, code: u32, value: &Four)
+        ensures follows { (entries : List Entry) → Follows self.old entries → Follows self.new (entries ++ entry.Value code value.now ∷ []) }
         ensures kept { (other : ℕ) → IsTracked self.old other → IsTracked self.new other }
+        ensures same { (other : ℕ) → is_some (track_of self.new.tracks.items other) ≡ is_some (track_of self.old.tracks.items other) }
     {
-        match self.track(code) {
-            Some(track) => self.tracks[code as usize] = Some(track.changed(self.mark, value)),
-            None => {}
+        let place = code as usize;
+        let mark = self.mark;
+        if place < self.tracks.len() {
+            change_track(&mut self.tracks[place], mark, value);
         }
+    }
+
+    /// Which codes are followed.
+    pub(crate) fn followed(&self, alloc: Global) -> Result<Vec<bool>, NoMemory>
+        ensures { IfOk result (λ followed. followed.items ≡ map is_some self.now.tracks.items) }
+    {
+        let mut followed = Vec::new(alloc);
+        for track in &self.tracks {
+            followed.push(track.is_some())?;
+        }
+        Ok(followed)
     }
 
     /// Opens the next step, or gives the first one its time.
     pub(crate) fn open_step(&mut self, time: u64)
         ensures follows { (entries : List Entry) → Rises None (entries ++ entry.Time time ∷ []) → Follows self.old entries → Follows self.new (entries ++ entry.Time time ∷ []) }
         ensures kept { (other : ℕ) → IsTracked self.old other → IsTracked self.new other }
+        ensures same { self.new.tracks ≡ self.old.tracks }
     {
         match self.last {
             Some(_) => self.open_later(time),
@@ -75,6 +90,7 @@ impl Tracks {
     fn open_first(&mut self, time: u64)
         ensures follows { (entries : List Entry) → self.old.last ≡ None → Follows self.old entries → Follows self.new (entries ++ entry.Time time ∷ []) }
         ensures kept { (other : ℕ) → IsTracked self.old other → IsTracked self.new other }
+        ensures same { self.new.tracks ≡ self.old.tracks }
     {
         self.last = Some(time);
     }
@@ -83,6 +99,7 @@ impl Tracks {
     fn open_later(&mut self, time: u64)
         ensures follows { (entries : List Entry) (before : ℕ) → self.old.last ≡ Some before → Rises None (entries ++ entry.Time time ∷ []) → Follows self.old entries → Follows self.new (entries ++ entry.Time time ∷ []) }
         ensures kept { (other : ℕ) → IsTracked self.old other → IsTracked self.new other }
+        ensures same { self.new.tracks ≡ self.old.tracks }
     {
         self.last = Some(time);
         self.is_first = false;
@@ -105,7 +122,11 @@ impl Tracks {
             → IsTrue (has_toggle result place rise) ↔ ToggledBy (value_so_far entries code) (count_of entries - 1) place rise }
     {
         match self.track(code) {
-            Some(track) => track.closed(self.mark).toggles,
+            Some(track) => {
+                let mut track = track;
+                track.close(self.mark);
+                track.toggles
+            }
             None => Toggles::none(),
         }
     }
@@ -121,6 +142,18 @@ impl Tracks {
         } else {
             None
         }
+    }
+}
+
+/// Takes a change to this value in the open step, which has this mark, where the code is followed.
+fn change_track(track: &mut Option<Track>, mark: u64, value: &Four)
+    ensures change { (values after : ℕ → Option Vector) (count : ℕ) → IfSome track.old (IsTrack values count mark)
+        → ((k : ℕ) → k + 1 ≤ count → after k ≡ values k) → after count ≡ Some value.now → IfSome track.new (IsTrack after count mark) }
+    ensures same { is_some track.new ≡ is_some track.old }
+{
+    match track {
+        Some(track) => track.change(mark, value),
+        None => {}
     }
 }
 

@@ -1,5 +1,5 @@
 //! What dumps say.
-use crate::pieces::{Opened, SIZES, open, piece};
+use crate::pieces::{Opened, SIZES, next, open, piece};
 use std::alloc::Global;
 use vcd_reader::{Item, Var, Vars};
 
@@ -110,12 +110,45 @@ fn is_expected(item: Item, expected: &Expected) -> bool {
     }
 }
 
-/// Whether a body says exactly this, in pieces of this length.
-fn says(opened: Opened, text: &[u8], size: usize, expected: &[Expected]) -> bool {
+/// Of which codes the changes are asked for: all, none, or some; a code past the end of a list is not wanted.
+const WANTED: &[Option<&[bool]>] = &[
+    None,
+    Some(&[]),
+    Some(&[true]),
+    Some(&[false, true, false, true, false, true]),
+];
+
+/// Whether a time or a change is asked for.
+fn is_wanted(expected: &Expected, wanted: Option<&[bool]>) -> bool {
+    let (first, width, _, _) = *expected;
+    match wanted {
+        None => true,
+        Some(wanted) => width == 0 || wanted.get(first as usize) == Some(&true),
+    }
+}
+
+/// The number of the next time or change that is asked for.
+fn next_wanted(expected: &[Expected], from: usize, wanted: Option<&[bool]>) -> usize {
+    for (place, it) in expected.iter().enumerate() {
+        if place >= from && is_wanted(it, wanted) {
+            return place;
+        }
+    }
+    expected.len()
+}
+
+/// Whether a body says exactly what is asked for of this, in pieces of this length.
+fn says(
+    opened: Opened,
+    text: &[u8],
+    size: usize,
+    expected: &[Expected],
+    wanted: Option<&[bool]>,
+) -> bool {
     let mut opened = opened;
-    let mut count = 0usize;
+    let mut count = next_wanted(expected, 0, wanted);
     for _ in 0..=text.len() {
-        let Ok(step) = opened.body.next(piece(text, opened.at, size)) else {
+        let Ok(step) = next(&mut opened.body, piece(text, opened.at, size), wanted) else {
             return false;
         };
         opened.at = opened.at.saturating_add(step.used);
@@ -126,7 +159,7 @@ fn says(opened: Opened, text: &[u8], size: usize, expected: &[Expected]) -> bool
                 if count >= expected.len() || !is_expected(item, &expected[count]) {
                     return false;
                 }
-                count += 1;
+                count = next_wanted(expected, count + 1, wanted);
             }
         }
     }
@@ -135,17 +168,17 @@ fn says(opened: Opened, text: &[u8], size: usize, expected: &[Expected]) -> bool
 
 /// Whether a text says this in pieces of each length.
 fn says_in_pieces(alloc: Global, text: &[u8], expected: &[Expected]) -> bool {
-    for size in SIZES {
-        match open(alloc, text, *size) {
-            Ok(opened) => {
-                if !says(opened, text, *size, expected) {
-                    return false;
-                }
-            }
-            Err(_) => return false,
-        }
-    }
-    true
+    SIZES
+        .iter()
+        .all(|size| says_for_all(alloc, text, *size, expected))
+}
+
+/// Whether a text says what is asked for of this in pieces of this length.
+fn says_for_all(alloc: Global, text: &[u8], size: usize, expected: &[Expected]) -> bool {
+    WANTED.iter().all(|wanted| match open(alloc, text, size) {
+        Ok(opened) => says(opened, text, size, expected, *wanted),
+        Err(_) => false,
+    })
 }
 
 /// The text of a body after the header.

@@ -1,6 +1,6 @@
 //! Texts that are no dumps.
 use crate::bodies::{HEADER, with_header};
-use crate::pieces::{SIZES, open, piece};
+use crate::pieces::{SIZES, next, open, piece};
 use std::alloc::Global;
 use vcd_reader::{Body, DumpFault, DumpKind};
 
@@ -64,41 +64,46 @@ const BODY_FAULTS: &[(&[u8], DumpKind, u64)] = &[
 ];
 
 /// The fault of a body that begins at a byte of a text, where it is answered again.
-fn body_fault(body: Body, text: &[u8], start: usize, size: usize) -> Option<DumpFault> {
+fn body_fault(
+    body: Body,
+    text: &[u8],
+    start: usize,
+    size: usize,
+    wanted: Option<&[bool]>,
+) -> Option<DumpFault> {
     let mut body = body;
     let mut at = start;
     for _ in 0..=text.len() {
-        match body.next(piece(text, at, size)) {
+        match next(&mut body, piece(text, at, size), wanted) {
             Ok(step) => at = at.saturating_add(step.used),
-            Err(fault) => return again(body, fault),
+            Err(fault) => return again(body, fault, wanted),
         }
     }
     None
 }
 
 /// The fault, if the body answers it again.
-fn again(body: Body, fault: DumpFault) -> Option<DumpFault> {
+fn again(body: Body, fault: DumpFault, wanted: Option<&[bool]>) -> Option<DumpFault> {
     let mut body = body;
-    match body.next(b"") {
+    match next(&mut body, b"", wanted) {
         Err(other) if other == fault => Some(fault),
         _ => None,
     }
 }
 
 /// The fault of a text.
-fn fault_of(alloc: Global, text: &[u8], size: usize) -> Option<DumpFault> {
+fn fault_of(alloc: Global, text: &[u8], size: usize, wanted: Option<&[bool]>) -> Option<DumpFault> {
     match open(alloc, text, size) {
-        Ok(opened) => body_fault(opened.body, text, opened.at, size),
+        Ok(opened) => body_fault(opened.body, text, opened.at, size, wanted),
         Err(fault) => Some(fault),
     }
 }
 
-/// Whether a text has this fault in pieces of each length.
+/// Whether a text has this fault in pieces of each length, also where no code is wanted.
 fn has_fault(alloc: Global, text: &[u8], kind: DumpKind, byte: u64) -> bool {
-    let wanted = Some(DumpFault::At { kind, byte });
-    SIZES
-        .iter()
-        .all(|size| fault_of(alloc, text, *size) == wanted)
+    let fault = Some(DumpFault::At { kind, byte });
+    SIZES.iter().all(|size| fault_of(alloc, text, *size, None) == fault
+        && fault_of(alloc, text, *size, Some(&[])) == fault)
 }
 
 /// Whether a body after the header has this fault.

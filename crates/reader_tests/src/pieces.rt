@@ -1,9 +1,9 @@
 //! A dump that is read in pieces.
 use std::alloc::Global;
-use vcd_reader::{Body, DumpFault, Fed, Header, Vars};
+use vcd_reader::{Body, DumpFault, Fed, Header, Item, Saying, Step, Vars};
 
-/// How long the pieces are.
-pub(crate) const SIZES: &[usize] = &[1, 7, 65_536];
+/// How long the pieces are; the last one is the whole text.
+pub(crate) const SIZES: &[usize] = &[1, 7, 65_536, usize::MAX];
 
 /// The next piece of a text, which is empty at its end.
 pub(crate) fn piece(text: &[u8], at: usize, size: usize) -> &[u8] {
@@ -39,4 +39,34 @@ pub(crate) fn open(alloc: Global, text: &[u8], size: usize) -> Result<Opened, Du
     let at = feed(&mut header, text, size)?;
     let (vars, body) = header.split();
     Ok(Opened { vars, body, at })
+}
+
+/// What a body says next of all codes, or of those that are wanted.
+pub(crate) fn next(
+    body: &mut Body,
+    piece: &[u8],
+    wanted: Option<&[bool]>,
+) -> Result<Step, DumpFault> {
+    match wanted {
+        None => body.next(piece),
+        Some(wanted) => next_of(body, piece, wanted),
+    }
+}
+
+/// What a body says next of the codes that are wanted.
+fn next_of(body: &mut Body, piece: &[u8], wanted: &[bool]) -> Result<Step, DumpFault> {
+    let heard = body.next_of(piece, wanted)?;
+    let item = match heard.saying {
+        Saying::Time(time) => Item::Time(time),
+        Saying::Change(code) => Item::Value {
+            code,
+            value: *body.value(),
+        },
+        Saying::More => Item::More,
+        Saying::End => Item::End,
+    };
+    Ok(Step {
+        item,
+        used: heard.used,
+    })
 }

@@ -1,14 +1,13 @@
 -- Where codes stand in a list, also after one was put in.
-use Rattle.std.proofs.Common.{◌≡◌, ◌∙◌, sym, ap, refl, inl, inr, ℕ, suc, ◌<◌, Bool, true, false, arith, List, [], ◌∷◌, ◌++◌, length, if◌then◌else◌, cond, bytes_eq, Option, Some, None, slice_index_or, slice_set}
+use Rattle.std.proofs.Common.{◌≡◌, ◌∙◌, ap, refl, inl, inr, ℕ, suc, ◌<◌, Bool, true, false, arith, List, [], ◌∷◌, ◌++◌, length, if◌then◌else◌, cond, bytes_eq, Option, Some, None, slice_index_or, slice_set}
 use Rattle.std.proofs.lemmas.Bool.{cases_Bool}
-use Rattle.std.proofs.lemmas.List.{map-append}
 use Rattle.std.proofs.lemmas.Slice.Eq.{bytes_eq-Decides}
 use Rattle.std.specs.Prelude.{option_map}
+use Rattle.std.specs.Global.{Vec}
 use Rattle.vcd_reader.specs.Codes.{Code, code_of, entered}
 use Rattle.vcd_reader.specs.CodeViews.{codes_in, with_text, without_text}
 use Rattle.vcd_reader.specs.Places.{place_of}
 use Rattle.vcd_reader.specs.declared.codes.Code.{Code as CodeRow}
-use Rattle.vcd_reader.specs.declared.codes.Row.{Row}
 
 -- what is there is itself
 some_is : (a b : ℕ) → Some a ≡ Some b → a ≡ b
@@ -37,26 +36,29 @@ code_of-none (code ∷ codes) text none =
       | inr other ↦ rw other (code_of-none codes text (behind (place_of codes text) (rw other at none)))
     ]
 
--- the code in a row
-pub code_of-row : (rows : List Row) (text : List ℕ) (place : ℕ) (d : Row) → place_of (codes_in rows) text ≡ Some place → option_map without_text (code_of (codes_in rows) text) ≡ Some (slice_index_or rows place d).code
-code_of-row [] text place d is = cc
-code_of-row (row ∷ rows) text place d is =
-    elim (cases_Bool (bytes_eq text row.text.items)) [
-      | inl same ↦ let first : 0 ≡ place = some_is _ _ (rw same at is) in rw same (rw (← first) refl)
+-- the code at a place
+pub code_of-at : (texts : List (Vec ℕ)) (codes : List CodeRow) (text : List ℕ) (place : ℕ) (d : CodeRow) → place_of (codes_in texts codes) text ≡ Some place
+    → option_map without_text (code_of (codes_in texts codes) text) ≡ Some (slice_index_or codes place d)
+code_of-at [] codes text place d is = cc
+code_of-at (first ∷ texts) [] text place d is = cc
+code_of-at (first ∷ texts) (code ∷ codes) text place d is =
+    elim (cases_Bool (bytes_eq text first.items)) [
+      | inl same ↦ let zero : 0 ≡ place = some_is _ _ (rw same at is) in rw same (rw (← zero) refl)
       | inr other ↦
-          let b : StandsBehind (place_of (codes_in rows) text) place = stands_behind _ _ (rw other at is) in
-          rw other (rw b.place_is (code_of-row rows text b.earlier d b.found_is))
+          let b : StandsBehind (place_of (codes_in texts codes) text) place = stands_behind _ _ (rw other at is) in
+          rw other (rw b.place_is (code_of-at texts codes text b.earlier d b.found_is))
     ]
 
--- a place lies within the rows
-pub place_of-within : (rows : List Row) (text : List ℕ) (place : ℕ) → place_of (codes_in rows) text ≡ Some place → place < length rows
-place_of-within [] text place is = cc
-place_of-within (row ∷ rows) text place is =
-    elim (cases_Bool (bytes_eq text row.text.items)) [
-      | inl same ↦ let first : 0 ≡ place = some_is _ _ (rw same at is) in omega arith
+-- a place lies within the codes
+pub place_of-within : (texts : List (Vec ℕ)) (codes : List CodeRow) (text : List ℕ) (place : ℕ) → place_of (codes_in texts codes) text ≡ Some place → place < length codes
+place_of-within [] codes text place is = cc
+place_of-within (first ∷ texts) [] text place is = cc
+place_of-within (first ∷ texts) (code ∷ codes) text place is =
+    elim (cases_Bool (bytes_eq text first.items)) [
+      | inl same ↦ let zero : 0 ≡ place = some_is _ _ (rw same at is) in omega arith
       | inr other ↦
-          let b : StandsBehind (place_of (codes_in rows) text) place = stands_behind _ _ (rw other at is) in
-          let within : b.earlier < length rows = place_of-within rows text b.earlier b.found_is in
+          let b : StandsBehind (place_of (codes_in texts codes) text) place = stands_behind _ _ (rw other at is) in
+          let within : b.earlier < length codes = place_of-within texts codes text b.earlier b.found_is in
           rw b.place_is (omega arith)
     ]
 
@@ -70,19 +72,16 @@ entered-new (code ∷ codes) new none =
     ]
 
 -- a known code takes the place of that of the same bytes
-pub entered-at : (rows : List Row) (text : List ℕ) (code : CodeRow) (place : ℕ) (row : Row) → place_of (codes_in rows) text ≡ Some place → row ≡ slice_index_or rows place row
-    → codes_in (slice_set rows place (record { text = row.text; code = code })) ≡ entered (codes_in rows) (with_text text code)
-entered-at [] text code place row is there = cc
-entered-at (first ∷ rows) text code place row is there =
-    elim (cases_Bool (bytes_eq text first.text.items)) [
-      | inl same ↦
-          let zero : 0 ≡ place = some_is _ _ (rw same at is) in
-          let row_is : row ≡ first = there ∙ ap (λ (n : ℕ). slice_index_or (first ∷ rows) n row) (sym zero) in
-          rw same (rw (← zero) (ap (λ (r : Row). with_text r.text.items code ∷ codes_in rows) row_is))
+pub entered-at : (texts : List (Vec ℕ)) (codes : List CodeRow) (text : List ℕ) (new : CodeRow) (place : ℕ) → place_of (codes_in texts codes) text ≡ Some place
+    → codes_in texts (slice_set codes place new) ≡ entered (codes_in texts codes) (with_text text new)
+entered-at [] codes text new place is = cc
+entered-at (first ∷ texts) [] text new place is = cc
+entered-at (first ∷ texts) (code ∷ codes) text new place is =
+    elim (cases_Bool (bytes_eq text first.items)) [
+      | inl same ↦ let zero : 0 ≡ place = some_is _ _ (rw same at is) in rw same (rw (← zero) refl)
       | inr other ↦
-          let b : StandsBehind (place_of (codes_in rows) text) place = stands_behind _ _ (rw other at is) in
-          let row_is : row ≡ slice_index_or rows b.earlier row = there ∙ ap (λ (n : ℕ). slice_index_or (first ∷ rows) n row) b.place_is in
-          rw other (rw b.place_is (ap (λ (others : List Code). with_text first.text.items first.code ∷ others) (entered-at rows text code b.earlier row b.found_is row_is)))
+          let b : StandsBehind (place_of (codes_in texts codes) text) place = stands_behind _ _ (rw other at is) in
+          rw other (rw b.place_is (ap (λ (others : List Code). with_text first.items code ∷ others) (entered-at texts codes text new b.earlier b.found_is)))
     ]
 
 -- a known code leaves all places
@@ -117,6 +116,17 @@ place_of-push (code ∷ codes) new none text =
           (λ same. let text_is : text ≡ new.text = (bytes_eq-Decides text new.text).0 same in rw text_is other)
     ]
 
--- rows with one more
-pub codes_in-push : (rows : List Row) (row : Row) → codes_in (rows ++ row ∷ []) ≡ codes_in rows ++ with_text row.text.items row.code ∷ []
-codes_in-push rows row = map-append _ rows (row ∷ [])
+-- codes with one more
+pub codes_in-push : (texts : List (Vec ℕ)) (codes : List CodeRow) (text : Vec ℕ) (code : CodeRow) → length texts ≡ length codes
+    → codes_in (texts ++ text ∷ []) (codes ++ code ∷ []) ≡ codes_in texts codes ++ with_text text.items code ∷ []
+codes_in-push [] [] text code same = refl
+codes_in-push [] (other ∷ codes) text code same = absurd (let no : 0 ≡ suc (length codes) = same in omega (arith, no))
+codes_in-push (first ∷ texts) [] text code same = absurd (let no : suc (length texts) ≡ 0 = same in omega (arith, no))
+codes_in-push (first ∷ texts) (other ∷ codes) text code same = ap (λ (cs : List Code). with_text first.items other ∷ cs) (codes_in-push texts codes text code (let s : suc (length texts) ≡ suc (length codes) = same in omega (arith, s)))
+
+-- how many codes there are
+pub length-codes_in : (texts : List (Vec ℕ)) (codes : List CodeRow) → length texts ≡ length codes → length (codes_in texts codes) ≡ length codes
+length-codes_in [] [] same = refl
+length-codes_in [] (other ∷ codes) same = same
+length-codes_in (first ∷ texts) [] same = refl
+length-codes_in (first ∷ texts) (other ∷ codes) same = ap suc (length-codes_in texts codes (let s : suc (length texts) ≡ suc (length codes) = same in omega (arith, s)))

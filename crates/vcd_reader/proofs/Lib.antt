@@ -16,3 +16,4 @@ pub mod FaultNames
 pub mod RisingTimes
 pub mod Growing
 pub mod OneHeader
+mod ElementLemmas

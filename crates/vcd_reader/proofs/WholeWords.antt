@@ -1,6 +1,5 @@
 -- The reader of a body behind a whole word and white space.
-use Rattle.std.proofs.Common.{◌≡◌, ℕ, zero, suc, ◌+◌, ◌-◌, ◌<◌, ◌≤◌, true, false, List, [], ◌∷◌, ◌++◌, length, take, drop, get_or, Option, Some, Result, Ok, Err, refl, sym, ap, subst, ◌∙◌, append_assoc, arith}
-use Rattle.std.specs.Option.{option_to_list}
+use Rattle.std.proofs.Common.{◌≡◌, ℕ, zero, suc, ◌+◌, ◌-◌, ◌<◌, ◌≤◌, true, false, List, [], ◌∷◌, ◌++◌, length, take, drop, get_or, Some, Result, Ok, Err, refl, sym, ap, subst, ◌∙◌, append_assoc, arith}
 use Rattle.std.specs.List.{position}
 use Rattle.std.proofs.lemmas.List.{length-append, append-nil, take_more, take-append-drop}
 use Rattle.std.proofs.lemmas.List.Quantifiers.{position-Some}
@@ -12,13 +11,16 @@ use Rattle.vcd_reader.specs.Reading.{Body, Meaning, body, fault, room_of, after_
 use Rattle.vcd_reader.specs.Text.{Stands, after, HasFault, behind_a_word}
 use Rattle.vcd_reader.specs.Holding.{IsReading, IsWord, Gives}
 use Rattle.vcd_reader.specs.BodyStanding.{BodyStands, SaysNext}
-use Rattle.vcd_reader.specs.declared.entry.Entry.{Entry}
 use Rattle.vcd_reader.specs.declared.body_reader.BodyReader.{BodyReader}
 use Rattle.vcd_reader.specs.declared.word.Word.TheVariants as word_row
-use Rattle.vcd_reader.specs.declared.reading.Said.{Said as SaidRow}
+use Rattle.vcd_reader.specs.declared.filter.Filter.{Filter}
+use Rattle.vcd_reader.specs.declared.reading.Reading.{Reading as ReadingRow}
+use Rattle.vcd_reader.specs.declared.says.Says.{Says}
+use Rattle.vcd_reader.specs.Hearing.{said_by}
+use Rattle.vcd_reader.specs.Passing.{Passing}
 use Rattle.vcd_reader.specs.declared.fault.DumpFault.{DumpFault}
 use Rattle.vcd_reader.proofs.TextLemmas.{stands_behind, stands_byte, fault_stays, black-first}
-use Rattle.vcd_reader.proofs.BodyStanding.{gives_ok, gives_err, last_said-at, after_body, with_said}
+use Rattle.vcd_reader.proofs.BodyStanding.{gives_ok, gives_err, last_said-at, after_body, passing_next, with_said}
 
 -- a word that goes on with bytes that are no white space
 stands_word : (text word more : List ℕ) (means : Meaning) → Stands text means word → IsBlack more → length text + length more ≤ room_of means → Stands (text ++ more) means (word ++ more)
@@ -47,42 +49,42 @@ read_whole reader text word b s stands =
     let same : 0 < length word → length (text ++ word) - length word ≡ reader.at = λ some. omega (arith, at, long) in
     after_body (text ++ word) word b stands ∙ ap (after_body_word b) (last_said-at b.codes b.reading _ reader.at word same ∙ ap (λ (table : List Code). last_said table b.reading reader.at word) (sym s.codes))
 
--- what the reader of words is asked of a whole word, and what it answers
-abbrev pub ReadsWhole : BodyReader → List ℕ → Result SaidRow DumpFault → Type 0
-ReadsWhole reader word answered = (reading : BodyReading) → IsReading reader.reading reading → Gives answered (last_said reader.codes reading reader.at word)
+-- what the reader of words is asked of a whole word, and what it answers and keeps
+abbrev pub ReadsWhole : Filter → BodyReader → List ℕ → Result Says DumpFault → ReadingRow → Type 0
+ReadsWhole f reader word answered kept = (reading : BodyReading) → IsReading reader.reading reading → Gives f answered kept (last_said reader.codes reading reader.at word)
 
-pub word_said : (old new : BodyReader) (text word : List ℕ) (space : ℕ) (b : Body) (kept : SaidRow) → ReadsWhole old word (Ok kept) → old.at + length word < 1099511627776
-    → new.codes ≡ old.codes → new.at ≡ old.at + (length word + 1) → new.reading ≡ kept.reading → new.word ≡ old.word → new.is_at_end ≡ old.is_at_end
-    → old.word ≡ word_row.None → IsBlack word → is_white_space space ≡ true → BodyStands old text b → SaysNext kept.says new (text ++ (word ++ space ∷ [])) b
-word_said old new text word space b kept reads room codes at reading same going none black white s =
-    let a = gives_ok kept _ (reads b.reading s.reading) in
+pub word_said : (f : Filter) (old new : BodyReader) (text word : List ℕ) (space : ℕ) (b : Body) (says : Says) → ReadsWhole f old word (Ok says) new.reading → old.at + length word < 1099511627776
+    → new.codes ≡ old.codes → new.at ≡ old.at + (length word + 1) → new.word ≡ old.word → new.is_at_end ≡ old.is_at_end
+    → old.word ≡ word_row.None → IsBlack word → is_white_space space ≡ true → BodyStands old text b → Passing f b (SaysNext (said_by says new.reading) new (text ++ (word ++ space ∷ [])))
+word_said f old new text word space b says reads room codes at same going none black white s =
+    let a = gives_ok f says new.reading _ (reads b.reading s.reading) in
     let long = s.at in
     let next = with_said b a.said in
     let whole = stands_whole old text word b none black s room in
     let means : after (body b) (length (text ++ word)) word ≡ body next = read_whole old text word b s whole ∙ ap (after_body_word b) a.is in
     let more : length ((text ++ word) ++ space ∷ []) ≡ length text + (length word + 1) = omega (arith, length-append (text ++ word) (space ∷ []), length-append text word) in
-    subst (λ (t : List ℕ). SaysNext kept.says new t b) (append_assoc text word (space ∷ [])) (record {
+    subst (λ (t : List ℕ). Passing f b (SaysNext (said_by says new.reading) new t)) (append_assoc text word (space ∷ [])) (passing_next f a.said.0 (said_by says new.reading) new ((text ++ word) ++ space ∷ []) b a.same.says (record {
       next = next;
       stands = record {
         word = [];
         stands = stands_behind (text ++ word) word (body b) (body next) space whole white means (omega (arith, long, room, length-append text word));
         at = omega (arith, at, long, more);
         codes = codes ∙ s.codes;
-        reading = subst (λ r. IsReading r a.said.1) (sym reading) a.same.reading;
+        reading = a.same.reading;
         kept = subst (λ w. IsWord w (has_begun a.said.1.begun) []) (sym (same ∙ none)) refl;
         place = λ some. absurd (omega (arith, some));
         goes_on = going ∙ s.goes_on;
       };
-      said = record { items = ap (λ (says : Option Entry). b.items ++ option_to_list says) (sym a.same.says); vars = refl };
-    })
+      said = record { items = refl; vars = refl };
+    }))
 
-pub word_fault : (old : BodyReader) (text word : List ℕ) (space : ℕ) (b : Body) (f : DumpFault) → ReadsWhole old word (Err f) → old.at + length word < 1099511627776
-    → old.word ≡ word_row.None → IsBlack word → is_white_space space ≡ true → BodyStands old text b → HasFault (text ++ (word ++ space ∷ [])) f
-word_fault old text word space b f reads room none black white s =
-    let e = gives_err f _ (reads b.reading s.reading) in
+pub word_fault : (f : Filter) (old : BodyReader) (text word : List ℕ) (space : ℕ) (b : Body) (kept : ReadingRow) (found : DumpFault) → ReadsWhole f old word (Err found) kept → old.at + length word < 1099511627776
+    → old.word ≡ word_row.None → IsBlack word → is_white_space space ≡ true → BodyStands old text b → HasFault (text ++ (word ++ space ∷ [])) found
+word_fault f old text word space b kept found reads room none black white s =
+    let e = gives_err f kept found _ (reads b.reading s.reading) in
     let whole = stands_whole old text word b none black s room in
-    let means : after (body b) (length (text ++ word)) word ≡ fault f = read_whole old text word b s whole ∙ ap (after_body_word b) e in
-    subst (λ (t : List ℕ). HasFault t f) (append_assoc text word (space ∷ [])) (behind_a_word (text ++ word) word [] (body b) (fault f) space whole white means (omega arith))
+    let means : after (body b) (length (text ++ word)) word ≡ fault found = read_whole old text word b s whole ∙ ap (after_body_word b) e in
+    subst (λ (t : List ℕ). HasFault t found) (append_assoc text word (space ∷ [])) (behind_a_word (text ++ word) word [] (body b) (fault found) space whole white means (omega arith))
 
 -- ---- a word of a piece
 

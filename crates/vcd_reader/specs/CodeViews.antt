@@ -1,12 +1,12 @@
 -- Codes as the table keeps them.
-use Rattle.std.specs.Prelude.{ℕ, nat_lt, List, map, length, Option}
+use Rattle.std.specs.Prelude.{ℕ, nat_lt, List, [], ◌∷◌, length, Option}
+use Rattle.std.specs.Global.{Vec}
 use Rattle.vcd_reader.specs.Codes.{Code}
 use Rattle.vcd_reader.specs.Answer.{Answer, fault_if, unless}
 use Rattle.vcd_reader.specs.Body.{value_of}
 use Rattle.vcd_reader.specs.declared.entry.Entry.{Entry}
 use Rattle.vcd_reader.specs.declared.fault.DumpKind.TheVariants.{VectorTooLong}
 use Rattle.vcd_reader.specs.declared.codes.Code.{Code as CodeRow}
-use Rattle.vcd_reader.specs.declared.codes.Row.{Row}
 
 -- a code without its bytes
 abbrev pub without_text : Code → CodeRow
@@ -16,9 +16,10 @@ without_text code = record { number = code.number; size = code.size; is_read = c
 abbrev pub with_text : List ℕ → CodeRow → Code
 with_text text code = record { text = text; number = code.number; size = code.size; is_read = code.is_read }
 
--- the codes in rows
-abbrev pub codes_in : List Row → List Code
-codes_in rows = map (λ row. with_text row.text.items row.code) rows
+-- codes beside their bytes
+abbrev pub codes_in : List (Vec ℕ) → List CodeRow → List Code
+codes_in (text ∷ texts) (code ∷ codes) = with_text text.items code ∷ codes_in texts codes
+codes_in _ _ = []
 
 -- the value of a code that is found, for the digits of a change that begins here
 abbrev pub value_for : CodeRow → List ℕ → ℕ → Answer (Option Entry)

@@ -1,6 +1,6 @@
 -- What the parts of the code keep: the bytes of a word of which a few numbers are kept.
 -- Bytes are written as numbers: 35 number sign, 66 B, 98 b.
-use Rattle.std.specs.Prelude.{◌≡◌, ◌≤◌, ℕ, ◌^◌, min, nat_lt, Bool, true, false, ◌⊎◌, if◌then◌else◌, List, [], ◌∷◌, length, take, Result, Ok, Err}
+use Rattle.std.specs.Prelude.{◌≡◌, ◌≤◌, ℕ, ◌^◌, min, nat_lt, Bool, true, false, ◌⊎◌, if◌then◌else◌, List, [], ◌∷◌, length, take, Option, Result, Ok, Err}
 use Rattle.std.specs.List.{list_all}
 use Rattle.std.specs.Char.{digit_value}
 use Rattle.cov_host.specs.Decimal.{decimal_value}
@@ -20,7 +20,11 @@ use Rattle.vcd_reader.specs.declared.reading.VectorStart.{VectorStart}
 use Rattle.vcd_reader.specs.declared.reading.Begun.{Begun as BegunRow}
 use Rattle.vcd_reader.specs.declared.reading.Begun.TheVariants as begun_row
 use Rattle.vcd_reader.specs.declared.reading.Reading.{Reading as ReadingRow}
-use Rattle.vcd_reader.specs.declared.reading.Said.{Said as SaidRow}
+use Rattle.vcd_reader.specs.declared.reading.Change.{Change}
+use Rattle.vcd_reader.specs.declared.says.Says.{Says}
+use Rattle.vcd_reader.specs.declared.entry.Entry.{Entry}
+use Rattle.vcd_reader.specs.declared.filter.Filter.{Filter}
+use Rattle.vcd_reader.specs.Hearing.{change_by, heard, said_by}
 
 -- each byte is a decimal digit
 abbrev pub all_decimal : List ℕ → Bool
@@ -104,12 +108,23 @@ pub record IsReading (kept : ReadingRow) (reading : BodyReading) : Type 0 where
   pub last : kept.last ≡ reading.last
   pub begun : IsBegun kept.begun reading.begun
 
-pub record IsSaid (kept : SaidRow) (said : Said) : Type 0 where
-  pub says : kept.says ≡ said.0
-  pub reading : IsReading kept.reading said.1
+-- the last time, where nothing has begun
+abbrev pub IsAtRest : ReadingRow → Option ℕ → Type 0
+IsAtRest kept last = IsReading kept (record { last = last; begun = nothing })
+
+-- what was answered, and what is kept, is what is heard of a word that says this
+pub record IsSaid (f : Filter) (answered : Says) (kept : ReadingRow) (said : Said) : Type 0 where
+  pub says : said_by answered kept ≡ heard f said.0
+  pub reading : IsReading kept said.1
 
 -- what was answered is what the definitions answer
-abbrev pub Gives : Result SaidRow DumpFault → Answer Said → Type 0
-Gives (Ok kept) (Ok said) = IsSaid kept said
-Gives (Err fault) (Err other) = fault ≡ other
-Gives _ _ = ⊥
+abbrev pub Gives : Filter → Result Says DumpFault → ReadingRow → Answer Said → Type 0
+Gives f (Ok says) kept (Ok said) = IsSaid f says kept said
+Gives f (Err fault) kept (Err other) = fault ≡ other
+Gives f _ kept _ = ⊥
+
+-- the same for a change, of which the answer is whether it is heard
+abbrev pub GivesChange : Filter → Result Bool DumpFault → Change → Answer (Option Entry) → Type 0
+GivesChange f (Ok is_heard) change (Ok says) = change_by is_heard change ≡ heard f says
+GivesChange f (Err fault) change (Err other) = fault ≡ other
+GivesChange f _ change _ = ⊥

@@ -1,3 +1,5 @@
+pub mod Wanted
+pub mod WantedPieces
 pub mod Words
 pub mod Values
 pub mod Masks
@@ -5,6 +7,7 @@ pub mod Codes
 pub mod Kinds
 pub mod Answer
 pub mod Header
+pub mod Hearing
 pub mod Body
 pub mod Reading
 pub mod CodeViews
@@ -14,8 +17,8 @@ pub mod Holding
 pub mod Text
 pub mod Progress
 pub mod Standing
-pub mod Entries
 pub mod BodyStanding
+pub mod Passing
 pub mod Pieces
 pub mod Example
 pub mod Named

@@ -6,17 +6,21 @@ ghost use Rattle.vcd_reader.specs.Reading.{Body as SpecBody, body};
 ghost use Rattle.vcd_reader.specs.Body.{nothing};
 ghost use Rattle.vcd_reader.specs.Text.{Stands, HasFault, EndsWithFault, is_alone, is_lone, is_one_digit};
 ghost use Rattle.vcd_reader.specs.Holding.{IsWord, IsSpelling};
-ghost use Rattle.vcd_reader.specs.Entries.{last_step};
+ghost use Rattle.vcd_reader.specs.Wanted.{item_by};
+ghost use Rattle.vcd_reader.specs.Hearing.{said_by};
+ghost use Rattle.vcd_reader.specs.Passing.{Passing};
+ghost use Rattle.vcd_reader.specs.declared.item.Saying.{Saying};
 ghost use Rattle.vcd_reader.specs.declared.fault.DumpFault.TheVariants as dump_fault;
 
 use crate::codes::Codes;
 use crate::element::{read_kept, read_whole};
-use crate::entry::Entry;
+use crate::filter::Filter;
 use crate::letters::{is_digit, is_white_space, length_of_word};
-use crate::reading::{Begun, Reading};
+use crate::reading::{Begun, Change, Reading};
+use crate::says::Says;
 use crate::spelling::Spelling;
 use crate::word::Word;
-use crate::{DumpFault, DumpKind, Item, Step};
+use crate::{DumpFault, DumpKind, Heard, Item, Saying, Step};
 
 /// The longest dump, in bytes.
 const LONGEST: u64 = 1_099_511_627_776;
@@ -24,7 +28,7 @@ const LONGEST: u64 = 1_099_511_627_776;
 /// What the front of a piece says, and how many bytes of the piece were used for it.
 #[derive(Clone, Copy)]
 pub(crate) struct Front {
-    pub(crate) says: Option<Entry>,
+    pub(crate) says: Says,
     pub(crate) used: usize,
 }
 
@@ -59,6 +63,7 @@ impl BodyReader {
             reading: Reading {
                 last: None,
                 begun: Begun::Nothing,
+                change: Change::none(),
             },
             word: Word::None,
             word_at: at,
@@ -66,70 +71,102 @@ impl BodyReader {
         }
     }
 
-    /// What the dump says next.
-    pub(crate) fn step(&mut self, piece: &[u8]) -> Result<Step, DumpFault>
-        ensures ok { IfOk result (λ step. (text : List ℕ) (b : SpecBody) → BodyStands self.old text b → StepsOn step.item step.used self.new text piece.now b) }
+    /// What the dump says next that is heard.
+    pub(crate) fn step(&mut self, piece: &[u8], filter: Filter<'_>) -> Result<Heard, DumpFault>
+        ensures ok { IfOk result (λ heard. (text : List ℕ) (b : SpecBody) → BodyStands self.old text b → Passing filter.entry b (StepsOn (item_by heard.saying self.new.reading.change.value) heard.used self.new text piece.now)) }
         ensures fault { IfErr result (λ fault. (text : List ℕ) (b : SpecBody) → BodyStands self.old text b → IsFaultAt text piece.now fault) }
-        ensures ended { (text : List ℕ) (b : SpecBody) → BodyEnded self.old text b → (result ≡ Ok (record { item = Item.End; used = length piece.now })) × BodyEnded self.new text b }
+        ensures ended { (text : List ℕ) (b : SpecBody) → BodyEnded self.old text b → (result ≡ Ok (record { saying = Saying.End; used = length piece.now })) × BodyEnded self.new text b }
     {
         if self.is_at_end {
-            Ok(Step {
-                item: Item::End,
+            Ok(Heard {
+                saying: Saying::End,
                 used: piece.len(),
             })
         } else if piece.is_empty() {
-            let says = self.end()?;
+            let says = self.end(filter)?;
             self.is_at_end = true;
-            Ok(last_step(says))
+            Ok(Heard {
+                saying: says.at_end(self.reading.change.code),
+                used: 0,
+            })
         } else {
-            self.read(piece)
+            self.read(piece, filter)
+        }
+    }
+
+    /// What the dump says next, with the value that is kept.
+    pub(crate) fn as_step(&self, heard: Heard) -> Step
+        ensures { result ≡ record { item = item_by heard.saying self.now.reading.change.value; used = heard.used } }
+    {
+        let item = match heard.saying {
+            Saying::Time(time) => Item::Time(time),
+            Saying::Change(code) => Item::Value {
+                code,
+                value: self.reading.change.value,
+            },
+            Saying::More => Item::More,
+            Saying::End => Item::End,
+        };
+        Step {
+            item,
+            used: heard.used,
         }
     }
 
     /// Reads a piece that is not empty up to what it says next.
-    fn read(&mut self, piece: &[u8]) -> Result<Step, DumpFault>
+    fn read(&mut self, piece: &[u8], filter: Filter<'_>) -> Result<Heard, DumpFault>
         requires { 0 < length piece.now }
-        ensures ok { IfOk result (λ step. (text : List ℕ) (b : SpecBody) → BodyStands self.old text b → HasStepped step.item step.used self.new text piece.now b) }
+        ensures ok { IfOk result (λ heard. (text : List ℕ) (b : SpecBody) → BodyStands self.old text b → Passing filter.entry b (HasStepped (item_by heard.saying self.new.reading.change.value) heard.used self.new text piece.now)) }
         ensures fault { IfErr result (λ fault. (text : List ℕ) (b : SpecBody) → BodyStands self.old text b → HasFault (text ++ piece.now) fault) }
     {
         let mut used = 0;
         while used < piece.len() {
             let (_, rest) = piece.split_at(used);
-            let front = self.read_front(rest)?;
+            let front = self.read_front(rest, filter)?;
             used += front.used;
-            if let Some(entry) = front.says {
-                return Ok(Step {
-                    item: entry.item(),
-                    used,
-                });
+            match front.says {
+                Says::Nothing => {}
+                Says::Time(time) => {
+                    return Ok(Heard {
+                        saying: Saying::Time(time),
+                        used,
+                    });
+                }
+                Says::Change => {
+                    return Ok(Heard {
+                        saying: Saying::Change(self.reading.change.code),
+                        used,
+                    });
+                }
             }
         }
-        Ok(Step {
-            item: Item::More,
+        Ok(Heard {
+            saying: Saying::More,
             used,
         })
     }
 
     /// Reads what a piece begins with that is not empty: a whole word and the white space after it, or one byte of a
     /// word of which a part was read before or is not in the piece.
-    fn read_front(&mut self, piece: &[u8]) -> Result<Front, DumpFault>
+    #[inline(always)]
+    fn read_front(&mut self, piece: &[u8], filter: Filter<'_>) -> Result<Front, DumpFault>
         requires { 0 < length piece.now }
         ensures some { IfOk result (λ front. 1 ≤ front.used) }
         ensures within { IfOk result (λ front. front.used ≤ length piece.now) }
-        ensures ok { IfOk result (λ front. (text : List ℕ) (b : SpecBody) → BodyStands self.old text b → SaysNext front.says self.new (text ++ take front.used piece.now) b) }
+        ensures ok { IfOk result (λ front. (text : List ℕ) (b : SpecBody) → BodyStands self.old text b → Passing filter.entry b (SaysNext (said_by front.says self.new.reading) self.new (text ++ take front.used piece.now))) }
         ensures fault { IfErr result (λ fault. (text : List ℕ) (b : SpecBody) → BodyStands self.old text b → HasFault (text ++ piece.now) fault) }
     {
         match self.whole_word(piece) {
             Some(length) => {
                 let (word, _) = piece.split_at(length);
-                let says = self.read_word(word)?;
+                let says = self.read_word(word, filter)?;
                 Ok(Front {
                     says,
                     used: length + 1,
                 })
             }
             None => {
-                let says = self.read_byte(piece[0])?;
+                let says = self.read_byte(piece[0], filter)?;
                 Ok(Front { says, used: 1 })
             }
         }
@@ -154,40 +191,47 @@ impl BodyReader {
     }
 
     /// Reads a whole word, or none, and a byte of white space, and gives what the word says.
-    fn read_word(&mut self, word: &[u8]) -> Result<Option<Entry>, DumpFault>
+    #[inline(always)]
+    fn read_word(&mut self, word: &[u8], filter: Filter<'_>) -> Result<Says, DumpFault>
         requires { self.old.at + length word.now < 1099511627776 }
-        ensures ok { IfOk result (λ says. (text : List ℕ) (space : ℕ) (b : SpecBody) → self.old.word ≡ word_row.None → IsBlack word.now → is_space space ≡ true → BodyStands self.old text b → SaysNext says self.new (text ++ (word.now ++ space ∷ [])) b) }
+        ensures ok { IfOk result (λ says. (text : List ℕ) (space : ℕ) (b : SpecBody) → self.old.word ≡ word_row.None → IsBlack word.now → is_space space ≡ true → BodyStands self.old text b → Passing filter.entry b (SaysNext (said_by says self.new.reading) self.new (text ++ (word.now ++ space ∷ [])))) }
         ensures fault { IfErr result (λ fault. (text : List ℕ) (space : ℕ) (b : SpecBody) → self.old.word ≡ word_row.None → IsBlack word.now → is_space space ≡ true → BodyStands self.old text b → HasFault (text ++ (word.now ++ space ∷ [])) fault) }
     {
-        let says = read_whole(&self.codes, &mut self.reading, word, self.at)?;
+        let says = read_whole(&self.codes, filter, &mut self.reading, word, self.at)?;
         self.at += word.len() as u64 + 1;
         Ok(says)
     }
 
     /// Reads a byte, and gives what the word says that ends before it.
-    fn read_byte(&mut self, byte: u8) -> Result<Option<Entry>, DumpFault>
-        ensures ok { IfOk result (λ says. (text : List ℕ) (b : SpecBody) → BodyStands self.old text b → SaysNext says self.new (text ++ byte ∷ []) b) }
+    #[cold]
+    fn read_byte(&mut self, byte: u8, filter: Filter<'_>) -> Result<Says, DumpFault>
+        ensures ok { IfOk result (λ says. (text : List ℕ) (b : SpecBody) → BodyStands self.old text b → Passing filter.entry b (SaysNext (said_by says self.new.reading) self.new (text ++ byte ∷ []))) }
         ensures fault { IfErr result (λ fault. (text : List ℕ) (b : SpecBody) → BodyStands self.old text b → HasFault (text ++ byte ∷ []) fault) }
     {
         if is_white_space(byte) {
-            self.read_space()
+            self.read_space(filter)
         } else {
             self.push(byte)?;
-            Ok(None)
+            Ok(Says::Nothing)
         }
     }
 
     /// Reads a byte of white space, and gives what the word says that ends before it.
-    fn read_space(&mut self) -> Result<Option<Entry>, DumpFault>
-        ensures ok { IfOk result (λ says. (text : List ℕ) (space : ℕ) (b : SpecBody) → is_space space ≡ true → BodyStands self.old text b → SaysNext says self.new (text ++ space ∷ []) b) }
+    fn read_space(&mut self, filter: Filter<'_>) -> Result<Says, DumpFault>
+        ensures ok { IfOk result (λ says. (text : List ℕ) (space : ℕ) (b : SpecBody) → is_space space ≡ true → BodyStands self.old text b → Passing filter.entry b (SaysNext (said_by says self.new.reading) self.new (text ++ space ∷ []))) }
         ensures fault { IfErr result (λ fault. (text : List ℕ) (space : ℕ) (b : SpecBody) → is_space space ≡ true → BodyStands self.old text b → HasFault (text ++ space ∷ []) fault) }
     {
-        let said = read_kept(&self.codes, self.reading, &self.word, self.word_at)?;
+        let says = read_kept(
+            &self.codes,
+            filter,
+            &mut self.reading,
+            &self.word,
+            self.word_at,
+        )?;
         check_room(self.at)?;
-        self.reading = said.reading;
         self.word = Word::None;
         self.at += 1;
-        Ok(said.says)
+        Ok(says)
     }
 
     /// Reads a byte of a word.
@@ -205,18 +249,24 @@ impl BodyReader {
     }
 
     /// Ends the input, and gives what the last word says.
-    fn end(&self) -> Result<Option<Entry>, DumpFault>
-        ensures ok { IfOk result (λ says. (text : List ℕ) (b : SpecBody) → BodyStands self.now text b → EndsSaying says text b) }
-        ensures fault { IfErr result (λ fault. (text : List ℕ) (b : SpecBody) → BodyStands self.now text b → EndsWithFault text fault) }
+    fn end(&mut self, filter: Filter<'_>) -> Result<Says, DumpFault>
+        ensures ok { IfOk result (λ says. (text : List ℕ) (b : SpecBody) → BodyStands self.old text b → Passing filter.entry b (EndsSaying (said_by says self.new.reading) text)) }
+        ensures fault { IfErr result (λ fault. (text : List ℕ) (b : SpecBody) → BodyStands self.old text b → EndsWithFault text fault) }
     {
         if self.is_alone() {
             return Err(DumpFault::at(DumpKind::Truncated, self.at));
         }
-        let said = read_kept(&self.codes, self.reading, &self.word, self.word_at)?;
-        if said.reading.has_begun() {
+        let says = read_kept(
+            &self.codes,
+            filter,
+            &mut self.reading,
+            &self.word,
+            self.word_at,
+        )?;
+        if self.reading.has_begun() {
             return Err(DumpFault::at(DumpKind::Truncated, self.at));
         }
-        Ok(said.says)
+        Ok(says)
     }
 
     /// Whether the word that may go on is the first character of a time or a change, and no more.
@@ -259,21 +309,5 @@ fn is_one_digit(word: &Spelling) -> bool
     match word.bytes() {
         Some([digit]) => is_digit(*digit),
         _ => false,
-    }
-}
-
-/// The step at the end of the input, where the last word says this or nothing.
-fn last_step(says: Option<Entry>) -> Step
-    ensures { result ≡ last_step says }
-{
-    match says {
-        Some(entry) => Step {
-            item: entry.item(),
-            used: 0,
-        },
-        None => Step {
-            item: Item::End,
-            used: 0,
-        },
     }
 }

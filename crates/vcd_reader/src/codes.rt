@@ -1,4 +1,5 @@
 ghost use Rattle.std.specs.Prelude.{◌≡◌, ◌<◌, ◌++◌, ◌∷◌, [], ℕ, List, None, Some, IfOk, OnOk, length, option_map};
+ghost use Rattle.std.specs.Global.{Vec};
 ghost use Rattle.vcd_reader.specs.Codes.{code_of, with_code, entered, declared_code};
 ghost use Rattle.vcd_reader.specs.Header.{number_of, size_in};
 ghost use Rattle.vcd_reader.specs.CodeViews.{without_text, with_text, codes_in};
@@ -17,24 +18,19 @@ pub(crate) struct Code {
     pub(crate) is_read: bool,
 }
 
-/// A code beside its bytes.
-#[derive(Drop)]
-pub(crate) struct Row {
-    pub(crate) text: Vec<u8>,
-    pub(crate) code: Code,
-}
-
 /// The identifier codes of a header, numbered by first appearance.
 #[derive(Drop)]
 pub(crate) struct Codes {
     alloc: Global,
-    /// The codes in order of their numbers.
-    rows: Vec<Row>,
+    /// The bytes of the codes in order of their numbers.
+    texts: Vec<Vec<u8>>,
+    /// The codes in this order.
+    codes: Vec<Code>,
     places: Places,
 }
 
 impl Model for Codes {
-    ghost use Rattle.std.specs.Prelude.{List};
+    ghost use Rattle.std.specs.Prelude.{◌≡◌, List, length};
     ghost use Rattle.vcd_reader.specs.Codes.{Code};
 
     ghost Value = { List Code };
@@ -42,9 +38,9 @@ impl Model for Codes {
     ghost use Rattle.vcd_reader.specs.CodeViews.{codes_in};
     ghost use Rattle.vcd_reader.specs.Places.{ArePlacesOf};
 
-    ghost view = { λ c. codes_in c.rows.items };
+    ghost view = { λ c. codes_in c.texts.items c.codes.items };
 
-    ghost invariant = { λ c. ArePlacesOf c.places (codes_in c.rows.items) };
+    ghost invariant = { λ c. (length c.texts.items ≡ length c.codes.items) × ArePlacesOf c.places (codes_in c.texts.items c.codes.items) };
 }
 
 impl Codes {
@@ -53,18 +49,20 @@ impl Codes {
     {
         Codes {
             alloc,
-            rows: Vec::new(alloc),
+            texts: Vec::new(alloc),
+            codes: Vec::new(alloc),
             places: Places::new(alloc),
         }
     }
 
     /// The code of these bytes.
+    #[inline(always)]
     pub(crate) fn find(&self, bytes: &[u8]) -> Option<Code>
         ensures { result ≡ option_map without_text (code_of self.now bytes.now) }
     {
         let place = self.places.get(bytes)?;
-        let row = self.rows.get(place as usize)?;
-        Some(row.code)
+        let code = self.codes.get(place as usize)?;
+        Some(*code)
     }
 
     /// The size of the code of these bytes.
@@ -110,7 +108,7 @@ impl Codes {
     {
         match self.places.get(bytes) {
             Some(place) => {
-                replace(&mut self.rows, place as usize, code);
+                replace(&mut self.codes, place as usize, code);
                 Ok(())
             }
             None => self.append(bytes, code),
@@ -124,9 +122,11 @@ impl Codes {
     {
         let place = self.next_number()?;
         let text = Vec::from_slice(self.alloc, bytes)?;
-        self.rows.reserve(1)?;
+        self.texts.reserve(1)?;
+        self.codes.reserve(1)?;
         self.places.set(self.alloc, bytes, place)?;
-        self.rows.push(Row { text, code })?;
+        self.texts.push(text)?;
+        self.codes.push(code)?;
         Ok(())
     }
 
@@ -134,17 +134,18 @@ impl Codes {
     fn next_number(&self) -> Result<u32, NoMemory>
         ensures { IfOk result (λ number. number ≡ length self.now) }
     {
-        match u32::try_from(self.rows.len()) {
+        match u32::try_from(self.codes.len()) {
             Ok(number) => Ok(number),
             Err(_) => Err(NoMemory),
         }
     }
 }
 
-/// Changes the code in a row.
-fn replace(rows: &mut Vec<Row>, place: usize, code: Code)
-    requires { place < length rows.old.items }
-    ensures { (text : List ℕ) → place_of (codes_in rows.old.items) text ≡ Some place → codes_in rows.new.items ≡ entered (codes_in rows.old.items) (with_text text code) }
+/// Changes the code at a place.
+fn replace(codes: &mut Vec<Code>, place: usize, code: Code)
+    requires { place < length codes.old.items }
+    ensures codes { (texts : List (Vec ℕ)) (text : List ℕ) → place_of (codes_in texts codes.old.items) text ≡ Some place → codes_in texts codes.new.items ≡ entered (codes_in texts codes.old.items) (with_text text code) }
+    ensures len { length codes.new.items ≡ length codes.old.items }
 {
-    rows[place].code = code;
+    codes[place] = code;
 }

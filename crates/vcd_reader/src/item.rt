@@ -31,3 +31,25 @@ pub struct Step {
     /// The number of bytes of the piece that were used.
     pub used: usize,
 }
+
+/// What the body says next, of which the body keeps the value.
+#[derive(Clone, Copy, PartialEq, Eq)]
+pub enum Saying {
+    /// A time that is greater than the one before, in the dump's units.
+    Time(u64),
+    /// A change of a code to the value that the body keeps.
+    Change(u32),
+    /// The piece is used up.
+    More,
+    /// The dump is at its end.
+    End,
+}
+
+/// What the body says next, and how many bytes of the piece were used for it.
+#[derive(Clone, Copy, PartialEq, Eq)]
+pub struct Heard {
+    /// What the body says.
+    pub saying: Saying,
+    /// The number of bytes of the piece that were used.
+    pub used: usize,
+}

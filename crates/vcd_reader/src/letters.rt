@@ -65,7 +65,7 @@ pub(crate) fn are_printable(word: &[u8]) -> bool
     word.iter().all(|byte| is_printable(*byte))
 }
 
-fn is_printable(byte: u8) -> bool
+pub(crate) fn is_printable(byte: u8) -> bool
     ensures { result ≡ is_printable byte }
 {
     matches!(byte, 33..=126)

@@ -1,7 +1,7 @@
 ghost use Rattle.std.specs.Prelude.{◌≡◌, ◌<◌, ◌≤◌, ◌-◌, ◌^◌, ◌==◌, ℕ, List, Some, None, if◌then◌else◌, bytes_eq, length, IfSome, OnOk, OnErr};
 ghost use Rattle.vcd_reader.specs.Places.{is_short, code_number, place_at, place_under};
 
-use crate::letters::are_printable;
+use crate::letters::is_printable;
 use cov_host::NoMemory;
 use std::alloc::Global;
 use std::collections::BTreeMap;
@@ -31,6 +31,7 @@ impl Places {
     }
 
     /// The place of the code of these bytes.
+    #[inline(always)]
     pub(crate) fn get(&self, bytes: &[u8]) -> Option<u32>
         ensures { result ≡ place_in self.now bytes.now }
     {
@@ -53,18 +54,19 @@ impl Places {
 }
 
 /// The number of a short code.
+#[inline(always)]
 fn short_number(code: &[u8]) -> Option<usize>
     ensures number { result ≡ (if is_short code.now then Some (code_number code.now) else None) }
     ensures few { IfSome result (λ number. number < 2 ^ 32) }
 {
-    if !are_printable(code) {
-        return None;
-    }
     match code {
         [] => Some(0),
-        [first] => Some(digit(*first)),
-        [first, second] => Some(digit(*first) + PRINTABLE * digit(*second)),
-        [first, second, third] => {
+        [first] if is_printable(*first) => Some(digit(*first)),
+        [first, second] if is_printable(*first) && is_printable(*second) => {
+            Some(digit(*first) + PRINTABLE * digit(*second))
+        }
+        [first, second, third]
+            if is_printable(*first) && is_printable(*second) && is_printable(*third) => {
             Some(digit(*first) + PRINTABLE * (digit(*second) + PRINTABLE * digit(*third)))
         }
         _ => None,
@@ -90,6 +92,7 @@ fn get_short(table: &[Option<u32>], number: usize) -> Option<u32>
 }
 
 /// The place of the code of these bytes.
+#[cold]
 fn get_long(table: &BTreeMap<Vec<u8>, u32>, bytes: &[u8]) -> Option<u32>
     ensures { result ≡ place_under table.now.entries bytes.now }
 {

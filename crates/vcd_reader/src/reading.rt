@@ -1,7 +1,7 @@
 ghost use Rattle.std.specs.Prelude.{◌≡◌, ◌<◌};
 
 use crate::digits::Digits;
-use crate::entry::Entry;
+use four_state::Four;
 
 /// A change to some digits, whose code is to come.
 #[derive(Clone, Copy)]
@@ -22,12 +22,31 @@ pub(crate) enum Begun {
     Comment,
 }
 
+/// A change of a code to a value.
+#[derive(Clone, Copy)]
+pub(crate) struct Change {
+    pub(crate) code: u32,
+    pub(crate) value: Four,
+}
+
+impl Change {
+    /// No change was heard yet.
+    pub(crate) fn none() -> Self {
+        Change {
+            code: 0,
+            value: Four::make(1, false, 0, 0),
+        }
+    }
+}
+
 /// What the reader of the body is in the middle of.
 #[derive(Clone, Copy)]
 pub(crate) struct Reading {
     /// The last time.
     pub(crate) last: Option<u64>,
     pub(crate) begun: Begun,
+    /// The last change that was heard.
+    pub(crate) change: Change,
 }
 
 impl Reading {
@@ -40,11 +59,4 @@ impl Reading {
     {
         !matches!(self.begun, Begun::Nothing)
     }
-}
-
-/// What a word says, and how reading goes on.
-#[derive(Clone, Copy)]
-pub(crate) struct Said {
-    pub(crate) says: Option<Entry>,
-    pub(crate) reading: Reading,
 }

@@ -12,4 +12,4 @@ pub returns-then-is_white_space-clause-fault : goal.returns-then-is_white_space-
 returns-then-is_white_space-clause-fault c = IfErr-weaker c.read_space.result _ _ (λ f h text b s. h text c.args.byte b (sym c.is_white_space.ensures ∙ c.if-is_white_space.true) s) c.read_space.ensures.fault
 
 pub returns-in_ok-push-clause-ok : goal.returns-in_ok-push-clause-ok
-returns-in_ok-push-clause-ok c = λ text b s. says_nothing c.push.new.self (text ++ c.args.byte ∷ []) b (c.in_ok-push.ensures.ok text b (sym c.is_white_space.ensures ∙ c.if-is_white_space.false) s)
+returns-in_ok-push-clause-ok c = λ text b s. says_nothing c.args.filter c.push.new.self (text ++ c.args.byte ∷ []) b (c.in_ok-push.ensures.ok text b (sym c.is_white_space.ensures ∙ c.if-is_white_space.false) s)

@@ -1,6 +1,8 @@
 use Rattle.std.proofs.Common.{ℕ, List, ◌++◌, get_or, subst}
 use Rattle.std.proofs.lemmas.Result.{err_from_is_err_and}
 use Rattle.vcd_reader.specs.BodyStanding.{SaysNext}
+use Rattle.vcd_reader.specs.Hearing.{said_by}
+use Rattle.vcd_reader.specs.Passing.{Passing}
 use Rattle.vcd_reader.proofs.WholeWords.{is_front, fault_in_front, fault_of_byte}
 use Rattle.vcd_reader.proofs.body_reader.BodyReader.read_front.Goals as goal
 
@@ -20,4 +22,4 @@ pub returns-in_ok-says-in-Some-clause-ok : goal.returns-in_ok-says-in-Some-claus
 returns-in_ok-says-in-Some-clause-ok c = λ text b s.
     let front = is_front c.args.piece.now c.in-Some.length c.in-Some.ensures.end in
     let says = rw c.split_at.ensures.front at c.in_ok-says-in-Some.ensures.ok in
-    subst (λ (t : List ℕ). SaysNext c.in_ok-says-in-Some.says c.read_word.new.self (text ++ t) b) front.is (says text (get_or c.args.piece.now c.in-Some.length 0) b c.in-Some.ensures.none front.black front.white s)
+    subst (λ (t : List ℕ). Passing c.args.filter b (SaysNext (said_by c.in_ok-says-in-Some.says c.read_word.new.self.reading) c.read_word.new.self (text ++ t))) front.is (says text (get_or c.args.piece.now c.in-Some.length 0) b c.in-Some.ensures.none front.black front.white s)

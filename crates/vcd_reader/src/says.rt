@@ -1,0 +1,38 @@
+ghost use Rattle.std.specs.Prelude.{◌≡◌};
+ghost use Rattle.vcd_reader.specs.Hearing.{change_says, last_saying};
+
+use crate::Saying;
+
+/// What a word says that is heard.
+#[derive(Clone, Copy, PartialEq, Eq)]
+pub(crate) enum Says {
+    Nothing,
+    Time(u64),
+    /// The change that is kept.
+    Change,
+}
+
+impl Says {
+    /// The change that is kept, or nothing.
+    pub(crate) fn change(is_heard: bool) -> Self
+        ensures { result ≡ change_says is_heard }
+    {
+        if is_heard {
+            Says::Change
+        } else {
+            Says::Nothing
+        }
+    }
+
+    /// What the body says at the end of the input, where the last word says this, and the change that is kept is one of
+    /// this code.
+    pub(crate) fn at_end(self, code: u32) -> Saying
+        ensures { result ≡ last_saying self code }
+    {
+        match self {
+            Says::Nothing => Saying::End,
+            Says::Time(time) => Saying::Time(time),
+            Says::Change => Saying::Change(code),
+        }
+    }
+}
