@@ -20,7 +20,8 @@ use Rattle.replay_model.specs.Step.{Closing, Working, first_unsure, has_changed,
 use Rattle.store_knowledge.proofs.Cells.{cells_are}
 use Rattle.known_state.specs.Partly.{Partly}
 use Rattle.design_model.specs.View.{design_view}
-use Rattle.early_sets.specs.WakeState.{WakeState, is_in}
+use Rattle.early_sets.specs.Has.{is_in}
+use Rattle.early_sets.specs.WakeState.{WakeState}
 use Rattle.body_store.specs.declared.store.Store.{Store}
 use Rattle.store_knowledge.specs.Knows.{Knows}
 use Rattle.step_values.specs.Loose.{IsInside}

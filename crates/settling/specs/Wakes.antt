@@ -4,7 +4,8 @@ use Rattle.std.specs.List.{All}
 use Rattle.four_state.specs.Masks.{is_set}
 use Rattle.design_model.specs.Design.{Design, body_at, cell, signal_at}
 use Rattle.design_model.specs.Mentions.{blocking_target}
-use Rattle.early_sets.specs.WakeState.{WakeState, is_in}
+use Rattle.early_sets.specs.Has.{is_in}
+use Rattle.early_sets.specs.WakeState.{WakeState}
 use Rattle.body_store.specs.declared.store.Store.{Store}
 use Rattle.process_targets.specs.declared.bits.Bits.{Bits}
 use Rattle.replay_model.specs.Step.{Closing, Working}

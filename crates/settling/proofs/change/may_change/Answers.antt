@@ -1,6 +1,7 @@
 use Rattle.std.proofs.Common.{◌∙◌, ap, length, not, sym, ◌≡◌, false, true}
 use Rattle.known_state.specs.Partly.{Partly}
-use Rattle.early_sets.specs.WakeState.{is_in, state_of}
+use Rattle.early_sets.specs.Has.{is_in}
+use Rattle.early_sets.specs.WakeState.{state_of}
 use Rattle.early_sets.proofs.Membership.{is_in_is}
 use Rattle.step_values.proofs.Forgets.{known_width}
 use Rattle.settling.proofs.Changing.{unmoved, unsure}
