@@ -1,5 +1,10 @@
 -- Where the point of a spot is in the list of points.
-use Rattle.std.proofs.Common.{◌≡◌, ◌<◌, ◌+◌, ℕ, Bool, true, false, length, get_or, refl, sym, ap, subst, ◌∙◌, arith}
+use Rattle.std.proofs.Common.{◌≡◌, ◌↔◌, ◌<◌, ◌≤◌, ◌+◌, ℕ, Bool, true, false, List, IsTrue, length, get_or, refl, sym, ap, subst, ◌∙◌, arith}
+use Rattle.std.proofs.lemmas.Bool.{false≢true, true≢false}
+use mathlib.Core.Bool.{beq}
+use Rattle.text_points.specs.declared.points.LinePoint.{LinePoint}
+use Rattle.text_points.specs.declared.points.NodePoint.{NodePoint}
+use Rattle.cover_points.specs.declared.points.IndexPoint.{IndexPoint}
 use Rattle.point_words.specs.declared.node_case.NodeCase.{NodeCase}
 use Rattle.cover_points.specs.Visits.{IsVisitOf, visit_of}
 use Rattle.cover_points.specs.declared.listing.Points.{Points}
@@ -78,3 +83,64 @@ module _ (ps : Points) (k : ℕ) where
           let f : word_visit_of y ≡ word_visit_by w m i = inner (sym (word_visit_is y) ∙ at_word ps (word_visit_by w m i) k j e l s.1) in
           let same = one_word y.second w y.thing y.index m i f in
           (j, e, l, same.0, same.1, same.2)
+
+-- two flags are the same where the test says so
+pub same_flags : (a b : Bool) → IsTrue (beq a b) ↔ (a ≡ b)
+same_flags true true = (λ t. refl, λ e. refl)
+same_flags false false = (λ t. refl, λ e. refl)
+same_flags true false = (λ t. absurd (false≢true t), λ e. absurd (true≢false e))
+same_flags false true = (λ t. absurd (false≢true t), λ e. absurd (false≢true e))
+
+-- nothing is the point of a visit that no point has
+none_is : (P : Type 0) → (P → ⊥) → (IsTrue false ↔ P)
+none_is P never = (λ t. absurd (false≢true t), λ h. absurd (never h))
+
+module _ (ps : Points) (k p n : ℕ) where
+  pub line_is : (x : LinePoint) → (xs : List LinePoint) → xs ≡ ps.lines.items → k < length xs → ((d : LinePoint) → x ≡ get_or xs k d) → (b : Bool) → (IsTrue b ↔ ((x.process ≡ p) × (x.line ≡ n))) → (IsTrue b ↔ IsVisitOf ps k (Line p n))
+  line_is x xs list l read b is =
+      let same : get_or ps.lines.items k no_line ≡ x = ap (λ (ys : List LinePoint). get_or ys k no_line) (sym list) ∙ sym (read no_line) in
+      let inside : k < length ps.lines.items = subst (λ (ys : List LinePoint). k < length ys) list l in (
+        λ t. let f = is.0 t in line_there ps k p n inside (ap (λ (z : LinePoint). z.process) same ∙ f.0) (ap (λ (z : LinePoint). z.line) same ∙ f.1),
+        λ at. let f = line_only ps k p n at in is.1 (sym (ap (λ (z : LinePoint). z.process) same) ∙ f.1, sym (ap (λ (z : LinePoint). z.line) same) ∙ f.2),
+      )
+
+  pub no_line_is : (xs : List LinePoint) → xs ≡ ps.lines.items → length xs ≤ k → (IsTrue false ↔ IsVisitOf ps k (Line p n))
+  no_line_is xs list l = none_is (IsVisitOf ps k (Line p n)) (λ at. omega (arith, ap length list, l, (line_only ps k p n at).0))
+
+  module _ (c : NodeCase) where
+    pub node_is : (j : ℕ) → k ≡ lines_end ps + j → (x : NodePoint) → (xs : List NodePoint) → xs ≡ ps.nodes.items → j < length xs → ((d : NodePoint) → x ≡ get_or xs j d) → (b : Bool) → (IsTrue b ↔ (((x.process ≡ p) × (x.node ≡ n)) × (x.case ≡ c))) → (IsTrue b ↔ IsVisitOf ps k (Node p n c))
+    node_is j at_j x xs list l read b is =
+        let same : get_or ps.nodes.items j no_node ≡ x = ap (λ (ys : List NodePoint). get_or ys j no_node) (sym list) ∙ sym (read no_node) in
+        let inside : j < length ps.nodes.items = subst (λ (ys : List NodePoint). j < length ys) list l in (
+          λ t. let f = is.0 t in node_there ps k p n c j at_j inside (ap (λ (z : NodePoint). z.process) same ∙ f.0.0) (ap (λ (z : NodePoint). z.node) same ∙ f.0.1) (ap (λ (z : NodePoint). z.case) same ∙ f.1),
+          λ at. let f = node_only ps k p n c at in
+              let i : f.0 ≡ j = omega (arith, f.1, at_j) in
+              let there : get_or ps.nodes.items f.0 no_node ≡ x = ap (λ (q : ℕ). get_or ps.nodes.items q no_node) i ∙ same in
+              is.1 ((sym (ap (λ (z : NodePoint). z.process) there) ∙ f.3, sym (ap (λ (z : NodePoint). z.node) there) ∙ f.4), sym (ap (λ (z : NodePoint). z.case) there) ∙ f.5),
+        )
+
+    pub no_node_is : (j : ℕ) → k ≡ lines_end ps + j → (xs : List NodePoint) → xs ≡ ps.nodes.items → length xs ≤ j → (IsTrue false ↔ IsVisitOf ps k (Node p n c))
+    no_node_is j at_j xs list l =
+        none_is (IsVisitOf ps k (Node p n c)) (λ at. let f = node_only ps k p n c at in omega (arith, ap length list, l, f.1, at_j, f.2))
+
+    pub before_nodes : ((j : ℕ) → k ≡ lines_end ps + j → ⊥) → (IsTrue false ↔ IsVisitOf ps k (Node p n c))
+    before_nodes none = none_is (IsVisitOf ps k (Node p n c)) (λ at. let f = node_only ps k p n c at in none f.0 f.1)
+
+module _ (ps : Points) (k m i : ℕ) (w : Bool) where
+  pub word_is : (j : ℕ) → k ≡ states_end ps + j → (x : IndexPoint) → (xs : List IndexPoint) → xs ≡ ps.words.items → j < length xs → ((d : IndexPoint) → x ≡ get_or xs j d) → (b : Bool) → (IsTrue b ↔ (((x.thing ≡ m) × (x.index ≡ i)) × (x.second ≡ w))) → (IsTrue b ↔ IsVisitOf ps k (word_visit m i w))
+  word_is j at_j x xs list l read b is =
+      let same : get_or ps.words.items j no_index ≡ x = ap (λ (ys : List IndexPoint). get_or ys j no_index) (sym list) ∙ sym (read no_index) in
+      let inside : j < length ps.words.items = subst (λ (ys : List IndexPoint). j < length ys) list l in (
+        λ t. let f = is.0 t in word_there ps k m i w j at_j inside (ap (λ (z : IndexPoint). z.thing) same ∙ f.0.0) (ap (λ (z : IndexPoint). z.index) same ∙ f.0.1) (ap (λ (z : IndexPoint). z.second) same ∙ f.1),
+        λ at. let f = word_only ps k m i w at in
+            let q : f.0 ≡ j = omega (arith, f.1, at_j) in
+            let there : get_or ps.words.items f.0 no_index ≡ x = ap (λ (q : ℕ). get_or ps.words.items q no_index) q ∙ same in
+            is.1 ((sym (ap (λ (z : IndexPoint). z.thing) there) ∙ f.3, sym (ap (λ (z : IndexPoint). z.index) there) ∙ f.4), sym (ap (λ (z : IndexPoint). z.second) there) ∙ f.5),
+      )
+
+  pub no_word_is : (j : ℕ) → k ≡ states_end ps + j → (xs : List IndexPoint) → xs ≡ ps.words.items → length xs ≤ j → (IsTrue false ↔ IsVisitOf ps k (word_visit m i w))
+  no_word_is j at_j xs list l =
+      none_is (IsVisitOf ps k (word_visit m i w)) (λ at. let f = word_only ps k m i w at in omega (arith, ap length list, l, f.1, at_j, f.2))
+
+  pub before_words : ((j : ℕ) → k ≡ states_end ps + j → ⊥) → (IsTrue false ↔ IsVisitOf ps k (word_visit m i w))
+  before_words none = none_is (IsVisitOf ps k (word_visit m i w)) (λ at. let f = word_only ps k m i w at in none f.0 f.1)

@@ -1,5 +1,5 @@
 -- One note more is reported.
-use Rattle.std.proofs.Common.{◌≡◌, ◌<◌, ◌++◌, ℕ, Bool, true, false, List, [], ◌∷◌, Option, Some, None, IsTrue, length, map, set, refl, sym, ap, subst, ◌∙◌, append-nil, append_assoc}
+use Rattle.std.proofs.Common.{◌≡◌, ◌↔◌, ◌<◌, ◌++◌, ℕ, Bool, true, false, List, [], ◌∷◌, Option, Some, None, IsTrue, length, map, set, refl, sym, ap, subst, ◌∙◌, append-nil, append_assoc}
 use Rattle.std.proofs.lemmas.Bool.{true≢false}
 use Rattle.std.proofs.lemmas.List.Elements.{All-cons, All-head, All-nil, All-tail}
 use Rattle.std.specs.List.{All}
@@ -92,8 +92,11 @@ module _ (s : RunStart) (ns : List Note) (n : Note) (vs : List Verdict) (h : Rep
     pub doubt_more : (y : Doubt) → doubt_of n.doubt ≡ Some y → Reports s (ns ++ n ∷ []) (set vs k (with_doubt y (verdict_at vs k)))
     doubt_more y is = longer (set vs k (with_doubt y (verdict_at vs k))) (λ v own. doubt_set s.design s.points (s.earlier ++ markings_by s.process ns) (marking_by s.process n) vs k y apart once v at.0 (key_of_visit s.design (point_at s.points k) s.process n.spot at.1 own) is)
 
+pub found_at : (ps : Points) (v : Visit) (number : ℕ) (b : Bool) → (IsTrue b ↔ IsVisitOf ps number v) → b ≡ true → (k : ℕ) → Some number ≡ Some k → IsVisitOf ps k v
+found_at ps v number b both holds k e = let same : number ≡ k = cc in subst (λ (i : ℕ). IsVisitOf ps i v) same (both.0 holds)
+
 -- where the point with the number of a visit has another visit, no point has it
-pub not_at : (ps : Points) (m : Marks) (v : Visit) (number : ℕ) (b : Bool) → (IsTrue b → IsVisitOf ps number v) × (IsVisitOf ps number v → IsTrue b) → b ≡ false → ((qs : Points) (k : ℕ) → AreMarksOf qs m → IsVisitOf qs k v → number ≡ k) → AreMarksOf ps m → (k : ℕ) → IsVisitOf ps k v → ⊥
+pub not_at : (ps : Points) (m : Marks) (v : Visit) (number : ℕ) (b : Bool) → (IsTrue b ↔ IsVisitOf ps number v) → b ≡ false → ((qs : Points) (k : ℕ) → AreMarksOf qs m → IsVisitOf qs k v → number ≡ k) → AreMarksOf ps m → (k : ℕ) → IsVisitOf ps k v → ⊥
 not_at ps m v number b both fails find marks k at = let t : b ≡ true = both.1 (subst (λ (i : ℕ). IsVisitOf ps i v) (sym (find ps k marks at)) at) in absurd (true≢false (sym t ∙ fails))
 
 -- what a run begins with

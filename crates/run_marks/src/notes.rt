@@ -26,7 +26,6 @@ impl<'a> BlockNotes for MarkNotes<'a> {
 
     ghost noted = { λ start notes x. HasReported start notes x.process x.points.now x.marks };
 
-    #[tactic(auto, using(crate::proofs::Reports::reports_hit, crate::proofs::Reports::reports_doubt, crate::proofs::Reports::reports_nothing))]
     fn note(&mut self, spot: Spot, doubt: Option<Doubt>) {
         if let Some(point) = find(self.points, &self.marks, self.process, spot) {
             match doubt {
