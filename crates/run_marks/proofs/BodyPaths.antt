@@ -5,7 +5,7 @@ use Rattle.four_state.specs.declared.operator.CaseKind.{CaseKind}
 use Rattle.design_model.specs.Tree.{Arms, Stmt, Stmts, Target, Term, Terms, a_stmt, a_term, arm, block, branch, empty, no_arms, no_stmts, no_terms, select, set, turns}
 use Rattle.design_model.specs.Design.{In}
 use Rattle.design_model.specs.Execution.{is_default}
-use Rattle.design_model.specs.Paths.{Path, PlacedAction, action_at, assigns, compares, followed_by, matching_ways, passing_actions, paths, paths_all, paths_default, paths_of, preceded_by, reaches, selects, tests}
+use Rattle.design_model.specs.Paths.{Path, PlacedAction, action_at, compares, followed_by, matching_ways, passing_actions, paths, paths_all, paths_default, paths_of, preceded_by, reaches, selects, tests}
 use Rattle.design_model.proofs.Along.{ActionHas, AllActions}
 use Rattle.design_model.proofs.Execution.{EachSet, EachSetIn, EachSetOf}
 

@@ -8,8 +8,7 @@ use Rattle.cover_points.specs.declared.points.IndexPoint.{IndexPoint}
 use Rattle.point_words.specs.declared.node_case.NodeCase.{NodeCase}
 use Rattle.cover_points.specs.Visits.{IsVisitOf, visit_of}
 use Rattle.cover_points.specs.declared.listing.Points.{Points}
-use Rattle.cover_points.specs.declared.visit.Visit.{Visit}
-use Rattle.cover_points.specs.declared.visit.Visit.TheVariants.{Line, Node, Read, Write}
+use Rattle.cover_points.specs.declared.visit.Visit.TheVariants.{Line, Node}
 use Rattle.cover_points.proofs.Places.{Where, in_lines, in_nodes, in_states, in_toggles, in_words, length_is, line_place, lines_end, no_index, no_line, no_node, node_place, states_end, where_is, word_place}
 use Rattle.cover_points.proofs.Seen.{at_line, at_node, at_word, inner, kind, kind_by, one_word, part_is, unseen, word_visit as word_visit_of, word_visit_by, word_visit_is}
 use Rattle.run_marks.specs.Reported.{word_visit}

@@ -1,5 +1,5 @@
 -- A memory of which an action reads a word is mentioned by the action.
-use Rattle.std.proofs.Common.{◌≡◌, ◌⊎◌, ⊎_elim, ℕ, Bool, true, List, ◌==◌, ◌||◌, ◌++◌, inl, inr, eq-eqb}
+use Rattle.std.proofs.Common.{◌≡◌, ⊎_elim, ℕ, Bool, true, List, ◌==◌, ◌||◌, ◌++◌, inl, inr, eq-eqb}
 use Rattle.std.proofs.lemmas.Bool.{or_left, or_right}
 use Rattle.design_model.specs.Tree.{Head, Target, Targets, Term, Terms, a_target, a_term, all_of, binary, bit, bits_of, choice, concat, no_targets, no_terms, number, part, repeat, several, sign, signal, slide, unary, word, word_of}
 use Rattle.design_model.specs.Design.{In}

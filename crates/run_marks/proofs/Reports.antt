@@ -1,21 +1,20 @@
 -- One note more is reported.
-use Rattle.std.proofs.Common.{◌≡◌, ◌↔◌, ◌<◌, ◌++◌, ℕ, Bool, true, false, List, [], ◌∷◌, Option, Some, None, IsTrue, length, map, set, refl, sym, ap, subst, ◌∙◌, append-nil, append_assoc}
+use Rattle.std.proofs.Common.{◌≡◌, ◌↔◌, ◌++◌, ℕ, Bool, true, false, List, [], ◌∷◌, Option, Some, None, IsTrue, set, refl, sym, ap, subst, ◌∙◌, append-nil, append_assoc}
 use Rattle.std.proofs.lemmas.Bool.{true≢false}
 use Rattle.std.proofs.lemmas.List.Elements.{All-cons, All-head, All-nil, All-tail}
 use Rattle.std.specs.List.{All}
-use Rattle.body_replay.specs.Contract.{Note, spot_at}
+use Rattle.body_replay.specs.Contract.{Note}
 use Rattle.body_replay.specs.Replay.{Spot, line, node, word_read, word_write}
 use Rattle.cover_marks.specs.Marks.{AreMarksOf}
 use Rattle.cover_marks.specs.declared.marks.Marks.{Marks}
-use Rattle.cover_points.specs.Listed.{points_of}
 use Rattle.cover_points.specs.Visits.{AreApart, AreOnce, IsVisitOf, point_at, visit_of}
 use Rattle.cover_points.specs.declared.listing.Points.{Points}
 use Rattle.cover_points.specs.declared.visit.Visit.{Visit}
-use Rattle.cover_points.specs.declared.visit.Visit.TheVariants.{Line, Node, Read, Write}
+use Rattle.cover_points.specs.declared.visit.Visit.TheVariants.{Line}
 use Rattle.design_model.specs.Design.{Design}
 use Rattle.design_model.specs.declared.point.Point.{Point}
 use Rattle.design_model.specs.declared.point.Point.TheVariants as point
-use Rattle.mark_laws.specs.Marked.{AreVerdicts, IsNoKey, verdict_at}
+use Rattle.mark_laws.specs.Marked.{AreVerdicts, verdict_at}
 use Rattle.mark_laws.specs.Numbered.{doubt_of, visit_at}
 use Rattle.mark_laws.proofs.Marked.{doubt_set, hit_set, other_kept}
 use Rattle.mark_laws.proofs.Verdicts.{visit_of_key}

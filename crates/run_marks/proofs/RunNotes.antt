@@ -1,5 +1,5 @@
 -- The notes of a run are of points of which its process is a block.
-use Rattle.std.proofs.Common.{◌≡◌, ℕ, true, false, List, [], ◌∷◌, map, refl, subst, sym, inl, inr}
+use Rattle.std.proofs.Common.{◌≡◌, ℕ, true, false, List, [], ◌∷◌, map, refl, subst, inl, inr}
 use Rattle.std.proofs.lemmas.List.Elements.{All-cons, All-nil}
 use Rattle.std.specs.List.{All}
 use Rattle.design_model.specs.Design.{Design, body_at}
@@ -7,7 +7,6 @@ use Rattle.design_model.specs.Lawful.{IsLawfulDesign}
 use Rattle.design_model.specs.Mentions.{body_mentions}
 use Rattle.design_model.specs.Open.{ActionWrites}
 use Rattle.design_model.specs.Paths.{Action, assigns, compares, reaches, selects, tests}
-use Rattle.design_model.specs.Points.{IsBlock}
 use Rattle.design_model.specs.declared.point.Point.TheVariants.{Word}
 use Rattle.design_model.specs.Tree.{Term}
 use Rattle.design_model.proofs.Along.{ActionHas}

@@ -1,17 +1,17 @@
 -- A process whose body has an assignment to a word of a memory is a block of the points of writes of this memory.
-use Rattle.std.proofs.Common.{◌≡◌, ◌⊎◌, ⊎_elim, ℕ, Bool, true, false, ◌&&◌, not, ◌==◌, List, [], ◌∷◌, ◌++◌, Option, Some, None, map, length, nat_le, eq-eqb, refl, sym, subst, inl, inr}
+use Rattle.std.proofs.Common.{◌≡◌, ⊎_elim, ℕ, Bool, true, false, ◌&&◌, not, ◌==◌, List, [], ◌∷◌, ◌++◌, Option, Some, None, map, length, nat_le, eq-eqb, refl, sym, inl, inr}
 use Rattle.std.specs.Prelude.{⊤}
 use Rattle.std.proofs.lemmas.Bool.{and_from, and_parts, or_left, or_right}
 use Rattle.event_machine.specs.Cell.{Cell}
 use Rattle.event_machine.specs.Machine.{IsTarget}
 use Rattle.point_words.specs.declared.node_case.NodeCase.{NodeCase}
-use Rattle.design_model.specs.Tree.{Arms, Head, Stmt, Stmts, Target, Targets, Term, Terms, a_stmt, a_target, a_term, all_of, arm, binary, bit, bits_of, block, branch, choice, concat, empty, no_arms, no_stmts, no_targets, no_terms, number, part, repeat, select, set, several, sign, signal, slide, turns, unary, word, word_of}
+use Rattle.design_model.specs.Tree.{Arms, Stmt, Stmts, Target, Targets, Term, Terms, a_stmt, a_target, a_term, all_of, arm, binary, bit, bits_of, block, branch, choice, concat, empty, no_arms, no_stmts, no_targets, no_terms, number, part, repeat, select, set, several, sign, signal, slide, turns, unary, word, word_of}
 use Rattle.design_model.specs.Design.{Design, body_at, cell, is_memory, memory_at}
 use Rattle.design_model.specs.Lawful.{IsLawfulDesign}
 use Rattle.design_model.specs.Machine.{machine}
 use Rattle.design_model.specs.Mentions.{any_set, may_write, some_may_write}
 use Rattle.design_model.specs.Open.{SomeTargetWord, TargetWord}
-use Rattle.design_model.specs.Shape.{are_targets, is_alone, is_target}
+use Rattle.design_model.specs.Shape.{are_targets, is_target}
 use Rattle.design_model.proofs.BodyLaws.{each_both, each_target}
 use Rattle.design_model.proofs.Execution.{EachSet, EachSetIn, EachSetOf}
 use Rattle.design_model.proofs.OpenPath.{each_any}

@@ -1,5 +1,5 @@
 -- Examples of what a run reports: of the words of a memory, and of a list that has one point.
-use Rattle.std.specs.Prelude.{◌≡◌, ◌∷◌, List, [], Some, None}
+use Rattle.std.specs.Prelude.{◌≡◌, ◌∷◌, [], Some, None}
 use Rattle.body_replay.specs.Contract.{Note}
 use Rattle.body_replay.specs.Replay.{line, word_read, word_write}
 use Rattle.cover_marks.specs.declared.marks.Marks.{Marks}
