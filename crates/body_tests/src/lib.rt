@@ -12,6 +12,8 @@ mod combinational;
 #[cfg(test)]
 mod conditions;
 #[cfg(test)]
+mod marked;
+#[cfg(test)]
 mod memories;
 #[cfg(test)]
 mod nets;
@@ -21,3 +23,5 @@ mod parts;
 mod registers;
 #[cfg(test)]
 mod script;
+#[cfg(test)]
+mod verdicts;

@@ -24,7 +24,7 @@ use lent_designs::{DesignUser, lend_design};
 use std::alloc::Global;
 
 /// The time of the steps.
-const TIME: u64 = 5;
+pub(crate) const TIME: u64 = 5;
 
 /// The lines of a part of a script, and the first of them that does not hold.
 #[derive(Drop)]
@@ -71,7 +71,7 @@ fn first_fault(alloc: Global, design: &Design, text: &str) -> usize
             "notes" => has_noted(alloc, design, &outcome, rest),
             "keeps" => keeps(alloc, design, &outcome, rest),
             _ => {
-                outcome = run_line(alloc, design, &given, word, rest);
+                outcome = run_line(alloc, design, &given, word, rest, TIME);
                 outcome.is_some()
             }
         };
@@ -101,34 +101,35 @@ fn keeps(alloc: Global, design: &Design, outcome: &Option<Outcome>, values: &str
     }
 }
 
-/// What the run of a line gives.
-fn run_line(
+/// What the run of a line gives, in a step at this time.
+pub(crate) fn run_line(
     alloc: Global,
     design: &Design,
     given: &Option<Vec<Given>>,
     way: &str,
     rest: &str,
+    time: u64,
 ) -> Option<Outcome>
     requires { IsLawfulDesign (design_view design.now) }
 {
     let (number, thing) = rest.split_once(' ').unwrap_or((rest, ""));
     let process = number.parse::<usize>().ok()?;
-    let how = way_of(design, way, thing)?;
+    let how = way_of(design, way, thing, time)?;
     let given = given.as_ref()?;
     run_block(alloc, design, given.as_slice(), process, how).ok()?
 }
 
-/// The way of a run.
-fn way_of(design: &Design, way: &str, thing: &str) -> Option<Certainty> {
+/// The way of a run in a step at this time.
+fn way_of(design: &Design, way: &str, thing: &str, time: u64) -> Option<Certainty> {
     match way {
-        "clean" => return Some(Certainty::Clean { time: TIME }),
+        "clean" => return Some(Certainty::Clean { time }),
         "quiet" => return Some(Certainty::Quiet),
         _ => {}
     }
     let thing = thing_named(design, thing.as_bytes())?;
     match way {
-        "perhaps" => Some(Certainty::Perhaps { time: TIME, thing }),
-        "weak" => Some(Certainty::Weak { time: TIME, thing }),
+        "perhaps" => Some(Certainty::Perhaps { time, thing }),
+        "weak" => Some(Certainty::Weak { time, thing }),
         _ => None,
     }
 }

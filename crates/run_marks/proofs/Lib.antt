@@ -1,0 +1,7 @@
+pub mod BodyPaths
+pub mod Example
+pub mod Found
+pub mod MentionedWords
+pub mod Reports
+pub mod RunNotes
+pub mod WrittenWords

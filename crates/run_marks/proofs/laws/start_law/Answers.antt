@@ -1,0 +1,5 @@
+use Rattle.run_marks.proofs.Reports.{none_reported}
+use Rattle.run_marks.proofs.laws.start_law.Goals as goal
+
+pub returns : goal.returns
+returns c s m apart once marks verdicts = none_reported s m apart once marks verdicts

@@ -1,0 +1,48 @@
+-- What the marks of points say after a run of a body, where they said what was reported before it.
+use Rattle.std.specs.Prelude.{◌≡◌, ℕ, Bool, List, ◌++◌, true, false, ⊤}
+use Rattle.std.specs.List.{All}
+use Rattle.body_replay.specs.Contract.{Note}
+use Rattle.body_replay.specs.Replay.{Spot, line, node, word_read, word_write}
+use Rattle.cover_marks.specs.Marks.{AreMarksOf}
+use Rattle.cover_marks.specs.declared.marks.Marks.{Marks}
+use Rattle.cover_points.specs.Visits.{AreApart, AreOnce}
+use Rattle.cover_points.specs.declared.listing.Points.{Points}
+use Rattle.cover_points.specs.declared.visit.Visit.{Visit}
+use Rattle.cover_points.specs.declared.visit.Visit.TheVariants.{Read, Write}
+use Rattle.design_model.specs.Design.{Design}
+use Rattle.design_model.specs.Points.{IsBlock}
+use Rattle.design_model.specs.declared.point.Point.TheVariants.{Word}
+use Rattle.mark_laws.specs.Marked.{AreVerdicts}
+use Rattle.replay_model.specs.Marks.{Marking, markings_by}
+
+-- the visit of a word that is written, or read
+abbrev pub word_visit : ℕ → ℕ → Bool → Visit
+word_visit m i true = Write m i
+word_visit m i false = Read m i
+
+-- what was reported before a run of this process, of the points of a design
+pub record RunStart : Type 0 where
+  pub design : Design
+  pub points : Points
+  pub earlier : List Marking
+  pub process : ℕ
+
+-- the process is a block of the points of the spot: of a word it reads or writes the memory
+abbrev pub IsSpotOf : Design → ℕ → Spot → Type 0
+IsSpotOf d p (line n) = ⊤
+IsSpotOf d p (node n c) = ⊤
+IsSpotOf d p (word_read m i) = IsBlock d (Word m i false) p
+IsSpotOf d p (word_write m i) = IsBlock d (Word m i true) p
+
+-- the process is a block of the points of all these notes
+abbrev pub AreNotesOf : Design → ℕ → List Note → Type 0
+AreNotesOf d p ns = All (λ (n : Note). IsSpotOf d p n.spot) ns
+
+-- each verdict is the one by what was reported before, and then by these notes of the process
+pub record HasReported (s : RunStart) (ns : List Note) (p : ℕ) (ps : Points) (m : Marks) : Type 0 where
+  pub apart : AreApart s.points
+  pub once : AreOnce s.points
+  pub process : p ≡ s.process
+  pub points : ps ≡ s.points
+  pub marks : AreMarksOf s.points m
+  pub verdicts : AreNotesOf s.design s.process ns → AreVerdicts s.design s.points (s.earlier ++ markings_by s.process ns) m.verdicts
