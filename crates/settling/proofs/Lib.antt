@@ -1,2 +1,5 @@
 pub mod Masks
 pub mod Changing
+pub mod Acting
+pub mod Targets
+pub mod Stepping

@@ -1,0 +1,58 @@
+//! Whether a combinational block has surely acted.
+
+ghost use Rattle.std.specs.Prelude.{◌≡◌, ◌<◌, ◌||◌, if◌then◌else◌, length, not, slice_set};
+ghost use Rattle.std.specs.List.{All};
+ghost use Rattle.design_model.specs.View.{process_view};
+ghost use Rattle.block_runs.specs.Notes.{way_of};
+ghost use Rattle.replay_model.specs.Step.{is_clean_way, is_comb as is_comb_of};
+ghost use Rattle.settling.specs.Runs.{acts_by, sees_by};
+
+use crate::settled::is_comb;
+use block_runs::Certainty;
+use design_model::Process;
+use index_sets::IndexSet;
+use wake_bits::Wake;
+
+/// Whether what a run of this certainty makes holds, in a step in which these signals have changed: of an Assign it does, and of a
+/// Comb where it has surely acted in the window, which is kept among the flags. `wakes` is what the process watches. It takes
+/// time for that.
+pub(crate) fn result_holds(
+    acted: &mut [bool],
+    number: usize,
+    process: &Process,
+    how: Certainty,
+    wakes: &[Wake],
+    changed: &IndexSet,
+) -> bool
+    requires place { number < length acted.old }
+    requires below { All (λ w. w.thing < changed.now.size) wakes.now }
+    ensures result { result ≡ (not (is_comb_of (process_view process.now)) || acts_by acted.old number (way_of how) wakes.now changed.now.items) }
+    ensures flags { acted.new ≡ (if is_comb_of (process_view process.now) then slice_set acted.old number result else acted.old) }
+{
+    if !is_comb(process) {
+        return true;
+    }
+    let acts = acted[number] || is_clean(how) || sees_change(wakes, changed);
+    acted[number] = acts;
+    acts
+}
+
+/// Whether the process surely runs.
+fn is_clean(how: Certainty) -> bool
+    ensures { result ≡ is_clean_way (way_of how) }
+{
+    matches!(how, Certainty::Clean { .. })
+}
+
+/// Whether a signal that the body mentions has changed.
+fn sees_change(wakes: &[Wake], changed: &IndexSet) -> bool
+    requires { All (λ w. w.thing < changed.now.size) wakes.now }
+    ensures { result ≡ sees_by wakes.now changed.now.items }
+{
+    for wake in wakes {
+        if wake.mentioned && changed.contains(wake.thing as usize) {
+            return true;
+        }
+    }
+    false
+}
