@@ -45,7 +45,7 @@ pub fn run_settled<N: BlockNotes, L: Ledger>(
     ensures steps { steps.new ≡ steps.old + 1 }
 {
     store.holding();
-    let text = &design.processes[process];
-    run_body(store, design, text, written, how, pieces, notes, steps);
+    let processes = design.processes.as_slice();
+    run_body(store, design, &processes[process], written, how, pieces, notes, steps);
     store.holding();
 }

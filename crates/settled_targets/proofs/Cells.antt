@@ -4,7 +4,8 @@ use Rattle.std.specs.Prelude.{replicate, slice_set}
 use Rattle.std.specs.List.{range_with_len}
 use Rattle.std.proofs.Math.Path.{fun_ext}
 use Rattle.std.proofs.lemmas.Bool.{cases_lt, eqb-true, false_from_ne_true, false≢true}
-use Rattle.std.proofs.lemmas.List.{get_or_past}
+use Rattle.std.proofs.lemmas.List.{get_or_past, length-map}
+use Rattle.std.proofs.lemmas.List.FromFn.{length-map-range_with_len}
 use Rattle.event_machine.specs.Cell.{Cell}
 use Rattle.four_state.specs.Masks.{is_set}
 use Rattle.four_state.proofs.Places.{is_set-above}
@@ -35,6 +36,10 @@ pub bit_of : (d : Design) (k : Kept) (s j : ℕ) (ps : KnownBits) → ps ≡ map
 bit_of d k s j ps is l =
     let start : 0 + j ≡ j = omega arith in
     ap (λ i. k (cell s i)) (sym start) ∙ row_at k (cell s) 0 (signal_at d s).width ps j is l
+
+-- bits of a signal are as many as it has
+pub bits_width : (d : Design) (k : Kept) (s : ℕ) (ps : KnownBits) → ps ≡ map k (signal_cells d s) → length ps ≡ (signal_at d s).width
+bits_width d k s ps is = ap length is ∙ length-map (signal_cells d s) k ∙ length-map-range_with_len (cell s) 0 (signal_at d s).width
 
 -- ---- the bits of a signal are what is known of it
 

@@ -1,8 +1,5 @@
 -- What is kept and what was made of the targets of a process after its run, one after the other.
 use Rattle.std.proofs.Common.{◌≡◌, ℕ, ◌+◌, ◌<◌, ◌==◌, ◌||◌, Bool, true, false, List, [], length, map, take, get_or, Option, refl, sym, ap, subst, ◌∙◌}
-use Rattle.std.proofs.Math.Path.{fun_ext}
-use Rattle.std.proofs.lemmas.List.{take_all}
-use Rattle.event_machine.specs.Cell.{Cell}
 use Rattle.design_model.specs.Design.{Design, signal_cells}
 use Rattle.body_replay.specs.Store.{Kept}
 use Rattle.body_store.specs.declared.store.Store.{Store}
@@ -20,8 +17,8 @@ none_returned codes g h Saved x v = record {
   design = refl;
   before = refl;
   fits = λ d f. f;
-  knows = λ d k r saved known. subst (λ j. Knows d j x) (fun_ext {f = r} {g = returned codes (names []) (row_has []) g k r} (λ c. refl)) known;
-  made = λ d k r m s saved known f l coded old. old ∙ ap (λ j. map j (signal_cells d s)) (fun_ext {f = m} {g = remade (row_has []) h r m} (λ c. refl));
+  knows = λ d k r saved known. known;
+  made = λ d k r m s saved known f l coded old. old;
 }
 
 -- one bits of a row more

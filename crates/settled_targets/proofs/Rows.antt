@@ -1,5 +1,5 @@
 -- The signals and the bits of a row, one bits after the other.
-use Rattle.std.proofs.Common.{◌≡◌, ℕ, zero, suc, ◌+◌, ◌<◌, ◌==◌, ◌&&◌, ◌||◌, Bool, true, false, not, if◌then◌else◌, List, [], ◌∷◌, get_or, length, map, take, Option, None, refl, sym, ap, ap₂, ◌∙◌, inl, inr, arith}
+use Rattle.std.proofs.Common.{◌≡◌, ℕ, zero, suc, ◌+◌, ◌<◌, ◌==◌, ◌&&◌, ◌||◌, Bool, true, false, not, if◌then◌else◌, List, [], ◌∷◌, get_or, length, map, take, Option, None, refl, sym, ap, ap₂, subst, ◌∙◌, inl, inr, arith}
 use Rattle.std.proofs.Math.Path.{fun_ext}
 use Rattle.std.proofs.lemmas.Bool.{and_parts, eqb-true, false_from_ne_true, false≢true, or_from, true≢false}
 use Rattle.std.proofs.lemmas.List.Folds.{list_any_more}
@@ -35,7 +35,7 @@ once_before (y ∷ row) (suc i) e l once =
     (once_before row i e inside once.1)
   where
     same : (y.signal == (get_or row i e).signal) ≡ true → In (get_or row i e).signal (map (λ (z : Bits). z.signal) row) → In y.signal (map (λ (z : Bits). z.signal) row)
-    same h k = rw (eqb-true y.signal (get_or row i e).signal h) k
+    same h k = subst (λ s. In s (map (λ (z : Bits). z.signal) row)) (sym (eqb-true y.signal (get_or row i e).signal h)) k
 
 or_none : (a b : Bool) → (a || b) ≡ false → (a ≡ false) × (b ≡ false)
 or_none true b e = absurd (true≢false e)

@@ -3,3 +3,4 @@ pub mod Changing
 pub mod Acting
 pub mod Targets
 pub mod Stepping
+pub mod First

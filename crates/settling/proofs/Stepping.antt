@@ -1,5 +1,5 @@
 -- The parts of the code after a run, beside the definition of the run.
-use Rattle.std.proofs.Common.{◌≡◌, ℕ, ◌+◌, ◌<◌, ◌==◌, ◌&&◌, ◌||◌, Bool, true, false, not, if◌then◌else◌, List, length, map, Option, None, refl, sym, ap, ap₂, subst, ◌∙◌, eq-eqb}
+use Rattle.std.proofs.Common.{◌≡◌, ℕ, ◌+◌, ◌<◌, ◌==◌, ◌&&◌, ◌||◌, Bool, true, false, not, if◌then◌else◌, List, get_or, length, map, Option, None, refl, sym, ap, ap₂, subst, ◌∙◌, eq-eqb}
 use Rattle.std.specs.Prelude.{slice_index_or, slice_set}
 use Rattle.std.specs.List.{All}
 use Rattle.std.proofs.lemmas.Bool.{eqb-true, false≢true}
@@ -8,6 +8,9 @@ use Rattle.known_state.specs.Partly.{Partly}
 use Rattle.design_model.specs.Design.{Design, IsClocked, IsComb, body_at, process_at, signal_cells}
 use Rattle.design_model.specs.Lawful.{IsLawfulDesign}
 use Rattle.design_model.specs.Mentions.{blocking_target}
+use Rattle.design_model.specs.View.{design_view, process_view}
+use Rattle.design_model.specs.declared.design.Design.{Design as CodeDesign}
+use Rattle.design_model.specs.declared.tree.Process.{Process as CodeProcess}
 use Rattle.body_replay.specs.Contract.{Certainty, Outcome}
 use Rattle.body_replay.specs.Runs.{Runs, runs_of}
 use Rattle.body_replay.specs.Store.{Kept}
@@ -17,6 +20,7 @@ use Rattle.index_sets.specs.Rows.{row_at}
 use Rattle.process_targets.specs.Rows.{AreTargets}
 use Rattle.process_targets.specs.Targets.{names, row_has}
 use Rattle.process_targets.specs.declared.bits.Bits.{Bits}
+use Rattle.process_targets.proofs.Processes.{process_is}
 use Rattle.replay_model.specs.Step.{Closing, Working, acts, after_settling, certainty, is_comb, is_touched, kept_target, plain_store, run_settling, settled_kept}
 use Rattle.replay_steps.proofs.Settling.{run_still}
 use Rattle.store_knowledge.specs.Knows.{Knows}
@@ -66,7 +70,7 @@ module _ (st : Closing) (w : Working) (p : ℕ) (ordered : Bool) (how : Certaint
 
   known : Knows d after.kept y
   known = subst (λ j. Knows d j y)
-      (kept_is d p row lawful settles targets st w codes step.bound how is_kept ∙ ap (λ t. kept_target st t o w p) kept_test)
+      (kept_is d p row lawful settles targets w.kept how codes st.bound step.bound is_kept ∙ ap (λ t. kept_target st t o w p) kept_test)
       (back.knows d w.kept o.kept saved left)
 
   values : HasValues st after y u
@@ -117,3 +121,7 @@ module _ (st : Closing) (w : Working) (p : ℕ) (ordered : Bool) (how : Certaint
     state = state_after;
     acted = subst (λ a. AreActed d flagged a.acted) (sym after_is) (λ q comb. flag_at place q (q == p) refl comb);
   }
+
+-- a process of the design that a store knows
+pub found_process : (c : CodeDesign) (d : Design) (p : ℕ) (q : CodeProcess) (qs : List CodeProcess) → design_view c ≡ d → p < length c.processes → q ≡ get_or qs p q → qs ≡ c.processes → process_at d p ≡ process_view q
+found_process c d p q qs same l is list = ap (λ e. process_at e p) (sym same) ∙ process_is c p q l (is ∙ ap (λ ys. get_or ys p q) list)

@@ -21,7 +21,7 @@ use Rattle.process_targets.specs.Rows.{AreTargets, IsInside}
 use Rattle.process_targets.specs.Targets.{names, row_has}
 use Rattle.process_targets.specs.declared.bits.Bits.{Bits}
 use Rattle.process_targets.proofs.Settled.{settled_law}
-use Rattle.replay_model.specs.Step.{Closing, Working, is_comb, is_dumped, plain_store, settled_kept}
+use Rattle.replay_model.specs.Step.{is_comb, is_dumped, plain_store, settled_kept}
 use Rattle.replay_steps.proofs.Cells.{drives_cells}
 use Rattle.store_knowledge.proofs.Cells.{out_of_cells}
 use Rattle.step_values.specs.Loose.{has_code}
@@ -98,14 +98,21 @@ module _ (d : Design) (p : ℕ) (row : List Bits) (lawful : IsLawfulDesign d) (s
     kept_at false true b i run held before first second third = absurd (true≢false (first refl))
     kept_at false false b i run held before first second third = third refl
 
-  module _ (st : Closing) (w : Working) (codes : List (Option ℕ)) (bound : (s : ℕ) → st.bound s ≡ has_code codes s) (how : Certainty) where
-    abbrev left : Outcome
-    left = runs_of d p (plain_store (settled_kept d p w.kept)) how
-
-    pub kept_is : (holds : Bool) → returned codes (names row) (row_has row) holds w.kept left.kept ≡ (λ c. if blocking_target d (body_at d p) c && not (is_dumped d st.bound c) then (if holds then left.kept c else None) else w.kept c)
-    kept_is holds = fun_ext (λ c.
-        ap₂ (λ t b. if names row c.thing then (if t && not b then holding holds left.kept c else w.kept c) else left.kept c) (has_is c) (sym (bound c.thing))
-        ∙ kept_at w.kept how (names row c.thing) (blocking_target d (body_at d p) c) (st.bound c.thing) (nat_lt c.place (signal_at d c.thing).width) (left.kept c) (holding holds left.kept c) (w.kept c) (λ e. sym (has_is c) ∙ unnamed row c e) (target_inside c) (as_before w.kept how c))
+    -- what is kept once the saved values are back
+    pub kept_is : (codes : List (Option ℕ)) (bound : ℕ → Bool) → ((s : ℕ) → bound s ≡ has_code codes s) → (holds : Bool)
+        → returned codes (names row) (row_has row) holds k o.kept ≡ (λ c. if blocking_target d (body_at d p) c && not (is_dumped d bound c) then (if holds then o.kept c else None) else k c)
+    kept_is codes bound same holds = fun_ext (λ c.
+        ap₂ (λ t b. if names row c.thing then (if t && not b then holding holds o.kept c else k c) else o.kept c) (has_is c) (sym (same c.thing))
+        ∙ kept_at (names row c.thing) (blocking_target d (body_at d p) c) (bound c.thing) (nat_lt c.place (signal_at d c.thing).width) (o.kept c) (holding holds o.kept c) (k c) (λ e. sym (has_is c) ∙ unnamed row c e) (target_inside c) (as_before c))
 
   pub made_is : (holds : Bool) (r m : Kept) → remade (row_has row) holds r m ≡ (λ c. if blocking_target d (body_at d p) c then (if holds then r c else None) else m c)
   made_is holds r m = fun_ext (λ c. ap (λ t. if t then holding holds r c else m c) (has_is c))
+
+-- ---- the same of the design that a store knows
+
+module _ (c d : Design) (p : ℕ) (row : List Bits) (k : Kept) (same : c ≡ d) (lawful : IsLawfulDesign c) (settles : IsClocked (process_at c p) → ⊥) (targets : AreTargets c p row) where
+  pub hidden_there : is_comb (process_at c p) ≡ true → hiding (names row) k ≡ settled_kept d p k
+  hidden_there comb = subst (λ e. hiding (names row) k ≡ settled_kept e p k) same (hidden_is c p row lawful settles targets k comb)
+
+  pub shown_there : is_comb (process_at c p) ≡ false → k ≡ settled_kept d p k
+  shown_there plain = subst (λ e. k ≡ settled_kept e p k) same (shown_is c p row lawful settles targets k plain)

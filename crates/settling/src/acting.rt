@@ -1,8 +1,9 @@
 //! Whether a combinational block has surely acted.
 
-ghost use Rattle.std.specs.Prelude.{◌≡◌, ◌<◌, ◌||◌, if◌then◌else◌, length, not, slice_set};
+ghost use Rattle.std.specs.Prelude.{◌≡◌, ◌<◌, ◌&&◌, ◌||◌, if◌then◌else◌, length, not, slice_set};
 ghost use Rattle.std.specs.List.{All};
 ghost use Rattle.design_model.specs.View.{process_view};
+ghost use Rattle.body_calls.specs.Own.{is_in};
 ghost use Rattle.block_runs.specs.Notes.{way_of};
 ghost use Rattle.replay_model.specs.Step.{is_clean_way, is_comb as is_comb_of};
 ghost use Rattle.settling.specs.Runs.{acts_by, sees_by};
@@ -32,9 +33,23 @@ pub(crate) fn result_holds(
     if !is_comb(process) {
         return true;
     }
-    let acts = acted[number] || is_clean(how) || sees_change(wakes, changed);
+    let acts = surely_acts(acted[number], how, wakes, changed);
     acted[number] = acts;
     acts
+}
+
+/// Whether a Comb has surely acted: before, by a sure change of what wakes it, or by a change of a signal that it mentions.
+fn surely_acts(has_acted: bool, how: Certainty, wakes: &[Wake], changed: &IndexSet) -> bool
+    requires { All (λ w. w.thing < changed.now.size) wakes.now }
+    ensures { result ≡ (has_acted || (is_clean_way (way_of how) || sees_by wakes.now changed.now.items)) }
+{
+    if has_acted {
+        return true;
+    }
+    if is_clean(how) {
+        return true;
+    }
+    sees_change(wakes, changed)
 }
 
 /// Whether the process surely runs.
@@ -50,9 +65,20 @@ fn sees_change(wakes: &[Wake], changed: &IndexSet) -> bool
     ensures { result ≡ sees_by wakes.now changed.now.items }
 {
     for wake in wakes {
-        if wake.mentioned && changed.contains(wake.thing as usize) {
+        if sees(wake, changed) {
             return true;
         }
     }
     false
+}
+
+/// Whether the body mentions this thing, and it has changed.
+fn sees(wake: &Wake, changed: &IndexSet) -> bool
+    requires { wake.now.thing < changed.now.size }
+    ensures { result ≡ (wake.now.mentioned && is_in changed.now.items wake.now.thing) }
+{
+    if !wake.mentioned {
+        return false;
+    }
+    changed.contains(wake.thing as usize)
 }

@@ -63,8 +63,15 @@ pub fn run<N: BlockNotes, L: Ledger>(
     let wakes = rows.wakes.row(process);
     let how = certainty(values, store, found.sets, wakes, found.time);
     run_saved(store, rows, process, how, scratch, notes, steps);
-    let text = &rows.design.processes[process];
-    let holds = result_holds(acted, process, text, how, wakes, found.changed);
+    let processes = rows.design.processes.as_slice();
+    let holds = result_holds(
+        acted,
+        process,
+        &processes[process],
+        how,
+        wakes,
+        found.changed,
+    );
     scratch.saved.put_back(
         store,
         values,

@@ -76,7 +76,8 @@ fn meet_targets(store: &mut Store, rows: &ProcessRows, process: usize)
     ensures design { store.new.design ≡ store.old.design }
     ensures knows { (d : Design) (k : Kept) → Knows d k store.old → Knows d (settled_kept d process k) store.new }
 {
-    if is_comb(&rows.design.processes[process]) {
+    let processes = rows.design.processes.as_slice();
+    if is_comb(&processes[process]) {
         hide_targets(store, rows.targets.row(process));
     }
 }

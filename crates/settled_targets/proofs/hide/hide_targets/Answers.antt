@@ -1,5 +1,4 @@
-use Rattle.std.proofs.Common.{◌∙◌, [], ◌==◌, get_or, refl, subst, take, ◌+◌}
-use Rattle.std.proofs.Math.Path.{fun_ext}
+use Rattle.std.proofs.Common.{◌∙◌, refl, subst, take, ◌+◌}
 use Rattle.std.proofs.lemmas.List.{take_all}
 use Rattle.process_targets.specs.Targets.{names}
 use Rattle.store_knowledge.specs.Knows.{Knows}
@@ -8,7 +7,7 @@ use Rattle.settled_targets.proofs.Rows.{hiding_more, named_more}
 use Rattle.settled_targets.proofs.hide.hide_targets.Goals as goal
 
 pub loop-bits-init : goal.loop-bits-init
-loop-bits-init c = (refl, λ d k h. subst (λ j. Knows d j c.args.store.now) (fun_ext {f = k} {g = hiding (names []) k} (λ x. refl)) h)
+loop-bits-init c = (refl, λ d k h. h)
 
 pub hide_signal-requires-clause-known : goal.hide_signal-requires-clause-known
 hide_signal-requires-clause-known c = (c.requires.known.0, _, c.loop-bits.invariant.1 c.requires.known.0 c.requires.known.1 c.requires.known.2)

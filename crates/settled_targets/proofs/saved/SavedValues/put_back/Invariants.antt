@@ -4,7 +4,7 @@ use Rattle.body_replay.specs.Store.{Kept}
 use Rattle.process_targets.specs.Targets.{names, row_has}
 use Rattle.settled_targets.specs.Returned.{Returns}
 use Rattle.settled_targets.specs.Saved.{AreSaved}
-use Rattle.settled_targets.proofs.put_back.SavedValues.put_back.Given as goal
+use Rattle.settled_targets.proofs.saved.SavedValues.put_back.Given as goal
 
 -- the signals so far have their values back
 abbrev pub invariant-loop-place : goal.invariant-loop-place
