@@ -12,9 +12,8 @@ use Rattle.design_model.specs.Tree.{Process, Stmt}
 use Rattle.design_model.specs.View.{design_view}
 use Rattle.design_model.proofs.BodyLaws.{settled_signals_law}
 use Rattle.body_replay.specs.Contract.{Certainty, Outcome, outcome}
-use Rattle.body_replay.specs.Runs.{StoreView, own_store, runs_of}
+use Rattle.body_replay.specs.Runs.{AreRuns, StoreView, own_store, runs_of}
 use Rattle.body_replay.specs.Store.{Kept}
-use Rattle.body_replay.proofs.CellFrames.{cell_frame}
 use Rattle.term_replay.specs.Stands.{Scene}
 use Rattle.body_calls.specs.Own.{IsOwn, is_in}
 use Rattle.body_calls.specs.Rooms.{Rooms}
@@ -54,8 +53,8 @@ module _ (d : Design) (p : ℕ) (lawful : IsLawfulDesign d) (settles : IsClocked
   assigned_number x e = let l = assigned_signal x e in grind (arith, nat_tests, l)
 
   -- of what is no cell of the design nothing is known after the run
-  run_blank : (k : Kept) (how : Certainty) → IsBlank d k → IsBlank d (runs_of d p (plain_store k) how).kept
-  run_blank k how blank c out = cell_frame d (body_at d p) (own_store (plain_store k)) how c (false_from_ne_true _ (λ e. out (drives_cells d p (λ x b. assigned_signal x (sym ((settled_law d lawful p settles).named x) ∙ b)) c e))) ∙ blank c out
+  run_blank : AreRuns d (runs_of d) → (k : Kept) (how : Certainty) → IsBlank d k → IsBlank d (runs_of d p (plain_store k) how).kept
+  run_blank runs k how blank c out = runs.frame p (plain_store k) how c (false_from_ne_true _ (λ e. out (drives_cells d p (λ x b. assigned_signal x (sym ((settled_law d lawful p settles).named x) ∙ b)) c e))) ∙ blank c out
 
 module _ (d : Design) (k : Kept) (x : Store) (h : Knows d k x) where
   -- the run meets what is known
@@ -108,7 +107,7 @@ pub record HasRun (d : Design) (x y : Store) (o : Outcome) (s : Stmt) : Type 0 w
   pub room : around_of x ≡ [] → (rooms_of x).log ≡ (under_of x).log
   pub holds : IsOwn (kept_scene y) → HoldsStore (design_view y.design.now) (kept_scene y).kept unblamed y
 
-module _ (d : Design) (k : Kept) (x y : Store) (p : ℕ) (how : Certainty) (lawful : IsLawfulDesign d) (settles : IsClocked (process_at d p) → ⊥) (h : Knows d k x) (ran : HasRun d x y (runs_of d p (plain_store k) how) (body_at d p)) where
+module _ (d : Design) (k : Kept) (x y : Store) (p : ℕ) (how : Certainty) (lawful : IsLawfulDesign d) (settles : IsClocked (process_at d p) → ⊥) (runs : AreRuns d (runs_of d)) (h : Knows d k x) (ran : HasRun d x y (runs_of d p (plain_store k) how) (body_at d p)) where
   abbrev o : Outcome
   o = runs_of d p (plain_store k) how
 
@@ -130,7 +129,7 @@ module _ (d : Design) (k : Kept) (x y : Store) (p : ℕ) (how : Certainty) (lawf
   pub run_known : Knows d o.kept y
   run_known = record {
     design = ran.design;
-    blank = run_blank d p lawful settles k how h.blank;
+    blank = run_blank d p lawful settles runs k how h.blank;
     owned = holds_run;
     plain = λ t. ap (λ f. f t) ran.hidden ∙ h.plain t;
     queued = ran.queued ∙ ap₂ (λ ws vs. ws ++ vs) h.queued (run_empty d (body_at d p) (own_store (plain_store k)) how unqueued);

@@ -1,5 +1,5 @@
 -- A body without nonblocking assignments queues nothing.
-use Rattle.std.proofs.Common.{◌≡◌, ℕ, ◌+◌, ◌&&◌, ◌||◌, Bool, true, false, not, List, [], ◌∷◌, ◌++◌, refl, ap, ap₂, ◌∙◌, sym}
+use Rattle.std.proofs.Common.{◌≡◌, ℕ, ◌+◌, ◌&&◌, ◌||◌, Bool, true, false, not, List, [], ◌∷◌, ◌++◌, None, refl, ap, ap₂, arith}
 use Rattle.std.proofs.lemmas.Bool.{false≢true, or_parts, true≢false}
 use Rattle.design_model.specs.Design.{Design, IsClocked, body, body_at, process_at}
 use Rattle.design_model.specs.Lawful.{IsLawfulDesign, target_once}
@@ -10,7 +10,7 @@ use Rattle.body_replay.specs.Contract.{Certainty, Store, clean, outcome, perhaps
 use Rattle.body_replay.specs.Replay.{Mode, State, clean_run, run_set, started}
 use Rattle.body_replay.proofs.Induction.{Closed, run_holds}
 use Rattle.assignments.specs.Takes.{set_queues}
-use Rattle.open_tests.specs.Weights.{queues, weigh, weigh_all, weigh_arms}
+use Rattle.open_tests.specs.Weights.{queues, weigh_all, weigh_arms}
 use Rattle.scene_laws.specs.At.{flat}
 
 -- the assignment is a nonblocking one
@@ -84,15 +84,14 @@ module _ (d : Design) where
 
 -- ---- the room that it takes
 
-sum_none : (a b : ℕ) → a ≡ 0 → b ≡ 0 → a + b ≡ 0
-sum_none a b e f = ap₂ (λ x y. x + y) e f
-
 mutual
   pub takes_none : (s : Stmt) → any_set is_queued s ≡ false → queues s ≡ 0
   takes_none (block p ss) e = all_take_none ss e
   takes_none (branch p n t s other) e =
       let h = or_parts (any_set is_queued s) (any_set_of is_queued other) e in
-      sum_none (weigh 0 set_queues set_queues s) (weigh_all 0 set_queues set_queues other) (takes_none s h.0) (all_take_none other h.1)
+      let first = takes_none s h.0 in
+      let rest = all_take_none other h.1 in
+      omega (arith, first, rest)
   takes_none (select p n kind t arms) e = arms_take_none arms e
   takes_none (turns p n ss) e = all_take_none ss e
   takes_none (set p n true x t) e = refl
@@ -103,10 +102,14 @@ mutual
   all_take_none no_stmts e = refl
   all_take_none (a_stmt s ss) e =
       let h = or_parts (any_set is_queued s) (any_set_of is_queued ss) e in
-      sum_none (weigh 0 set_queues set_queues s) (weigh_all 0 set_queues set_queues ss) (takes_none s h.0) (all_take_none ss h.1)
+      let first = takes_none s h.0 in
+      let rest = all_take_none ss h.1 in
+      omega (arith, first, rest)
 
   arms_take_none : (arms : Arms) → any_set_in is_queued arms ≡ false → weigh_arms 0 set_queues arms ≡ 0
   arms_take_none no_arms e = refl
   arms_take_none (arm labels s arms) e =
       let h = or_parts (any_set is_queued s) (any_set_in is_queued arms) e in
-      sum_none (weigh 0 set_queues set_queues s) (weigh_arms 0 set_queues arms) (takes_none s h.0) (arms_take_none arms h.1)
+      let first = takes_none s h.0 in
+      let rest = arms_take_none arms h.1 in
+      omega (arith, first, rest)

@@ -12,6 +12,7 @@ ghost use Rattle.store_knowledge.specs.Knows.{Knows};
 
 use assignments::Piece;
 use block_runs::{BlockNotes, Certainty, run_body};
+use body_replay::runs_lawful;
 use body_store::Store;
 use design_model::Design;
 use std::sync::ledger::Ledger;
@@ -44,6 +45,7 @@ pub fn run_settled<N: BlockNotes, L: Ledger>(
     ensures pieces { pieces.new ≡ pieces.old }
     ensures steps { steps.new ≡ steps.old + 1 }
 {
+    runs_lawful();
     store.holding();
     let processes = design.processes.as_slice();
     run_body(store, design, &processes[process], written, how, pieces, notes, steps);

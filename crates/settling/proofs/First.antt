@@ -8,7 +8,7 @@ use Rattle.design_model.specs.Design.{Design, IsClocked, is_assign, process_at, 
 use Rattle.design_model.specs.Lawful.{IsLawfulDesign}
 use Rattle.design_model.specs.Tree.{Process, assign, clocked, comb}
 use Rattle.body_replay.specs.Contract.{Outcome, quiet}
-use Rattle.body_replay.specs.Runs.{runs_of}
+use Rattle.body_replay.specs.Runs.{AreRuns, runs_of}
 use Rattle.body_replay.specs.Store.{Kept}
 use Rattle.body_store.specs.declared.store.Store.{Store}
 use Rattle.process_targets.specs.Rows.{AreTargets}
@@ -36,7 +36,7 @@ assign_settles (comb i wakes s) e h = h
 assign_settles (clocked i events s) e h = absurd (false≢true e)
 
 module _ (d : Design) (bound : ℕ → Bool) (tables : Tables) (new : Values Bit) (w : Starting) (p : ℕ) (ordered : Bool) (row : List Bits) (codes : List (Option ℕ)) (x z y : Store) (v u : StepVectors) (qs : List Partly)
-  (lawful : IsLawfulDesign d) (is : is_assign (process_at d p) ≡ true) (targets : AreTargets d p row) (same : (s : ℕ) → bound s ≡ has_code codes s)
+  (lawful : IsLawfulDesign d) (runs : AreRuns d (runs_of d)) (is : is_assign (process_at d p) ≡ true) (targets : AreTargets d p row) (same : (s : ℕ) → bound s ≡ has_code codes s)
   (at : AtFirst d bound w x v) (saved : AreSaved d w.kept row qs) (left : Knows d (runs_of d p (plain_store (settled_kept d p w.kept)) quiet).kept z)
   (back : Returns codes (names row) (row_has row) ordered true (λ e k. AreSaved e k row qs) z y v u) where
   settles : IsClocked (process_at d p) → ⊥
@@ -55,7 +55,7 @@ module _ (d : Design) (bound : ℕ → Bool) (tables : Tables) (new : Values Bit
       ∙ ap (λ k. after_first d bound (runs_of d) tables new ordered p (runs_of d p (plain_store k) quiet) w) (shown_is d p row lawful settles targets w.kept (assign_plain (process_at d p) is))
 
   known : Knows d after.kept y
-  known = subst (λ j. Knows d j y) (kept_is d p row lawful settles targets w.kept quiet codes bound same ordered) (back.knows d w.kept o.kept saved left)
+  known = subst (λ j. Knows d j y) (kept_is d p row lawful settles targets runs w.kept quiet codes bound same ordered) (back.knows d w.kept o.kept saved left)
 
   -- all parts of the first step
   pub first_after : AtFirst d bound (run_first d bound (runs_of d) tables new ordered p w) y u

@@ -12,7 +12,7 @@ use Rattle.design_model.specs.View.{design_view, process_view}
 use Rattle.design_model.specs.declared.design.Design.{Design as CodeDesign}
 use Rattle.design_model.specs.declared.tree.Process.{Process as CodeProcess}
 use Rattle.body_replay.specs.Contract.{Certainty, Outcome}
-use Rattle.body_replay.specs.Runs.{Runs, runs_of}
+use Rattle.body_replay.specs.Runs.{AreRuns, Runs, runs_of}
 use Rattle.body_replay.specs.Store.{Kept}
 use Rattle.body_store.specs.declared.store.Store.{Store}
 use Rattle.early_sets.specs.WakeState.{WakeState}
@@ -45,7 +45,7 @@ pub touched_is : (st : Closing) (ordered : Bool) (p : ℕ) (w : Working) → is_
 touched_is st ordered p w e = ap (λ t. if t then after_settling st ordered p (certainty st w.kept p) (outcome_at st w p) w else w) e
 
 module _ (st : Closing) (w : Working) (p : ℕ) (ordered : Bool) (how : Certainty) (row : List Bits) (wakes : List (List Wake)) (codes : List (Option ℕ)) (changed : List ℕ) (time : ℕ) (sets : WakeState) (flags : List Bool) (x z y : Store) (v u : StepVectors) (qs : List Partly) (is_kept is_made : Bool)
-  (lawful : IsLawfulDesign st.design) (settles : IsClocked (process_at st.design p) → ⊥) (targets : AreTargets st.design p row) (signals : All (λ k. k.thing < length st.design.signals) (row_at wakes p))
+  (lawful : IsLawfulDesign st.design) (runs : AreRuns st.design (runs_of st.design)) (settles : IsClocked (process_at st.design p) → ⊥) (targets : AreTargets st.design p row) (signals : All (λ k. k.thing < length st.design.signals) (row_at wakes p))
   (point : AtPoint st w x v sets flags) (step : IsStepOf st p wakes codes changed time) (touched : is_touched st p ≡ true) (how_is : how ≡ certainty st w.kept p)
   (made : is_made ≡ (not (is_comb (process_at st.design p)) || acts_by flags p how (row_at wakes p) changed)) (kept : is_kept ≡ (ordered && is_made))
   (saved : AreSaved st.design w.kept row qs) (left : Knows st.design (runs_of st.design p (plain_store (settled_kept st.design p w.kept)) how).kept z)
@@ -70,7 +70,7 @@ module _ (st : Closing) (w : Working) (p : ℕ) (ordered : Bool) (how : Certaint
 
   known : Knows d after.kept y
   known = subst (λ j. Knows d j y)
-      (kept_is d p row lawful settles targets w.kept how codes st.bound step.bound is_kept ∙ ap (λ t. kept_target st t o w p) kept_test)
+      (kept_is d p row lawful settles targets runs w.kept how codes st.bound step.bound is_kept ∙ ap (λ t. kept_target st t o w p) kept_test)
       (back.knows d w.kept o.kept saved left)
 
   values : HasValues st after y u

@@ -13,9 +13,8 @@ use Rattle.design_model.specs.Lawful.{IsLawfulDesign}
 use Rattle.design_model.specs.Mentions.{blocking_target, body_assigns}
 use Rattle.design_model.proofs.BodyLaws.{settled_signals_law}
 use Rattle.body_replay.specs.Contract.{Certainty, Outcome}
-use Rattle.body_replay.specs.Runs.{own_store, runs_of}
+use Rattle.body_replay.specs.Runs.{AreRuns, runs_of}
 use Rattle.body_replay.specs.Store.{Kept}
-use Rattle.body_replay.proofs.CellFrames.{cell_frame}
 use Rattle.process_targets.specs.Laws.{WritesSignals}
 use Rattle.process_targets.specs.Rows.{AreTargets, IsInside}
 use Rattle.process_targets.specs.Targets.{names, row_has}
@@ -73,7 +72,7 @@ module _ (d : Design) (p : ℕ) (row : List Bits) (lawful : IsLawfulDesign d) (s
 
   -- ---- what is kept of it
 
-  module _ (k : Kept) (how : Certainty) where
+  module _ (runs : AreRuns d (runs_of d)) (k : Kept) (how : Certainty) where
     abbrev o : Outcome
     o = runs_of d p (plain_store (settled_kept d p k)) how
 
@@ -84,7 +83,7 @@ module _ (d : Design) (p : ℕ) (row : List Bits) (lawful : IsLawfulDesign d) (s
     -- what the row does not name is as it was
     as_before : (c : Cell) → names row c.thing ≡ false → o.kept c ≡ k c
     as_before c e =
-        cell_frame d (body_at d p) (own_store (plain_store (settled_kept d p k))) how c (sym (has_is c) ∙ unnamed row c e)
+        runs.frame p (plain_store (settled_kept d p k)) how c (sym (has_is c) ∙ unnamed row c e)
         ∙ ap (λ t. if t then None else k c) (ap (λ u. is_comb (process_at d p) && u) (sym (names_is c.thing) ∙ e) ∙ no_and (is_comb (process_at d p)))
 
     -- by whether the row names the thing, whether the process may write the cell, whether the dump has the signal, and whether the place

@@ -20,6 +20,7 @@ ghost use Rattle.settling.specs.Runs.{HasRows};
 use crate::settled::run_saved;
 use crate::{ProcessRows, Scratch};
 use block_runs::{BlockNotes, Certainty, Doubt};
+use body_replay::runs_lawful;
 use body_store::Store;
 use std::sync::ledger::Ledger;
 use step_counts::Steps;
@@ -56,6 +57,7 @@ pub fn run_first<L: Ledger>(
     ensures pieces { scratch.new.pieces ≡ scratch.old.pieces }
     ensures steps { steps.new ≡ steps.old + 1 }
 {
+    runs_lawful();
     let mut notes = Unnoted;
     run_saved(store, rows, process, Certainty::Quiet, scratch, &mut notes, steps);
     scratch.saved.put_back(

@@ -16,6 +16,7 @@ use crate::change::certainty;
 use crate::settled::run_saved;
 use crate::{Found, ProcessRows, Scratch};
 use block_runs::BlockNotes;
+use body_replay::runs_lawful;
 use body_store::Store;
 use std::sync::ledger::Ledger;
 use step_counts::Steps;
@@ -60,6 +61,7 @@ pub fn run<N: BlockNotes, L: Ledger>(
     ensures pieces { scratch.new.pieces ≡ scratch.old.pieces }
     ensures steps { steps.new ≡ steps.old + 1 }
 {
+    runs_lawful();
     let wakes = rows.wakes.row(process);
     let how = certainty(values, store, found.sets, wakes, found.time);
     run_saved(store, rows, process, how, scratch, notes, steps);
