@@ -1,5 +1,5 @@
 -- A body without nonblocking assignments queues nothing.
-use Rattle.std.proofs.Common.{◌≡◌, ℕ, ◌+◌, ◌&&◌, ◌||◌, Bool, true, false, not, List, [], ◌∷◌, ◌++◌, None, refl, ap, ap₂, arith}
+use Rattle.std.proofs.Common.{◌≡◌, ℕ, Bool, true, false, not, List, [], ◌++◌, None, refl, ap, ap₂, arith}
 use Rattle.std.proofs.lemmas.Bool.{false≢true, or_parts, true≢false}
 use Rattle.design_model.specs.Design.{Design, IsClocked, body, body_at, process_at}
 use Rattle.design_model.specs.Lawful.{IsLawfulDesign, target_once}

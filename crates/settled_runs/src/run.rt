@@ -48,6 +48,15 @@ pub fn run_settled<N: BlockNotes, L: Ledger>(
     runs_lawful();
     store.holding();
     let processes = design.processes.as_slice();
-    run_body(store, design, &processes[process], written, how, pieces, notes, steps);
+    run_body(
+        store,
+        design,
+        &processes[process],
+        written,
+        how,
+        pieces,
+        notes,
+        steps,
+    );
     store.holding();
 }

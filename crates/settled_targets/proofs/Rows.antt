@@ -1,7 +1,7 @@
 -- The signals and the bits of a row, one bits after the other.
 use Rattle.std.proofs.Common.{◌≡◌, ℕ, zero, suc, ◌+◌, ◌<◌, ◌==◌, ◌&&◌, ◌||◌, Bool, true, false, not, if◌then◌else◌, List, [], ◌∷◌, get_or, length, map, take, Option, None, refl, sym, ap, ap₂, subst, ◌∙◌, inl, inr, arith}
 use Rattle.std.proofs.Math.Path.{fun_ext}
-use Rattle.std.proofs.lemmas.Bool.{and_parts, eqb-true, false_from_ne_true, false≢true, or_from, true≢false}
+use Rattle.std.proofs.lemmas.Bool.{and_parts, eqb-true, false_from_ne_true, or_from, true≢false}
 use Rattle.std.proofs.lemmas.List.Folds.{list_any_more}
 use Rattle.event_machine.specs.Cell.{Cell}
 use Rattle.four_state.specs.Masks.{is_set}
@@ -10,7 +10,7 @@ use Rattle.design_model.specs.Design.{In}
 use Rattle.body_replay.specs.Store.{Kept}
 use Rattle.process_targets.specs.Targets.{IsOnce, has_bit, names, row_has}
 use Rattle.process_targets.specs.declared.bits.Bits.{Bits}
-use Rattle.step_values.specs.Loose.{has_code, uncoded}
+use Rattle.step_values.specs.Loose.{has_code}
 use Rattle.settled_targets.specs.Returned.{holding, remade, returned}
 use Rattle.settled_targets.specs.Saved.{hiding}
 

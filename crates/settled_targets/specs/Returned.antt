@@ -1,5 +1,5 @@
 -- What is kept and what was made of the targets of a process after its run.
-use Rattle.std.specs.Prelude.{◌≡◌, ◌<◌, ◌==◌, ℕ, Bool, true, if◌then◌else◌, List, length, map, Option, None}
+use Rattle.std.specs.Prelude.{◌≡◌, ◌<◌, ℕ, Bool, true, if◌then◌else◌, List, length, map, Option, None}
 use Rattle.event_machine.specs.Cell.{Cell}
 use Rattle.design_model.specs.Design.{Design, signal_cells}
 use Rattle.body_replay.specs.KnownBits.{KnownBits}

@@ -45,7 +45,15 @@ impl SavedValues {
     {
         for place in 0..targets.len() {
             let saved = self.at(place);
-            put_back_bits(store, values, &targets[place], &saved, codes, is_kept, is_made);
+            put_back_bits(
+                store,
+                values,
+                &targets[place],
+                &saved,
+                codes,
+                is_kept,
+                is_made,
+            );
         }
     }
 }

@@ -1,6 +1,6 @@
 pub mod Masks
 pub mod Changing
-pub mod Acting
+pub mod Acts
 pub mod Targets
 pub mod Stepping
-pub mod First
+pub mod FirstRuns

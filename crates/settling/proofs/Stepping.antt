@@ -31,7 +31,7 @@ use Rattle.settled_targets.specs.Saved.{AreSaved}
 use Rattle.wake_bits.specs.declared.wakes.Wake.{Wake}
 use Rattle.settling.specs.Runs.{AreActed, AtPoint, IsStepOf, acts_by, outcome_at}
 use Rattle.settling.specs.Wakes.{HasState}
-use Rattle.settling.proofs.Acting.{comb_test, holds_is}
+use Rattle.settling.proofs.Acts.{comb_test, holds_is}
 use Rattle.settling.proofs.Targets.{kept_is, made_is}
 
 -- the outcome is that of the body, in the way that the code has found
@@ -45,11 +45,11 @@ pub touched_is : (st : Closing) (ordered : Bool) (p : ℕ) (w : Working) → is_
 touched_is st ordered p w e = ap (λ t. if t then after_settling st ordered p (certainty st w.kept p) (outcome_at st w p) w else w) e
 
 module _ (st : Closing) (w : Working) (p : ℕ) (ordered : Bool) (how : Certainty) (row : List Bits) (wakes : List (List Wake)) (codes : List (Option ℕ)) (changed : List ℕ) (time : ℕ) (sets : WakeState) (flags : List Bool) (x z y : Store) (v u : StepVectors) (qs : List Partly) (is_kept is_made : Bool)
-  (lawful : IsLawfulDesign st.design) (runs : AreRuns st.design (runs_of st.design)) (settles : IsClocked (process_at st.design p) → ⊥) (targets : AreTargets st.design p row) (signals : All (λ k. k.thing < length st.design.signals) (row_at wakes p))
-  (point : AtPoint st w x v sets flags) (step : IsStepOf st p wakes codes changed time) (touched : is_touched st p ≡ true) (how_is : how ≡ certainty st w.kept p)
-  (made : is_made ≡ (not (is_comb (process_at st.design p)) || acts_by flags p how (row_at wakes p) changed)) (kept : is_kept ≡ (ordered && is_made))
-  (saved : AreSaved st.design w.kept row qs) (left : Knows st.design (runs_of st.design p (plain_store (settled_kept st.design p w.kept)) how).kept z)
-  (back : Returns codes (names row) (row_has row) is_kept is_made (λ d k. AreSaved d k row qs) z y v u) where
+    (lawful : IsLawfulDesign st.design) (runs : AreRuns st.design (runs_of st.design)) (settles : IsClocked (process_at st.design p) → ⊥) (targets : AreTargets st.design p row) (signals : All (λ k. k.thing < length st.design.signals) (row_at wakes p))
+    (point : AtPoint st w x v sets flags) (step : IsStepOf st p wakes codes changed time) (touched : is_touched st p ≡ true) (how_is : how ≡ certainty st w.kept p)
+    (made : is_made ≡ (not (is_comb (process_at st.design p)) || acts_by flags p how (row_at wakes p) changed)) (kept : is_kept ≡ (ordered && is_made))
+    (saved : AreSaved st.design w.kept row qs) (left : Knows st.design (runs_of st.design p (plain_store (settled_kept st.design p w.kept)) how).kept z)
+    (back : Returns codes (names row) (row_has row) is_kept is_made (λ d k. AreSaved d k row qs) z y v u) where
   abbrev d : Design
   d = st.design
 

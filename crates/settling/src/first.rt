@@ -59,7 +59,15 @@ pub fn run_first<L: Ledger>(
 {
     runs_lawful();
     let mut notes = Unnoted;
-    run_saved(store, rows, process, Certainty::Quiet, scratch, &mut notes, steps);
+    run_saved(
+        store,
+        rows,
+        process,
+        Certainty::Quiet,
+        scratch,
+        &mut notes,
+        steps,
+    );
     scratch.saved.put_back(
         store,
         values,

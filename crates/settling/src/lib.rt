@@ -10,10 +10,10 @@ mod acting;
 mod change;
 mod first;
 mod parts;
-mod run;
+mod process;
 mod settled;
 
 pub use change::certainty;
 pub use first::run_first;
 pub use parts::{Found, ProcessRows, Scratch};
-pub use run::run;
+pub use process::run;

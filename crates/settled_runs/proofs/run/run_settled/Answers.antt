@@ -1,4 +1,4 @@
-use Rattle.std.proofs.Common.{◌≡◌, ◌∙◌, ◌+◌, ◌<◌, ◌≤◌, ◌++◌, ℕ, [], true, ap, arith, get_or, length, subst, sym}
+use Rattle.std.proofs.Common.{◌≡◌, ◌∙◌, ◌+◌, ◌≤◌, ◌++◌, [], true, ap, arith, get_or, length, subst, sym}
 use Rattle.std.specs.List.{All}
 use Rattle.std.proofs.lemmas.List.{length-map}
 use Rattle.design_model.specs.Design.{Design, IsClocked, body, body_at, is_number, process_at}
@@ -6,7 +6,6 @@ use Rattle.design_model.specs.Lawful.{IsLawfulDesign}
 use Rattle.design_model.specs.View.{design_view, process_view}
 use Rattle.body_replay.specs.Contract.{Outcome}
 use Rattle.body_replay.specs.Runs.{runs_of}
-use Rattle.body_replay.specs.Store.{Kept}
 use Rattle.scene_laws.specs.At.{flat}
 use Rattle.assignments.proofs.Lawful.{lawful_widths}
 use Rattle.assignments.specs.Widths.{HasWidths}
@@ -15,7 +14,6 @@ use Rattle.body_store.specs.Bodies.{queued_of, rooms_of}
 use Rattle.block_runs.specs.Notes.{AddsNotes, way_of}
 use Rattle.process_targets.proofs.Processes.{body_is}
 use Rattle.replay_model.specs.Step.{plain_store}
-use Rattle.store_knowledge.specs.Knows.{Knows}
 use Rattle.settled_runs.proofs.Running.{HasRun, are_numbers, assigned_number, kept_own, outcome_known, read_own, run_known}
 use Rattle.settled_runs.proofs.run.run_settled.Goals as goal
 

@@ -1,10 +1,9 @@
-use Rattle.std.proofs.Common.{◌≡◌, ◌∙◌, None, ap, length, subst, sym}
+use Rattle.std.proofs.Common.{◌≡◌, ◌∙◌, None, ap, length, subst}
 use Rattle.std.specs.Prelude.{replicate, Option}
 use Rattle.std.proofs.lemmas.List.{length-replicate}
 use Rattle.four_state.specs.declared.bit.Bit.{Bit}
 use Rattle.known_state.specs.Partly.{Partly}
 use Rattle.design_model.specs.Design.{signal_at}
-use Rattle.design_model.specs.View.{design_view}
 use Rattle.store_knowledge.specs.Knows.{Knows, with_bits}
 use Rattle.step_values.proofs.Forgets.{known_width}
 use Rattle.settled_targets.proofs.Cells.{bits_hidden}

@@ -15,8 +15,7 @@ hide_signal-requires-clause-known c = (c.requires.known.0, _, c.loop-bits.invari
 pub loop-bits-preserved : goal.loop-bits-preserved
 loop-bits-preserved c =
     let row = c.args.targets.now in
-    let i = c.loop-bits.bits-index in
-    (
+    let i = c.loop-bits.bits-index in (
       c.hide_signal.ensures.design ∙ c.loop-bits.invariant.0,
       λ d k h. subst (λ j. Knows d j c.hide_signal.new.store)
           (hiding_more _ (names (take i row)) (names (take (i + 1) row)) k (λ s. named_more row i _ s c.loop-bits-test.true))

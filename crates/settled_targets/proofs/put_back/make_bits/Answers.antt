@@ -1,6 +1,6 @@
 use Rattle.std.proofs.Common.{◌≡◌, ◌∙◌, ℕ, ◌<◌, ◌^◌, None, ap, get_or, length, subst, sym}
 use Rattle.known_state.specs.Partly.{Partly}
-use Rattle.step_values.specs.Vectors.{StepVectors, vector_at}
+use Rattle.step_values.specs.Vectors.{StepVectors}
 use Rattle.settled_targets.specs.Returned.{IsMadeOf}
 use Rattle.settled_targets.proofs.Cells.{made_of, replaced_bit}
 use Rattle.settled_targets.proofs.put_back.make_bits.Goals as goal

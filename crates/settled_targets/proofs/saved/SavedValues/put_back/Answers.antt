@@ -1,13 +1,11 @@
-use Rattle.std.proofs.Common.{◌≡◌, ◌∙◌, ◌+◌, ◌<◌, ◌==◌, ap, arith, get_or, length, subst, sym, take}
-use Rattle.std.specs.List.{All}
+use Rattle.std.proofs.Common.{ap, arith, get_or, subst, sym}
 use Rattle.std.proofs.lemmas.List.{take_all}
 use Rattle.std.proofs.lemmas.List.Elements.{All-get_or}
-use Rattle.known_state.specs.Partly.{Partly}
 use Rattle.design_model.specs.View.{design_view}
 use Rattle.process_targets.specs.Placed.{no_bits}
 use Rattle.process_targets.specs.Rows.{IsInside}
 use Rattle.process_targets.specs.Targets.{names, row_has}
-use Rattle.step_values.specs.Vectors.{FitsSignals, vector_at}
+use Rattle.step_values.specs.Vectors.{FitsSignals}
 use Rattle.settled_targets.specs.Returned.{Returns}
 use Rattle.settled_targets.specs.Saved.{AreSaved, IsSaved}
 use Rattle.settled_targets.proofs.Returning.{none_returned, one_returned}

@@ -1,6 +1,4 @@
 use Rattle.std.proofs.Common.{take}
-use Rattle.design_model.specs.Design.{Design}
-use Rattle.body_replay.specs.Store.{Kept}
 use Rattle.process_targets.specs.Targets.{names, row_has}
 use Rattle.settled_targets.specs.Returned.{Returns}
 use Rattle.settled_targets.specs.Saved.{AreSaved}

@@ -36,9 +36,9 @@ assign_settles (comb i wakes s) e h = h
 assign_settles (clocked i events s) e h = absurd (false≢true e)
 
 module _ (d : Design) (bound : ℕ → Bool) (tables : Tables) (new : Values Bit) (w : Starting) (p : ℕ) (ordered : Bool) (row : List Bits) (codes : List (Option ℕ)) (x z y : Store) (v u : StepVectors) (qs : List Partly)
-  (lawful : IsLawfulDesign d) (runs : AreRuns d (runs_of d)) (is : is_assign (process_at d p) ≡ true) (targets : AreTargets d p row) (same : (s : ℕ) → bound s ≡ has_code codes s)
-  (at : AtFirst d bound w x v) (saved : AreSaved d w.kept row qs) (left : Knows d (runs_of d p (plain_store (settled_kept d p w.kept)) quiet).kept z)
-  (back : Returns codes (names row) (row_has row) ordered true (λ e k. AreSaved e k row qs) z y v u) where
+    (lawful : IsLawfulDesign d) (runs : AreRuns d (runs_of d)) (is : is_assign (process_at d p) ≡ true) (targets : AreTargets d p row) (same : (s : ℕ) → bound s ≡ has_code codes s)
+    (at : AtFirst d bound w x v) (saved : AreSaved d w.kept row qs) (left : Knows d (runs_of d p (plain_store (settled_kept d p w.kept)) quiet).kept z)
+    (back : Returns codes (names row) (row_has row) ordered true (λ e k. AreSaved e k row qs) z y v u) where
   settles : IsClocked (process_at d p) → ⊥
   settles = assign_settles (process_at d p) is
 

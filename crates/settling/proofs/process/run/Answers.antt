@@ -11,4 +11,4 @@ use Rattle.body_replay.specs.Runs.{runs_of}
 use Rattle.settling.specs.Runs.{acts_by}
 use Rattle.settling.specs.Wakes.{IsWakeRow}
 use Rattle.settling.proofs.Stepping.{found_process, outcome_is, point_after}
-use Rattle.settling.proofs.run.run.Goals as goal
+use Rattle.settling.proofs.process.run.Goals as goal
