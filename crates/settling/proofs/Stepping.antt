@@ -1,5 +1,5 @@
 -- The parts of the code after a run, beside the definition of the run.
-use Rattle.std.proofs.Common.{◌≡◌, ℕ, ◌+◌, ◌<◌, ◌==◌, ◌&&◌, ◌||◌, Bool, true, false, not, if◌then◌else◌, List, get_or, length, map, Option, None, refl, sym, ap, ap₂, subst, ◌∙◌, eq-eqb}
+use Rattle.std.proofs.Common.{◌≡◌, ℕ, ◌+◌, ◌<◌, ◌==◌, ◌&&◌, ◌||◌, Bool, true, false, not, if◌then◌else◌, List, get_or, length, map, Option, None, refl, sym, ap, ap₂, subst, ◌∙◌, eq-eqb, length-set}
 use Rattle.std.specs.Prelude.{slice_index_or, slice_set}
 use Rattle.std.specs.List.{All}
 use Rattle.std.proofs.lemmas.Bool.{eqb-true, false≢true}
@@ -125,3 +125,8 @@ module _ (st : Closing) (w : Working) (p : ℕ) (ordered : Bool) (how : Certaint
 -- a process of the design that a store knows
 pub found_process : (c : CodeDesign) (d : Design) (p : ℕ) (q : CodeProcess) (qs : List CodeProcess) → design_view c ≡ d → p < length c.processes → q ≡ get_or qs p q → qs ≡ c.processes → process_at d p ≡ process_view q
 found_process c d p q qs same l is list = ap (λ e. process_at e p) (sym same) ∙ process_is c p q l (is ∙ ap (λ ys. get_or ys p q) list)
+
+-- the flags are as many as before
+pub same_count : (t b : Bool) (flags : List Bool) (p : ℕ) → length (if t then slice_set flags p b else flags) ≡ length flags
+same_count true b flags p = length-set flags p b
+same_count false b flags p = refl

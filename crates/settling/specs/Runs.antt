@@ -19,21 +19,21 @@ use Rattle.wake_bits.specs.declared.wakes.Wake.{Wake}
 use Rattle.settling.specs.Wakes.{HasState, IsWakeRow}
 
 -- for each process there are the bits that it may write, the signals that an Assign or Comb assigns, and what it watches, signals alone
-pub record HasRows (d : Design) (targets : List (List Bits)) (written : List (List ℕ)) (wakes : List (List Wake)) : Type 0 where
-  pub targets : AreTargetRows d targets
-  pub written_count : length written ≡ length d.processes
-  pub written : (p x : ℕ) → (IsClocked (process_at d p) → ⊥) → is_in (row_at written p) x ≡ body_assigns x (body_at d p)
-  pub wakes_count : length wakes ≡ length d.processes
-  pub signals : (p : ℕ) → All (λ w. w.thing < length d.signals) (row_at wakes p)
+pub record HasRows (d : Design) (target_rows : List (List Bits)) (written_rows : List (List ℕ)) (wake_rows : List (List Wake)) : Type 0 where
+  pub targets : AreTargetRows d target_rows
+  pub written_count : length written_rows ≡ length d.processes
+  pub written : (p x : ℕ) → (IsClocked (process_at d p) → ⊥) → is_in (row_at written_rows p) x ≡ body_assigns x (body_at d p)
+  pub wakes_count : length wake_rows ≡ length d.processes
+  pub signals : (p : ℕ) → All (λ w. w.thing < length d.signals) (row_at wake_rows p)
 
 -- the rows, the codes and the signals that have changed are those of the step, for this process
-pub record IsStepOf (st : Closing) (p : ℕ) (wakes : List (List Wake)) (codes : List (Option ℕ)) (changed : List ℕ) (time : ℕ) : Type 0 where
+pub record IsStepOf (st : Closing) (p : ℕ) (wake_rows : List (List Wake)) (codes : List (Option ℕ)) (changing : List ℕ) (now : ℕ) : Type 0 where
   pub runs : st.run ≡ runs_of st.design
-  pub wakes : IsWakeRow st p (row_at wakes p)
+  pub wakes : IsWakeRow st p (row_at wake_rows p)
   pub watched : (x : ℕ) → body_mentions x (body_at st.design p) ≡ true → In x (st.tables.watched p)
   pub bound : (s : ℕ) → st.bound s ≡ has_code codes s
-  pub changed : (s : ℕ) → s < length st.design.signals → is_in changed s ≡ (st.bound s && dump_changes st s)
-  pub time : st.time ≡ time
+  pub changed : (s : ℕ) → s < length st.design.signals → is_in changing s ≡ (st.bound s && dump_changes st s)
+  pub time : st.time ≡ now
   pub moves : MoveTargets st
 
 -- the flags say which Combs have surely acted

@@ -38,6 +38,13 @@ pub(crate) fn result_holds(
     acts
 }
 
+/// Whether what a run makes is kept: where it holds, of a process that is ordered.
+pub(crate) fn is_kept(is_ordered: bool, holds: bool) -> bool
+    ensures { result ≡ (is_ordered && holds) }
+{
+    is_ordered && holds
+}
+
 /// Whether a Comb has surely acted: before, by a sure change of what wakes it, or by a change of a signal that it mentions.
 fn surely_acts(has_acted: bool, how: Certainty, wakes: &[Wake], changed: &IndexSet) -> bool
     requires { All (λ w. w.thing < changed.now.size) wakes.now }

@@ -11,7 +11,7 @@ ghost use Rattle.store_knowledge.specs.Knows.{Knows};
 ghost use Rattle.step_values.specs.Vectors.{FitsSignals};
 ghost use Rattle.settling.specs.Runs.{AtPoint, HasRows, IsStepOf, outcome_at};
 
-use crate::acting::result_holds;
+use crate::acting::{is_kept, result_holds};
 use crate::change::certainty;
 use crate::settled::run_saved;
 use crate::{Found, ProcessRows, Scratch};
@@ -79,7 +79,7 @@ pub fn run<N: BlockNotes, L: Ledger>(
         values,
         rows.targets.row(process),
         rows.codes,
-        is_ordered && holds,
+        is_kept(is_ordered, holds),
         holds,
     );
 }
