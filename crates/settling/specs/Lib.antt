@@ -1,1 +1,3 @@
 pub mod Wakes
+pub mod Runs
+pub mod First

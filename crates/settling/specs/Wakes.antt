@@ -1,30 +1,24 @@
 -- What wakes a process in a step, and the parts of the code beside the definition of the step.
-use Rattle.std.specs.Prelude.{◌≡◌, ◌<◌, ℕ, not, List, length, map}
-use Rattle.std.specs.List.{All}
-use Rattle.four_state.specs.Masks.{is_set}
-use Rattle.design_model.specs.Design.{Design, body_at, cell, signal_at}
-use Rattle.design_model.specs.Mentions.{blocking_target}
+use Rattle.std.specs.Prelude.{◌≡◌, ℕ, List, map}
+use Rattle.design_model.specs.Design.{body_at}
+use Rattle.design_model.specs.Mentions.{blocking_target, body_mentions}
 use Rattle.early_sets.specs.Has.{is_in}
 use Rattle.early_sets.specs.WakeState.{WakeState}
 use Rattle.body_store.specs.declared.store.Store.{Store}
-use Rattle.process_targets.specs.declared.bits.Bits.{Bits}
 use Rattle.replay_model.specs.Step.{Closing, Working}
 use Rattle.replay_steps.specs.Settling.{IsStillAt}
 use Rattle.step_values.specs.Starts.{HasValues}
 use Rattle.step_values.specs.Vectors.{StepVectors}
+use Rattle.wake_bits.specs.Wakes.{AreWakes}
+use Rattle.wake_bits.specs.declared.wakes.Wake.{Wake}
 
--- the bits of a signal that process p does not itself assign
-pub record IsWake (d : Design) (p : ℕ) (b : Bits) : Type 0 where
-  pub signal : b.signal < length d.signals
-  pub bits : (j : ℕ) → j < (signal_at d b.signal).width → is_set b.mask j ≡ not (blocking_target d (body_at d p) (cell b.signal j))
+-- the row has what process p watches, in the order of the tables, with the bits that it does not itself write and whether it mentions it
+abbrev pub IsWakeRow : Closing → ℕ → List Wake → Type 0
+IsWakeRow st p row = AreWakes st.design (blocking_target st.design (body_at st.design p)) (λ x. body_mentions x (body_at st.design p)) (st.tables.watched p) row
 
--- so is each of a row
-abbrev pub AreWakes : Design → ℕ → List Bits → Type 0
-AreWakes d p row = All (IsWake d p) row
-
--- the signals of a row
-abbrev pub watched_in : List Bits → List ℕ
-watched_in row = map (λ b. b.signal) row
+-- the things of a row
+abbrev pub things_of : List Wake → List ℕ
+things_of row = map (λ w. w.thing) row
 
 -- the store, the vectors that are set aside and the sets are those of the step at this point
 pub record HasState (st : Closing) (w : Working) (x : Store) (v : StepVectors) (sets : WakeState) : Type 0 where

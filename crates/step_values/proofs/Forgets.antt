@@ -13,10 +13,11 @@ use Rattle.design_model.specs.View.{design_view}
 use Rattle.body_replay.specs.Store.{Kept}
 use Rattle.body_store.specs.declared.store.Store.{Store}
 use Rattle.index_sets.specs.Rows.{row_at}
+use Rattle.process_targets.specs.Rows.{IsInside}
 use Rattle.process_targets.specs.Targets.{has_bit, row_has}
 use Rattle.process_targets.specs.declared.bits.Bits.{Bits}
 use Rattle.store_knowledge.specs.Knows.{Knows, with_bits}
-use Rattle.step_values.specs.Loose.{IsInside, forgetting, has_code, some_row_has, uncoded}
+use Rattle.step_values.specs.Loose.{forgetting, has_code, some_row_has, uncoded}
 use Rattle.step_values.specs.Loosens.{Loosens}
 use Rattle.step_values.specs.Vectors.{StepVectors, vector_at}
 use Rattle.step_values.proofs.Bits.{bits_forgotten, left, row_kept}

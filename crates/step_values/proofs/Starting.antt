@@ -15,6 +15,7 @@ use Rattle.body_calls.specs.Own.{is_in}
 use Rattle.body_store.specs.Owned.{IsBlank}
 use Rattle.body_store.specs.declared.store.Store.{Store}
 use Rattle.index_sets.specs.Rows.{row_at}
+use Rattle.process_targets.specs.Rows.{IsInside}
 use Rattle.process_targets.specs.Targets.{row_has}
 use Rattle.process_targets.specs.declared.bits.Bits.{Bits}
 use Rattle.replay_model.specs.Step.{Closing, clocked_run, is_loose, settle_start}
@@ -23,7 +24,7 @@ use Rattle.replay_steps.proofs.Settling.{loose_is, starts_settled}
 use Rattle.store_knowledge.specs.Knows.{Knows}
 use Rattle.store_knowledge.proofs.Cells.{out_of_cells}
 use Rattle.step_values.specs.Dumped.{HaveCodes, putting}
-use Rattle.step_values.specs.Loose.{HaveRows, IsInside, forgetting, has_code, some_row_has, uncoded}
+use Rattle.step_values.specs.Loose.{HaveRows, forgetting, has_code, some_row_has, uncoded}
 use Rattle.step_values.specs.Starts.{HasValues, IsStartOf}
 use Rattle.step_values.specs.Vectors.{AreOpened, FitsSignals, StepVectors, vector_at}
 

@@ -1,10 +1,11 @@
 -- What is forgotten of the cells of a design.
-use Rattle.std.specs.Prelude.{◌<◌, ◌&&◌, ◌^◌, ℕ, Bool, not, if◌then◌else◌, List, length, slice_index_or, Option, None, is_some}
+use Rattle.std.specs.Prelude.{◌<◌, ◌&&◌, ℕ, Bool, not, if◌then◌else◌, List, length, slice_index_or, Option, None, is_some}
 use Rattle.std.specs.List.{All, list_any}
 use Rattle.event_machine.specs.Cell.{Cell}
-use Rattle.design_model.specs.Design.{Design, signal_at}
+use Rattle.design_model.specs.Design.{Design}
 use Rattle.body_replay.specs.Store.{Kept}
 use Rattle.index_sets.specs.Rows.{row_at}
+use Rattle.process_targets.specs.Rows.{IsInside}
 use Rattle.process_targets.specs.Targets.{row_has}
 use Rattle.process_targets.specs.declared.bits.Bits.{Bits}
 
@@ -24,10 +25,6 @@ uncoded codes test c = test c && not (has_code codes c.thing)
 abbrev pub some_row_has : List (List Bits) → List ℕ → Cell → Bool
 some_row_has rows ps c = list_any (λ p. row_has (row_at rows p) c) ps
 
--- the bits are of a signal of the design, inside of it
-abbrev pub IsInside : Design → Bits → Type 0
-IsInside d b = (b.signal < length d.signals) × (b.mask < 2 ^ (signal_at d b.signal).width)
-
--- these processes have rows, with such bits
+-- these processes have rows, with bits of signals of the design
 abbrev pub HaveRows : Design → List (List Bits) → List ℕ → Type 0
 HaveRows d rows ps = All (λ p. (p < length rows) × All (IsInside d) (row_at rows p)) ps

@@ -5,9 +5,10 @@ ghost use Rattle.std.specs.List.{All};
 ghost use Rattle.design_model.specs.Design.{Design};
 ghost use Rattle.design_model.specs.View.{design_view};
 ghost use Rattle.body_replay.specs.Store.{Kept};
+ghost use Rattle.process_targets.specs.Rows.{IsInside};
 ghost use Rattle.process_targets.specs.Targets.{has_bit, row_has};
 ghost use Rattle.store_knowledge.specs.Knows.{Knows};
-ghost use Rattle.step_values.specs.Loose.{HaveRows, IsInside, forgetting, has_code, some_row_has};
+ghost use Rattle.step_values.specs.Loose.{HaveRows, forgetting, has_code, some_row_has};
 ghost use Rattle.step_values.specs.Loosens.{Loosens};
 ghost use Rattle.step_values.specs.Vectors.{FitsSignals};
 
@@ -67,7 +68,7 @@ impl StepValues {
 }
 
 /// Whether a signal has a code.
-fn is_coded(codes: &[Option<u32>], signal: u32) -> bool
+pub fn is_coded(codes: &[Option<u32>], signal: u32) -> bool
     ensures { result ≡ has_code codes.now signal }
 {
     match codes.get(signal as usize) {

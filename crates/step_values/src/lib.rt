@@ -16,5 +16,6 @@ mod room;
 mod values;
 
 pub use dump::put_dump;
+pub use forget::is_coded;
 pub use laws::{bound_law, still_law};
 pub use values::StepValues;

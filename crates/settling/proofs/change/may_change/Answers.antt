@@ -10,14 +10,14 @@ use Rattle.settling.proofs.change.may_change.Goals as goal
 pub unsteady-requires : goal.unsteady-requires
 unsteady-requires c =
     let h = c.requires.known.2 in
-    ap (λ (q : Partly). length q.bits) c.before-old.ensures ∙ c.requires.fits.before.width c.args.bits.now.signal c.requires.inside.0 ∙ sym (known_width c.requires.known.0 c.requires.known.1 c.args.store.now c.args.bits.now.signal c.known_signal-now.result h (c.known_signal-now.ensures c.requires.known.0 c.requires.known.1 h))
+    ap (λ (q : Partly). length q.bits) c.before-old.ensures ∙ c.requires.fits.before.width c.args.wake.now.thing c.requires.signal ∙ sym (known_width c.requires.known.0 c.requires.known.1 c.args.store.now c.args.wake.now.thing c.known_signal-now.result h (c.known_signal-now.ensures c.requires.known.0 c.requires.known.1 h))
 
 pub returns-then-not-may_move : goal.returns-then-not-may_move
 returns-then-not-may_move c = λ st w p state wake.
-    let none : is_in (state_of c.args.sets.now).moves c.args.bits.now.signal ≡ false = sym (is_in_is (state_of c.args.sets.now).moves c.args.bits.now.signal c.may_move.result c.may_move.ensures) ∙ c.if-not-may_move.true in
-    sym (ap not (unmoved st w p c.args.store.now c.args.values.now (state_of c.args.sets.now) c.args.bits.now state wake none).1)
+    let none : is_in (state_of c.args.sets.now).moves c.args.wake.now.thing ≡ false = sym (is_in_is (state_of c.args.sets.now).moves c.args.wake.now.thing c.may_move.result c.may_move.ensures) ∙ c.if-not-may_move.true in
+    sym (ap not (unmoved st w p c.args.store.now c.args.values.now (state_of c.args.sets.now) c.args.wake.now state wake c.requires.signal none).1)
 
 pub returns : goal.returns
 returns c = λ st w p state wake.
-    let some : is_in (state_of c.args.sets.now).moves c.args.bits.now.signal ≡ true = sym (is_in_is (state_of c.args.sets.now).moves c.args.bits.now.signal c.may_move.result c.may_move.ensures) ∙ c.if-not-may_move.false in
-    unsure st w p c.args.store.now c.args.values.now (state_of c.args.sets.now) c.args.bits.now state wake c.before-old.result c.known_signal-now.result c.unsteady.result c.requires.inside some c.before-old.ensures c.known_signal-now.ensures c.unsteady.ensures
+    let some : is_in (state_of c.args.sets.now).moves c.args.wake.now.thing ≡ true = sym (is_in_is (state_of c.args.sets.now).moves c.args.wake.now.thing c.may_move.result c.may_move.ensures) ∙ c.if-not-may_move.false in
+    unsure st w p c.args.store.now c.args.values.now (state_of c.args.sets.now) c.args.wake.now state wake c.requires.signal c.before-old.result c.known_signal-now.result c.unsteady.result some c.before-old.ensures c.known_signal-now.ensures c.unsteady.ensures

@@ -1,0 +1,2 @@
+pub mod Unqueued
+pub mod Running

@@ -1,0 +1,91 @@
+//! Whether a combinational block has surely acted.
+
+ghost use Rattle.std.specs.Prelude.{◌≡◌, ◌<◌, ◌&&◌, ◌||◌, if◌then◌else◌, length, not, slice_set};
+ghost use Rattle.std.specs.List.{All};
+ghost use Rattle.design_model.specs.View.{process_view};
+ghost use Rattle.body_calls.specs.Own.{is_in};
+ghost use Rattle.block_runs.specs.Notes.{way_of};
+ghost use Rattle.replay_model.specs.Step.{is_clean_way, is_comb as is_comb_of};
+ghost use Rattle.settling.specs.Runs.{acts_by, sees_by};
+
+use crate::settled::is_comb;
+use block_runs::Certainty;
+use design_model::Process;
+use index_sets::IndexSet;
+use wake_bits::Wake;
+
+/// Whether what a run of this certainty makes holds, in a step in which these signals have changed: of an Assign it does, and of a
+/// Comb where it has surely acted in the window, which is kept among the flags. `wakes` is what the process watches. It takes
+/// time for that.
+pub(crate) fn result_holds(
+    acted: &mut [bool],
+    number: usize,
+    process: &Process,
+    how: Certainty,
+    wakes: &[Wake],
+    changed: &IndexSet,
+) -> bool
+    requires place { number < length acted.old }
+    requires below { All (λ w. w.thing < changed.now.size) wakes.now }
+    ensures result { result ≡ (not (is_comb_of (process_view process.now)) || acts_by acted.old number (way_of how) wakes.now changed.now.items) }
+    ensures flags { acted.new ≡ (if is_comb_of (process_view process.now) then slice_set acted.old number result else acted.old) }
+{
+    if !is_comb(process) {
+        return true;
+    }
+    let acts = surely_acts(acted[number], how, wakes, changed);
+    acted[number] = acts;
+    acts
+}
+
+/// Whether what a run makes is kept: where it holds, of a process that is ordered.
+pub(crate) fn is_kept(is_ordered: bool, holds: bool) -> bool
+    ensures { result ≡ (is_ordered && holds) }
+{
+    is_ordered && holds
+}
+
+/// Whether a Comb has surely acted: before, by a sure change of what wakes it, or by a change of a signal that it mentions.
+fn surely_acts(has_acted: bool, how: Certainty, wakes: &[Wake], changed: &IndexSet) -> bool
+    requires { All (λ w. w.thing < changed.now.size) wakes.now }
+    ensures { result ≡ (has_acted || (is_clean_way (way_of how) || sees_by wakes.now changed.now.items)) }
+{
+    if has_acted {
+        return true;
+    }
+    if is_clean(how) {
+        return true;
+    }
+    sees_change(wakes, changed)
+}
+
+/// Whether the process surely runs.
+fn is_clean(how: Certainty) -> bool
+    ensures { result ≡ is_clean_way (way_of how) }
+{
+    matches!(how, Certainty::Clean { .. })
+}
+
+/// Whether a signal that the body mentions has changed.
+fn sees_change(wakes: &[Wake], changed: &IndexSet) -> bool
+    requires { All (λ w. w.thing < changed.now.size) wakes.now }
+    ensures { result ≡ sees_by wakes.now changed.now.items }
+{
+    for wake in wakes {
+        if sees(wake, changed) {
+            return true;
+        }
+    }
+    false
+}
+
+/// Whether the body mentions this thing, and it has changed.
+fn sees(wake: &Wake, changed: &IndexSet) -> bool
+    requires { wake.now.thing < changed.now.size }
+    ensures { result ≡ (wake.now.mentioned && is_in changed.now.items wake.now.thing) }
+{
+    if !wake.mentioned {
+        return false;
+    }
+    changed.contains(wake.thing as usize)
+}
