@@ -46,7 +46,7 @@ loop-start-preserved c =
       within = omega (arith, c.loop-start.invariant.whole);
       whole = omega (arith, c.loop-start.invariant.whole);
       ones = ap₂ (λ (m k : ℕ). m * 65536 + k) c.loop-start.invariant.ones (c.from.ensures ∙ c.ones-in-loop-start.ensures ∙ masked writes_one_or_z)
-      ∙ sym (lanes_more writes_one_or_z bytes start (omega (arith, c.loop-start.invariant.whole)));
+          ∙ sym (lanes_more writes_one_or_z bytes start (omega (arith, c.loop-start.invariant.whole)));
       strange = ap₂ (λ (m k : ℕ). m * 65536 + k) c.loop-start.invariant.strange (c.from-in-loop-start.ensures ∙ c.strange-in-loop-start.ensures ∙ masked writes_strange)
-      ∙ sym (lanes_more writes_strange bytes start (omega (arith, c.loop-start.invariant.whole)));
+          ∙ sym (lanes_more writes_strange bytes start (omega (arith, c.loop-start.invariant.whole)));
     }
