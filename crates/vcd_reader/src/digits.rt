@@ -151,6 +151,9 @@ impl Digits {
         ensures { (word : List ℕ) → AreDigitsOf self.now word → result ≡ record { bits = value_bits size word; signed = false } }
     {
         let count = self.count as u8;
+        if count == size {
+            return Four::make(size, false, self.masks.ones, self.masks.strange);
+        }
         let digits = Four::make(count, self.goes_on, self.masks.ones, self.masks.strange);
         digits.extend(size, false)
     }
