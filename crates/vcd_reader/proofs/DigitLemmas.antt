@@ -1,20 +1,18 @@
 -- The digits of a value, one more at their end.
-use Rattle.std.proofs.Common.{◌≡◌, ℕ, zero, suc, ◌+◌, ◌-◌, ◌*◌, ◌^◌, ◌<◌, ◌≤◌, min, Bool, true, false, cond, ◌&&◌, List, [], ◌∷◌, ◌++◌, map, length, take, get_or, reverse, replicate, refl, sym, ap, subst, ◌∙◌, inl, inr, arith}
+use Rattle.std.proofs.Common.{◌≡◌, ℕ, zero, suc, ◌+◌, ◌-◌, ◌^◌, ◌<◌, ◌≤◌, min, Bool, true, false, cond, ◌&&◌, List, [], ◌∷◌, ◌++◌, map, length, reverse, replicate, refl, sym, ap, subst, ◌∙◌, inl, inr, arith}
 use Rattle.std.specs.List.{list_all}
-use Rattle.std.proofs.Math.Pow.{pow_mono}
 use Rattle.std.proofs.lemmas.Bool.{cases_lt}
-use Rattle.std.proofs.lemmas.List.{take_more, length-take, length-append, length-reverse, length-map, reverse-append, map_push}
+use Rattle.std.proofs.lemmas.List.{length-append, length-reverse, length-map, reverse-append, map_push}
 use Rattle.four_state.specs.declared.Bit.{Bit}
 use Rattle.four_state.specs.declared.Bit.TheVariants.{Zero, One, X, Z}
 use Rattle.four_state.specs.Vector.{Vector, top, fill, fit}
-use Rattle.four_state.specs.Masks.{bits_of_masks, is_one_or_z, is_strange}
+use Rattle.four_state.specs.Masks.{bits_of_masks, is_strange}
 use Rattle.four_state.specs.Parts.{extended_vector}
 use Rattle.vcd_reader.specs.Values.{is_digit, digit_bit, digit_bits, extension, value_bits}
 use Rattle.vcd_reader.specs.Masks.{AreMasksOf}
 use Rattle.vcd_reader.specs.Holding.{AreDigitsOf, begins_strange}
-use Rattle.vcd_reader.proofs.MaskLemmas.{digit, masks_more}
+use Rattle.vcd_reader.proofs.MaskLemmas.{digit}
 use Rattle.vcd_reader.specs.declared.digits.Digits.{Digits}
-use Rattle.vcd_reader.specs.declared.masks.Masks.{Masks}
 
 and_assoc : (a b c : Bool) → a && (b && c) ≡ (a && b) && c
 and_assoc true b c = refl
@@ -55,27 +53,6 @@ digits_more kept more word byte a count masks fresh same each =
         | inr none ↦ fresh (omega (arith, before)) ∙ sym (begins_strange-first word byte none)
       ];
     }
-
--- one digit more in masks that grow at their low end
-pub digits_masks_more : (word : List ℕ) (count byte ones strange : ℕ) → count < length word → AreMasksOf (digit_bits (take count word)) (record { ones = ones; strange = strange })
-    → AreMasksOf (digit_bits (take (count + 1) word)) (record { ones = ones * 2 + digit (is_one_or_z (digit_bit (get_or word count byte))); strange = strange * 2 + digit (is_strange (digit_bit (get_or word count byte))) })
-digits_masks_more word count byte ones strange within masks =
-    let more : digit_bits (take (count + 1) word) ≡ digit_bit (get_or word count byte) ∷ digit_bits (take count word) = ap digit_bits (take_more word count byte within) ∙ digit_bits-push (take count word) (get_or word count byte) in
-    let next : Masks = record { ones = ones * 2 + digit (is_one_or_z (digit_bit (get_or word count byte))); strange = strange * 2 + digit (is_strange (digit_bit (get_or word count byte))) } in
-    subst (λ (bits : List Bit). AreMasksOf bits next) (sym more) (masks_more (digit_bits (take count word)) (digit_bit (get_or word count byte)) ones strange masks)
-
--- masks of fewer than 64 digits have room for one more
-pub short_room : (word : List ℕ) (count mask : ℕ) → count < length word → length word ≤ 64 → mask < 2 ^ length (digit_bits (take count word)) → mask < 2 ^ 63
-short_room word count mask within short inside =
-    let long : length (digit_bits (take count word)) ≡ length (take count word) = simp (length-reverse, length-map) in
-    let few : length (take count word) ≡ min count (length word) = length-take count word in
-    let fits : length (digit_bits (take count word)) ≤ 63 = omega (arith, long, few, within, short) in
-    let larger : 2 ^ length (digit_bits (take count word)) ≤ 2 ^ 63 = pow_mono fits in
-    omega (arith, inside, larger)
-
-pub short_fits : (mask : ℕ) (p : Bool) → mask < 2 ^ 63 → mask * 2 + digit p < 2 ^ 64
-short_fits mask true few = omega (arith, few)
-short_fits mask false few = omega (arith, few)
 
 fit-empty : (width : ℕ) (bit : Bit) → fit width bit [] ≡ replicate width bit
 fit-empty zero bit = refl

@@ -10,6 +10,9 @@ pub mod TextLemmas
 pub mod HeaderStanding
 pub mod BodyStanding
 pub mod WholeWords
+pub mod VectorWords
+pub mod VectorFronts
+pub mod DigitFronts
 pub mod Splitting
 pub mod FaultLaws
 pub mod FaultNames

@@ -23,7 +23,7 @@ use Rattle.vcd_reader.proofs.TextLemmas.{stands_behind, stands_byte, fault_stays
 use Rattle.vcd_reader.proofs.BodyStanding.{gives_ok, gives_err, last_said-at, after_body, passing_next, with_said}
 
 -- a word that goes on with bytes that are no white space
-stands_word : (text word more : List ℕ) (means : Meaning) → Stands text means word → IsBlack more → length text + length more ≤ room_of means → Stands (text ++ more) means (word ++ more)
+pub stands_word : (text word more : List ℕ) (means : Meaning) → Stands text means word → IsBlack more → length text + length more ≤ room_of means → Stands (text ++ more) means (word ++ more)
 stands_word text word [] means s black room = subst (λ (t : List ℕ). Stands t means (word ++ [])) (sym (append-nil text)) (subst (λ (w : List ℕ). Stands text means w) (sym (append-nil word)) s)
 stands_word text word (byte ∷ more) means s black room =
     let first = black-first byte more black in
@@ -32,7 +32,7 @@ stands_word text word (byte ∷ more) means s black room =
     subst (λ (t : List ℕ). Stands t means (word ++ byte ∷ more)) (append_assoc text (byte ∷ []) more) (subst (λ (w : List ℕ). Stands ((text ++ byte ∷ []) ++ more) means w) (append_assoc word (byte ∷ []) more) rest)
 
 -- the reader is between two words
-none_kept : (reader : BodyReader) (text : List ℕ) (b : Body) (s : BodyStands reader text b) → reader.word ≡ word_row.None → s.word ≡ []
+pub none_kept : (reader : BodyReader) (text : List ℕ) (b : Body) (s : BodyStands reader text b) → reader.word ≡ word_row.None → s.word ≡ []
 none_kept reader text b s none = subst (λ w. IsWord w (has_begun b.reading.begun) s.word) none s.kept
 
 -- a whole word behind the text

@@ -23,4 +23,5 @@ pub mod Pieces
 pub mod Example
 pub mod Named
 pub mod Times
+pub mod Vectors
 pub mod Dump

@@ -6,6 +6,8 @@ ghost use Rattle.vcd_reader.specs.Reading.{Body as SpecBody, body};
 ghost use Rattle.vcd_reader.specs.Body.{nothing};
 ghost use Rattle.vcd_reader.specs.Text.{Stands, HasFault, EndsWithFault, is_alone, is_lone, is_one_digit};
 ghost use Rattle.vcd_reader.specs.Holding.{IsWord, IsSpelling};
+ghost use Rattle.vcd_reader.specs.Vectors.{IsVectorFront};
+ghost use Rattle.vcd_reader.specs.declared.reading.Begun.TheVariants as begun_row;
 ghost use Rattle.vcd_reader.specs.Wanted.{item_by};
 ghost use Rattle.vcd_reader.specs.Hearing.{said_by};
 ghost use Rattle.vcd_reader.specs.Passing.{Passing};
@@ -13,12 +15,13 @@ ghost use Rattle.vcd_reader.specs.declared.item.Saying.{Saying};
 ghost use Rattle.vcd_reader.specs.declared.fault.DumpFault.TheVariants as dump_fault;
 
 use crate::codes::Codes;
-use crate::element::{read_kept, read_whole};
+use crate::element::{read_kept, read_lanes, read_whole};
 use crate::filter::Filter;
 use crate::letters::{is_digit, is_white_space, length_of_word};
 use crate::reading::{Begun, Change, Reading};
 use crate::says::Says;
 use crate::spelling::Spelling;
+use crate::vector::{VectorFront, vector_front};
 use crate::word::Word;
 use crate::{DumpFault, DumpKind, Heard, Item, Saying, Step};
 
@@ -146,10 +149,83 @@ impl BodyReader {
         })
     }
 
+    /// Reads what a piece begins with that is not empty: a whole change of a vector, or else a word or a byte.
+    #[inline(always)]
+    fn read_front(&mut self, piece: &[u8], filter: Filter<'_>) -> Result<Front, DumpFault>
+        requires { 0 < length piece.now }
+        ensures some { IfOk result (λ front. 1 ≤ front.used) }
+        ensures within { IfOk result (λ front. front.used ≤ length piece.now) }
+        ensures ok { IfOk result (λ front. (text : List ℕ) (b : SpecBody) → BodyStands self.old text b → Passing filter.entry b (SaysNext (said_by front.says self.new.reading) self.new (text ++ take front.used piece.now))) }
+        ensures fault { IfErr result (λ fault. (text : List ℕ) (b : SpecBody) → BodyStands self.old text b → HasFault (text ++ piece.now) fault) }
+    {
+        match self.whole_vector(piece) {
+            Some(front) => self.read_vector(piece, front, filter),
+            None => self.read_word_or_byte(piece, filter),
+        }
+    }
+
+    /// The change of a vector that the piece begins with, where nothing of it was read before, nothing has begun, and there
+    /// is room for it.
+    #[inline(always)]
+    fn whole_vector(&self, piece: &[u8]) -> Option<VectorFront>
+        ensures none { IfSome result (λ front. self.now.word ≡ word_row.None) }
+        ensures rest { IfSome result (λ front. self.now.reading.begun ≡ begun_row.Nothing) }
+        ensures front { IfSome result (IsVectorFront piece.now) }
+        ensures room { IfSome result (λ front. self.now.at + front.digits + front.code + 3 ≤ 1099511627776) }
+    {
+        if !matches!(self.word, Word::None) || !matches!(self.reading.begun, Begun::Nothing) {
+            return None;
+        }
+        let front = vector_front(piece)?;
+        if piece.len() as u64 <= LONGEST - self.at {
+            Some(front)
+        } else {
+            None
+        }
+    }
+
+    /// Reads a whole change of a vector and the white space after it.
+    #[inline(always)]
+    fn read_vector(
+        &mut self,
+        piece: &[u8],
+        front: VectorFront,
+        filter: Filter<'_>,
+    ) -> Result<Front, DumpFault>
+        requires front { IsVectorFront piece.now front }
+        requires room { self.old.at + front.digits + front.code + 3 ≤ 1099511627776 }
+        ensures some { IfOk result (λ read. 1 ≤ read.used) }
+        ensures within { IfOk result (λ read. read.used ≤ length piece.now) }
+        ensures ok { IfOk result (λ read. (text : List ℕ) (b : SpecBody) → self.old.word ≡ word_row.None → self.old.reading.begun ≡ begun_row.Nothing → BodyStands self.old text b → Passing filter.entry b (SaysNext (said_by read.says self.new.reading) self.new (text ++ take read.used piece.now))) }
+        ensures fault { IfErr result (λ fault. (text : List ℕ) (b : SpecBody) → self.old.word ≡ word_row.None → self.old.reading.begun ≡ begun_row.Nothing → BodyStands self.old text b → HasFault (text ++ piece.now) fault) }
+    {
+        let VectorFront { digits, code } = front;
+        let (_, after_letter) = piece.split_at(1);
+        let (_, words) = piece.split_at(digits + 2);
+        let (code, _) = words.split_at(code);
+        let first = self.at;
+        let at = first + digits as u64 + 2;
+        let is_heard = read_lanes(
+            &self.codes,
+            filter,
+            &mut self.reading.change,
+            after_letter,
+            digits,
+            first,
+            code,
+            at,
+        )?;
+        self.at = at + code.len() as u64 + 1;
+        Ok(Front {
+            says: Says::change(is_heard),
+            used: digits + code.len() + 3,
+        })
+    }
+
     /// Reads what a piece begins with that is not empty: a whole word and the white space after it, or one byte of a
     /// word of which a part was read before or is not in the piece.
     #[inline(always)]
-    fn read_front(&mut self, piece: &[u8], filter: Filter<'_>) -> Result<Front, DumpFault>
+    fn read_word_or_byte(&mut self, piece: &[u8], filter: Filter<'_>) -> Result<Front, DumpFault>
         requires { 0 < length piece.now }
         ensures some { IfOk result (λ front. 1 ≤ front.used) }
         ensures within { IfOk result (λ front. front.used ≤ length piece.now) }

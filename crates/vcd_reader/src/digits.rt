@@ -1,17 +1,16 @@
-ghost use Rattle.std.specs.Prelude.{◌≡◌, ◌<◌, ◌≤◌, ◌^◌, ◌+◌, min, ℕ, false, ◌&&◌, List, [], ◌∷◌, ◌++◌, length};
+ghost use Rattle.std.specs.Prelude.{◌≡◌, ◌<◌, ◌≤◌, ◌^◌, ◌+◌, min, ℕ, true, false, ◌&&◌, List, [], ◌∷◌, ◌++◌, length, take};
+ghost use Rattle.std.specs.List.{list_all};
 ghost use Rattle.four_state.specs.declared.Bit.{Bit as SpecBit};
 ghost use Rattle.four_state.specs.Masks.{is_strange};
 ghost use Rattle.vcd_reader.specs.Values.{is_digit, digit_bit, value_bits};
 
-use crate::letters::{are_digits, begins_strange, is_digit, writes_one_or_z, writes_strange};
+use crate::letters::{begins_strange, is_digit, writes_one_or_z, writes_strange};
 use crate::masks::{Masks, is_strange};
+use digit_lanes::{DigitMasks, digit_masks};
 use four_state::{Bit, Four};
 
 /// The widest value that is kept, in bits.
 const WIDEST: u64 = 128;
-
-/// The most digits whose bits have room in masks of 64.
-const SHORT: usize = 64;
 
 /// More digits than any variable has bits.
 const MANY: u64 = 1 << 32;
@@ -60,9 +59,6 @@ impl Digits {
     pub(crate) fn of(word: &[u8]) -> Self
         ensures { AreDigitsOf result word.now }
     {
-        if word.len() <= SHORT {
-            return Digits::of_short(word);
-        }
         let mut digits = Digits::new();
         for byte in word {
             digits = digits.with_byte(*byte);
@@ -70,25 +66,22 @@ impl Digits {
         digits
     }
 
-    /// The digits of a word whose bits have room in masks of 64.
-    fn of_short(word: &[u8]) -> Self
-        requires { length word.now ≤ 64 }
-        ensures { AreDigitsOf result word.now }
+    /// The first `count` bytes, which are digits.
+    #[inline(always)]
+    pub(crate) fn of_front(bytes: &[u8], count: usize) -> Self
+        requires some { 0 < count }
+        requires within { count ≤ length bytes.now }
+        requires narrow { count ≤ 128 }
+        requires digits { list_all is_digit (take count bytes.now) ≡ true }
+        ensures digits { AreDigitsOf result (take count bytes.now) }
+        ensures count { result.count ≡ count }
     {
-        let mut ones: u64 = 0;
-        let mut strange: u64 = 0;
-        for byte in word {
-            ones = ones * 2 + u64::from(writes_one_or_z(*byte));
-            strange = strange * 2 + u64::from(writes_strange(*byte));
-        }
+        let DigitMasks { ones, strange } = digit_masks(bytes, count);
         Digits {
-            count: word.len() as u64,
-            masks: Masks {
-                ones: u128::from(ones),
-                strange: u128::from(strange),
-            },
-            goes_on: begins_strange(word),
-            are_digits: are_digits(word),
+            count: count as u64,
+            masks: Masks { ones, strange },
+            goes_on: begins_strange(bytes),
+            are_digits: true,
         }
     }
 
@@ -158,6 +151,9 @@ impl Digits {
         ensures { (word : List ℕ) → AreDigitsOf self.now word → result ≡ record { bits = value_bits size word; signed = false } }
     {
         let count = self.count as u8;
+        if count == size {
+            return Four::make(size, false, self.masks.ones, self.masks.strange);
+        }
         let digits = Four::make(count, self.goes_on, self.masks.ones, self.masks.strange);
         digits.extend(size, false)
     }

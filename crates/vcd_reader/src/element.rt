@@ -1,6 +1,8 @@
 //! The words of the body (IEEE 1364-2001 clauses 18.2.1 and 18.2.2).
 
-ghost use Rattle.std.specs.Prelude.{◌≡◌, ◌<◌, ℕ, true, false, None, List, [], ◌∷◌, length, bytes_eq, if◌then◌else◌, Option};
+ghost use Rattle.std.specs.Prelude.{◌≡◌, ◌<◌, ◌≤◌, ℕ, true, false, None, List, [], ◌∷◌, length, take, bytes_eq, if◌then◌else◌, Option};
+ghost use Rattle.std.specs.List.{list_all};
+ghost use Rattle.vcd_reader.specs.Values.{is_digit};
 ghost use Rattle.vcd_reader.specs.Codes.{Code as SpecCode};
 ghost use Rattle.vcd_reader.specs.Answer.{Answer, unless};
 ghost use Rattle.vcd_reader.specs.Body.{BodyReading, is_back, new_time, time_fault, time_word, digits_word, dollar_word, scalar, change, saying, first_word, next_word, last_said, is_passed_letter, is_group_word, begins, said, comment, is_marker, has_begun};
@@ -395,6 +397,58 @@ fn read_change(
         None => Err(DumpFault::at(DumpKind::UnknownCode, at)),
         Some(code) => read_value(code, filter, kept, digits, first),
     }
+}
+
+/// A change of a code to the value of the first `count` bytes, which are digits.
+#[inline(always)]
+pub(crate) fn read_lanes(
+    codes: &Codes,
+    filter: Filter<'_>,
+    kept: &mut Change,
+    digits: &[u8],
+    count: usize,
+    first: u64,
+    code: &[u8],
+    at: u64,
+) -> Result<bool, DumpFault>
+    requires some { 0 < count }
+    requires within { count ≤ length digits.now }
+    requires digits { list_all is_digit (take count digits.now) ≡ true }
+    ensures { GivesChange filter.entry result kept.new (change codes.now (take count digits.now) first code.now at) }
+{
+    if code.len() > LONGEST_CODE {
+        return Err(DumpFault::at(DumpKind::LongCode, at));
+    }
+    match codes.find(code) {
+        None => Err(DumpFault::at(DumpKind::UnknownCode, at)),
+        Some(code) => read_lanes_value(code, filter, kept, digits, count, first),
+    }
+}
+
+/// The value of a code that the first `count` bytes write, which are digits.
+#[inline(always)]
+fn read_lanes_value(
+    code: Code,
+    filter: Filter<'_>,
+    kept: &mut Change,
+    digits: &[u8],
+    count: usize,
+    first: u64,
+) -> Result<bool, DumpFault>
+    requires some { 0 < count }
+    requires within { count ≤ length digits.now }
+    requires digits { list_all is_digit (take count digits.now) ≡ true }
+    ensures { GivesChange filter.entry result kept.new (value_for code (take count digits.now) first) }
+{
+    if count as u64 > u64::from(code.size) {
+        return Err(DumpFault::at(DumpKind::VectorTooLong, first));
+    }
+    if !code.is_read || code.size > WIDEST || !filter.hears(code.number) {
+        return Ok(false);
+    }
+    kept.code = code.number;
+    kept.value = Digits::of_front(digits, count).value(code.size as u8);
+    Ok(true)
 }
 
 /// The value of a code that digits write.

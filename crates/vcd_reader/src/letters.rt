@@ -6,6 +6,8 @@ ghost use Rattle.vcd_reader.specs.Holding.{begins_strange};
 ghost use Rattle.vcd_reader.specs.Values.{is_digit, digit_bit};
 ghost use Rattle.vcd_reader.specs.Header.{is_printable};
 
+use digit_lanes::word_length;
+
 /// Whether the byte separates words: space, tab, line feed, carriage return, vertical tab or form feed.
 pub(crate) fn is_white_space(byte: u8) -> bool
     ensures { result ≡ is_white_space byte }
@@ -14,10 +16,16 @@ pub(crate) fn is_white_space(byte: u8) -> bool
 }
 
 /// The number of bytes before the first white space, if there is some.
+#[inline(always)]
 pub(crate) fn length_of_word(bytes: &[u8]) -> Option<usize>
     ensures { result ≡ position is_white_space bytes.now }
 {
-    bytes.iter().position(|byte| is_white_space(*byte))
+    let length = word_length(bytes);
+    if length < bytes.len() {
+        Some(length)
+    } else {
+        None
+    }
 }
 
 /// Whether the byte is a digit of a value (IEEE 1364-2001 clause 18.2.2).
@@ -49,13 +57,6 @@ pub(crate) fn begins_strange(word: &[u8]) -> bool
         [first, ..] => writes_strange(*first),
         [] => false,
     }
-}
-
-/// Whether each byte is a digit.
-pub(crate) fn are_digits(word: &[u8]) -> bool
-    ensures { result ≡ list_all is_digit word.now }
-{
-    word.iter().all(|byte| is_digit(*byte))
 }
 
 /// Whether each byte can be a part of a code (IEEE 1364-2001 clause 18.2.1).

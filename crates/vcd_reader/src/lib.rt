@@ -40,6 +40,7 @@ mod size;
 mod spelling;
 mod time_digits;
 mod vars;
+mod vector;
 mod word;
 
 pub use body::Body;

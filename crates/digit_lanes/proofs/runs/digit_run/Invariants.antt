@@ -1,0 +1,10 @@
+use Rattle.std.proofs.Common.{◌≡◌, ◌+◌, ◌-◌, ◌≤◌, length, drop}
+use Rattle.std.specs.List.{prefix_len}
+use Rattle.digit_lanes.specs.Bytes.{is_digit}
+use Rattle.digit_lanes.proofs.runs.digit_run.Given as goal
+
+abbrev pub invariant-loop-count : goal.invariant-loop-count
+invariant-loop-count l = (prefix_len is_digit l.bytes ≡ l.count + prefix_len is_digit (drop l.count l.bytes)) × (l.count ≤ length l.bytes)
+
+abbrev pub decreases-loop-count : goal.decreases-loop-count
+decreases-loop-count l = length l.bytes - l.count

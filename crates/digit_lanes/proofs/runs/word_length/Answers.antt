@@ -1,0 +1,22 @@
+use Rattle.std.proofs.Common.{refl, sym, ap, ◌∙◌, arith}
+use lib.Count.{count_trailing_zeros}
+use Rattle.digit_lanes.specs.Bytes.{is_black, is_white_space}
+use Rattle.digit_lanes.proofs.RunLemmas.{run_bound, run_through, run_stops}
+use Rattle.digit_lanes.proofs.runs.word_length.Goals as goal
+
+pub returns-then-found-ne0-clause-count : goal.returns-then-found-ne0-clause-count
+returns-then-found-ne0-clause-count c =
+    let found = c.spaces-found in
+    let run = run_stops is_white_space is_black (λ x. refl) c.args.bytes.now c.loop-count.count 16 (omega arith) (omega arith) (omega (arith, found.ensures)) ∙ ap (count_trailing_zeros 64) (sym found.ensures) in
+    omega (arith, run, c.loop-count.invariant.0)
+
+pub returns-then-found-ne0-clause-within : goal.returns-then-found-ne0-clause-within
+returns-then-found-ne0-clause-within c =
+    let found = c.spaces-found in
+    let run = run_stops is_white_space is_black (λ x. refl) c.args.bytes.now c.loop-count.count 16 (omega arith) (omega arith) (omega (arith, found.ensures)) ∙ ap (count_trailing_zeros 64) (sym found.ensures) in
+    omega (arith, run, run_bound is_black c.args.bytes.now c.loop-count.count c.loop-count.invariant.1)
+
+pub loop-count-preserved : goal.loop-count-preserved
+loop-count-preserved c =
+    let run = run_through is_white_space is_black (λ x. refl) c.args.bytes.now c.loop-count.count 16 (omega arith) (omega (arith, c.spaces-found.ensures)) in
+    (omega (arith, run, c.loop-count.invariant.0), omega arith)
