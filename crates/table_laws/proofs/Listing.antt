@@ -69,7 +69,7 @@ module _ (d : Design) (lawful : IsLawfulDesign d) (sources : List (List ℕ)) (p
       ]
 
   -- a point has one address
-  one_address : (x : Point) (a b : Address) → IsAddressOf d rows x a → IsAddressOf d rows x b → a ≡ b
+  pub one_address : (x : Point) (a b : Address) → IsAddressOf d rows x a → IsAddressOf d rows x b → a ≡ b
   one_address x a b h k =
       let make : ℕ → Subject → Address = λ (i : ℕ). λ (s : Subject). record { instance = i; subject = s } in
       let place = one_place a.instance b.instance (row_at d.instances 0) h.place k.place (h.instance ∙ sym k.instance) in

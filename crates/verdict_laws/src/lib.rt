@@ -1,0 +1,66 @@
+//! Theorems that bring the verdicts of a replay to the rows of a table; there is no code.
+//!
+//! Where the rows of a table have the verdicts of what a replay reported, in the order of the points, and the verdicts of the
+//! replay are sound, the table is sound: each point marked hit is hit and each point marked missed is never hit, in every
+//! run of the design that shows the dump ([`sound_law`]). Where they are reasoned, so is the table: each undetermined
+//! point names a signal or memory and a time at which this is in doubt for it ([`reasoned_law`]). A row names one point
+//! of the design ([`one_point_law`]), and a verdict can be written where the times of the dump can ([`written_law`]).
+#![tactic(auto)]
+
+ghost use Rattle.std.specs.Prelude.{◌≡◌, ◌<◌, ◌^◌, [], ℕ, List, All, length, slice_index_or};
+ghost use Rattle.coverage_db.specs.Table.{IsTable};
+ghost use Rattle.coverage_db.specs.declared.db.Db.{Db};
+ghost use Rattle.cover_points.specs.Listed.{IsPointList, points_of};
+ghost use Rattle.cover_points.specs.Visits.{point_at};
+ghost use Rattle.cover_points.specs.declared.listing.Points.{Points};
+ghost use Rattle.design_model.specs.Design.{Design};
+ghost use Rattle.design_model.specs.Lawful.{IsLawfulDesign};
+ghost use Rattle.design_model.specs.Points.{IsPoint, StateNames};
+ghost use Rattle.design_model.specs.Shows.{BoundDump, IsListed, IsWindow};
+ghost use Rattle.design_model.specs.declared.point.Point.{Point};
+ghost use Rattle.event_machine.specs.Habit.{Habit};
+ghost use Rattle.mark_laws.specs.Marked.{AreVerdicts};
+ghost use Rattle.point_marks.specs.declared.verdict.Verdict.{Verdict};
+ghost use Rattle.point_table.specs.Collected.{IsCollected};
+ghost use Rattle.point_table.specs.Verdicts.{AreShown, no_row};
+ghost use Rattle.replay_model.specs.Laws.{AreReasonedVerdicts, AreSoundVerdicts};
+ghost use Rattle.replay_model.specs.Step.{Replay};
+ghost use Rattle.table_laws.specs.Rows.{IsAddressOf};
+ghost use Rattle.table_laws.specs.Written.{IsWritten, IsWrittenMachine, IsWrittenVerdict};
+ghost use Rattle.verdict_laws.specs.Reasoned.{IsReasoned};
+ghost use Rattle.verdict_laws.specs.Sound.{IsSound};
+
+/// A row of a table names one point of the design, that of its own number.
+pub fn one_point_law()
+    ensures { (d : Design) (sources : List (List ℕ)) (ms : List StateNames) (ps : Points) (db : Db) → IsLawfulDesign d → IsWritten sources d → IsPointList d ms ps
+        → All IsWrittenMachine ps.machines.items → IsCollected d sources ps db → IsTable db → (x : Point) (k : ℕ) → IsPoint d ms x → k < length db.points
+        → IsAddressOf d db.instances x (slice_index_or db.points k no_row).address → x ≡ point_at ps k }
+{}
+
+/// Where the verdicts of a replay are sound, so is a table that has them.
+pub fn sound_law()
+    ensures { (d : Design) (h : Habit) (dump : BoundDump) (sources : List (List ℕ)) (ms : List StateNames) (ps : Points) (verdicts : List Verdict) (a : Replay) (db : Db)
+        → IsLawfulDesign d → IsWritten sources d → IsPointList d ms ps → All IsWrittenMachine ps.machines.items → IsCollected d sources ps db → IsTable db
+        → AreShown d verdicts db.points → AreVerdicts d ps a.notes verdicts → AreSoundVerdicts d h dump (points_of ps) a → IsSound d h dump ms db }
+{}
+
+/// Where they are reasoned, so is the table.
+pub fn reasoned_law()
+    ensures { (d : Design) (h : Habit) (dump : BoundDump) (sources : List (List ℕ)) (ms : List StateNames) (ps : Points) (verdicts : List Verdict) (a : Replay) (db : Db)
+        → IsLawfulDesign d → IsWritten sources d → IsPointList d ms ps → All IsWrittenMachine ps.machines.items → IsCollected d sources ps db → IsTable db
+        → AreShown d verdicts db.points → AreVerdicts d ps a.notes verdicts → AreReasonedVerdicts d h dump (points_of ps) a → IsReasoned d h dump ms db }
+{}
+
+/// The verdicts of a replay can be written in a table, where the times that the dump lists can: a doubt is of a signal or memory of
+/// the design, at a time before the last.
+pub fn written_law()
+    ensures { (d : Design) (h : Habit) (dump : BoundDump) (ms : List StateNames) (ps : Points) (verdicts : List Verdict) (a : Replay)
+        → IsLawfulDesign d → IsPointList d ms ps → ((t : ℕ) → IsListed dump t → t < 2 ^ 63) → AreVerdicts d ps a.notes verdicts
+        → AreReasonedVerdicts d h dump (points_of ps) a → All (IsWrittenVerdict d) verdicts }
+{}
+
+/// Under a dump without a time of its window, as one of two times, nothing is reported, and this is sound and reasoned.
+pub fn no_step_law()
+    ensures sound { (d : Design) (h : Habit) (dump : BoundDump) (points : List Point) (a : Replay) → ((t : ℕ) → IsWindow dump t → ⊥) → a.notes ≡ [] → AreSoundVerdicts d h dump points a }
+    ensures reasoned { (d : Design) (h : Habit) (dump : BoundDump) (points : List Point) (a : Replay) → ((t : ℕ) → IsWindow dump t → ⊥) → a.notes ≡ [] → AreReasonedVerdicts d h dump points a }
+{}
