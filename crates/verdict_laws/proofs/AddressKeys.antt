@@ -73,13 +73,13 @@ write_is false false = refl
 
 -- two points of instances i and j, by their letters, their instances and their own parts
 subject_is : (i j : ℕ) (s t : Subject) → ordering_then (nat_cmp (letter_rank s) (letter_rank t)) (ordering_then (nat_cmp i j) (rule_cmp s t)) ≡ slice_cmp bytes_cmp ((letter_rank s ∷ i ∷ []) ∷ subject_key s) ((letter_rank t ∷ j ∷ []) ∷ subject_key t)
-subject_is i j (Line m a v) (Line n b w) = simp (then_assoc, then_end)
+subject_is i j (Line m a v) (Line n b w) = simp (then_end)
 subject_is i j (Logic m a o c) (Logic n b p d) = simp (then_assoc, then_end)
-subject_is i j (Toggle x u r) (Toggle y v s) = simp (then_assoc, then_end, index_is u v, rise_is r s)
+subject_is i j (Toggle x u r) (Toggle y v s) = simp (then_end, index_is u v, rise_is r s)
 subject_is i j (State x s) (State y t) = simp (then_assoc, then_end)
 subject_is i j (State x s) (Arc y b c) = simp (then_assoc, then_end)
 subject_is i j (Arc x a b) (State y t) = simp (then_assoc, then_end)
-subject_is i j (Arc x a b) (Arc y c d) = simp (then_assoc, then_end)
+subject_is i j (Arc x a b) (Arc y c d) = simp (then_end)
 subject_is i j (Word x u w) (Word y v z) = simp (then_assoc, then_end, write_is w z)
 subject_is i j s t = refl
 

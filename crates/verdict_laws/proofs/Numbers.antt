@@ -5,8 +5,9 @@ use Rattle.std.specs.List.{list_all, list_any}
 use Rattle.std.proofs.lemmas.Bool.{and_parts, eqb-true, ltb-true, or_cases, false≢true}
 use Rattle.event_machine.specs.Cell.{Cell}
 use Rattle.event_machine.specs.Habit.{Habit}
-use Rattle.event_machine.specs.Machine.{Edge}
-use Rattle.design_model.specs.Design.{Alias, Design, In, IsThing, Thing, body_at, is_number, owner, process_at, signal_at}
+use Rattle.event_machine.specs.Machine.{Edge as MachineEdge}
+use Rattle.four_state.specs.declared.edge.Edge.{Edge}
+use Rattle.design_model.specs.Design.{Design, In, IsThing, Thing, a_word, body_at, is_number, owner, process_at, signal_at}
 use Rattle.design_model.specs.Doubt.{BlockDoubt, IsInDoubt, IsPointOn, IsReadEarly, WakesUnclean, unclear_at_start, read_early, not_clean, unclear_signal, unclear_word, own_target, of_block, of_signal}
 use Rattle.design_model.specs.Execution.{execution, execution_start}
 use Rattle.design_model.specs.Lawful.{IsLawfulDesign, is_alias}
@@ -52,7 +53,7 @@ module _ (d : Design) (lawful : IsLawfulDesign d) where
   read_thing K p x (inr mentioned) = mentioned.2
 
   -- what a Clocked lists an edge of is a signal
-  listed_edge : (events : List (Edge × ℕ)) (e : Edge) (s : ℕ) → list_all (λ (f : Edge × ℕ). nat_lt f.1 (length d.signals) && ((signal_at d f.1).width == 1)) events ≡ true → list_any (λ (f : Edge × ℕ). same_edge f.0 e && (f.1 == s)) events ≡ true → s < length d.signals
+  listed_edge : (events : List (Edge × ℕ)) (e : MachineEdge) (s : ℕ) → list_all (λ (f : Edge × ℕ). nat_lt f.1 (length d.signals) && ((signal_at d f.1).width == 1)) events ≡ true → list_any (λ (f : Edge × ℕ). same_edge f.0 e && (f.1 == s)) events ≡ true → s < length d.signals
   listed_edge [] e s all any = absurd (false≢true any)
   listed_edge (f ∷ fs) e s all any =
       let parts = and_parts (nat_lt f.1 (length d.signals) && ((signal_at d f.1).width == 1)) (list_all (λ (g : Edge × ℕ). nat_lt g.1 (length d.signals) && ((signal_at d g.1).width == 1)) fs) all in
@@ -61,7 +62,7 @@ module _ (d : Design) (lawful : IsLawfulDesign d) where
       (λ there. listed_edge fs e s parts.1 there)
       (or_cases (same_edge f.0 e && (f.1 == s)) (list_any (λ (g : Edge × ℕ). same_edge g.0 e && (g.1 == s)) fs) any)
 
-  edge_signal : (x : Process) (e : Edge) (c : Cell) → list_all (λ (f : Edge × ℕ). nat_lt f.1 (length d.signals) && ((signal_at d f.1).width == 1)) (events_of x) ≡ true → lists_edge x e c ≡ true → c.thing < length d.signals
+  edge_signal : (x : Process) (e : MachineEdge) (c : Cell) → list_all (λ (f : Edge × ℕ). nat_lt f.1 (length d.signals) && ((signal_at d f.1).width == 1)) (events_of x) ≡ true → lists_edge x e c ≡ true → c.thing < length d.signals
   edge_signal (assign i x t counted) e c all lists = absurd (false≢true lists)
   edge_signal (comb i wakes s) e c all lists = absurd (false≢true lists)
   edge_signal (clocked i events s) e c all lists = listed_edge events e c.thing all (and_parts (c.place == 0) _ lists).1
@@ -75,8 +76,8 @@ module _ (d : Design) (lawful : IsLawfulDesign d) where
   -- a point on a signal is on one of the design
   point_signal : (ms : List StateNames) (x : Point) (s : ℕ) → IsPoint d ms x → IsPointOn x s → Below s
   point_signal ms (point.Toggle q i rise) s is on = omega (arith, is.0, on)
-  point_signal ms (point.State i name q state x) s is on = subst Below on (named_signal i name q is.2.2.2)
-  point_signal ms (point.Arc i name q from to x y) s is on = subst Below on (named_signal i name q is.2.2.2)
+  point_signal ms (point.State i name q state x) s is on = subst Below on (named_signal i name q is.2.2)
+  point_signal ms (point.Arc i name q from to x y) s is on = subst Below on (named_signal i name q is.2.2)
   point_signal ms (point.Line p n at w) s is on = absurd on
   point_signal ms (point.Logic p n at op c) s is on = absurd on
   point_signal ms (point.Word m i write) s is on = absurd on
@@ -89,7 +90,7 @@ module _ (d : Design) (lawful : IsLawfulDesign d) where
         let edge = doubt.can_wake.0 in
         omega (arith, edge_signal (process_at d p) edge.0 doubt.event (lawful.events p) edge.1, doubt.of_signal)
     block_number (unclear_signal doubt) = omega (arith, doubt.wake_bit.0)
-    block_number (unclear_word doubt) = owner_below d _ doubt.is_thing
+    block_number (unclear_word doubt) = owner_below d (a_word s doubt.word) doubt.is_thing
     block_number (own_target doubt) = omega (arith, lawful.comb_writes p s doubt.is_comb doubt.target)
 
   -- what is in doubt is a number of the design
