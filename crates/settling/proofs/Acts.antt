@@ -1,9 +1,9 @@
 -- Whether a Comb has surely acted, by the flags and by what it watches.
-use Rattle.std.proofs.Common.{◌≡◌, ℕ, zero, suc, ◌+◌, ◌<◌, ◌≤◌, ◌==◌, ◌&&◌, ◌||◌, Bool, true, false, not, List, [], ◌∷◌, map, length, Option, refl, sym, ap, ap₂, subst, ◌∙◌, arith, inl, inr}
+use Rattle.std.proofs.Common.{◌≡◌, ℕ, zero, suc, ◌+◌, ◌<◌, ◌≤◌, ◌&&◌, ◌||◌, Bool, true, false, not, List, [], ◌∷◌, map, length, Option, refl, sym, ap, ap₂, subst, ◌∙◌, arith, inl, inr}
 use Rattle.std.specs.List.{All, list_any, range_with_len}
 use Rattle.std.proofs.lemmas.Bool.{and_from, and_parts, cases_eq, false≢true, or_cases, or_left, or_right}
 use Rattle.std.proofs.lemmas.List.Elements.{All-head, All-tail}
-use Rattle.design_model.specs.Design.{Design, In, IsComb, body_at, process_at}
+use Rattle.design_model.specs.Design.{In, IsComb, body_at, process_at}
 use Rattle.design_model.specs.Mentions.{body_mentions}
 use Rattle.design_model.specs.Tree.{Process, assign, clocked, comb}
 use Rattle.body_calls.specs.Own.{is_in}

@@ -1,5 +1,5 @@
 -- The parts of the code after the run of an Assign in the first step.
-use Rattle.std.proofs.Common.{◌≡◌, ℕ, ◌<◌, ◌&&◌, Bool, true, false, not, if◌then◌else◌, List, length, map, Option, None, refl, sym, ap, subst, ◌∙◌}
+use Rattle.std.proofs.Common.{◌≡◌, ℕ, Bool, true, false, if◌then◌else◌, List, map, Option, refl, sym, ap, subst, ◌∙◌}
 use Rattle.std.proofs.lemmas.Bool.{false≢true}
 use Rattle.event_machine.specs.Cell.{Values}
 use Rattle.four_state.specs.declared.bit.Bit.{Bit}
@@ -9,7 +9,6 @@ use Rattle.design_model.specs.Lawful.{IsLawfulDesign}
 use Rattle.design_model.specs.Tree.{Process, assign, clocked, comb}
 use Rattle.body_replay.specs.Contract.{Outcome, quiet}
 use Rattle.body_replay.specs.Runs.{AreRuns, runs_of}
-use Rattle.body_replay.specs.Store.{Kept}
 use Rattle.body_store.specs.declared.store.Store.{Store}
 use Rattle.process_targets.specs.Rows.{AreTargets}
 use Rattle.process_targets.specs.Targets.{names, row_has}

@@ -1,5 +1,5 @@
 -- The parts of the code after a run, beside the definition of the run.
-use Rattle.std.proofs.Common.{◌≡◌, ℕ, ◌+◌, ◌<◌, ◌==◌, ◌&&◌, ◌||◌, Bool, true, false, not, if◌then◌else◌, List, get_or, length, map, Option, None, refl, sym, ap, ap₂, subst, ◌∙◌, eq-eqb, length-set}
+use Rattle.std.proofs.Common.{◌≡◌, ℕ, ◌<◌, ◌==◌, ◌&&◌, ◌||◌, Bool, true, false, not, if◌then◌else◌, List, get_or, length, map, Option, None, refl, sym, ap, ap₂, subst, ◌∙◌, eq-eqb, length-set}
 use Rattle.std.specs.Prelude.{slice_index_or, slice_set}
 use Rattle.std.specs.List.{All}
 use Rattle.std.proofs.lemmas.Bool.{eqb-true, false≢true}
@@ -13,7 +13,6 @@ use Rattle.design_model.specs.declared.design.Design.{Design as CodeDesign}
 use Rattle.design_model.specs.declared.tree.Process.{Process as CodeProcess}
 use Rattle.body_replay.specs.Contract.{Certainty, Outcome}
 use Rattle.body_replay.specs.Runs.{AreRuns, Runs, runs_of}
-use Rattle.body_replay.specs.Store.{Kept}
 use Rattle.body_store.specs.declared.store.Store.{Store}
 use Rattle.early_sets.specs.WakeState.{WakeState}
 use Rattle.index_sets.specs.Rows.{row_at}

@@ -1,4 +1,4 @@
-use Rattle.std.proofs.Common.{◌≡◌, ◌&&◌, false, take}
+use Rattle.std.proofs.Common.{◌≡◌, false, take}
 use Rattle.settling.specs.Runs.{sees_by}
 use Rattle.settling.proofs.acting.sees_change.Given as goal
 

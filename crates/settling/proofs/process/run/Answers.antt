@@ -1,4 +1,4 @@
-use Rattle.std.proofs.Common.{◌≡◌, ◌∙◌, ◌<◌, ◌≤◌, ◌||◌, ℕ, arith, not, ap, if◌then◌else◌, length, subst, sym}
+use Rattle.std.proofs.Common.{◌≡◌, ◌∙◌, ◌<◌, ◌≤◌, ◌||◌, arith, not, ap, if◌then◌else◌, length, subst, sym}
 use Rattle.std.specs.Prelude.{slice_set}
 use Rattle.std.specs.List.{All}
 use Rattle.std.proofs.lemmas.List.Elements.{All-weaker}
@@ -40,8 +40,7 @@ put_back-requires-clause-saved g c =
     let h = c.requires.known.2 in
     let k = c.requires.known.1 in
     let qs = c.run_saved.new.scratch.saved in
-    let x = c.run_saved.new.store in
-    (
+    let x = c.run_saved.new.store in (
       k,
       subst (λ row. AreSaved (design_view x.design.now) k row qs) (sym c.row.ensures)
           (subst (λ e. AreSaved e k (row_at c.args.rows.now.targets.now c.args.process) qs) (sym h.design ∙ c.requires.same ∙ sym c.run_saved.ensures.design) (c.run_saved.ensures.saved c.requires.known.0 k h)),

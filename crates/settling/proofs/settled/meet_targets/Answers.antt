@@ -1,6 +1,6 @@
 use Rattle.std.proofs.Common.{◌≡◌, ◌∙◌, ap, false, get_or, subst, sym, true}
 use Rattle.design_model.specs.Design.{process_at}
-use Rattle.design_model.specs.View.{design_view, process_view}
+use Rattle.design_model.specs.View.{design_view}
 use Rattle.index_sets.specs.Rows.{row_at}
 use Rattle.process_targets.specs.Targets.{names}
 use Rattle.process_targets.proofs.Processes.{process_is}
