@@ -6,6 +6,7 @@
 //! over the values of its operands. No call takes memory.
 #![tactic(auto)]
 
+mod after;
 mod answers;
 mod cases;
 mod evaluation;
@@ -15,6 +16,7 @@ mod memory;
 mod notes;
 mod offset;
 mod operate;
+mod plain;
 mod reads;
 mod repeated;
 mod select;
