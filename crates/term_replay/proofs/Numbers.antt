@@ -1,20 +1,19 @@
 -- Vectors without x and z as numbers.
-use Rattle.std.proofs.Common.{◌≡◌, ◌∙◌, ℕ, zero, suc, ◌^◌, ◌<◌, ◌==◌, Bool, true, false, not, ◌&&◌, if◌then◌else◌, List, [], ◌∷◌, ◌++◌, Option, Some, None, length, map, get_or, refl, sym, ap, ap₂, subst, append-nil, arith}
+use Rattle.std.proofs.Common.{◌≡◌, ◌∙◌, ℕ, ◌^◌, ◌<◌, ◌==◌, Bool, true, false, not, if◌then◌else◌, List, [], ◌∷◌, ◌++◌, Option, Some, length, get_or, refl, sym, ap, ap₂, subst}
 use Rattle.std.specs.List.{list_any, list_all}
 use Rattle.std.proofs.lemmas.Nat.{pow_pos}
 use Rattle.std.specs.Bool.{OnTrue}
 use Rattle.std.proofs.lemmas.Bool.{eqb-true}
 use Rattle.four_state.specs.declared.bit.Bit.{Bit}
 use Rattle.four_state.specs.declared.bit.Bit.TheVariants.{Zero, One, X, Z}
-use Rattle.four_state.specs.declared.truth.Truth.{Truth}
-use Rattle.four_state.specs.declared.truth.Truth.TheVariants.{True, False, Strange}
+use Rattle.four_state.specs.declared.truth.Truth.TheVariants.{True, False}
 use Rattle.four_state.specs.declared.operator.Unary.{Unary}
 use Rattle.four_state.specs.declared.operator.Binary.{Binary}
 use Rattle.four_state.specs.declared.operator.Binary.TheVariants.{Multiply, Divide, Modulus, Add, Subtract, ShiftLeft, ShiftRight, ArithmeticShiftLeft, ArithmeticShiftRight, LessThan, LessOrEqual, GreaterThan, GreaterOrEqual, Equal, NotEqual, CaseEqual, CaseNotEqual, BitwiseAnd, BitwiseXor, BitwiseXnor, BitwiseNxor, BitwiseOr, LogicalAnd, LogicalOr}
 use Rattle.four_state.specs.Masks.{bits_of_masks, bit_in_masks, is_set, is_strange, mask_of}
-use Rattle.four_state.specs.Operators.{unary_value, unary_vector, binary_value, binary_vector, SameShape, takes_same_shape}
+use Rattle.four_state.specs.Operators.{unary_vector, binary_value, binary_vector, SameShape, takes_same_shape}
 use Rattle.four_state.specs.Stored.{strange_of_bits, width_of_bits}
-use Rattle.four_state.specs.Vector.{Vector, all_known, extend, is_known, is_one, is_zero, truth}
+use Rattle.four_state.specs.Vector.{Vector, all_known, extend, is_one, truth}
 use Rattle.four_state.proofs.Lifted.{bits_are, get_or-bits_of_masks, is_set-mask_of, mask_is}
 use Rattle.four_state.proofs.Places.{is_set-zero}
 use Rattle.four_state.proofs.ReductionLaws.{all_zero, mask_is_not_zero, no_strange_place}
@@ -22,7 +21,6 @@ use Rattle.known_state.specs.Partly.{Partly, are_sure, is_whole, whole_of}
 use Rattle.known_state.specs.Answers.{HaveSameShape}
 use Rattle.known_state.proofs.Allowed.{are_sure_whole}
 use Rattle.design_model.specs.Tree as t
-use Rattle.design_model.specs.Value.{head}
 use Rattle.body_replay.specs.KnownBits.{KnownBits, both, binary_partly, choose_partly, extend_partly, fits, known_truth, sure, unary_partly, unknown}
 use Rattle.body_replay.specs.Store.{choice_of, known_value}
 use Rattle.point_words.specs.declared.node_case.NodeCase.{NodeCase}
@@ -30,8 +28,8 @@ use Rattle.point_words.specs.declared.node_case.NodeCase.TheVariants.{ValueFalse
 use Rattle.body_replay.specs.Replay.{Mark, ask, ask_of, case_mark, case_marks, hit, may_be_zero, node, two_known, undecided}
 use Rattle.body_replay.proofs.Exact.{binary_exact, extend_exact, fits_exact, sure_length, truth_exact, unary_exact}
 use Rattle.term_replay.specs.Noted.{own_cases}
-use Rattle.term_replay.specs.Plain.{IsSmall, held, number_at, sure_mark, sure_marks, case_of}
-use Rattle.term_replay.specs.Stands.{Fitted, IsHead, Scene, Stands, first_after, head_of}
+use Rattle.term_replay.specs.Plain.{IsSmall, number_at, sure_mark, sure_marks, case_of}
+use Rattle.term_replay.specs.Stands.{Fitted, Scene, Stands, first_after, head_of}
 use Rattle.term_replay.specs.declared.head.TermHead.{TermHead}
 use Rattle.term_replay.proofs.Standing.{extend_own, not_false, same_fits}
 

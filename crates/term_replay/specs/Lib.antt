@@ -5,3 +5,4 @@ pub mod Near
 pub mod Words
 pub mod Plain
 pub mod Walked
+pub mod Numbers

@@ -7,11 +7,13 @@ ghost use Rattle.known_state.specs.Answers.{HaveSameShape};
 ghost use Rattle.known_state.specs.Partly.{whole_of};
 ghost use Rattle.design_model.specs.Tree as t;
 ghost use Rattle.body_replay.specs.Replay.{node_marks, two_known};
+ghost use Rattle.term_replay.specs.Numbers.{IsAtOnce};
 ghost use Rattle.term_replay.specs.Noted.{Adds, in_this, own_cases};
 ghost use Rattle.term_replay.specs.Plain.{IsSmall, head_in, held as held_value, number_at};
 ghost use Rattle.term_replay.specs.Stands.{IsHead, Scene, Stands, first_after, head_of};
 
 use crate::cases::{note_number, note_numbers, note_own, note_two};
+use crate::number_operators::{combined, tested};
 use crate::operate::{binary, choice, unary};
 use crate::plain::{held, keep, settle_vector, vector};
 use crate::{Notes, TermHead};
@@ -110,6 +112,55 @@ pub(crate) fn after_both<N: Notes>(
 
 /// An operator with two operands, which are numbers.
 fn after_numbers(
+    op: Binary,
+    one: u64,
+    two: u64,
+    left: &Term,
+    right: &Term,
+    term: &Term,
+    place: &mut Known,
+) -> Option<u64>
+    requires head { IsHead (head_in term.now) }
+    requires left { IsHead (head_in left.now) }
+    requires right { IsHead (head_in right.now) }
+    requires one { IsSmall (head_in left.now) one }
+    requires two { IsSmall (head_in right.now) two }
+    requires operands { OnTrue (takes_same_shape op) (HaveSameShape (whole_of (number_at (head_in left.now) one)) (whole_of (number_at (head_in right.now) two))) }
+    ensures value { (v : Scene) (first : Option ℕ) (x y : t.Term) → Stands v first x (whole_of (number_at (head_in left.now) one)) → Stands v (first_after v first x) y (whole_of (number_at (head_in right.now) two)) → Stands v first (t.binary (head_of (head_in term.now)) op x y) (held_value (head_in term.now) result place.new) }
+    ensures small { IfSome result (IsSmall (head_in term.now)) }
+{
+    match at_once(op, one, two, left, right, term) {
+        Some(number) => Some(number),
+        None => after_shapes(op, one, two, left, right, term, place),
+    }
+}
+
+/// The number of an operator with two operands, which are numbers, where it is one of those on numbers, and its term has the
+/// width and the sign that it gives.
+fn at_once(op: Binary, one: u64, two: u64, left: &Term, right: &Term, term: &Term) -> Option<u64>
+    requires head { IsHead (head_in term.now) }
+    requires left { IsHead (head_in left.now) }
+    requires one { IsSmall (head_in left.now) one }
+    requires two { IsSmall (head_in right.now) two }
+    ensures { IfSome result (IsAtOnce op (head_in left.now) (head_in right.now) (head_in term.now) one two) }
+{
+    if left.width != right.width {
+        return None;
+    }
+    if term.width == 1 && !term.signed {
+        if let Some(answer) = tested(op, one, two, left.signed) {
+            return Some(answer);
+        }
+    }
+    if left.width == term.width && left.signed == term.signed {
+        return combined(op, one, two, left.width);
+    }
+    None
+}
+
+/// The same by the operator on vectors.
+#[inline(never)]
+fn after_shapes(
     op: Binary,
     one: u64,
     two: u64,

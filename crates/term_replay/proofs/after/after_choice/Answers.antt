@@ -1,7 +1,6 @@
 use Rattle.std.proofs.Common.{◌∙◌, ap, subst}
 use Rattle.design_model.specs.Tree as t
-use Rattle.term_replay.specs.Plain.{head_in}
-use Rattle.term_replay.specs.Stands.{IsHead, Stands, head_of}
+use Rattle.term_replay.specs.Stands.{Stands, head_of}
 use Rattle.term_replay.proofs.Stepping.{same_value}
 use Rattle.term_replay.proofs.after.after_choice.Goals as goal
 

@@ -1,15 +1,17 @@
-use Rattle.std.proofs.Common.{◌∙◌, subst, ap, ap₂}
-use Rattle.four_state.specs.Operators.{binary_vector}
+use Rattle.std.proofs.Common.{subst}
+use Rattle.std.specs.Prelude.{IfSome}
 use Rattle.known_state.specs.Partly.{whole_of}
-use Rattle.term_replay.specs.Plain.{head_in, held, number_at}
-use Rattle.term_replay.specs.Stands.{Fitted}
-use Rattle.term_replay.proofs.Numbers.{same_operands, sure_binary}
+use Rattle.term_replay.specs.Numbers.{IsAtOnce}
+use Rattle.term_replay.specs.Plain.{head_in, number_at}
+use Rattle.term_replay.proofs.Numbers.{sure_binary}
 use Rattle.term_replay.proofs.after.after_numbers.Goals as goal
 
-pub binary-value-requires : goal.binary-value-requires
-binary-value-requires c = rw (c.vector.ensures, c.vector-2.ensures) (same_operands c.args.op (number_at (head_in c.args.left.now) c.args.one) (number_at (head_in c.args.right.now) c.args.two) c.requires.operands)
+pub returns-in-Some-clause-value : goal.returns-in-Some-clause-value
+returns-in-Some-clause-value c = λ v first x y sa sc.
+    let once = subst (λ o. IfSome o (IsAtOnce c.args.op (head_in c.args.left.now) (head_in c.args.right.now) (head_in c.args.term.now) c.args.one c.args.two)) c.in-Some.is c.at_once.ensures in
+    sure_binary v first (head_in c.args.term.now) c.args.op x y (number_at (head_in c.args.left.now) c.args.one) (number_at (head_in c.args.right.now) c.args.two) (whole_of (number_at (head_in c.args.term.now) c.in-Some.number)) sa sc once.fits
 
-pub returns-clause-value : goal.returns-clause-value
-returns-clause-value c = λ v first x y sa sc.
-    sure_binary v first (head_in c.args.term.now) c.args.op x y (number_at (head_in c.args.left.now) c.args.one) (number_at (head_in c.args.right.now) c.args.two) _ sa sc
-    (subst (λ n. Fitted (head_in c.args.term.now) (whole_of n) (held (head_in c.args.term.now) c.settle_vector.result c.settle_vector.new.place)) (c.binary-value.ensures ∙ ap₂ (binary_vector c.args.op) c.vector.ensures c.vector-2.ensures) c.settle_vector.ensures.value)
+pub returns-in-Some-clause-small : goal.returns-in-Some-clause-small
+returns-in-Some-clause-small c =
+    let once = subst (λ o. IfSome o (IsAtOnce c.args.op (head_in c.args.left.now) (head_in c.args.right.now) (head_in c.args.term.now) c.args.one c.args.two)) c.in-Some.is c.at_once.ensures in
+    once.small

@@ -3,7 +3,7 @@ use Rattle.known_state.specs.Partly.{whole_of}
 use Rattle.body_replay.specs.Replay.{node_marks, two_known}
 use Rattle.term_replay.specs.Noted.{in_this}
 use Rattle.term_replay.specs.Plain.{number_at}
-use Rattle.term_replay.proofs.Marking.{adds_none, adds_same}
+use Rattle.term_replay.proofs.Marking.{adds_same}
 use Rattle.term_replay.proofs.Numbers.{two_numbers}
 use Rattle.term_replay.proofs.cases.note_numbers.Goals as goal
 

@@ -13,15 +13,15 @@ use Rattle.design_model.specs.Value.{head, part_width, value}
 use Rattle.design_model.specs.View.{term_view, terms_of}
 use Rattle.design_model.specs.declared.tree.Term.{the_lemmas}
 use Rattle.body_replay.specs.Replay.{note}
-use Rattle.term_replay.specs.Noted.{Adds, access_spot, all_marks, in_this, marks_of, own_cases}
+use Rattle.term_replay.specs.Noted.{access_spot, all_marks, in_this, marks_of}
 use Rattle.term_replay.specs.Plain.{head_in, held}
 use Rattle.term_replay.specs.Stands.{Fitted, IsHead, Stands, copied, all_first_after, first_after, head_of, so_far}
 use Rattle.term_replay.specs.declared.notes.Access.TheVariants.{Read}
 use Rattle.term_replay.proofs.Arms.{held_same, in_head, other_mode, second_first, second_mode, second_notes, second_value, small_same, third_first, third_mode, third_notes, third_value, walked_own, walked_two}
 use Rattle.term_replay.proofs.Constants.{bits_are, constant_bits, constant_whole}
-use Rattle.term_replay.proofs.Contexts.{alone, in_binary, in_bit, choice_heads, in_choice, in_concat, in_part, in_repeat, in_sign, in_slide, in_unary, in_word, length-joined, length-stands, same_shapes, shape_ok}
+use Rattle.term_replay.proofs.Contexts.{alone, in_binary, in_bit, choice_heads, in_choice, in_concat, in_part, in_repeat, in_sign, in_slide, in_unary, in_word, length-joined, length-stands, same_shapes}
 use Rattle.term_replay.proofs.Joining.{GoesOn, TellsOn, concat_stands, repeat_all, room_for_all, goes_end, goes_further, goes_start, room_left, tells_end, tells_further, tells_start, terms_from}
-use Rattle.term_replay.proofs.Marking.{adds_more, adds_none, adds_same}
+use Rattle.term_replay.proofs.Marking.{adds_more, adds_same}
 use Rattle.term_replay.proofs.Stepping.{arm_context, next_value, same_value, three_first, three_marks, two_first, two_marks}
 use Rattle.term_replay.proofs.Views.{binary_view, bit_view, choice_view, concat_view, number_view, part_view, repeat_view, sign_view, signal_view, slide_view, unary_view, word_view}
 use Rattle.term_replay.proofs.Walking.{noted_is, on_true, read_is, thing_is, word_stands, words_of_range, words_same}
