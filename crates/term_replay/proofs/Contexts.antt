@@ -27,7 +27,7 @@ use Rattle.term_replay.specs.declared.head.TermHead.{TermHead}
 
 -- ---- the width of a value
 
-length-extended : (w : ℕ) (s : Bool) (ps : KnownBits) → length (extend_partly w s ps) ≡ w
+pub length-extended : (w : ℕ) (s : Bool) (ps : KnownBits) → length (extend_partly w s ps) ≡ w
 length-extended w s ps = length-moved (extend w s) ps w (λ cs e. extend_length w s cs)
 
 length-unknown : (w : ℕ) → length (unknown w) ≡ w
@@ -210,6 +210,20 @@ module _ (d : Design) where
           one_shape = λ e. (refl, refl);
         },
       )
+
+  -- a side of a choice has the width and the sign of the choice
+  pub record IsShapedAs (h k : Head) : Type 0 where
+    pub width : h.width ≡ k.width
+    pub sign_is : h.signed ≡ k.signed
+
+  pub choice_heads : (h : Head) (i y z : Term) → IsInContext d (choice h i y z) → IsShapedAs (head y) h × IsShapedAs (head z) h
+  choice_heads h i y z c =
+      let p3 = and_parts _ (is_shaped d c.width c.signed z) c.shaped in
+      let p2 = and_parts _ (is_shaped d c.width c.signed y) p3.0 in
+      let k = context_head (choice h i y z) c in
+      let l = head_is c.width c.signed (head y) (shaped_head c.width c.signed y p2.1) in
+      let r = head_is c.width c.signed (head z) (shaped_head c.width c.signed z p3.1) in
+      (record { width = l.width ∙ sym k.width; sign_is = l.sign_is ∙ sym k.sign_is }, record { width = r.width ∙ sym k.width; sign_is = r.sign_is ∙ sym k.sign_is })
 
   -- the sides have one shape
   pub same_shapes : (v : Scene) (first next : Option ℕ) (y z : Term) (a b : Partly) → (l : IsInContext d y) (r : IsInContext d z) → l.width ≡ r.width → l.signed ≡ r.signed → Stands v first y a → Stands v next z b → HaveSameShape a b

@@ -11,7 +11,8 @@ use Rattle.term_replay.specs.Noted.{Adds, in_this, marks_of}
 use Rattle.term_replay.specs.Stands.{IsInContext, Scene, Stands, first_after, head_of}
 use Rattle.term_replay.specs.declared.head.TermHead.{TermHead}
 use Rattle.term_replay.proofs.Marking.{adds_more}
-use Rattle.term_replay.proofs.Views.{head_in, sign_view}
+use Rattle.term_replay.specs.Plain.{head_in}
+use Rattle.term_replay.proofs.Views.{sign_view}
 
 -- the plain tree of a term, with a head that was read of it
 pub along : (h : TermHead) (x : Term) (form : t.Head → t.Term) → h ≡ head_in x → term_view x ≡ form (head_of (head_in x)) → term_view x ≡ form (head_of h)

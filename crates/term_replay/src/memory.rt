@@ -44,7 +44,7 @@ fn thing_to_blame<R: Reads>(reads: &R, memory: u32, index: &Known, first: Option
 }
 
 /// The mask of the lowest `width` places.
-fn low_mask(width: u8) -> u128
+pub(crate) fn low_mask(width: u8) -> u128
     requires low { 1 ≤ width }
     requires high { width ≤ 128 }
     ensures { result ≡ 2 ^ width - 1 }

@@ -1,6 +1,6 @@
 //! The operators and the choice (IEEE 1364-2001, clause 4.1).
 
-ghost use Rattle.std.specs.Prelude.{◌≡◌, ℕ, Option};
+ghost use Rattle.std.specs.Prelude.{◌≡◌, ℕ, Option, length};
 ghost use Rattle.std.specs.Bool.{OnTrue};
 ghost use Rattle.four_state.specs.Operators.{takes_same_shape};
 ghost use Rattle.known_state.specs.Answers.{HaveSameShape};
@@ -15,7 +15,9 @@ use known_state::Known;
 /// The value of an operator with one operand.
 pub fn unary(op: Unary, operand: &Known, head: TermHead) -> Known
     requires { IsHead head }
-    ensures { (v : Scene) (first : Option ℕ) (x : t.Term) → Stands v first x operand.now → Stands v first (t.unary (head_of head) op x) result }
+    ensures width { length result.bits ≡ head.width }
+    ensures sign { result.signed ≡ head.signed }
+    ensures value { (v : Scene) (first : Option ℕ) (x : t.Term) → Stands v first x operand.now → Stands v first (t.unary (head_of head) op x) result }
 {
     fitted(&Known::unary(op, operand), head)
 }
@@ -24,7 +26,9 @@ pub fn unary(op: Unary, operand: &Known, head: TermHead) -> Known
 pub fn binary(op: Binary, left: &Known, right: &Known, head: TermHead) -> Known
     requires head { IsHead head }
     requires operands { OnTrue (takes_same_shape op) (HaveSameShape left.now right.now) }
-    ensures { (v : Scene) (first : Option ℕ) (x y : t.Term) → Stands v first x left.now → Stands v (first_after v first x) y right.now → Stands v first (t.binary (head_of head) op x y) result }
+    ensures width { length result.bits ≡ head.width }
+    ensures sign { result.signed ≡ head.signed }
+    ensures value { (v : Scene) (first : Option ℕ) (x y : t.Term) → Stands v first x left.now → Stands v (first_after v first x) y right.now → Stands v first (t.binary (head_of head) op x y) result }
 {
     fitted(&Known::binary(op, left, right), head)
 }
@@ -33,7 +37,9 @@ pub fn binary(op: Binary, left: &Known, right: &Known, head: TermHead) -> Known
 pub fn choice(test: &Known, yes: &Known, no: &Known, head: TermHead) -> Known
     requires head { IsHead head }
     requires sides { HaveSameShape yes.now no.now }
-    ensures { (v : Scene) (first : Option ℕ) (c x y : t.Term) → Stands v first c test.now → Stands v (first_after v first c) x yes.now → Stands v (first_after v (first_after v first c) x) y no.now → Stands v first (t.choice (head_of head) c x y) result }
+    ensures width { length result.bits ≡ head.width }
+    ensures sign { result.signed ≡ head.signed }
+    ensures value { (v : Scene) (first : Option ℕ) (c x y : t.Term) → Stands v first c test.now → Stands v (first_after v first c) x yes.now → Stands v (first_after v (first_after v first c) x) y no.now → Stands v first (t.choice (head_of head) c x y) result }
 {
     fitted(&Known::choose(test.truth(), yes, no), head)
 }

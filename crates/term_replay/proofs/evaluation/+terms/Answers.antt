@@ -2,580 +2,439 @@ use Rattle.std.proofs.Common.{◌≡◌, ◌∙◌, ◌+◌, ◌*◌, ◌≤◌,
 use Rattle.std.proofs.lemmas.Bool.{and_parts}
 use Rattle.std.proofs.lemmas.List.{at_drop_all}
 use Rattle.std.proofs.Common.{rules}
+use Rattle.four_state.specs.Arithmetic.{natural}
+use Rattle.four_state.specs.Operators.{takes_same_shape}
+use Rattle.known_state.specs.Answers.{HaveSameShape}
+use Rattle.design_model.specs.Design.{memory_at}
 use Rattle.design_model.specs.Mentions.{blank}
 use Rattle.design_model.specs.Shape.{are_alone, own_widths}
 use Rattle.design_model.specs.Tree as tree
-use Rattle.design_model.specs.declared.tree.Term.{the_lemmas}
+use Rattle.design_model.specs.Value.{head, part_width, value}
 use Rattle.design_model.specs.View.{term_view, terms_of}
-use Rattle.term_replay.specs.Stands.{Fitted, copied, all_first_after, first_after, head_of, so_far}
-use Rattle.term_replay.proofs.Contexts.{alone, in_binary, in_bit, in_choice, in_concat, in_part, in_repeat, in_sign, in_slide, in_unary, in_word, same_shapes, shape_ok, length-joined}
-use Rattle.term_replay.proofs.Joining.{GoesOn, TellsOn, concat_stands, repeat_all, room_for_all, goes_end, goes_further, goes_start, room_left, tells_end, tells_further, tells_start, terms_from}
-use Rattle.term_replay.proofs.NodeMarks.{seen_own, seen_sign, seen_two}
-use Rattle.four_state.specs.Arithmetic.{natural}
-use Rattle.four_state.specs.Operators.{takes_same_shape}
-use Rattle.design_model.specs.Design.{memory_at}
-use Rattle.design_model.specs.Value.{part_width, value}
+use Rattle.design_model.specs.declared.tree.Term.{the_lemmas}
 use Rattle.body_replay.specs.Replay.{note}
 use Rattle.term_replay.specs.Noted.{access_spot, all_marks, in_this, marks_of}
+use Rattle.term_replay.specs.Plain.{head_in, held}
+use Rattle.term_replay.specs.Stands.{Fitted, IsHead, Stands, copied, all_first_after, first_after, head_of, so_far}
 use Rattle.term_replay.specs.declared.notes.Access.TheVariants.{Read}
+use Rattle.term_replay.proofs.Arms.{held_same, in_head, other_mode, second_first, second_mode, second_notes, second_value, small_same, third_first, third_mode, third_notes, third_value, walked_own, walked_two}
 use Rattle.term_replay.proofs.Constants.{bits_are, constant_bits, constant_whole}
-use Rattle.term_replay.proofs.Marking.{adds_more, adds_none, adds_same}
+use Rattle.term_replay.proofs.Contexts.{alone, in_binary, in_bit, choice_heads, in_choice, in_concat, in_part, in_repeat, in_sign, in_slide, in_unary, in_word, length-joined, length-stands, same_shapes}
+use Rattle.term_replay.proofs.Joining.{GoesOn, TellsOn, concat_stands, repeat_all, room_for_all, goes_end, goes_further, goes_start, room_left, tells_end, tells_further, tells_start, terms_from}
+use Rattle.term_replay.proofs.Marking.{adds_more, adds_same}
+use Rattle.term_replay.proofs.Stepping.{arm_context, next_value, same_value, three_first, three_marks, two_first, two_marks}
+use Rattle.term_replay.proofs.Views.{binary_view, bit_view, choice_view, concat_view, number_view, part_view, repeat_view, sign_view, signal_view, slide_view, unary_view, word_view}
 use Rattle.term_replay.proofs.Walking.{noted_is, on_true, read_is, thing_is, word_stands, words_of_range, words_same}
-use Rattle.term_replay.proofs.Stepping.{along, along_sign, arm_context, arm_notes, arm_value, next_value, same_value, three_first, three_marks, two_first, two_marks}
-use Rattle.term_replay.proofs.Views.{binary_view, bit_view, choice_view, concat_view, number_view, part_view, repeat_view, signal_view, slide_view, unary_view, word_view}
 use Rattle.term_replay.proofs.evaluation.+terms.Goals as goal
 
--- ---- word
+-- ---- each form of a term
 
-pub evaluate-word_term-requires : goal.evaluate-word_term-requires
-evaluate-word_term-requires g t c =
-    let is = along c.of-head.result c.args.term.now (λ h. tree.word h c.in-Word.memory (term_view c.in-Word.index)) c.of-head.ensures (word_view c.args.term.now c.in-Word.memory c.in-Word.index (sym c.deref.ensures ∙ c.in-Word.is)) in
-    λ κs h. (search (rules, the_lemmas), (h.0, (h.1, arm_context _ _ _ is c.requires)))
+pub walk-number_term-requires : goal.walk-number_term-requires
+walk-number_term-requires g t c =
+    let is = number_view c.args.term.now c.in-Number.value (sym c.deref.ensures ∙ c.in-Number.is) in
+    record { form = is; head = in_head (g.R.Reads.scene c.args.reads.now) c.args.term.now (ap head is) c.requires }
 
-pub evaluate-returns-in-Word-clause-value : goal.evaluate-returns-in-Word-clause-value
-evaluate-returns-in-Word-clause-value g t c =
-    let is = along c.of-head.result c.args.term.now (λ h. tree.word h c.in-Word.memory (term_view c.in-Word.index)) c.of-head.ensures (word_view c.args.term.now c.in-Word.memory c.in-Word.index (sym c.deref.ensures ∙ c.in-Word.is)) in
-    arm_value _ _ _ _ _ is c.word_term.ensures.value
+pub walk-returns-in-Number : goal.walk-returns-in-Number
+walk-returns-in-Number g t c = c.number_term.ensures (g.R.Reads.scene c.args.reads.now)
 
-pub evaluate-returns-in-Word-clause-first : goal.evaluate-returns-in-Word-clause-first
-evaluate-returns-in-Word-clause-first g t c =
-    let is = along c.of-head.result c.args.term.now (λ h. tree.word h c.in-Word.memory (term_view c.in-Word.index)) c.of-head.ensures (word_view c.args.term.now c.in-Word.memory c.in-Word.index (sym c.deref.ensures ∙ c.in-Word.is)) in
-    c.word_term.ensures.first ∙ ap (first_after (g.R.Reads.scene c.args.reads.now) c.args.run.first) (sym is)
+pub walk-signal_term-requires : goal.walk-signal_term-requires
+walk-signal_term-requires g t c =
+    let is = signal_view c.args.term.now c.in-Signal.signal (sym c.deref.ensures ∙ c.in-Signal.is) in
+    record { form = is; context = c.requires }
 
-pub evaluate-returns-in-Word-clause-notes : goal.evaluate-returns-in-Word-clause-notes
-evaluate-returns-in-Word-clause-notes g t c =
-    let is = along c.of-head.result c.args.term.now (λ h. tree.word h c.in-Word.memory (term_view c.in-Word.index)) c.of-head.ensures (word_view c.args.term.now c.in-Word.memory c.in-Word.index (sym c.deref.ensures ∙ c.in-Word.is)) in
-    arm_notes g.N.Notes.noted _ _ _ _ _ _ _ is c.word_term.ensures.notes
+pub walk-word_term-requires : goal.walk-word_term-requires
+walk-word_term-requires g t c =
+    let is = word_view c.args.term.now c.in-Word.memory c.in-Word.index (sym c.deref.ensures ∙ c.in-Word.is) in
+    λ κs h. (search (rules, the_lemmas), (h.0, (h.1, (is, c.requires))))
 
--- ---- bit
+pub walk-bit_term-requires : goal.walk-bit_term-requires
+walk-bit_term-requires g t c =
+    let is = bit_view c.args.term.now c.in-Bit.of c.in-Bit.index (sym c.deref.ensures ∙ c.in-Bit.is) in
+    λ κs h. (search (rules, the_lemmas), (h.0, (h.1, (is, c.requires))))
 
-pub evaluate-bit_term-requires : goal.evaluate-bit_term-requires
-evaluate-bit_term-requires g t c =
-    let is = along c.of-head.result c.args.term.now (λ h. tree.bit h (term_view c.in-Bit.of) (term_view c.in-Bit.index)) c.of-head.ensures (bit_view c.args.term.now c.in-Bit.of c.in-Bit.index (sym c.deref.ensures ∙ c.in-Bit.is)) in
-    λ κs h. (search (rules, the_lemmas), (h.0, (h.1, arm_context _ _ _ is c.requires)))
+pub walk-part_term-requires : goal.walk-part_term-requires
+walk-part_term-requires g t c =
+    let is = part_view c.args.term.now c.in-Part.of c.in-Part.high c.in-Part.low (sym c.deref.ensures ∙ c.in-Part.is) in
+    λ κs h. (search (rules, the_lemmas), (h.0, (h.1, (is, c.requires))))
 
-pub evaluate-returns-in-Bit-clause-value : goal.evaluate-returns-in-Bit-clause-value
-evaluate-returns-in-Bit-clause-value g t c =
-    let is = along c.of-head.result c.args.term.now (λ h. tree.bit h (term_view c.in-Bit.of) (term_view c.in-Bit.index)) c.of-head.ensures (bit_view c.args.term.now c.in-Bit.of c.in-Bit.index (sym c.deref.ensures ∙ c.in-Bit.is)) in
-    arm_value _ _ _ _ _ is c.bit_term.ensures.value
+pub walk-slide_term-requires : goal.walk-slide_term-requires
+walk-slide_term-requires g t c =
+    let is = slide_view c.args.term.now c.in-Slide.of c.in-Slide.base c.in-Slide.width c.in-Slide.up (sym c.deref.ensures ∙ c.in-Slide.is) in
+    λ κs h. (search (rules, the_lemmas), (h.0, (h.1, (is, c.requires))))
 
-pub evaluate-returns-in-Bit-clause-first : goal.evaluate-returns-in-Bit-clause-first
-evaluate-returns-in-Bit-clause-first g t c =
-    let is = along c.of-head.result c.args.term.now (λ h. tree.bit h (term_view c.in-Bit.of) (term_view c.in-Bit.index)) c.of-head.ensures (bit_view c.args.term.now c.in-Bit.of c.in-Bit.index (sym c.deref.ensures ∙ c.in-Bit.is)) in
-    c.bit_term.ensures.first ∙ ap (first_after (g.R.Reads.scene c.args.reads.now) c.args.run.first) (sym is)
+pub walk-unary_term-requires : goal.walk-unary_term-requires
+walk-unary_term-requires g t c =
+    let is = unary_view c.args.term.now c.in-Unary.op c.in-Unary.operand (sym c.deref.ensures ∙ c.in-Unary.is) in
+    λ κs h. (search (rules, the_lemmas), (h.0, (h.1, (is, c.requires))))
 
-pub evaluate-returns-in-Bit-clause-notes : goal.evaluate-returns-in-Bit-clause-notes
-evaluate-returns-in-Bit-clause-notes g t c =
-    let is = along c.of-head.result c.args.term.now (λ h. tree.bit h (term_view c.in-Bit.of) (term_view c.in-Bit.index)) c.of-head.ensures (bit_view c.args.term.now c.in-Bit.of c.in-Bit.index (sym c.deref.ensures ∙ c.in-Bit.is)) in
-    arm_notes g.N.Notes.noted _ _ _ _ _ _ _ is c.bit_term.ensures.notes
+pub walk-binary_term-requires : goal.walk-binary_term-requires
+walk-binary_term-requires g t c =
+    let is = binary_view c.args.term.now c.in-Binary.op c.in-Binary.left c.in-Binary.right (sym c.deref.ensures ∙ c.in-Binary.is) in
+    λ κs h. (search (rules, the_lemmas), (h.0, (h.1, (is, c.requires))))
 
--- ---- part
+pub walk-choice_term-requires : goal.walk-choice_term-requires
+walk-choice_term-requires g t c =
+    let is = choice_view c.args.term.now c.in-Choice.test c.in-Choice.yes c.in-Choice.no (sym c.deref.ensures ∙ c.in-Choice.is) in
+    λ κs h. (search (rules, the_lemmas), (h.0, (h.1, (is, c.requires))))
 
-pub evaluate-part_term-requires : goal.evaluate-part_term-requires
-evaluate-part_term-requires g t c =
-    let is = along c.of-head.result c.args.term.now (λ h. tree.part h (term_view c.in-Part.of) (term_view c.in-Part.high) (term_view c.in-Part.low)) c.of-head.ensures (part_view c.args.term.now c.in-Part.of c.in-Part.high c.in-Part.low (sym c.deref.ensures ∙ c.in-Part.is)) in
-    λ κs h. (search (rules, the_lemmas), (h.0, (h.1, arm_context _ _ _ is c.requires)))
+pub walk-concat_term-requires : goal.walk-concat_term-requires
+walk-concat_term-requires g t c =
+    let is = concat_view c.args.term.now c.in-Concat.parts (sym c.deref.ensures ∙ c.in-Concat.is) ∙ ap (λ xs. tree.concat (head_of (head_in c.args.term.now)) (terms_of (map term_view xs))) (sym c.deref-in-Concat.ensures.value) in
+    λ κs h. (search (rules, the_lemmas), (h.0, (h.1, (is, c.requires))))
 
-pub evaluate-returns-in-Part-clause-value : goal.evaluate-returns-in-Part-clause-value
-evaluate-returns-in-Part-clause-value g t c =
-    let is = along c.of-head.result c.args.term.now (λ h. tree.part h (term_view c.in-Part.of) (term_view c.in-Part.high) (term_view c.in-Part.low)) c.of-head.ensures (part_view c.args.term.now c.in-Part.of c.in-Part.high c.in-Part.low (sym c.deref.ensures ∙ c.in-Part.is)) in
-    arm_value _ _ _ _ _ is c.part_term.ensures.value
+pub walk-repeat_term-requires : goal.walk-repeat_term-requires
+walk-repeat_term-requires g t c =
+    let is = repeat_view c.args.term.now c.in-Repeat.count c.in-Repeat.parts (sym c.deref.ensures ∙ c.in-Repeat.is) ∙ ap (λ xs. tree.repeat (head_of (head_in c.args.term.now)) (term_view c.in-Repeat.count) (terms_of (map term_view xs))) (sym c.deref-in-Repeat.ensures.value) in
+    λ κs h. (search (rules, the_lemmas), (h.0, (h.1, (is, c.requires))))
 
-pub evaluate-returns-in-Part-clause-first : goal.evaluate-returns-in-Part-clause-first
-evaluate-returns-in-Part-clause-first g t c =
-    let is = along c.of-head.result c.args.term.now (λ h. tree.part h (term_view c.in-Part.of) (term_view c.in-Part.high) (term_view c.in-Part.low)) c.of-head.ensures (part_view c.args.term.now c.in-Part.of c.in-Part.high c.in-Part.low (sym c.deref.ensures ∙ c.in-Part.is)) in
-    c.part_term.ensures.first ∙ ap (first_after (g.R.Reads.scene c.args.reads.now) c.args.run.first) (sym is)
+pub walk-sign_term-requires : goal.walk-sign_term-requires
+walk-sign_term-requires g t c =
+    λ κs h. (search (rules, the_lemmas), (h.0, (h.1, (record { signed = _; is = sign_view c.args.term.now _ c.in-Sign.operand (sym c.deref.ensures ∙ c.in-Sign.is) }, c.requires))))
 
-pub evaluate-returns-in-Part-clause-notes : goal.evaluate-returns-in-Part-clause-notes
-evaluate-returns-in-Part-clause-notes g t c =
-    let is = along c.of-head.result c.args.term.now (λ h. tree.part h (term_view c.in-Part.of) (term_view c.in-Part.high) (term_view c.in-Part.low)) c.of-head.ensures (part_view c.args.term.now c.in-Part.of c.in-Part.high c.in-Part.low (sym c.deref.ensures ∙ c.in-Part.is)) in
-    arm_notes g.N.Notes.noted _ _ _ _ _ _ _ is c.part_term.ensures.notes
+-- ---- with a place of its own
 
--- ---- slide
+pub evaluate-walk-number-requires : goal.evaluate-walk-number-requires
+evaluate-walk-number-requires g t c =
+    λ κs h. (search (rules, the_lemmas), (h.0, (h.1, c.requires)))
 
-pub evaluate-slide_term-requires : goal.evaluate-slide_term-requires
-evaluate-slide_term-requires g t c =
-    let is = along c.of-head.result c.args.term.now (λ h. tree.slide h (term_view c.in-Slide.of) (term_view c.in-Slide.base) (term_view c.in-Slide.width) c.in-Slide.up) c.of-head.ensures (slide_view c.args.term.now c.in-Slide.of c.in-Slide.base c.in-Slide.width c.in-Slide.up (sym c.deref.ensures ∙ c.in-Slide.is)) in
-    λ κs h. (search (rules, the_lemmas), (h.0, (h.1, arm_context _ _ _ is c.requires)))
+pub evaluate-held-requires : goal.evaluate-held-requires
+evaluate-held-requires g t c =
+    record { head = in_head (g.R.Reads.scene c.args.reads.now) c.args.term.now c.walk-number.ensures.top c.requires; small = c.walk-number.ensures.small }
 
-pub evaluate-returns-in-Slide-clause-value : goal.evaluate-returns-in-Slide-clause-value
-evaluate-returns-in-Slide-clause-value g t c =
-    let is = along c.of-head.result c.args.term.now (λ h. tree.slide h (term_view c.in-Slide.of) (term_view c.in-Slide.base) (term_view c.in-Slide.width) c.in-Slide.up) c.of-head.ensures (slide_view c.args.term.now c.in-Slide.of c.in-Slide.base c.in-Slide.width c.in-Slide.up (sym c.deref.ensures ∙ c.in-Slide.is)) in
-    arm_value _ _ _ _ _ is c.slide_term.ensures.value
+pub evaluate-returns-clause-value : goal.evaluate-returns-clause-value
+evaluate-returns-clause-value g t c =
+    same_value (g.R.Reads.scene c.args.reads.now) c.args.run.first (term_view c.args.term.now) _ _ c.held.ensures c.walk-number.ensures.value
 
-pub evaluate-returns-in-Slide-clause-first : goal.evaluate-returns-in-Slide-clause-first
-evaluate-returns-in-Slide-clause-first g t c =
-    let is = along c.of-head.result c.args.term.now (λ h. tree.slide h (term_view c.in-Slide.of) (term_view c.in-Slide.base) (term_view c.in-Slide.width) c.in-Slide.up) c.of-head.ensures (slide_view c.args.term.now c.in-Slide.of c.in-Slide.base c.in-Slide.width c.in-Slide.up (sym c.deref.ensures ∙ c.in-Slide.is)) in
-    c.slide_term.ensures.first ∙ ap (first_after (g.R.Reads.scene c.args.reads.now) c.args.run.first) (sym is)
+pub evaluate-returns-clause-first : goal.evaluate-returns-clause-first
+evaluate-returns-clause-first g t c = c.walk-number.ensures.first
 
-pub evaluate-returns-in-Slide-clause-notes : goal.evaluate-returns-in-Slide-clause-notes
-evaluate-returns-in-Slide-clause-notes g t c =
-    let is = along c.of-head.result c.args.term.now (λ h. tree.slide h (term_view c.in-Slide.of) (term_view c.in-Slide.base) (term_view c.in-Slide.width) c.in-Slide.up) c.of-head.ensures (slide_view c.args.term.now c.in-Slide.of c.in-Slide.base c.in-Slide.width c.in-Slide.up (sym c.deref.ensures ∙ c.in-Slide.is)) in
-    arm_notes g.N.Notes.noted _ _ _ _ _ _ _ is c.slide_term.ensures.notes
-
--- ---- binary
-
-pub evaluate-binary_term-requires : goal.evaluate-binary_term-requires
-evaluate-binary_term-requires g t c =
-    let is = along c.of-head.result c.args.term.now (λ h. tree.binary h c.in-Binary.op (term_view c.in-Binary.left) (term_view c.in-Binary.right)) c.of-head.ensures (binary_view c.args.term.now c.in-Binary.op c.in-Binary.left c.in-Binary.right (sym c.deref.ensures ∙ c.in-Binary.is)) in
-    λ κs h. (search (rules, the_lemmas), (h.0, (h.1, arm_context _ _ _ is c.requires)))
-
-pub evaluate-returns-in-Binary-clause-value : goal.evaluate-returns-in-Binary-clause-value
-evaluate-returns-in-Binary-clause-value g t c =
-    let is = along c.of-head.result c.args.term.now (λ h. tree.binary h c.in-Binary.op (term_view c.in-Binary.left) (term_view c.in-Binary.right)) c.of-head.ensures (binary_view c.args.term.now c.in-Binary.op c.in-Binary.left c.in-Binary.right (sym c.deref.ensures ∙ c.in-Binary.is)) in
-    arm_value _ _ _ _ _ is c.binary_term.ensures.value
-
-pub evaluate-returns-in-Binary-clause-first : goal.evaluate-returns-in-Binary-clause-first
-evaluate-returns-in-Binary-clause-first g t c =
-    let is = along c.of-head.result c.args.term.now (λ h. tree.binary h c.in-Binary.op (term_view c.in-Binary.left) (term_view c.in-Binary.right)) c.of-head.ensures (binary_view c.args.term.now c.in-Binary.op c.in-Binary.left c.in-Binary.right (sym c.deref.ensures ∙ c.in-Binary.is)) in
-    c.binary_term.ensures.first ∙ ap (first_after (g.R.Reads.scene c.args.reads.now) c.args.run.first) (sym is)
-
-pub evaluate-returns-in-Binary-clause-notes : goal.evaluate-returns-in-Binary-clause-notes
-evaluate-returns-in-Binary-clause-notes g t c =
-    let is = along c.of-head.result c.args.term.now (λ h. tree.binary h c.in-Binary.op (term_view c.in-Binary.left) (term_view c.in-Binary.right)) c.of-head.ensures (binary_view c.args.term.now c.in-Binary.op c.in-Binary.left c.in-Binary.right (sym c.deref.ensures ∙ c.in-Binary.is)) in
-    arm_notes g.N.Notes.noted _ _ _ _ _ _ _ is c.binary_term.ensures.notes
-
--- ---- choice
-
-pub evaluate-choice_term-requires : goal.evaluate-choice_term-requires
-evaluate-choice_term-requires g t c =
-    let is = along c.of-head.result c.args.term.now (λ h. tree.choice h (term_view c.in-Choice.test) (term_view c.in-Choice.yes) (term_view c.in-Choice.no)) c.of-head.ensures (choice_view c.args.term.now c.in-Choice.test c.in-Choice.yes c.in-Choice.no (sym c.deref.ensures ∙ c.in-Choice.is)) in
-    λ κs h. (search (rules, the_lemmas), (h.0, (h.1, arm_context _ _ _ is c.requires)))
-
-pub evaluate-returns-in-Choice-clause-value : goal.evaluate-returns-in-Choice-clause-value
-evaluate-returns-in-Choice-clause-value g t c =
-    let is = along c.of-head.result c.args.term.now (λ h. tree.choice h (term_view c.in-Choice.test) (term_view c.in-Choice.yes) (term_view c.in-Choice.no)) c.of-head.ensures (choice_view c.args.term.now c.in-Choice.test c.in-Choice.yes c.in-Choice.no (sym c.deref.ensures ∙ c.in-Choice.is)) in
-    arm_value _ _ _ _ _ is c.choice_term.ensures.value
-
-pub evaluate-returns-in-Choice-clause-first : goal.evaluate-returns-in-Choice-clause-first
-evaluate-returns-in-Choice-clause-first g t c =
-    let is = along c.of-head.result c.args.term.now (λ h. tree.choice h (term_view c.in-Choice.test) (term_view c.in-Choice.yes) (term_view c.in-Choice.no)) c.of-head.ensures (choice_view c.args.term.now c.in-Choice.test c.in-Choice.yes c.in-Choice.no (sym c.deref.ensures ∙ c.in-Choice.is)) in
-    c.choice_term.ensures.first ∙ ap (first_after (g.R.Reads.scene c.args.reads.now) c.args.run.first) (sym is)
-
-pub evaluate-returns-in-Choice-clause-notes : goal.evaluate-returns-in-Choice-clause-notes
-evaluate-returns-in-Choice-clause-notes g t c =
-    let is = along c.of-head.result c.args.term.now (λ h. tree.choice h (term_view c.in-Choice.test) (term_view c.in-Choice.yes) (term_view c.in-Choice.no)) c.of-head.ensures (choice_view c.args.term.now c.in-Choice.test c.in-Choice.yes c.in-Choice.no (sym c.deref.ensures ∙ c.in-Choice.is)) in
-    arm_notes g.N.Notes.noted _ _ _ _ _ _ _ is c.choice_term.ensures.notes
-
--- ---- signal
-
-pub evaluate-signal_term-requires : goal.evaluate-signal_term-requires
-evaluate-signal_term-requires g t c =
-    let is = along c.of-head.result c.args.term.now (λ h. tree.signal h c.in-Signal.signal) c.of-head.ensures (signal_view c.args.term.now c.in-Signal.signal (sym c.deref.ensures ∙ c.in-Signal.is)) in
-    arm_context _ _ _ is c.requires
-
-pub evaluate-returns-in-Signal-clause-value : goal.evaluate-returns-in-Signal-clause-value
-evaluate-returns-in-Signal-clause-value g t c =
-    let is = along c.of-head.result c.args.term.now (λ h. tree.signal h c.in-Signal.signal) c.of-head.ensures (signal_view c.args.term.now c.in-Signal.signal (sym c.deref.ensures ∙ c.in-Signal.is)) in
-    arm_value _ _ _ _ _ is c.signal_term.ensures.value
-
-pub evaluate-returns-in-Signal-clause-first : goal.evaluate-returns-in-Signal-clause-first
-evaluate-returns-in-Signal-clause-first g t c =
-    let is = along c.of-head.result c.args.term.now (λ h. tree.signal h c.in-Signal.signal) c.of-head.ensures (signal_view c.args.term.now c.in-Signal.signal (sym c.deref.ensures ∙ c.in-Signal.is)) in
-    c.signal_term.ensures.first ∙ ap (first_after (g.R.Reads.scene c.args.reads.now) c.args.run.first) (sym is)
-
-pub evaluate-returns-in-Signal-clause-notes : goal.evaluate-returns-in-Signal-clause-notes
-evaluate-returns-in-Signal-clause-notes g t c =
-    let is = along c.of-head.result c.args.term.now (λ h. tree.signal h c.in-Signal.signal) c.of-head.ensures (signal_view c.args.term.now c.in-Signal.signal (sym c.deref.ensures ∙ c.in-Signal.is)) in
-    arm_notes g.N.Notes.noted _ _ _ _ _ _ _ is c.signal_term.ensures.notes
+pub evaluate-returns-clause-notes : goal.evaluate-returns-clause-notes
+evaluate-returns-clause-notes g t c = c.walk-number.ensures.notes
 
 -- ---- a bit, of its operands
 
 pub bit_term-range_of-range-requires : goal.bit_term-range_of-range-requires
-bit_term-range_of-range-requires g t c =
-    (in_bit _ _ _ _ c.requires).operand
+bit_term-range_of-range-requires g t c = (in_bit (g.R.Reads.scene c.args.reads.now).design _ _ _ (arm_context (g.R.Reads.scene c.args.reads.now).design _ (tree.bit (head_of (head_in c.args.term.now)) (term_view c.args.of.now) (term_view c.args.index.now)) c.requires.form c.requires.context)).operand
 
 pub bit_term-evaluate-index-requires : goal.bit_term-evaluate-index-requires
 bit_term-evaluate-index-requires g t c =
-    λ κs h. (search (rules, the_lemmas), (h.0, (h.1, (in_bit _ _ _ _ c.requires).index)))
+    λ κs h. (search (rules, the_lemmas), (h.0, (h.1, (in_bit (g.R.Reads.scene c.args.reads.now).design _ _ _ (arm_context (g.R.Reads.scene c.args.reads.now).design _ (tree.bit (head_of (head_in c.args.term.now)) (term_view c.args.of.now) (term_view c.args.index.now)) c.requires.form c.requires.context)).index)))
 
 pub bit_term-evaluate-operand-requires : goal.bit_term-evaluate-operand-requires
 bit_term-evaluate-operand-requires g t c =
-    λ κs h. (search (rules, the_lemmas), (h.0, (h.1, (in_bit _ _ _ _ c.requires).operand)))
+    λ κs h. (search (rules, the_lemmas), (h.0, (h.1, (in_bit (g.R.Reads.scene c.args.reads.now).design _ _ _ (arm_context (g.R.Reads.scene c.args.reads.now).design _ (tree.bit (head_of (head_in c.args.term.now)) (term_view c.args.of.now) (term_view c.args.index.now)) c.requires.form c.requires.context)).operand)))
 
-pub bit_term-returns-clause-value : goal.bit_term-returns-clause-value
-bit_term-returns-clause-value g t c =
+pub bit_term-bit-value-requires : goal.bit_term-bit-value-requires
+bit_term-bit-value-requires g t c = subst IsHead (sym c.of.ensures) (in_head (g.R.Reads.scene c.args.reads.now) c.args.term.now (ap head c.requires.form) c.requires.context)
+
+pub bit_term-finish-requires : goal.bit_term-finish-requires
+bit_term-finish-requires g t c =
     let sb = next_value (g.R.Reads.scene c.args.reads.now) _ _ _ _ (ap (λ p. p.first) c.after.ensures ∙ c.evaluate-index.ensures.first) c.evaluate-operand.ensures.value in
-    same_value (g.R.Reads.scene c.args.reads.now) _ _ _ _ c.seen.ensures.value (c.bit-value.ensures (g.R.Reads.scene c.args.reads.now) c.args.run.first (term_view c.args.of.now) (term_view c.args.index.now) (sym c.range_of-range.ensures) c.evaluate-index.ensures.value sb)
+    let stands : Stands (g.R.Reads.scene c.args.reads.now) c.args.run.now.first (tree.bit (head_of (head_in c.args.term.now)) (term_view c.args.of.now) (term_view c.args.index.now)) c.bit-value.result = subst (λ h. Stands (g.R.Reads.scene c.args.reads.now) c.args.run.now.first (tree.bit (head_of h) (term_view c.args.of.now) (term_view c.args.index.now)) c.bit-value.result) c.of.ensures (c.bit-value.ensures (g.R.Reads.scene c.args.reads.now) c.args.run.now.first (term_view c.args.of.now) (term_view c.args.index.now) (sym c.range_of-range.ensures) c.evaluate-index.ensures.value sb) in
+    record { width = length-stands (g.R.Reads.scene c.args.reads.now) c.args.run.now.first (tree.bit (head_of (head_in c.args.term.now)) (term_view c.args.of.now) (term_view c.args.index.now)) c.bit-value.result stands; sign = stands.sign_is }
 
-pub bit_term-returns-clause-first : goal.bit_term-returns-clause-first
-bit_term-returns-clause-first g t c =
-    c.seen.ensures.first ∙ ap (λ p. p.first) c.after-2.ensures ∙ two_first (g.R.Reads.scene c.args.reads.now) c.args.run.first (term_view c.args.index.now) (term_view c.args.of.now) c.evaluate-index.result.first _ c.evaluate-index.ensures.first (c.evaluate-operand.ensures.first ∙ ap (λ o. first_after (g.R.Reads.scene c.args.reads.now) o (term_view c.args.of.now)) (ap (λ p. p.first) c.after.ensures))
-
-pub bit_term-returns-clause-notes : goal.bit_term-returns-clause-notes
-bit_term-returns-clause-notes g t c =
+pub bit_term-returns : goal.bit_term-returns
+bit_term-returns g t c =
     let sb = next_value (g.R.Reads.scene c.args.reads.now) _ _ _ _ (ap (λ p. p.first) c.after.ensures ∙ c.evaluate-index.ensures.first) c.evaluate-operand.ensures.value in
-    let value = c.bit-value.ensures (g.R.Reads.scene c.args.reads.now) c.args.run.first (term_view c.args.of.now) (term_view c.args.index.now) (sym c.range_of-range.ensures) c.evaluate-index.ensures.value sb in
+    let stands : Stands (g.R.Reads.scene c.args.reads.now) c.args.run.now.first (tree.bit (head_of (head_in c.args.term.now)) (term_view c.args.of.now) (term_view c.args.index.now)) c.bit-value.result = subst (λ h. Stands (g.R.Reads.scene c.args.reads.now) c.args.run.now.first (tree.bit (head_of h) (term_view c.args.of.now) (term_view c.args.index.now)) c.bit-value.result) c.of.ensures (c.bit-value.ensures (g.R.Reads.scene c.args.reads.now) c.args.run.now.first (term_view c.args.of.now) (term_view c.args.index.now) (sym c.range_of-range.ensures) c.evaluate-index.ensures.value sb) in
     let later = rw c.after.ensures at c.evaluate-operand.ensures.notes in
-    let own = rw c.after-2.ensures at c.seen.ensures.notes in
-    seen_own g.N.Notes.noted (g.R.Reads.scene c.args.reads.now) c.args.run.mode c.args.run.first _ _ _ _ _ refl value (two_marks g.N.Notes.noted (g.R.Reads.scene c.args.reads.now) c.args.run.mode c.args.run.first (term_view c.args.index.now) (term_view c.args.of.now) c.evaluate-index.result.first _ _ _ c.evaluate-index.ensures.first c.evaluate-index.ensures.notes later) own
+    walked_own g.N.Notes.noted (g.R.Reads.scene c.args.reads.now) c.args.term.now c.args.run.now _ _ _ _ _ _ (tree.bit (head_of (head_in c.args.term.now)) (term_view c.args.of.now) (term_view c.args.index.now)) c.bit-value.result c.requires.form refl refl stands c.finish.ensures.value c.finish.ensures.small (c.finish.ensures.first ∙ two_first (g.R.Reads.scene c.args.reads.now) c.args.run.now.first (term_view c.args.index.now) (term_view c.args.of.now) c.evaluate-index.result.first _ c.evaluate-index.ensures.first (c.evaluate-operand.ensures.first ∙ ap (λ o. first_after (g.R.Reads.scene c.args.reads.now) o (term_view c.args.of.now)) (ap (λ p. p.first) c.after.ensures))) c.finish.ensures.mode (two_marks g.N.Notes.noted (g.R.Reads.scene c.args.reads.now) c.args.run.now.mode c.args.run.now.first (term_view c.args.index.now) (term_view c.args.of.now) c.evaluate-index.result.first _ _ _ c.evaluate-index.ensures.first c.evaluate-index.ensures.notes later) c.finish.ensures.notes
 
 -- ---- a part
 
 pub part_term-range_of-range-requires : goal.part_term-range_of-range-requires
-part_term-range_of-range-requires g t c =
-    (in_part _ _ _ _ _ c.requires).operand
+part_term-range_of-range-requires g t c = (in_part (g.R.Reads.scene c.args.reads.now).design _ _ _ _ (arm_context (g.R.Reads.scene c.args.reads.now).design _ (tree.part (head_of (head_in c.args.term.now)) (term_view c.args.of.now) (term_view c.args.high.now) (term_view c.args.low.now)) c.requires.form c.requires.context)).operand
 
 pub part_term-evaluate-high-requires : goal.part_term-evaluate-high-requires
 part_term-evaluate-high-requires g t c =
-    λ κs h. (search (rules, the_lemmas), (h.0, (h.1, (in_part _ _ _ _ _ c.requires).high)))
+    λ κs h. (search (rules, the_lemmas), (h.0, (h.1, (in_part (g.R.Reads.scene c.args.reads.now).design _ _ _ _ (arm_context (g.R.Reads.scene c.args.reads.now).design _ (tree.part (head_of (head_in c.args.term.now)) (term_view c.args.of.now) (term_view c.args.high.now) (term_view c.args.low.now)) c.requires.form c.requires.context)).high)))
 
 pub part_term-evaluate-low-requires : goal.part_term-evaluate-low-requires
 part_term-evaluate-low-requires g t c =
-    λ κs h. (search (rules, the_lemmas), (h.0, (h.1, (in_part _ _ _ _ _ c.requires).low)))
+    λ κs h. (search (rules, the_lemmas), (h.0, (h.1, (in_part (g.R.Reads.scene c.args.reads.now).design _ _ _ _ (arm_context (g.R.Reads.scene c.args.reads.now).design _ (tree.part (head_of (head_in c.args.term.now)) (term_view c.args.of.now) (term_view c.args.high.now) (term_view c.args.low.now)) c.requires.form c.requires.context)).low)))
 
 pub part_term-evaluate-operand-requires : goal.part_term-evaluate-operand-requires
 part_term-evaluate-operand-requires g t c =
-    λ κs h. (search (rules, the_lemmas), (h.0, (h.1, (in_part _ _ _ _ _ c.requires).operand)))
+    λ κs h. (search (rules, the_lemmas), (h.0, (h.1, (in_part (g.R.Reads.scene c.args.reads.now).design _ _ _ _ (arm_context (g.R.Reads.scene c.args.reads.now).design _ (tree.part (head_of (head_in c.args.term.now)) (term_view c.args.of.now) (term_view c.args.high.now) (term_view c.args.low.now)) c.requires.form c.requires.context)).operand)))
 
-pub part_term-returns-clause-value : goal.part_term-returns-clause-value
-part_term-returns-clause-value g t c =
+pub part_term-part-value-requires : goal.part_term-part-value-requires
+part_term-part-value-requires g t c =
+    let k = in_part (g.R.Reads.scene c.args.reads.now).design _ _ _ _ (arm_context (g.R.Reads.scene c.args.reads.now).design _ (tree.part (head_of (head_in c.args.term.now)) (term_view c.args.of.now) (term_view c.args.high.now) (term_view c.args.low.now)) c.requires.form c.requires.context) in
+    record {
+      head = subst IsHead (sym c.of-head.ensures) (in_head (g.R.Reads.scene c.args.reads.now) c.args.term.now (ap head c.requires.form) c.requires.context);
+      high = constant_whole (g.R.Reads.scene c.args.reads.now) c.args.run.now.first (term_view c.args.high.now) c.evaluate-high.result.value k.high_fixed c.evaluate-high.ensures.value;
+      low = constant_whole (g.R.Reads.scene c.args.reads.now) c.after.result.first (term_view c.args.low.now) c.evaluate-low.result.value k.low_fixed c.evaluate-low.ensures.value;
+      count = subst (λ n. n ≤ 128) (sym (ap₂ part_width (constant_bits (g.R.Reads.scene c.args.reads.now) c.args.run.now.first (term_view c.args.high.now) c.evaluate-high.result.value k.high_fixed c.evaluate-high.ensures.value) (constant_bits (g.R.Reads.scene c.args.reads.now) c.after.result.first (term_view c.args.low.now) c.evaluate-low.result.value k.low_fixed c.evaluate-low.ensures.value))) k.count;
+    }
+
+pub part_term-finish-requires : goal.part_term-finish-requires
+part_term-finish-requires g t c =
     let sb = next_value (g.R.Reads.scene c.args.reads.now) _ _ _ _ (ap (λ p. p.first) c.after.ensures ∙ c.evaluate-high.ensures.first) c.evaluate-low.ensures.value in
-    let sc = next_value (g.R.Reads.scene c.args.reads.now) _ _ _ _ (ap (λ p. p.first) c.after-2.ensures ∙ two_first (g.R.Reads.scene c.args.reads.now) c.args.run.first (term_view c.args.high.now) (term_view c.args.low.now) c.evaluate-high.result.first _ c.evaluate-high.ensures.first (c.evaluate-low.ensures.first ∙ ap (λ o. first_after (g.R.Reads.scene c.args.reads.now) o (term_view c.args.low.now)) (ap (λ p. p.first) c.after.ensures))) c.evaluate-operand.ensures.value in
-    let value = c.part-value.ensures (g.R.Reads.scene c.args.reads.now) c.args.run.first (term_view c.args.of.now) (term_view c.args.high.now) (term_view c.args.low.now) (sym c.range_of-range.ensures) c.evaluate-high.ensures.value sb sc in
-    same_value (g.R.Reads.scene c.args.reads.now) _ _ _ _ c.seen.ensures.value value
+    let sc = next_value (g.R.Reads.scene c.args.reads.now) _ _ _ _ (ap (λ p. p.first) c.after-2.ensures ∙ two_first (g.R.Reads.scene c.args.reads.now) c.args.run.now.first (term_view c.args.high.now) (term_view c.args.low.now) c.evaluate-high.result.first _ c.evaluate-high.ensures.first (c.evaluate-low.ensures.first ∙ ap (λ o. first_after (g.R.Reads.scene c.args.reads.now) o (term_view c.args.low.now)) (ap (λ p. p.first) c.after.ensures))) c.evaluate-operand.ensures.value in
+    let stands : Stands (g.R.Reads.scene c.args.reads.now) c.args.run.now.first (tree.part (head_of (head_in c.args.term.now)) (term_view c.args.of.now) (term_view c.args.high.now) (term_view c.args.low.now)) c.part-value.result = subst (λ h. Stands (g.R.Reads.scene c.args.reads.now) c.args.run.now.first (tree.part (head_of h) (term_view c.args.of.now) (term_view c.args.high.now) (term_view c.args.low.now)) c.part-value.result) c.of-head.ensures (c.part-value.ensures (g.R.Reads.scene c.args.reads.now) c.args.run.now.first (term_view c.args.of.now) (term_view c.args.high.now) (term_view c.args.low.now) (sym c.range_of-range.ensures) c.evaluate-high.ensures.value sb sc) in
+    record { width = length-stands (g.R.Reads.scene c.args.reads.now) c.args.run.now.first (tree.part (head_of (head_in c.args.term.now)) (term_view c.args.of.now) (term_view c.args.high.now) (term_view c.args.low.now)) c.part-value.result stands; sign = stands.sign_is }
 
-pub part_term-returns-clause-first : goal.part_term-returns-clause-first
-part_term-returns-clause-first g t c =
-    c.seen.ensures.first ∙ ap (λ p. p.first) c.after-3.ensures ∙ three_first (g.R.Reads.scene c.args.reads.now) c.args.run.first (term_view c.args.high.now) (term_view c.args.low.now) (term_view c.args.of.now) c.evaluate-high.result.first c.evaluate-low.result.first _ c.evaluate-high.ensures.first (c.evaluate-low.ensures.first ∙ ap (λ o. first_after (g.R.Reads.scene c.args.reads.now) o (term_view c.args.low.now)) (ap (λ p. p.first) c.after.ensures)) (c.evaluate-operand.ensures.first ∙ ap (λ o. first_after (g.R.Reads.scene c.args.reads.now) o (term_view c.args.of.now)) (ap (λ p. p.first) c.after-2.ensures))
-
-pub part_term-returns-clause-notes : goal.part_term-returns-clause-notes
-part_term-returns-clause-notes g t c =
+pub part_term-returns : goal.part_term-returns
+part_term-returns g t c =
     let sb = next_value (g.R.Reads.scene c.args.reads.now) _ _ _ _ (ap (λ p. p.first) c.after.ensures ∙ c.evaluate-high.ensures.first) c.evaluate-low.ensures.value in
-    let sc = next_value (g.R.Reads.scene c.args.reads.now) _ _ _ _ (ap (λ p. p.first) c.after-2.ensures ∙ two_first (g.R.Reads.scene c.args.reads.now) c.args.run.first (term_view c.args.high.now) (term_view c.args.low.now) c.evaluate-high.result.first _ c.evaluate-high.ensures.first (c.evaluate-low.ensures.first ∙ ap (λ o. first_after (g.R.Reads.scene c.args.reads.now) o (term_view c.args.low.now)) (ap (λ p. p.first) c.after.ensures))) c.evaluate-operand.ensures.value in
-    let value = c.part-value.ensures (g.R.Reads.scene c.args.reads.now) c.args.run.first (term_view c.args.of.now) (term_view c.args.high.now) (term_view c.args.low.now) (sym c.range_of-range.ensures) c.evaluate-high.ensures.value sb sc in
+    let sc = next_value (g.R.Reads.scene c.args.reads.now) _ _ _ _ (ap (λ p. p.first) c.after-2.ensures ∙ two_first (g.R.Reads.scene c.args.reads.now) c.args.run.now.first (term_view c.args.high.now) (term_view c.args.low.now) c.evaluate-high.result.first _ c.evaluate-high.ensures.first (c.evaluate-low.ensures.first ∙ ap (λ o. first_after (g.R.Reads.scene c.args.reads.now) o (term_view c.args.low.now)) (ap (λ p. p.first) c.after.ensures))) c.evaluate-operand.ensures.value in
+    let stands : Stands (g.R.Reads.scene c.args.reads.now) c.args.run.now.first (tree.part (head_of (head_in c.args.term.now)) (term_view c.args.of.now) (term_view c.args.high.now) (term_view c.args.low.now)) c.part-value.result = subst (λ h. Stands (g.R.Reads.scene c.args.reads.now) c.args.run.now.first (tree.part (head_of h) (term_view c.args.of.now) (term_view c.args.high.now) (term_view c.args.low.now)) c.part-value.result) c.of-head.ensures (c.part-value.ensures (g.R.Reads.scene c.args.reads.now) c.args.run.now.first (term_view c.args.of.now) (term_view c.args.high.now) (term_view c.args.low.now) (sym c.range_of-range.ensures) c.evaluate-high.ensures.value sb sc) in
     let second = rw c.after.ensures at c.evaluate-low.ensures.notes in
     let third = rw c.after-2.ensures at c.evaluate-operand.ensures.notes in
-    let own = rw c.after-3.ensures at c.seen.ensures.notes in
-    seen_own g.N.Notes.noted (g.R.Reads.scene c.args.reads.now) c.args.run.mode c.args.run.first _ _ _ _ _ refl value (three_marks g.N.Notes.noted (g.R.Reads.scene c.args.reads.now) c.args.run.mode c.args.run.first (term_view c.args.high.now) (term_view c.args.low.now) (term_view c.args.of.now) c.evaluate-high.result.first c.evaluate-low.result.first _ _ _ _ c.evaluate-high.ensures.first (c.evaluate-low.ensures.first ∙ ap (λ o. first_after (g.R.Reads.scene c.args.reads.now) o (term_view c.args.low.now)) (ap (λ p. p.first) c.after.ensures)) c.evaluate-high.ensures.notes second third) own
+    walked_own g.N.Notes.noted (g.R.Reads.scene c.args.reads.now) c.args.term.now c.args.run.now _ _ _ _ _ _ (tree.part (head_of (head_in c.args.term.now)) (term_view c.args.of.now) (term_view c.args.high.now) (term_view c.args.low.now)) c.part-value.result c.requires.form refl refl stands c.finish.ensures.value c.finish.ensures.small (c.finish.ensures.first ∙ three_first (g.R.Reads.scene c.args.reads.now) c.args.run.now.first (term_view c.args.high.now) (term_view c.args.low.now) (term_view c.args.of.now) c.evaluate-high.result.first c.evaluate-low.result.first _ c.evaluate-high.ensures.first (c.evaluate-low.ensures.first ∙ ap (λ o. first_after (g.R.Reads.scene c.args.reads.now) o (term_view c.args.low.now)) (ap (λ p. p.first) c.after.ensures)) (c.evaluate-operand.ensures.first ∙ ap (λ o. first_after (g.R.Reads.scene c.args.reads.now) o (term_view c.args.of.now)) (ap (λ p. p.first) c.after-2.ensures))) c.finish.ensures.mode (three_marks g.N.Notes.noted (g.R.Reads.scene c.args.reads.now) c.args.run.now.mode c.args.run.now.first (term_view c.args.high.now) (term_view c.args.low.now) (term_view c.args.of.now) c.evaluate-high.result.first c.evaluate-low.result.first _ _ _ _ c.evaluate-high.ensures.first (c.evaluate-low.ensures.first ∙ ap (λ o. first_after (g.R.Reads.scene c.args.reads.now) o (term_view c.args.low.now)) (ap (λ p. p.first) c.after.ensures)) c.evaluate-high.ensures.notes second third) c.finish.ensures.notes
 
 -- ---- a part from a base
 
 pub slide_term-range_of-range-requires : goal.slide_term-range_of-range-requires
-slide_term-range_of-range-requires g t c =
-    (in_slide _ _ _ _ _ _ c.requires).operand
+slide_term-range_of-range-requires g t c = (in_slide (g.R.Reads.scene c.args.reads.now).design _ _ _ _ _ (arm_context (g.R.Reads.scene c.args.reads.now).design _ (tree.slide (head_of (head_in c.args.term.now)) (term_view c.args.of.now) (term_view c.args.base.now) (term_view c.args.count.now) c.args.up) c.requires.form c.requires.context)).operand
 
 pub slide_term-evaluate-base-requires : goal.slide_term-evaluate-base-requires
 slide_term-evaluate-base-requires g t c =
-    λ κs h. (search (rules, the_lemmas), (h.0, (h.1, (in_slide _ _ _ _ _ _ c.requires).base)))
+    λ κs h. (search (rules, the_lemmas), (h.0, (h.1, (in_slide (g.R.Reads.scene c.args.reads.now).design _ _ _ _ _ (arm_context (g.R.Reads.scene c.args.reads.now).design _ (tree.slide (head_of (head_in c.args.term.now)) (term_view c.args.of.now) (term_view c.args.base.now) (term_view c.args.count.now) c.args.up) c.requires.form c.requires.context)).base)))
 
 pub slide_term-evaluate-count-requires : goal.slide_term-evaluate-count-requires
 slide_term-evaluate-count-requires g t c =
-    λ κs h. (search (rules, the_lemmas), (h.0, (h.1, (in_slide _ _ _ _ _ _ c.requires).size)))
+    λ κs h. (search (rules, the_lemmas), (h.0, (h.1, (in_slide (g.R.Reads.scene c.args.reads.now).design _ _ _ _ _ (arm_context (g.R.Reads.scene c.args.reads.now).design _ (tree.slide (head_of (head_in c.args.term.now)) (term_view c.args.of.now) (term_view c.args.base.now) (term_view c.args.count.now) c.args.up) c.requires.form c.requires.context)).size)))
 
 pub slide_term-evaluate-operand-requires : goal.slide_term-evaluate-operand-requires
 slide_term-evaluate-operand-requires g t c =
-    λ κs h. (search (rules, the_lemmas), (h.0, (h.1, (in_slide _ _ _ _ _ _ c.requires).operand)))
-
-pub slide_term-returns-clause-value : goal.slide_term-returns-clause-value
-slide_term-returns-clause-value g t c =
-    let sb = next_value (g.R.Reads.scene c.args.reads.now) _ _ _ _ (ap (λ p. p.first) c.after.ensures ∙ c.evaluate-base.ensures.first) c.evaluate-count.ensures.value in
-    let sc = next_value (g.R.Reads.scene c.args.reads.now) _ _ _ _ (ap (λ p. p.first) c.after-2.ensures ∙ two_first (g.R.Reads.scene c.args.reads.now) c.args.run.first (term_view c.args.base.now) (term_view c.args.count.now) c.evaluate-base.result.first _ c.evaluate-base.ensures.first (c.evaluate-count.ensures.first ∙ ap (λ o. first_after (g.R.Reads.scene c.args.reads.now) o (term_view c.args.count.now)) (ap (λ p. p.first) c.after.ensures))) c.evaluate-operand.ensures.value in
-    let value = c.slide-value.ensures (g.R.Reads.scene c.args.reads.now) c.args.run.first (term_view c.args.of.now) (term_view c.args.base.now) (term_view c.args.count.now) (sym c.range_of-range.ensures) c.evaluate-base.ensures.value sb sc in
-    same_value (g.R.Reads.scene c.args.reads.now) _ _ _ _ c.seen.ensures.value value
-
-pub slide_term-returns-clause-first : goal.slide_term-returns-clause-first
-slide_term-returns-clause-first g t c =
-    c.seen.ensures.first ∙ ap (λ p. p.first) c.after-3.ensures ∙ three_first (g.R.Reads.scene c.args.reads.now) c.args.run.first (term_view c.args.base.now) (term_view c.args.count.now) (term_view c.args.of.now) c.evaluate-base.result.first c.evaluate-count.result.first _ c.evaluate-base.ensures.first (c.evaluate-count.ensures.first ∙ ap (λ o. first_after (g.R.Reads.scene c.args.reads.now) o (term_view c.args.count.now)) (ap (λ p. p.first) c.after.ensures)) (c.evaluate-operand.ensures.first ∙ ap (λ o. first_after (g.R.Reads.scene c.args.reads.now) o (term_view c.args.of.now)) (ap (λ p. p.first) c.after-2.ensures))
-
-pub slide_term-returns-clause-notes : goal.slide_term-returns-clause-notes
-slide_term-returns-clause-notes g t c =
-    let sb = next_value (g.R.Reads.scene c.args.reads.now) _ _ _ _ (ap (λ p. p.first) c.after.ensures ∙ c.evaluate-base.ensures.first) c.evaluate-count.ensures.value in
-    let sc = next_value (g.R.Reads.scene c.args.reads.now) _ _ _ _ (ap (λ p. p.first) c.after-2.ensures ∙ two_first (g.R.Reads.scene c.args.reads.now) c.args.run.first (term_view c.args.base.now) (term_view c.args.count.now) c.evaluate-base.result.first _ c.evaluate-base.ensures.first (c.evaluate-count.ensures.first ∙ ap (λ o. first_after (g.R.Reads.scene c.args.reads.now) o (term_view c.args.count.now)) (ap (λ p. p.first) c.after.ensures))) c.evaluate-operand.ensures.value in
-    let value = c.slide-value.ensures (g.R.Reads.scene c.args.reads.now) c.args.run.first (term_view c.args.of.now) (term_view c.args.base.now) (term_view c.args.count.now) (sym c.range_of-range.ensures) c.evaluate-base.ensures.value sb sc in
-    let second = rw c.after.ensures at c.evaluate-count.ensures.notes in
-    let third = rw c.after-2.ensures at c.evaluate-operand.ensures.notes in
-    let own = rw c.after-3.ensures at c.seen.ensures.notes in
-    seen_own g.N.Notes.noted (g.R.Reads.scene c.args.reads.now) c.args.run.mode c.args.run.first _ _ _ _ _ refl value (three_marks g.N.Notes.noted (g.R.Reads.scene c.args.reads.now) c.args.run.mode c.args.run.first (term_view c.args.base.now) (term_view c.args.count.now) (term_view c.args.of.now) c.evaluate-base.result.first c.evaluate-count.result.first _ _ _ _ c.evaluate-base.ensures.first (c.evaluate-count.ensures.first ∙ ap (λ o. first_after (g.R.Reads.scene c.args.reads.now) o (term_view c.args.count.now)) (ap (λ p. p.first) c.after.ensures)) c.evaluate-base.ensures.notes second third) own
-
--- ---- a choice
-
-pub choice_term-evaluate-test-requires : goal.choice_term-evaluate-test-requires
-choice_term-evaluate-test-requires g t c =
-    λ κs h. (search (rules, the_lemmas), (h.0, (h.1, (in_choice _ _ _ _ _ c.requires).0)))
-
-pub choice_term-evaluate-yes-requires : goal.choice_term-evaluate-yes-requires
-choice_term-evaluate-yes-requires g t c =
-    λ κs h. (search (rules, the_lemmas), (h.0, (h.1, (in_choice _ _ _ _ _ c.requires).1.left)))
-
-pub choice_term-evaluate-no-requires : goal.choice_term-evaluate-no-requires
-choice_term-evaluate-no-requires g t c =
-    λ κs h. (search (rules, the_lemmas), (h.0, (h.1, (in_choice _ _ _ _ _ c.requires).1.right)))
-
-pub choice_term-returns-clause-value : goal.choice_term-returns-clause-value
-choice_term-returns-clause-value g t c =
-    let sb = next_value (g.R.Reads.scene c.args.reads.now) _ _ _ _ (ap (λ p. p.first) c.after.ensures ∙ c.evaluate-test.ensures.first) c.evaluate-yes.ensures.value in
-    let sc = next_value (g.R.Reads.scene c.args.reads.now) _ _ _ _ (ap (λ p. p.first) c.after-2.ensures ∙ two_first (g.R.Reads.scene c.args.reads.now) c.args.run.first (term_view c.args.test.now) (term_view c.args.yes.now) c.evaluate-test.result.first _ c.evaluate-test.ensures.first (c.evaluate-yes.ensures.first ∙ ap (λ o. first_after (g.R.Reads.scene c.args.reads.now) o (term_view c.args.yes.now)) (ap (λ p. p.first) c.after.ensures))) c.evaluate-no.ensures.value in
-    let value = c.choice-value.ensures (g.R.Reads.scene c.args.reads.now) c.args.run.first (term_view c.args.test.now) (term_view c.args.yes.now) (term_view c.args.no.now) c.evaluate-test.ensures.value sb sc in
-    same_value (g.R.Reads.scene c.args.reads.now) _ _ _ _ c.seen.ensures.value value
-
-pub choice_term-returns-clause-first : goal.choice_term-returns-clause-first
-choice_term-returns-clause-first g t c =
-    c.seen.ensures.first ∙ ap (λ p. p.first) c.after-3.ensures ∙ three_first (g.R.Reads.scene c.args.reads.now) c.args.run.first (term_view c.args.test.now) (term_view c.args.yes.now) (term_view c.args.no.now) c.evaluate-test.result.first c.evaluate-yes.result.first _ c.evaluate-test.ensures.first (c.evaluate-yes.ensures.first ∙ ap (λ o. first_after (g.R.Reads.scene c.args.reads.now) o (term_view c.args.yes.now)) (ap (λ p. p.first) c.after.ensures)) (c.evaluate-no.ensures.first ∙ ap (λ o. first_after (g.R.Reads.scene c.args.reads.now) o (term_view c.args.no.now)) (ap (λ p. p.first) c.after-2.ensures))
-
-pub choice_term-returns-clause-notes : goal.choice_term-returns-clause-notes
-choice_term-returns-clause-notes g t c =
-    let sb = next_value (g.R.Reads.scene c.args.reads.now) _ _ _ _ (ap (λ p. p.first) c.after.ensures ∙ c.evaluate-test.ensures.first) c.evaluate-yes.ensures.value in
-    let sc = next_value (g.R.Reads.scene c.args.reads.now) _ _ _ _ (ap (λ p. p.first) c.after-2.ensures ∙ two_first (g.R.Reads.scene c.args.reads.now) c.args.run.first (term_view c.args.test.now) (term_view c.args.yes.now) c.evaluate-test.result.first _ c.evaluate-test.ensures.first (c.evaluate-yes.ensures.first ∙ ap (λ o. first_after (g.R.Reads.scene c.args.reads.now) o (term_view c.args.yes.now)) (ap (λ p. p.first) c.after.ensures))) c.evaluate-no.ensures.value in
-    let value = c.choice-value.ensures (g.R.Reads.scene c.args.reads.now) c.args.run.first (term_view c.args.test.now) (term_view c.args.yes.now) (term_view c.args.no.now) c.evaluate-test.ensures.value sb sc in
-    let second = rw c.after.ensures at c.evaluate-yes.ensures.notes in
-    let third = rw c.after-2.ensures at c.evaluate-no.ensures.notes in
-    let own = rw c.after-3.ensures at c.seen.ensures.notes in
-    seen_own g.N.Notes.noted (g.R.Reads.scene c.args.reads.now) c.args.run.mode c.args.run.first _ _ _ _ _ refl value (three_marks g.N.Notes.noted (g.R.Reads.scene c.args.reads.now) c.args.run.mode c.args.run.first (term_view c.args.test.now) (term_view c.args.yes.now) (term_view c.args.no.now) c.evaluate-test.result.first c.evaluate-yes.result.first _ _ _ _ c.evaluate-test.ensures.first (c.evaluate-yes.ensures.first ∙ ap (λ o. first_after (g.R.Reads.scene c.args.reads.now) o (term_view c.args.yes.now)) (ap (λ p. p.first) c.after.ensures)) c.evaluate-test.ensures.notes second third) own
-
--- ---- what the forms require
-
-pub bit_term-bit-value-requires : goal.bit_term-bit-value-requires
-bit_term-bit-value-requires g t c =
-    (shape_ok (g.R.Reads.scene c.args.reads.now).design (tree.bit (head_of c.args.head) (term_view c.args.of.now) (term_view c.args.index.now)) c.args.head refl c.requires)
-
-pub part_term-part-value-requires : goal.part_term-part-value-requires
-part_term-part-value-requires g t c =
-    let k = in_part (g.R.Reads.scene c.args.reads.now).design (head_of c.args.head) (term_view c.args.of.now) (term_view c.args.high.now) (term_view c.args.low.now) c.requires in
-    record {
-      head = (shape_ok (g.R.Reads.scene c.args.reads.now).design (tree.part (head_of c.args.head) (term_view c.args.of.now) (term_view c.args.high.now) (term_view c.args.low.now)) c.args.head refl c.requires);
-      high = constant_whole (g.R.Reads.scene c.args.reads.now) c.args.run.first (term_view c.args.high.now) c.evaluate-high.result.value k.high_fixed c.evaluate-high.ensures.value;
-      low = constant_whole (g.R.Reads.scene c.args.reads.now) c.after.result.first (term_view c.args.low.now) c.evaluate-low.result.value k.low_fixed c.evaluate-low.ensures.value;
-      count = subst (λ n. n ≤ 128) (sym (ap₂ part_width (constant_bits (g.R.Reads.scene c.args.reads.now) c.args.run.first (term_view c.args.high.now) c.evaluate-high.result.value k.high_fixed c.evaluate-high.ensures.value) (constant_bits (g.R.Reads.scene c.args.reads.now) c.after.result.first (term_view c.args.low.now) c.evaluate-low.result.value k.low_fixed c.evaluate-low.ensures.value))) k.count;
-    }
+    λ κs h. (search (rules, the_lemmas), (h.0, (h.1, (in_slide (g.R.Reads.scene c.args.reads.now).design _ _ _ _ _ (arm_context (g.R.Reads.scene c.args.reads.now).design _ (tree.slide (head_of (head_in c.args.term.now)) (term_view c.args.of.now) (term_view c.args.base.now) (term_view c.args.count.now) c.args.up) c.requires.form c.requires.context)).operand)))
 
 pub slide_term-slide-value-requires : goal.slide_term-slide-value-requires
 slide_term-slide-value-requires g t c =
-    let k = in_slide (g.R.Reads.scene c.args.reads.now).design (head_of c.args.head) (term_view c.args.of.now) (term_view c.args.base.now) (term_view c.args.count.now) c.args.up c.requires in
+    let k = in_slide (g.R.Reads.scene c.args.reads.now).design _ _ _ _ _ (arm_context (g.R.Reads.scene c.args.reads.now).design _ (tree.slide (head_of (head_in c.args.term.now)) (term_view c.args.of.now) (term_view c.args.base.now) (term_view c.args.count.now) c.args.up) c.requires.form c.requires.context) in
     record {
-      head = (shape_ok (g.R.Reads.scene c.args.reads.now).design (tree.slide (head_of c.args.head) (term_view c.args.of.now) (term_view c.args.base.now) (term_view c.args.count.now) c.args.up) c.args.head refl c.requires);
+      head = subst IsHead (sym c.of-head.ensures) (in_head (g.R.Reads.scene c.args.reads.now) c.args.term.now (ap head c.requires.form) c.requires.context);
       whole = constant_whole (g.R.Reads.scene c.args.reads.now) c.after.result.first (term_view c.args.count.now) c.evaluate-count.result.value k.fixed c.evaluate-count.ensures.value;
       count = subst (λ n. n ≤ 128) (sym (ap natural (constant_bits (g.R.Reads.scene c.args.reads.now) c.after.result.first (term_view c.args.count.now) c.evaluate-count.result.value k.fixed c.evaluate-count.ensures.value))) k.count;
     }
 
-pub choice_term-choice-value-requires : goal.choice_term-choice-value-requires
-choice_term-choice-value-requires g t c =
-    let k = (in_choice (g.R.Reads.scene c.args.reads.now).design (head_of c.args.head) (term_view c.args.test.now) (term_view c.args.yes.now) (term_view c.args.no.now) c.requires).1 in
-    record {
-      head = (shape_ok (g.R.Reads.scene c.args.reads.now).design (tree.choice (head_of c.args.head) (term_view c.args.test.now) (term_view c.args.yes.now) (term_view c.args.no.now)) c.args.head refl c.requires);
-      sides = same_shapes (g.R.Reads.scene c.args.reads.now).design (g.R.Reads.scene c.args.reads.now) _ _ (term_view c.args.yes.now) (term_view c.args.no.now) _ _ k.left k.right (k.one_shape refl).0 (k.one_shape refl).1 c.evaluate-yes.ensures.value c.evaluate-no.ensures.value;
-    }
+pub slide_term-finish-requires : goal.slide_term-finish-requires
+slide_term-finish-requires g t c =
+    let sb = next_value (g.R.Reads.scene c.args.reads.now) _ _ _ _ (ap (λ p. p.first) c.after.ensures ∙ c.evaluate-base.ensures.first) c.evaluate-count.ensures.value in
+    let sc = next_value (g.R.Reads.scene c.args.reads.now) _ _ _ _ (ap (λ p. p.first) c.after-2.ensures ∙ two_first (g.R.Reads.scene c.args.reads.now) c.args.run.now.first (term_view c.args.base.now) (term_view c.args.count.now) c.evaluate-base.result.first _ c.evaluate-base.ensures.first (c.evaluate-count.ensures.first ∙ ap (λ o. first_after (g.R.Reads.scene c.args.reads.now) o (term_view c.args.count.now)) (ap (λ p. p.first) c.after.ensures))) c.evaluate-operand.ensures.value in
+    let stands : Stands (g.R.Reads.scene c.args.reads.now) c.args.run.now.first (tree.slide (head_of (head_in c.args.term.now)) (term_view c.args.of.now) (term_view c.args.base.now) (term_view c.args.count.now) c.args.up) c.slide-value.result = subst (λ h. Stands (g.R.Reads.scene c.args.reads.now) c.args.run.now.first (tree.slide (head_of h) (term_view c.args.of.now) (term_view c.args.base.now) (term_view c.args.count.now) c.args.up) c.slide-value.result) c.of-head.ensures (c.slide-value.ensures (g.R.Reads.scene c.args.reads.now) c.args.run.now.first (term_view c.args.of.now) (term_view c.args.base.now) (term_view c.args.count.now) (sym c.range_of-range.ensures) c.evaluate-base.ensures.value sb sc) in
+    record { width = length-stands (g.R.Reads.scene c.args.reads.now) c.args.run.now.first (tree.slide (head_of (head_in c.args.term.now)) (term_view c.args.of.now) (term_view c.args.base.now) (term_view c.args.count.now) c.args.up) c.slide-value.result stands; sign = stands.sign_is }
 
--- ---- an operator with two operands
-
-pub binary_term-evaluate-left-requires : goal.binary_term-evaluate-left-requires
-binary_term-evaluate-left-requires g t c =
-    λ κs h. (search (rules, the_lemmas), (h.0, (h.1, (in_binary (g.R.Reads.scene c.args.reads.now).design (head_of c.args.head) c.args.op (term_view c.args.left.now) (term_view c.args.right.now) c.requires).left)))
-
-pub binary_term-evaluate-right-requires : goal.binary_term-evaluate-right-requires
-binary_term-evaluate-right-requires g t c =
-    λ κs h. (search (rules, the_lemmas), (h.0, (h.1, (in_binary (g.R.Reads.scene c.args.reads.now).design (head_of c.args.head) c.args.op (term_view c.args.left.now) (term_view c.args.right.now) c.requires).right)))
-
-pub binary_term-binary-requires : goal.binary_term-binary-requires
-binary_term-binary-requires g t c =
-    let k = (in_binary (g.R.Reads.scene c.args.reads.now).design (head_of c.args.head) c.args.op (term_view c.args.left.now) (term_view c.args.right.now) c.requires) in
-    record {
-      head = (shape_ok (g.R.Reads.scene c.args.reads.now).design (tree.binary (head_of c.args.head) c.args.op (term_view c.args.left.now) (term_view c.args.right.now)) c.args.head refl c.requires);
-      operands = on_true (takes_same_shape c.args.op) (λ e. same_shapes (g.R.Reads.scene c.args.reads.now).design (g.R.Reads.scene c.args.reads.now) _ _ (term_view c.args.left.now) (term_view c.args.right.now) _ _ k.left k.right (k.one_shape e).0 (k.one_shape e).1 c.evaluate-left.ensures.value c.evaluate-right.ensures.value);
-    }
-
-pub binary_term-returns-clause-value : goal.binary_term-returns-clause-value
-binary_term-returns-clause-value g t c =
-    c.binary.ensures (g.R.Reads.scene c.args.reads.now) c.args.run.first (term_view c.args.left.now) (term_view c.args.right.now) c.evaluate-left.ensures.value (next_value (g.R.Reads.scene c.args.reads.now) _ _ _ _ (ap (λ p. p.first) c.after.ensures ∙ c.evaluate-left.ensures.first) c.evaluate-right.ensures.value)
-
-pub binary_term-returns-clause-first : goal.binary_term-returns-clause-first
-binary_term-returns-clause-first g t c =
-    two_first (g.R.Reads.scene c.args.reads.now) c.args.run.first (term_view c.args.left.now) (term_view c.args.right.now) c.evaluate-left.result.first _ c.evaluate-left.ensures.first (c.evaluate-right.ensures.first ∙ ap (λ o. first_after (g.R.Reads.scene c.args.reads.now) o (term_view c.args.right.now)) (ap (λ p. p.first) c.after.ensures))
-
-pub binary_term-returns-clause-notes : goal.binary_term-returns-clause-notes
-binary_term-returns-clause-notes g t c =
-    let later = rw c.after.ensures at c.evaluate-right.ensures.notes in
-    seen_two g.N.Notes.noted (g.R.Reads.scene c.args.reads.now) c.args.run.mode c.args.run.first (head_of c.args.head) c.args.op (term_view c.args.left.now) (term_view c.args.right.now) _ _ _ _ _ c.evaluate-left.ensures.value (next_value (g.R.Reads.scene c.args.reads.now) _ _ _ _ (ap (λ p. p.first) c.after.ensures ∙ c.evaluate-left.ensures.first) c.evaluate-right.ensures.value) (two_marks g.N.Notes.noted (g.R.Reads.scene c.args.reads.now) c.args.run.mode c.args.run.first (term_view c.args.left.now) (term_view c.args.right.now) c.evaluate-left.result.first _ _ _ c.evaluate-left.ensures.first c.evaluate-left.ensures.notes later) c.note_two.ensures
+pub slide_term-returns : goal.slide_term-returns
+slide_term-returns g t c =
+    let sb = next_value (g.R.Reads.scene c.args.reads.now) _ _ _ _ (ap (λ p. p.first) c.after.ensures ∙ c.evaluate-base.ensures.first) c.evaluate-count.ensures.value in
+    let sc = next_value (g.R.Reads.scene c.args.reads.now) _ _ _ _ (ap (λ p. p.first) c.after-2.ensures ∙ two_first (g.R.Reads.scene c.args.reads.now) c.args.run.now.first (term_view c.args.base.now) (term_view c.args.count.now) c.evaluate-base.result.first _ c.evaluate-base.ensures.first (c.evaluate-count.ensures.first ∙ ap (λ o. first_after (g.R.Reads.scene c.args.reads.now) o (term_view c.args.count.now)) (ap (λ p. p.first) c.after.ensures))) c.evaluate-operand.ensures.value in
+    let stands : Stands (g.R.Reads.scene c.args.reads.now) c.args.run.now.first (tree.slide (head_of (head_in c.args.term.now)) (term_view c.args.of.now) (term_view c.args.base.now) (term_view c.args.count.now) c.args.up) c.slide-value.result = subst (λ h. Stands (g.R.Reads.scene c.args.reads.now) c.args.run.now.first (tree.slide (head_of h) (term_view c.args.of.now) (term_view c.args.base.now) (term_view c.args.count.now) c.args.up) c.slide-value.result) c.of-head.ensures (c.slide-value.ensures (g.R.Reads.scene c.args.reads.now) c.args.run.now.first (term_view c.args.of.now) (term_view c.args.base.now) (term_view c.args.count.now) (sym c.range_of-range.ensures) c.evaluate-base.ensures.value sb sc) in
+    let second = rw c.after.ensures at c.evaluate-count.ensures.notes in
+    let third = rw c.after-2.ensures at c.evaluate-operand.ensures.notes in
+    walked_own g.N.Notes.noted (g.R.Reads.scene c.args.reads.now) c.args.term.now c.args.run.now _ _ _ _ _ _ (tree.slide (head_of (head_in c.args.term.now)) (term_view c.args.of.now) (term_view c.args.base.now) (term_view c.args.count.now) c.args.up) c.slide-value.result c.requires.form refl refl stands c.finish.ensures.value c.finish.ensures.small (c.finish.ensures.first ∙ three_first (g.R.Reads.scene c.args.reads.now) c.args.run.now.first (term_view c.args.base.now) (term_view c.args.count.now) (term_view c.args.of.now) c.evaluate-base.result.first c.evaluate-count.result.first _ c.evaluate-base.ensures.first (c.evaluate-count.ensures.first ∙ ap (λ o. first_after (g.R.Reads.scene c.args.reads.now) o (term_view c.args.count.now)) (ap (λ p. p.first) c.after.ensures)) (c.evaluate-operand.ensures.first ∙ ap (λ o. first_after (g.R.Reads.scene c.args.reads.now) o (term_view c.args.of.now)) (ap (λ p. p.first) c.after-2.ensures))) c.finish.ensures.mode (three_marks g.N.Notes.noted (g.R.Reads.scene c.args.reads.now) c.args.run.now.mode c.args.run.now.first (term_view c.args.base.now) (term_view c.args.count.now) (term_view c.args.of.now) c.evaluate-base.result.first c.evaluate-count.result.first _ _ _ _ c.evaluate-base.ensures.first (c.evaluate-count.ensures.first ∙ ap (λ o. first_after (g.R.Reads.scene c.args.reads.now) o (term_view c.args.count.now)) (ap (λ p. p.first) c.after.ensures)) c.evaluate-base.ensures.notes second third) c.finish.ensures.notes
 
 -- ---- a word
 
+pub word_term-words-words-requires : goal.word_term-words-words-requires
+word_term-words-words-requires g t c = (in_word (g.R.Reads.scene c.args.reads.now).design _ _ _ (arm_context (g.R.Reads.scene c.args.reads.now).design _ (tree.word (head_of (head_in c.args.term.now)) c.args.memory (term_view c.args.index.now)) c.requires.form c.requires.context)).is
+
 pub word_term-word-read-requires : goal.word_term-word-read-requires
-word_term-word-read-requires g t c =
-    (in_word (g.R.Reads.scene c.args.reads.now).design (head_of c.args.head) c.args.memory (term_view c.args.index.now) c.requires).is
+word_term-word-read-requires g t c = (in_word (g.R.Reads.scene c.args.reads.now).design _ _ _ (arm_context (g.R.Reads.scene c.args.reads.now).design _ (tree.word (head_of (head_in c.args.term.now)) c.args.memory (term_view c.args.index.now)) c.requires.form c.requires.context)).is
 
 pub word_term-evaluate-index-requires : goal.word_term-evaluate-index-requires
 word_term-evaluate-index-requires g t c =
-    λ κs h. (search (rules, the_lemmas), (h.0, (h.1, (in_word (g.R.Reads.scene c.args.reads.now).design (head_of c.args.head) c.args.memory (term_view c.args.index.now) c.requires).index)))
+    λ κs h. (search (rules, the_lemmas), (h.0, (h.1, (in_word (g.R.Reads.scene c.args.reads.now).design _ _ _ (arm_context (g.R.Reads.scene c.args.reads.now).design _ (tree.word (head_of (head_in c.args.term.now)) c.args.memory (term_view c.args.index.now)) c.requires.form c.requires.context)).index)))
 
-pub word_term-fitted-requires : goal.word_term-fitted-requires
-word_term-fitted-requires g t c =
-    (shape_ok (g.R.Reads.scene c.args.reads.now).design (tree.word (head_of c.args.head) c.args.memory (term_view c.args.index.now)) c.args.head refl c.requires)
+pub word_term-fitted-value-requires : goal.word_term-fitted-value-requires
+word_term-fitted-value-requires g t c = subst IsHead (sym c.of.ensures) (in_head (g.R.Reads.scene c.args.reads.now) c.args.term.now (ap head c.requires.form) c.requires.context)
 
-pub word_term-returns-clause-value : goal.word_term-returns-clause-value
-word_term-returns-clause-value g t c =
-    same_value (g.R.Reads.scene c.args.reads.now) _ _ _ _ c.seen.ensures.value (word_stands (g.R.Reads.scene c.args.reads.now) c.args.run.first (term_view c.args.index.now) c.evaluate-index.result.value c.evaluate-index.ensures.value c.args.memory c.args.head c.evaluate-index.result.first c.word-read.result c.fitted.result c.evaluate-index.ensures.first c.word-read.ensures.bits c.word-read.ensures.blame c.fitted.ensures)
+pub word_term-finish-requires : goal.word_term-finish-requires
+word_term-finish-requires g t c =
+    let stands : Stands (g.R.Reads.scene c.args.reads.now) c.args.run.now.first (tree.word (head_of (head_in c.args.term.now)) c.args.memory (term_view c.args.index.now)) c.fitted-value.result = word_stands (g.R.Reads.scene c.args.reads.now) c.args.run.now.first (term_view c.args.index.now) c.evaluate-index.result.value c.evaluate-index.ensures.value c.args.memory (head_in c.args.term.now) c.evaluate-index.result.first c.word-read.result c.fitted-value.result c.evaluate-index.ensures.first c.word-read.ensures.bits c.word-read.ensures.blame (subst (λ h. Fitted h c.word-read.result c.fitted-value.result) c.of.ensures c.fitted-value.ensures) in
+    record { width = length-stands (g.R.Reads.scene c.args.reads.now) c.args.run.now.first (tree.word (head_of (head_in c.args.term.now)) c.args.memory (term_view c.args.index.now)) c.fitted-value.result stands; sign = stands.sign_is }
 
-pub word_term-returns-clause-first : goal.word_term-returns-clause-first
-word_term-returns-clause-first g t c =
-    c.seen.ensures.first ∙ ap (λ p. p.first) c.after.ensures ∙ c.noted-first.ensures
-    ∙ noted_is c.word-read.result _ _ c.evaluate-index.result.first (c.word-read.ensures.bits ∙ read_is (g.R.Reads.scene c.args.reads.now) c.args.run.first (term_view c.args.index.now) c.evaluate-index.result.value c.evaluate-index.ensures.value c.args.memory) (λ u. c.word-read.ensures.blame u ∙ thing_is (g.R.Reads.scene c.args.reads.now) c.args.run.first (term_view c.args.index.now) c.evaluate-index.result.value c.evaluate-index.ensures.value c.args.memory c.evaluate-index.result.first c.evaluate-index.ensures.first)
-    ∙ ap (note _ _) c.evaluate-index.ensures.first
-
-pub word_term-returns-clause-notes : goal.word_term-returns-clause-notes
-word_term-returns-clause-notes g t c =
+pub word_term-returns : goal.word_term-returns
+word_term-returns g t c =
+    let stands : Stands (g.R.Reads.scene c.args.reads.now) c.args.run.now.first (tree.word (head_of (head_in c.args.term.now)) c.args.memory (term_view c.args.index.now)) c.fitted-value.result = word_stands (g.R.Reads.scene c.args.reads.now) c.args.run.now.first (term_view c.args.index.now) c.evaluate-index.result.value c.evaluate-index.ensures.value c.args.memory (head_in c.args.term.now) c.evaluate-index.result.first c.word-read.result c.fitted-value.result c.evaluate-index.ensures.first c.word-read.ensures.bits c.word-read.ensures.blame (subst (λ h. Fitted h c.word-read.result c.fitted-value.result) c.of.ensures c.fitted-value.ensures) in
     let at = access_spot Read c.args.memory in
-    let named = adds_same g.N.Notes.noted _ _ _ _ (ap (in_this c.args.run.mode) (words_same (g.R.Reads.scene c.args.reads.now) c.args.run.first (term_view c.args.index.now) c.evaluate-index.result.value c.evaluate-index.ensures.value c.args.memory at)) (c.note_words.ensures (memory_at (g.R.Reads.scene c.args.reads.now).design c.args.memory) (words_of_range c.words-words.result (memory_at (g.R.Reads.scene c.args.reads.now).design c.args.memory) c.words-words.ensures)) in
-    let own = rw c.after.ensures at c.seen.ensures.notes in
-    seen_own g.N.Notes.noted (g.R.Reads.scene c.args.reads.now) c.args.run.mode c.args.run.first (tree.word (head_of c.args.head) c.args.memory (term_view c.args.index.now)) _ _ _ _ refl (word_stands (g.R.Reads.scene c.args.reads.now) c.args.run.first (term_view c.args.index.now) c.evaluate-index.result.value c.evaluate-index.ensures.value c.args.memory c.args.head c.evaluate-index.result.first c.word-read.result c.fitted.result c.evaluate-index.ensures.first c.word-read.ensures.bits c.word-read.ensures.blame c.fitted.ensures) (adds_more g.N.Notes.noted c.args.run.mode _ _ _ _ _ c.evaluate-index.ensures.notes named) own
+    let named = adds_same g.N.Notes.noted _ _ _ _ (ap (in_this c.args.run.now.mode) (words_same (g.R.Reads.scene c.args.reads.now) c.args.run.now.first (term_view c.args.index.now) c.evaluate-index.result.value c.evaluate-index.ensures.value c.args.memory at)) (c.note_words.ensures (memory_at (g.R.Reads.scene c.args.reads.now).design c.args.memory) (words_of_range c.words-words.result (memory_at (g.R.Reads.scene c.args.reads.now).design c.args.memory) c.words-words.ensures)) in
+    walked_own g.N.Notes.noted (g.R.Reads.scene c.args.reads.now) c.args.term.now c.args.run.now _ _ _ _ _ _ (tree.word (head_of (head_in c.args.term.now)) c.args.memory (term_view c.args.index.now)) c.fitted-value.result c.requires.form refl refl stands c.finish.ensures.value c.finish.ensures.small (c.finish.ensures.first ∙ c.noted-first.ensures ∙ noted_is c.word-read.result _ _ c.evaluate-index.result.first (c.word-read.ensures.bits ∙ read_is (g.R.Reads.scene c.args.reads.now) c.args.run.now.first (term_view c.args.index.now) c.evaluate-index.result.value c.evaluate-index.ensures.value c.args.memory) (λ u. c.word-read.ensures.blame u ∙ thing_is (g.R.Reads.scene c.args.reads.now) c.args.run.now.first (term_view c.args.index.now) c.evaluate-index.result.value c.evaluate-index.ensures.value c.args.memory c.evaluate-index.result.first c.evaluate-index.ensures.first) ∙ ap (note _ _) c.evaluate-index.ensures.first) c.finish.ensures.mode (adds_more g.N.Notes.noted c.args.run.now.mode _ _ _ _ _ c.evaluate-index.ensures.notes named) c.finish.ensures.notes
 
--- ---- the arms that stand in the walk itself
+-- ---- an operator with one operand
 
-pub evaluate-number-requires : goal.evaluate-number-requires
-evaluate-number-requires g t c =
-    let is = along c.of-head.result c.args.term.now (λ h. tree.number h c.in-Number.value) c.of-head.ensures (number_view c.args.term.now c.in-Number.value (sym c.deref.ensures ∙ c.in-Number.is)) in
-    shape_ok (g.R.Reads.scene c.args.reads.now).design _ c.of-head.result refl (arm_context _ _ _ is c.requires)
+pub unary_term-walk-number-requires : goal.unary_term-walk-number-requires
+unary_term-walk-number-requires g t c =
+    λ κs h. (search (rules, the_lemmas), (h.0, (h.1, in_unary (g.R.Reads.scene c.args.reads.now).design _ _ _ (arm_context (g.R.Reads.scene c.args.reads.now).design _ (tree.unary (head_of (head_in c.args.term.now)) c.args.op (term_view c.args.operand.now)) c.requires.form c.requires.context))))
 
-pub evaluate-returns-in-Number-clause-value : goal.evaluate-returns-in-Number-clause-value
-evaluate-returns-in-Number-clause-value g t c =
-    let is = along c.of-head.result c.args.term.now (λ h. tree.number h c.in-Number.value) c.of-head.ensures (number_view c.args.term.now c.in-Number.value (sym c.deref.ensures ∙ c.in-Number.is)) in
-    arm_value _ _ _ _ _ is (same_value (g.R.Reads.scene c.args.reads.now) _ _ _ _ c.seen.ensures.value (c.number.ensures (g.R.Reads.scene c.args.reads.now) c.args.run.first))
+pub unary_term-after_operand-number-requires : goal.unary_term-after_operand-number-requires
+unary_term-after_operand-number-requires g t c =
+    record { head = in_head (g.R.Reads.scene c.args.reads.now) c.args.term.now (ap head c.requires.form) c.requires.context; operand = in_head (g.R.Reads.scene c.args.reads.now) c.args.operand.now c.walk-number.ensures.top (in_unary (g.R.Reads.scene c.args.reads.now).design _ _ _ (arm_context (g.R.Reads.scene c.args.reads.now).design _ (tree.unary (head_of (head_in c.args.term.now)) c.args.op (term_view c.args.operand.now)) c.requires.form c.requires.context)); small = c.walk-number.ensures.small }
 
-pub evaluate-returns-in-Number-clause-first : goal.evaluate-returns-in-Number-clause-first
-evaluate-returns-in-Number-clause-first g t c =
-    let is = along c.of-head.result c.args.term.now (λ h. tree.number h c.in-Number.value) c.of-head.ensures (number_view c.args.term.now c.in-Number.value (sym c.deref.ensures ∙ c.in-Number.is)) in
-    c.seen.ensures.first ∙ ap (first_after (g.R.Reads.scene c.args.reads.now) c.args.run.first) (sym is)
+pub unary_term-note_value-requires : goal.unary_term-note_value-requires
+unary_term-note_value-requires g t c = c.after_operand-number.ensures.small
 
-pub evaluate-returns-in-Number-clause-notes : goal.evaluate-returns-in-Number-clause-notes
-evaluate-returns-in-Number-clause-notes g t c =
-    let is = along c.of-head.result c.args.term.now (λ h. tree.number h c.in-Number.value) c.of-head.ensures (number_view c.args.term.now c.in-Number.value (sym c.deref.ensures ∙ c.in-Number.is)) in
-    arm_notes g.N.Notes.noted _ _ _ _ _ _ _ is (seen_own g.N.Notes.noted (g.R.Reads.scene c.args.reads.now) c.args.run.mode c.args.run.first (tree.number (head_of c.of-head.result) c.in-Number.value) _ _ _ _ refl (c.number.ensures (g.R.Reads.scene c.args.reads.now) c.args.run.first) (adds_none g.N.Notes.noted _) c.seen.ensures.notes)
+pub unary_term-returns : goal.unary_term-returns
+unary_term-returns g t c =
+    let w = c.walk-number.ensures in
+    let own = other_mode g.N.Notes.noted (g.R.Reads.scene c.args.reads.now) _ _ _ _ _ w.mode c.note_value.ensures in
+    walked_own g.N.Notes.noted (g.R.Reads.scene c.args.reads.now) c.args.term.now c.args.run.now _ _ _ _ _ _ (tree.unary (head_of (head_in c.args.term.now)) c.args.op (term_view c.args.operand.now)) _ c.requires.form refl refl (c.after_operand-number.ensures.value (g.R.Reads.scene c.args.reads.now) c.args.run.now.first (term_view c.args.operand.now) w.value) refl c.after_operand-number.ensures.small w.first w.mode w.notes own
 
-pub evaluate-evaluate-operand-requires : goal.evaluate-evaluate-operand-requires
-evaluate-evaluate-operand-requires g t c =
-    let is = along c.of-head.result c.args.term.now (λ h. tree.unary h c.in-Unary.op (term_view c.in-Unary.operand)) c.of-head.ensures (unary_view c.args.term.now c.in-Unary.op c.in-Unary.operand (sym c.deref.ensures ∙ c.in-Unary.is)) in
-    λ κs h. (search (rules, the_lemmas), (h.0, (h.1, in_unary (g.R.Reads.scene c.args.reads.now).design _ _ _ (arm_context _ _ _ is c.requires))))
+-- ---- an operator with two operands
 
-pub evaluate-unary-value-requires : goal.evaluate-unary-value-requires
-evaluate-unary-value-requires g t c =
-    let is = along c.of-head.result c.args.term.now (λ h. tree.unary h c.in-Unary.op (term_view c.in-Unary.operand)) c.of-head.ensures (unary_view c.args.term.now c.in-Unary.op c.in-Unary.operand (sym c.deref.ensures ∙ c.in-Unary.is)) in
-    shape_ok (g.R.Reads.scene c.args.reads.now).design _ c.of-head.result refl (arm_context _ _ _ is c.requires)
+pub binary_term-walk-one-requires : goal.binary_term-walk-one-requires
+binary_term-walk-one-requires g t c =
+    λ κs h. (search (rules, the_lemmas), (h.0, (h.1, (in_binary (g.R.Reads.scene c.args.reads.now).design (head_of (head_in c.args.term.now)) c.args.op (term_view c.args.left.now) (term_view c.args.right.now) (arm_context (g.R.Reads.scene c.args.reads.now).design _ (tree.binary (head_of (head_in c.args.term.now)) c.args.op (term_view c.args.left.now) (term_view c.args.right.now)) c.requires.form c.requires.context)).left)))
 
-pub evaluate-returns-in-Unary-clause-value : goal.evaluate-returns-in-Unary-clause-value
-evaluate-returns-in-Unary-clause-value g t c =
-    let is = along c.of-head.result c.args.term.now (λ h. tree.unary h c.in-Unary.op (term_view c.in-Unary.operand)) c.of-head.ensures (unary_view c.args.term.now c.in-Unary.op c.in-Unary.operand (sym c.deref.ensures ∙ c.in-Unary.is)) in
-    arm_value _ _ _ _ _ is (same_value (g.R.Reads.scene c.args.reads.now) _ _ _ _ c.seen-in-Unary.ensures.value (c.unary-value.ensures (g.R.Reads.scene c.args.reads.now) c.args.run.first (term_view c.in-Unary.operand) c.evaluate-operand.ensures.value))
+pub binary_term-walk-two-requires : goal.binary_term-walk-two-requires
+binary_term-walk-two-requires g t c =
+    λ κs h. (search (rules, the_lemmas), (h.0, (h.1, (in_binary (g.R.Reads.scene c.args.reads.now).design (head_of (head_in c.args.term.now)) c.args.op (term_view c.args.left.now) (term_view c.args.right.now) (arm_context (g.R.Reads.scene c.args.reads.now).design _ (tree.binary (head_of (head_in c.args.term.now)) c.args.op (term_view c.args.left.now) (term_view c.args.right.now)) c.requires.form c.requires.context)).right)))
 
-pub evaluate-returns-in-Unary-clause-first : goal.evaluate-returns-in-Unary-clause-first
-evaluate-returns-in-Unary-clause-first g t c =
-    let is = along c.of-head.result c.args.term.now (λ h. tree.unary h c.in-Unary.op (term_view c.in-Unary.operand)) c.of-head.ensures (unary_view c.args.term.now c.in-Unary.op c.in-Unary.operand (sym c.deref.ensures ∙ c.in-Unary.is)) in
-    c.seen-in-Unary.ensures.first ∙ ap (λ p. p.first) c.after.ensures ∙ c.evaluate-operand.ensures.first ∙ ap (first_after (g.R.Reads.scene c.args.reads.now) c.args.run.first) (sym is)
+pub binary_term-after_both-requires : goal.binary_term-after_both-requires
+binary_term-after_both-requires g t c =
+    let k = in_binary (g.R.Reads.scene c.args.reads.now).design (head_of (head_in c.args.term.now)) c.args.op (term_view c.args.left.now) (term_view c.args.right.now) (arm_context (g.R.Reads.scene c.args.reads.now).design _ (tree.binary (head_of (head_in c.args.term.now)) c.args.op (term_view c.args.left.now) (term_view c.args.right.now)) c.requires.form c.requires.context) in
+    record {
+      head = in_head (g.R.Reads.scene c.args.reads.now) c.args.term.now (ap head c.requires.form) c.requires.context;
+      left = in_head (g.R.Reads.scene c.args.reads.now) c.args.left.now c.walk-one.ensures.top k.left;
+      right = in_head (g.R.Reads.scene c.args.reads.now) c.args.right.now c.walk-two.ensures.top k.right;
+      one = c.walk-one.ensures.small;
+      two = c.walk-two.ensures.small;
+      operands = on_true (takes_same_shape c.args.op) (λ e. same_shapes (g.R.Reads.scene c.args.reads.now).design (g.R.Reads.scene c.args.reads.now) _ _ (term_view c.args.left.now) (term_view c.args.right.now) _ _ k.left k.right (k.one_shape e).0 (k.one_shape e).1 c.walk-one.ensures.value c.walk-two.ensures.value);
+    }
 
-pub evaluate-returns-in-Unary-clause-notes : goal.evaluate-returns-in-Unary-clause-notes
-evaluate-returns-in-Unary-clause-notes g t c =
-    let is = along c.of-head.result c.args.term.now (λ h. tree.unary h c.in-Unary.op (term_view c.in-Unary.operand)) c.of-head.ensures (unary_view c.args.term.now c.in-Unary.op c.in-Unary.operand (sym c.deref.ensures ∙ c.in-Unary.is)) in
-    let own = rw c.after.ensures at c.seen-in-Unary.ensures.notes in
-    arm_notes g.N.Notes.noted _ _ _ _ _ _ _ is (seen_own g.N.Notes.noted (g.R.Reads.scene c.args.reads.now) c.args.run.mode c.args.run.first _ _ _ _ _ refl (c.unary-value.ensures (g.R.Reads.scene c.args.reads.now) c.args.run.first (term_view c.in-Unary.operand) c.evaluate-operand.ensures.value) c.evaluate-operand.ensures.notes own)
+pub binary_term-returns : goal.binary_term-returns
+binary_term-returns g t c =
+    let w = c.walk-one.ensures in
+    let z = c.walk-two.ensures in
+    let later = second_value g.N.Notes.noted (g.R.Reads.scene c.args.reads.now) c.args.left.now c.args.right.now c.args.run.now _ _ _ _ _ _ _ _ _ w z in
+    let mode = second_mode g.N.Notes.noted (g.R.Reads.scene c.args.reads.now) c.args.left.now c.args.right.now c.args.run.now _ _ _ _ _ _ _ _ _ w z in
+    let own = other_mode g.N.Notes.noted (g.R.Reads.scene c.args.reads.now) _ _ _ _ _ mode c.after_both.ensures.notes in
+    walked_two g.N.Notes.noted (g.R.Reads.scene c.args.reads.now) c.args.term.now c.args.run.now _ _ _ _ _ _ c.args.op (term_view c.args.left.now) (term_view c.args.right.now) _ _ c.requires.form w.value later (c.after_both.ensures.value (g.R.Reads.scene c.args.reads.now) c.args.run.now.first (term_view c.args.left.now) (term_view c.args.right.now) w.value later) c.after_both.ensures.small (second_first g.N.Notes.noted (g.R.Reads.scene c.args.reads.now) c.args.left.now c.args.right.now c.args.run.now _ _ _ _ _ _ _ _ _ w z) mode (second_notes g.N.Notes.noted (g.R.Reads.scene c.args.reads.now) c.args.left.now c.args.right.now c.args.run.now _ _ _ _ _ _ _ _ _ w z) own
 
-pub evaluate-evaluate-operand-requires-in-Sign : goal.evaluate-evaluate-operand-requires-in-Sign
-evaluate-evaluate-operand-requires-in-Sign g t c =
-    let is = along_sign c.of-head.result c.args.term.now _ c.in-Sign.operand c.of-head.ensures (sym c.deref.ensures ∙ c.in-Sign.is) in
-    λ κs h. (search (rules, the_lemmas), (h.0, (h.1, in_sign (g.R.Reads.scene c.args.reads.now).design _ _ _ (arm_context _ _ _ is c.requires))))
+-- ---- a choice
 
-pub evaluate-sign-value-requires : goal.evaluate-sign-value-requires
-evaluate-sign-value-requires g t c =
-    let is = along_sign c.of-head.result c.args.term.now _ c.in-Sign.operand c.of-head.ensures (sym c.deref.ensures ∙ c.in-Sign.is) in
-    shape_ok (g.R.Reads.scene c.args.reads.now).design _ c.of-head.result refl (arm_context _ _ _ is c.requires)
+pub choice_term-walk-by-requires : goal.choice_term-walk-by-requires
+choice_term-walk-by-requires g t c =
+    λ κs h. (search (rules, the_lemmas), (h.0, (h.1, (in_choice (g.R.Reads.scene c.args.reads.now).design _ _ _ _ (arm_context (g.R.Reads.scene c.args.reads.now).design _ (tree.choice (head_of (head_in c.args.term.now)) (term_view c.args.test.now) (term_view c.args.yes.now) (term_view c.args.no.now)) c.requires.form c.requires.context)).0)))
 
-pub evaluate-returns-in-Sign-clause-value : goal.evaluate-returns-in-Sign-clause-value
-evaluate-returns-in-Sign-clause-value g t c =
-    let is = along_sign c.of-head.result c.args.term.now _ c.in-Sign.operand c.of-head.ensures (sym c.deref.ensures ∙ c.in-Sign.is) in
-    arm_value _ _ _ _ _ is (same_value (g.R.Reads.scene c.args.reads.now) _ _ _ _ c.seen-in-Sign.ensures.value (c.sign-value.ensures (g.R.Reads.scene c.args.reads.now) c.args.run.first (term_view c.in-Sign.operand) _ c.evaluate-operand-in-Sign.ensures.value))
+pub choice_term-walk-one-requires : goal.choice_term-walk-one-requires
+choice_term-walk-one-requires g t c =
+    λ κs h. (search (rules, the_lemmas), (h.0, (h.1, (in_choice (g.R.Reads.scene c.args.reads.now).design _ _ _ _ (arm_context (g.R.Reads.scene c.args.reads.now).design _ (tree.choice (head_of (head_in c.args.term.now)) (term_view c.args.test.now) (term_view c.args.yes.now) (term_view c.args.no.now)) c.requires.form c.requires.context)).1.left)))
 
-pub evaluate-returns-in-Sign-clause-first : goal.evaluate-returns-in-Sign-clause-first
-evaluate-returns-in-Sign-clause-first g t c =
-    let is = along_sign c.of-head.result c.args.term.now _ c.in-Sign.operand c.of-head.ensures (sym c.deref.ensures ∙ c.in-Sign.is) in
-    c.seen-in-Sign.ensures.first ∙ ap (λ p. p.first) c.after-in-Sign.ensures ∙ c.evaluate-operand-in-Sign.ensures.first ∙ ap (first_after (g.R.Reads.scene c.args.reads.now) c.args.run.first) (sym is)
+pub choice_term-walk-two-requires : goal.choice_term-walk-two-requires
+choice_term-walk-two-requires g t c =
+    λ κs h. (search (rules, the_lemmas), (h.0, (h.1, (in_choice (g.R.Reads.scene c.args.reads.now).design _ _ _ _ (arm_context (g.R.Reads.scene c.args.reads.now).design _ (tree.choice (head_of (head_in c.args.term.now)) (term_view c.args.test.now) (term_view c.args.yes.now) (term_view c.args.no.now)) c.requires.form c.requires.context)).1.right)))
 
-pub evaluate-returns-in-Sign-clause-notes : goal.evaluate-returns-in-Sign-clause-notes
-evaluate-returns-in-Sign-clause-notes g t c =
-    let is = along_sign c.of-head.result c.args.term.now _ c.in-Sign.operand c.of-head.ensures (sym c.deref.ensures ∙ c.in-Sign.is) in
-    let own = rw c.after-in-Sign.ensures at c.seen-in-Sign.ensures.notes in
-    seen_sign g.N.Notes.noted (g.R.Reads.scene c.args.reads.now) c.args.run.mode c.args.run.first (term_view c.args.term.now) (head_of c.of-head.result) _ (term_view c.in-Sign.operand) c.sign-value.result _ _ _ is (λ k. c.sign-value.ensures (g.R.Reads.scene c.args.reads.now) c.args.run.first (term_view c.in-Sign.operand) k c.evaluate-operand-in-Sign.ensures.value) c.evaluate-operand-in-Sign.ensures.notes own
+pub choice_term-after_sides-number-requires : goal.choice_term-after_sides-number-requires
+choice_term-after_sides-number-requires g t c =
+    let k = in_choice (g.R.Reads.scene c.args.reads.now).design _ _ _ _ (arm_context (g.R.Reads.scene c.args.reads.now).design _ (tree.choice (head_of (head_in c.args.term.now)) (term_view c.args.test.now) (term_view c.args.yes.now) (term_view c.args.no.now)) c.requires.form c.requires.context) in
+    let heads = choice_heads (g.R.Reads.scene c.args.reads.now).design _ _ _ _ (arm_context (g.R.Reads.scene c.args.reads.now).design _ (tree.choice (head_of (head_in c.args.term.now)) (term_view c.args.test.now) (term_view c.args.yes.now) (term_view c.args.no.now)) c.requires.form c.requires.context) in
+    let wide = sym (ap (λ h. h.width) c.walk-one.ensures.top) ∙ heads.0.width in
+    let sign = sym (ap (λ h. h.signed) c.walk-one.ensures.top) ∙ heads.0.sign_is in
+    let wide_no = sym (ap (λ h. h.width) c.walk-two.ensures.top) ∙ heads.1.width in
+    let sign_no = sym (ap (λ h. h.signed) c.walk-two.ensures.top) ∙ heads.1.sign_is in
+    let one = held_same (head_in c.args.yes.now) (head_in c.args.term.now) c.walk-one.result c.walk-one.new.place wide sign in
+    let two = held_same (head_in c.args.no.now) (head_in c.args.term.now) c.walk-two.result c.walk-two.new.place wide_no sign_no in
+    record {
+      head = in_head (g.R.Reads.scene c.args.reads.now) c.args.term.now (ap head c.requires.form) c.requires.context;
+      test = in_head (g.R.Reads.scene c.args.reads.now) c.args.test.now c.walk-by.ensures.top k.0;
+      by = c.walk-by.ensures.small;
+      one = small_same (head_in c.args.yes.now) (head_in c.args.term.now) c.walk-one.result wide c.walk-one.ensures.small;
+      two = small_same (head_in c.args.no.now) (head_in c.args.term.now) c.walk-two.result wide_no c.walk-two.ensures.small;
+      sides = subst (λ p. HaveSameShape p (held (head_in c.args.term.now) c.walk-two.result c.walk-two.new.place)) one (subst (λ q. HaveSameShape (held (head_in c.args.yes.now) c.walk-one.result c.walk-one.new.place) q) two (same_shapes (g.R.Reads.scene c.args.reads.now).design (g.R.Reads.scene c.args.reads.now) _ _ (term_view c.args.yes.now) (term_view c.args.no.now) _ _ k.1.left k.1.right (k.1.one_shape refl).0 (k.1.one_shape refl).1 c.walk-one.ensures.value c.walk-two.ensures.value));
+    }
+
+pub choice_term-note_value-requires : goal.choice_term-note_value-requires
+choice_term-note_value-requires g t c = c.after_sides-number.ensures.small
+
+pub choice_term-returns : goal.choice_term-returns
+choice_term-returns g t c =
+    let b = c.walk-by.ensures in
+    let w = c.walk-one.ensures in
+    let z = c.walk-two.ensures in
+    let mode = third_mode g.N.Notes.noted (g.R.Reads.scene c.args.reads.now) c.args.test.now c.args.yes.now c.args.run.now _ _ _ _ _ _ _ _ _ b w c.args.no.now _ _ _ _ z in
+    let heads = choice_heads (g.R.Reads.scene c.args.reads.now).design _ _ _ _ (arm_context (g.R.Reads.scene c.args.reads.now).design _ (tree.choice (head_of (head_in c.args.term.now)) (term_view c.args.test.now) (term_view c.args.yes.now) (term_view c.args.no.now)) c.requires.form c.requires.context) in
+    let wide = sym (ap (λ h. h.width) c.walk-one.ensures.top) ∙ heads.0.width in
+    let sign = sym (ap (λ h. h.signed) c.walk-one.ensures.top) ∙ heads.0.sign_is in
+    let wide_no = sym (ap (λ h. h.width) c.walk-two.ensures.top) ∙ heads.1.width in
+    let sign_no = sym (ap (λ h. h.signed) c.walk-two.ensures.top) ∙ heads.1.sign_is in
+    let one = held_same (head_in c.args.yes.now) (head_in c.args.term.now) c.walk-one.result c.walk-one.new.place wide sign in
+    let two = held_same (head_in c.args.no.now) (head_in c.args.term.now) c.walk-two.result c.walk-two.new.place wide_no sign_no in
+    let own = other_mode g.N.Notes.noted (g.R.Reads.scene c.args.reads.now) _ _ _ _ _ mode c.note_value.ensures in
+    let yes = subst (Stands (g.R.Reads.scene c.args.reads.now) _ (term_view c.args.yes.now)) one (second_value g.N.Notes.noted (g.R.Reads.scene c.args.reads.now) c.args.test.now c.args.yes.now c.args.run.now _ _ _ _ _ _ _ _ _ b w) in
+    let no = subst (Stands (g.R.Reads.scene c.args.reads.now) _ (term_view c.args.no.now)) two (third_value g.N.Notes.noted (g.R.Reads.scene c.args.reads.now) c.args.test.now c.args.yes.now c.args.run.now _ _ _ _ _ _ _ _ _ b w c.args.no.now _ _ _ _ z) in
+    walked_own g.N.Notes.noted (g.R.Reads.scene c.args.reads.now) c.args.term.now c.args.run.now _ _ _ _ _ _ (tree.choice (head_of (head_in c.args.term.now)) (term_view c.args.test.now) (term_view c.args.yes.now) (term_view c.args.no.now)) _ c.requires.form refl refl (c.after_sides-number.ensures.value (g.R.Reads.scene c.args.reads.now) c.args.run.now.first (term_view c.args.test.now) (term_view c.args.yes.now) (term_view c.args.no.now) b.value yes no) refl c.after_sides-number.ensures.small (third_first g.N.Notes.noted (g.R.Reads.scene c.args.reads.now) c.args.test.now c.args.yes.now c.args.run.now _ _ _ _ _ _ _ _ _ b w c.args.no.now _ _ _ _ z) mode (third_notes g.N.Notes.noted (g.R.Reads.scene c.args.reads.now) c.args.test.now c.args.yes.now c.args.run.now _ _ _ _ _ _ _ _ _ b w c.args.no.now _ _ _ _ z) own
+
+-- ---- a sign
+
+pub sign_term-evaluate-operand-requires : goal.sign_term-evaluate-operand-requires
+sign_term-evaluate-operand-requires g t c =
+    λ κs h. (search (rules, the_lemmas), (h.0, (h.1, in_sign (g.R.Reads.scene c.args.reads.now).design _ _ _ (arm_context (g.R.Reads.scene c.args.reads.now).design _ (tree.sign (head_of (head_in c.args.term.now)) c.requires.form.signed (term_view c.args.operand.now)) c.requires.form.is c.requires.context))))
+
+pub sign_term-sign-value-requires : goal.sign_term-sign-value-requires
+sign_term-sign-value-requires g t c = subst IsHead (sym c.of.ensures) (in_head (g.R.Reads.scene c.args.reads.now) c.args.term.now (ap head c.requires.form.is) c.requires.context)
+
+pub sign_term-finish-requires : goal.sign_term-finish-requires
+sign_term-finish-requires g t c =
+    let stands : Stands (g.R.Reads.scene c.args.reads.now) c.args.run.now.first (tree.sign (head_of (head_in c.args.term.now)) c.requires.form.signed (term_view c.args.operand.now)) c.sign-value.result = subst (λ h. Stands (g.R.Reads.scene c.args.reads.now) c.args.run.now.first (tree.sign (head_of h) c.requires.form.signed (term_view c.args.operand.now)) c.sign-value.result) c.of.ensures (c.sign-value.ensures (g.R.Reads.scene c.args.reads.now) c.args.run.now.first (term_view c.args.operand.now) c.requires.form.signed c.evaluate-operand.ensures.value) in
+    record { width = length-stands (g.R.Reads.scene c.args.reads.now) c.args.run.now.first (tree.sign (head_of (head_in c.args.term.now)) c.requires.form.signed (term_view c.args.operand.now)) c.sign-value.result stands; sign = stands.sign_is }
+
+pub sign_term-returns : goal.sign_term-returns
+sign_term-returns g t c =
+    let stands : Stands (g.R.Reads.scene c.args.reads.now) c.args.run.now.first (tree.sign (head_of (head_in c.args.term.now)) c.requires.form.signed (term_view c.args.operand.now)) c.sign-value.result = subst (λ h. Stands (g.R.Reads.scene c.args.reads.now) c.args.run.now.first (tree.sign (head_of h) c.requires.form.signed (term_view c.args.operand.now)) c.sign-value.result) c.of.ensures (c.sign-value.ensures (g.R.Reads.scene c.args.reads.now) c.args.run.now.first (term_view c.args.operand.now) c.requires.form.signed c.evaluate-operand.ensures.value) in
+    walked_own g.N.Notes.noted (g.R.Reads.scene c.args.reads.now) c.args.term.now c.args.run.now _ _ _ _ _ _ (tree.sign (head_of (head_in c.args.term.now)) c.requires.form.signed (term_view c.args.operand.now)) c.sign-value.result c.requires.form.is refl refl stands c.finish.ensures.value c.finish.ensures.small (c.finish.ensures.first ∙ c.evaluate-operand.ensures.first) c.finish.ensures.mode c.evaluate-operand.ensures.notes c.finish.ensures.notes
 
 -- ---- concatenations
 
-pub evaluate-join_all-all-requires : goal.evaluate-join_all-all-requires
-evaluate-join_all-all-requires g t c =
-    let is = along c.of-head.result c.args.term.now (λ h. tree.concat h (terms_of (map term_view c.in-Concat.parts.items))) c.of-head.ensures (concat_view c.args.term.now c.in-Concat.parts (sym c.deref.ensures ∙ c.in-Concat.is)) in
-    let side = in_concat (g.R.Reads.scene c.args.reads.now).design (head_of c.of-head.result) (terms_of (map term_view c.in-Concat.parts.items)) (arm_context _ _ _ is c.requires) in
-    λ κs h. (search (rules, the_lemmas), (h.0, (h.1, rw c.deref-in-Concat.ensures.value side.alone)))
+pub concat_term-join_all-all-requires : goal.concat_term-join_all-all-requires
+concat_term-join_all-all-requires g t c =
+    let side = in_concat (g.R.Reads.scene c.args.reads.now).design (head_of (head_in c.args.term.now)) (terms_of (map term_view c.args.parts.now)) (arm_context (g.R.Reads.scene c.args.reads.now).design _ (tree.concat (head_of (head_in c.args.term.now)) (terms_of (map term_view c.args.parts.now))) c.requires.form c.requires.context) in
+    λ κs h. (search (rules, the_lemmas), (h.0, (h.1, side.alone)))
 
-pub evaluate-concat-value-requires : goal.evaluate-concat-value-requires
-evaluate-concat-value-requires g t c =
-    let is = along c.of-head.result c.args.term.now (λ h. tree.concat h (terms_of (map term_view c.in-Concat.parts.items))) c.of-head.ensures (concat_view c.args.term.now c.in-Concat.parts (sym c.deref.ensures ∙ c.in-Concat.is)) in
-    let side = in_concat (g.R.Reads.scene c.args.reads.now).design (head_of c.of-head.result) (terms_of (map term_view c.in-Concat.parts.items)) (arm_context _ _ _ is c.requires) in
-    let all = rw c.deref-in-Concat.ensures.value at c.join_all-all.ensures.value in
-    let joined = all side.narrow in
-    let size : length (so_far c.join_all-all.result.value).bits ≡ own_widths (g.R.Reads.scene c.args.reads.now).design (terms_of (map term_view c.in-Concat.parts.items)) = ap length joined.bits ∙ length-joined (g.R.Reads.scene c.args.reads.now).design (g.R.Reads.scene c.args.reads.now).kept (terms_of (map term_view c.in-Concat.parts.items)) side.alone in
-    record { head = shape_ok (g.R.Reads.scene c.args.reads.now).design _ c.of-head.result refl (arm_context _ _ _ is c.requires); room = omega (arith, size, side.narrow) }
+pub concat_term-concat-value-requires : goal.concat_term-concat-value-requires
+concat_term-concat-value-requires g t c =
+    let side = in_concat (g.R.Reads.scene c.args.reads.now).design (head_of (head_in c.args.term.now)) (terms_of (map term_view c.args.parts.now)) (arm_context (g.R.Reads.scene c.args.reads.now).design _ (tree.concat (head_of (head_in c.args.term.now)) (terms_of (map term_view c.args.parts.now))) c.requires.form c.requires.context) in
+    let joined = c.join_all-all.ensures.value side.narrow in
+    let size : length (so_far c.join_all-all.result.value).bits ≡ own_widths (g.R.Reads.scene c.args.reads.now).design (terms_of (map term_view c.args.parts.now)) = ap length joined.bits ∙ length-joined (g.R.Reads.scene c.args.reads.now).design (g.R.Reads.scene c.args.reads.now).kept (terms_of (map term_view c.args.parts.now)) side.alone in
+    record { head = subst IsHead (sym c.of.ensures) (in_head (g.R.Reads.scene c.args.reads.now) c.args.term.now (ap head c.requires.form) c.requires.context); room = omega (arith, size, side.narrow) }
 
-pub evaluate-returns-in-Concat-clause-value : goal.evaluate-returns-in-Concat-clause-value
-evaluate-returns-in-Concat-clause-value g t c =
-    let is = along c.of-head.result c.args.term.now (λ h. tree.concat h (terms_of (map term_view c.in-Concat.parts.items))) c.of-head.ensures (concat_view c.args.term.now c.in-Concat.parts (sym c.deref.ensures ∙ c.in-Concat.is)) in
-    let side = in_concat (g.R.Reads.scene c.args.reads.now).design (head_of c.of-head.result) (terms_of (map term_view c.in-Concat.parts.items)) (arm_context _ _ _ is c.requires) in
-    let all = rw c.deref-in-Concat.ensures.value at c.join_all-all.ensures.value in
-    arm_value _ _ _ _ _ is (same_value (g.R.Reads.scene c.args.reads.now) _ _ _ _ c.seen-in-Concat.ensures.value (concat_stands (g.R.Reads.scene c.args.reads.now) c.args.run.first c.of-head.result (terms_of (map term_view c.in-Concat.parts.items)) (so_far c.join_all-all.result.value) c.concat-value.result (all side.narrow) c.concat-value.ensures))
+pub concat_term-finish-requires : goal.concat_term-finish-requires
+concat_term-finish-requires g t c =
+    let side = in_concat (g.R.Reads.scene c.args.reads.now).design (head_of (head_in c.args.term.now)) (terms_of (map term_view c.args.parts.now)) (arm_context (g.R.Reads.scene c.args.reads.now).design _ (tree.concat (head_of (head_in c.args.term.now)) (terms_of (map term_view c.args.parts.now))) c.requires.form c.requires.context) in
+    let stands : Stands (g.R.Reads.scene c.args.reads.now) c.args.run.now.first (tree.concat (head_of (head_in c.args.term.now)) (terms_of (map term_view c.args.parts.now))) c.concat-value.result = concat_stands (g.R.Reads.scene c.args.reads.now) c.args.run.now.first (head_in c.args.term.now) (terms_of (map term_view c.args.parts.now)) (so_far c.join_all-all.result.value) c.concat-value.result (c.join_all-all.ensures.value side.narrow) (subst (λ h. Fitted h (copied 1 (so_far c.join_all-all.result.value)) c.concat-value.result) c.of.ensures c.concat-value.ensures) in
+    record { width = length-stands (g.R.Reads.scene c.args.reads.now) c.args.run.now.first (tree.concat (head_of (head_in c.args.term.now)) (terms_of (map term_view c.args.parts.now))) c.concat-value.result stands; sign = stands.sign_is }
 
-pub evaluate-returns-in-Concat-clause-first : goal.evaluate-returns-in-Concat-clause-first
-evaluate-returns-in-Concat-clause-first g t c =
-    let is = along c.of-head.result c.args.term.now (λ h. tree.concat h (terms_of (map term_view c.in-Concat.parts.items))) c.of-head.ensures (concat_view c.args.term.now c.in-Concat.parts (sym c.deref.ensures ∙ c.in-Concat.is)) in
-    let side = in_concat (g.R.Reads.scene c.args.reads.now).design (head_of c.of-head.result) (terms_of (map term_view c.in-Concat.parts.items)) (arm_context _ _ _ is c.requires) in
-    let first = rw c.deref-in-Concat.ensures.value at c.join_all-all.ensures.first in
-    c.seen-in-Concat.ensures.first ∙ ap (λ p. p.first) c.after-in-Concat.ensures ∙ first ∙ ap (first_after (g.R.Reads.scene c.args.reads.now) c.args.run.first) (sym is)
+pub concat_term-returns : goal.concat_term-returns
+concat_term-returns g t c =
+    let side = in_concat (g.R.Reads.scene c.args.reads.now).design (head_of (head_in c.args.term.now)) (terms_of (map term_view c.args.parts.now)) (arm_context (g.R.Reads.scene c.args.reads.now).design _ (tree.concat (head_of (head_in c.args.term.now)) (terms_of (map term_view c.args.parts.now))) c.requires.form c.requires.context) in
+    let stands : Stands (g.R.Reads.scene c.args.reads.now) c.args.run.now.first (tree.concat (head_of (head_in c.args.term.now)) (terms_of (map term_view c.args.parts.now))) c.concat-value.result = concat_stands (g.R.Reads.scene c.args.reads.now) c.args.run.now.first (head_in c.args.term.now) (terms_of (map term_view c.args.parts.now)) (so_far c.join_all-all.result.value) c.concat-value.result (c.join_all-all.ensures.value side.narrow) (subst (λ h. Fitted h (copied 1 (so_far c.join_all-all.result.value)) c.concat-value.result) c.of.ensures c.concat-value.ensures) in
+    walked_own g.N.Notes.noted (g.R.Reads.scene c.args.reads.now) c.args.term.now c.args.run.now _ _ _ _ _ _ (tree.concat (head_of (head_in c.args.term.now)) (terms_of (map term_view c.args.parts.now))) c.concat-value.result c.requires.form refl refl stands c.finish.ensures.value c.finish.ensures.small (c.finish.ensures.first ∙ c.join_all-all.ensures.first) c.finish.ensures.mode c.join_all-all.ensures.notes c.finish.ensures.notes
 
-pub evaluate-returns-in-Concat-clause-notes : goal.evaluate-returns-in-Concat-clause-notes
-evaluate-returns-in-Concat-clause-notes g t c =
-    let is = along c.of-head.result c.args.term.now (λ h. tree.concat h (terms_of (map term_view c.in-Concat.parts.items))) c.of-head.ensures (concat_view c.args.term.now c.in-Concat.parts (sym c.deref.ensures ∙ c.in-Concat.is)) in
-    let side = in_concat (g.R.Reads.scene c.args.reads.now).design (head_of c.of-head.result) (terms_of (map term_view c.in-Concat.parts.items)) (arm_context _ _ _ is c.requires) in
-    let all = rw c.deref-in-Concat.ensures.value at c.join_all-all.ensures.value in
-    let notes = rw c.deref-in-Concat.ensures.value at c.join_all-all.ensures.notes in
-    let own = rw c.after-in-Concat.ensures at c.seen-in-Concat.ensures.notes in
-    arm_notes g.N.Notes.noted _ _ _ _ _ _ _ is (seen_own g.N.Notes.noted (g.R.Reads.scene c.args.reads.now) c.args.run.mode c.args.run.first _ _ _ _ _ refl (concat_stands (g.R.Reads.scene c.args.reads.now) c.args.run.first c.of-head.result (terms_of (map term_view c.in-Concat.parts.items)) (so_far c.join_all-all.result.value) c.concat-value.result (all side.narrow) c.concat-value.ensures) notes own)
-
-pub evaluate-evaluate-count-requires : goal.evaluate-evaluate-count-requires
-evaluate-evaluate-count-requires g t c =
-    let is = along c.of-head.result c.args.term.now (λ h. tree.repeat h (term_view c.in-Repeat.count) (terms_of (map term_view c.in-Repeat.parts.items))) c.of-head.ensures (repeat_view c.args.term.now c.in-Repeat.count c.in-Repeat.parts (sym c.deref.ensures ∙ c.in-Repeat.is)) in
-    let k = in_repeat (g.R.Reads.scene c.args.reads.now).design (head_of c.of-head.result) (term_view c.in-Repeat.count) (terms_of (map term_view c.in-Repeat.parts.items)) (arm_context _ _ _ is c.requires) in
+pub repeat_term-evaluate-count-requires : goal.repeat_term-evaluate-count-requires
+repeat_term-evaluate-count-requires g t c =
+    let k = in_repeat (g.R.Reads.scene c.args.reads.now).design (head_of (head_in c.args.term.now)) (term_view c.args.count.now) (terms_of (map term_view c.args.parts.now)) (arm_context (g.R.Reads.scene c.args.reads.now).design _ (tree.repeat (head_of (head_in c.args.term.now)) (term_view c.args.count.now) (terms_of (map term_view c.args.parts.now))) c.requires.form c.requires.context) in
     λ κs h. (search (rules, the_lemmas), (h.0, (h.1, k.count)))
 
-pub evaluate-join_all-all-requires-in-Repeat : goal.evaluate-join_all-all-requires-in-Repeat
-evaluate-join_all-all-requires-in-Repeat g t c =
-    let is = along c.of-head.result c.args.term.now (λ h. tree.repeat h (term_view c.in-Repeat.count) (terms_of (map term_view c.in-Repeat.parts.items))) c.of-head.ensures (repeat_view c.args.term.now c.in-Repeat.count c.in-Repeat.parts (sym c.deref.ensures ∙ c.in-Repeat.is)) in
-    let k = in_repeat (g.R.Reads.scene c.args.reads.now).design (head_of c.of-head.result) (term_view c.in-Repeat.count) (terms_of (map term_view c.in-Repeat.parts.items)) (arm_context _ _ _ is c.requires) in
-    λ κs h. (search (rules, the_lemmas), (h.0, (h.1, rw c.deref-in-Repeat.ensures.value k.parts)))
+pub repeat_term-join_all-all-requires : goal.repeat_term-join_all-all-requires
+repeat_term-join_all-all-requires g t c =
+    let k = in_repeat (g.R.Reads.scene c.args.reads.now).design (head_of (head_in c.args.term.now)) (term_view c.args.count.now) (terms_of (map term_view c.args.parts.now)) (arm_context (g.R.Reads.scene c.args.reads.now).design _ (tree.repeat (head_of (head_in c.args.term.now)) (term_view c.args.count.now) (terms_of (map term_view c.args.parts.now))) c.requires.form c.requires.context) in
+    λ κs h. (search (rules, the_lemmas), (h.0, (h.1, k.parts)))
 
-pub evaluate-concat-value-requires-in-Repeat : goal.evaluate-concat-value-requires-in-Repeat
-evaluate-concat-value-requires-in-Repeat g t c =
-    let is = along c.of-head.result c.args.term.now (λ h. tree.repeat h (term_view c.in-Repeat.count) (terms_of (map term_view c.in-Repeat.parts.items))) c.of-head.ensures (repeat_view c.args.term.now c.in-Repeat.count c.in-Repeat.parts (sym c.deref.ensures ∙ c.in-Repeat.is)) in
-    let k = in_repeat (g.R.Reads.scene c.args.reads.now).design (head_of c.of-head.result) (term_view c.in-Repeat.count) (terms_of (map term_view c.in-Repeat.parts.items)) (arm_context _ _ _ is c.requires) in
-    let all = rw (c.deref-in-Repeat.ensures.value, c.after-in-Repeat.ensures, c.evaluate-count.ensures.first) at c.join_all-all-in-Repeat.ensures.value in
-    let times : c.whole_count.result ≡ min (natural (value (g.R.Reads.scene c.args.reads.now).design blank (term_view c.in-Repeat.count))) 128 = c.whole_count.ensures ∙ ap (λ bs. min (natural bs) 128) (constant_bits (g.R.Reads.scene c.args.reads.now) c.args.run.first (term_view c.in-Repeat.count) c.evaluate-count.result.value k.fixed c.evaluate-count.ensures.value) in
-    record { head = shape_ok (g.R.Reads.scene c.args.reads.now).design _ c.of-head.result refl (arm_context _ _ _ is c.requires); room = subst (λ m. length (so_far c.join_all-all-in-Repeat.result.value).bits * m ≤ 128) (sym times) (room_for_all (g.R.Reads.scene c.args.reads.now) _ (terms_of (map term_view c.in-Repeat.parts.items)) (natural (value (g.R.Reads.scene c.args.reads.now).design blank (term_view c.in-Repeat.count))) (so_far c.join_all-all-in-Repeat.result.value) k.parts k.room all) }
+pub repeat_term-concat-value-requires : goal.repeat_term-concat-value-requires
+repeat_term-concat-value-requires g t c =
+    let k = in_repeat (g.R.Reads.scene c.args.reads.now).design (head_of (head_in c.args.term.now)) (term_view c.args.count.now) (terms_of (map term_view c.args.parts.now)) (arm_context (g.R.Reads.scene c.args.reads.now).design _ (tree.repeat (head_of (head_in c.args.term.now)) (term_view c.args.count.now) (terms_of (map term_view c.args.parts.now))) c.requires.form c.requires.context) in
+    let all = rw (c.after.ensures, c.evaluate-count.ensures.first) at c.join_all-all.ensures.value in
+    let times : c.whole_count-times.result ≡ min (natural (value (g.R.Reads.scene c.args.reads.now).design blank (term_view c.args.count.now))) 128 = c.whole_count-times.ensures ∙ ap (λ bs. min (natural bs) 128) (constant_bits (g.R.Reads.scene c.args.reads.now) c.args.run.now.first (term_view c.args.count.now) c.evaluate-count.result.value k.fixed c.evaluate-count.ensures.value) in
+    record { head = subst IsHead (sym c.of.ensures) (in_head (g.R.Reads.scene c.args.reads.now) c.args.term.now (ap head c.requires.form) c.requires.context); room = subst (λ m. length (so_far c.join_all-all.result.value).bits * m ≤ 128) (sym times) (room_for_all (g.R.Reads.scene c.args.reads.now) _ (terms_of (map term_view c.args.parts.now)) (natural (value (g.R.Reads.scene c.args.reads.now).design blank (term_view c.args.count.now))) (so_far c.join_all-all.result.value) k.parts k.room all) }
 
-pub evaluate-returns-in-Repeat-clause-value : goal.evaluate-returns-in-Repeat-clause-value
-evaluate-returns-in-Repeat-clause-value g t c =
-    let is = along c.of-head.result c.args.term.now (λ h. tree.repeat h (term_view c.in-Repeat.count) (terms_of (map term_view c.in-Repeat.parts.items))) c.of-head.ensures (repeat_view c.args.term.now c.in-Repeat.count c.in-Repeat.parts (sym c.deref.ensures ∙ c.in-Repeat.is)) in
-    let k = in_repeat (g.R.Reads.scene c.args.reads.now).design (head_of c.of-head.result) (term_view c.in-Repeat.count) (terms_of (map term_view c.in-Repeat.parts.items)) (arm_context _ _ _ is c.requires) in
-    let all = rw (c.deref-in-Repeat.ensures.value, c.after-in-Repeat.ensures, c.evaluate-count.ensures.first) at c.join_all-all-in-Repeat.ensures.value in
-    let times : c.whole_count.result ≡ min (natural (value (g.R.Reads.scene c.args.reads.now).design blank (term_view c.in-Repeat.count))) 128 = c.whole_count.ensures ∙ ap (λ bs. min (natural bs) 128) (constant_bits (g.R.Reads.scene c.args.reads.now) c.args.run.first (term_view c.in-Repeat.count) c.evaluate-count.result.value k.fixed c.evaluate-count.ensures.value) in
-    arm_value _ _ _ _ _ is (same_value (g.R.Reads.scene c.args.reads.now) _ _ _ _ c.seen-in-Repeat.ensures.value (repeat_all (g.R.Reads.scene c.args.reads.now) c.args.run.first c.of-head.result (term_view c.in-Repeat.count) (terms_of (map term_view c.in-Repeat.parts.items)) (value (g.R.Reads.scene c.args.reads.now).design blank (term_view c.in-Repeat.count)) c.evaluate-count.result.value (so_far c.join_all-all-in-Repeat.result.value) c.concat-value-in-Repeat.result c.evaluate-count.ensures.value (bits_are (g.R.Reads.scene c.args.reads.now) c.args.run.first (term_view c.in-Repeat.count) c.evaluate-count.result.value k.fixed c.evaluate-count.ensures.value) k.parts k.room all (subst (λ m. Fitted c.of-head.result (copied m (so_far c.join_all-all-in-Repeat.result.value)) c.concat-value-in-Repeat.result) times c.concat-value-in-Repeat.ensures)))
+pub repeat_term-finish-requires : goal.repeat_term-finish-requires
+repeat_term-finish-requires g t c =
+    let k = in_repeat (g.R.Reads.scene c.args.reads.now).design (head_of (head_in c.args.term.now)) (term_view c.args.count.now) (terms_of (map term_view c.args.parts.now)) (arm_context (g.R.Reads.scene c.args.reads.now).design _ (tree.repeat (head_of (head_in c.args.term.now)) (term_view c.args.count.now) (terms_of (map term_view c.args.parts.now))) c.requires.form c.requires.context) in
+    let all = rw (c.after.ensures, c.evaluate-count.ensures.first) at c.join_all-all.ensures.value in
+    let times : c.whole_count-times.result ≡ min (natural (value (g.R.Reads.scene c.args.reads.now).design blank (term_view c.args.count.now))) 128 = c.whole_count-times.ensures ∙ ap (λ bs. min (natural bs) 128) (constant_bits (g.R.Reads.scene c.args.reads.now) c.args.run.now.first (term_view c.args.count.now) c.evaluate-count.result.value k.fixed c.evaluate-count.ensures.value) in
+    let stands : Stands (g.R.Reads.scene c.args.reads.now) c.args.run.now.first (tree.repeat (head_of (head_in c.args.term.now)) (term_view c.args.count.now) (terms_of (map term_view c.args.parts.now))) c.concat-value.result = repeat_all (g.R.Reads.scene c.args.reads.now) c.args.run.now.first (head_in c.args.term.now) (term_view c.args.count.now) (terms_of (map term_view c.args.parts.now)) (value (g.R.Reads.scene c.args.reads.now).design blank (term_view c.args.count.now)) c.evaluate-count.result.value (so_far c.join_all-all.result.value) c.concat-value.result c.evaluate-count.ensures.value (bits_are (g.R.Reads.scene c.args.reads.now) c.args.run.now.first (term_view c.args.count.now) c.evaluate-count.result.value k.fixed c.evaluate-count.ensures.value) k.parts k.room all (subst (λ m. Fitted (head_in c.args.term.now) (copied m (so_far c.join_all-all.result.value)) c.concat-value.result) times (subst (λ h. Fitted h (copied c.whole_count-times.result (so_far c.join_all-all.result.value)) c.concat-value.result) c.of.ensures c.concat-value.ensures)) in
+    record { width = length-stands (g.R.Reads.scene c.args.reads.now) c.args.run.now.first (tree.repeat (head_of (head_in c.args.term.now)) (term_view c.args.count.now) (terms_of (map term_view c.args.parts.now))) c.concat-value.result stands; sign = stands.sign_is }
 
-pub evaluate-returns-in-Repeat-clause-first : goal.evaluate-returns-in-Repeat-clause-first
-evaluate-returns-in-Repeat-clause-first g t c =
-    let is = along c.of-head.result c.args.term.now (λ h. tree.repeat h (term_view c.in-Repeat.count) (terms_of (map term_view c.in-Repeat.parts.items))) c.of-head.ensures (repeat_view c.args.term.now c.in-Repeat.count c.in-Repeat.parts (sym c.deref.ensures ∙ c.in-Repeat.is)) in
-    let k = in_repeat (g.R.Reads.scene c.args.reads.now).design (head_of c.of-head.result) (term_view c.in-Repeat.count) (terms_of (map term_view c.in-Repeat.parts.items)) (arm_context _ _ _ is c.requires) in
-    let first = rw (c.deref-in-Repeat.ensures.value, c.after-in-Repeat.ensures, c.evaluate-count.ensures.first) at c.join_all-all-in-Repeat.ensures.first in
-    c.seen-in-Repeat.ensures.first ∙ ap (λ p. p.first) c.after-in-Repeat-2.ensures ∙ first ∙ ap (first_after (g.R.Reads.scene c.args.reads.now) c.args.run.first) (sym is)
-
-pub evaluate-returns-in-Repeat-clause-notes : goal.evaluate-returns-in-Repeat-clause-notes
-evaluate-returns-in-Repeat-clause-notes g t c =
-    let is = along c.of-head.result c.args.term.now (λ h. tree.repeat h (term_view c.in-Repeat.count) (terms_of (map term_view c.in-Repeat.parts.items))) c.of-head.ensures (repeat_view c.args.term.now c.in-Repeat.count c.in-Repeat.parts (sym c.deref.ensures ∙ c.in-Repeat.is)) in
-    let k = in_repeat (g.R.Reads.scene c.args.reads.now).design (head_of c.of-head.result) (term_view c.in-Repeat.count) (terms_of (map term_view c.in-Repeat.parts.items)) (arm_context _ _ _ is c.requires) in
-    let all = rw (c.deref-in-Repeat.ensures.value, c.after-in-Repeat.ensures, c.evaluate-count.ensures.first) at c.join_all-all-in-Repeat.ensures.value in
-    let times : c.whole_count.result ≡ min (natural (value (g.R.Reads.scene c.args.reads.now).design blank (term_view c.in-Repeat.count))) 128 = c.whole_count.ensures ∙ ap (λ bs. min (natural bs) 128) (constant_bits (g.R.Reads.scene c.args.reads.now) c.args.run.first (term_view c.in-Repeat.count) c.evaluate-count.result.value k.fixed c.evaluate-count.ensures.value) in
-    let notes = rw (c.deref-in-Repeat.ensures.value, c.after-in-Repeat.ensures, c.evaluate-count.ensures.first) at c.join_all-all-in-Repeat.ensures.notes in
-    let own = rw c.after-in-Repeat-2.ensures at c.seen-in-Repeat.ensures.notes in
-    arm_notes g.N.Notes.noted _ _ _ _ _ _ _ is (seen_own g.N.Notes.noted (g.R.Reads.scene c.args.reads.now) c.args.run.mode c.args.run.first _ _ _ _ _ refl (repeat_all (g.R.Reads.scene c.args.reads.now) c.args.run.first c.of-head.result (term_view c.in-Repeat.count) (terms_of (map term_view c.in-Repeat.parts.items)) (value (g.R.Reads.scene c.args.reads.now).design blank (term_view c.in-Repeat.count)) c.evaluate-count.result.value (so_far c.join_all-all-in-Repeat.result.value) c.concat-value-in-Repeat.result c.evaluate-count.ensures.value (bits_are (g.R.Reads.scene c.args.reads.now) c.args.run.first (term_view c.in-Repeat.count) c.evaluate-count.result.value k.fixed c.evaluate-count.ensures.value) k.parts k.room all (subst (λ m. Fitted c.of-head.result (copied m (so_far c.join_all-all-in-Repeat.result.value)) c.concat-value-in-Repeat.result) times c.concat-value-in-Repeat.ensures)) (adds_more g.N.Notes.noted c.args.run.mode _ _ _ _ _ c.evaluate-count.ensures.notes notes) own)
+pub repeat_term-returns : goal.repeat_term-returns
+repeat_term-returns g t c =
+    let k = in_repeat (g.R.Reads.scene c.args.reads.now).design (head_of (head_in c.args.term.now)) (term_view c.args.count.now) (terms_of (map term_view c.args.parts.now)) (arm_context (g.R.Reads.scene c.args.reads.now).design _ (tree.repeat (head_of (head_in c.args.term.now)) (term_view c.args.count.now) (terms_of (map term_view c.args.parts.now))) c.requires.form c.requires.context) in
+    let all = rw (c.after.ensures, c.evaluate-count.ensures.first) at c.join_all-all.ensures.value in
+    let times : c.whole_count-times.result ≡ min (natural (value (g.R.Reads.scene c.args.reads.now).design blank (term_view c.args.count.now))) 128 = c.whole_count-times.ensures ∙ ap (λ bs. min (natural bs) 128) (constant_bits (g.R.Reads.scene c.args.reads.now) c.args.run.now.first (term_view c.args.count.now) c.evaluate-count.result.value k.fixed c.evaluate-count.ensures.value) in
+    let stands : Stands (g.R.Reads.scene c.args.reads.now) c.args.run.now.first (tree.repeat (head_of (head_in c.args.term.now)) (term_view c.args.count.now) (terms_of (map term_view c.args.parts.now))) c.concat-value.result = repeat_all (g.R.Reads.scene c.args.reads.now) c.args.run.now.first (head_in c.args.term.now) (term_view c.args.count.now) (terms_of (map term_view c.args.parts.now)) (value (g.R.Reads.scene c.args.reads.now).design blank (term_view c.args.count.now)) c.evaluate-count.result.value (so_far c.join_all-all.result.value) c.concat-value.result c.evaluate-count.ensures.value (bits_are (g.R.Reads.scene c.args.reads.now) c.args.run.now.first (term_view c.args.count.now) c.evaluate-count.result.value k.fixed c.evaluate-count.ensures.value) k.parts k.room all (subst (λ m. Fitted (head_in c.args.term.now) (copied m (so_far c.join_all-all.result.value)) c.concat-value.result) times (subst (λ h. Fitted h (copied c.whole_count-times.result (so_far c.join_all-all.result.value)) c.concat-value.result) c.of.ensures c.concat-value.ensures)) in
+    let first = rw (c.after.ensures, c.evaluate-count.ensures.first) at c.join_all-all.ensures.first in
+    let notes = rw (c.after.ensures, c.evaluate-count.ensures.first) at c.join_all-all.ensures.notes in
+    walked_own g.N.Notes.noted (g.R.Reads.scene c.args.reads.now) c.args.term.now c.args.run.now _ _ _ _ _ _ (tree.repeat (head_of (head_in c.args.term.now)) (term_view c.args.count.now) (terms_of (map term_view c.args.parts.now))) c.concat-value.result c.requires.form refl refl stands c.finish.ensures.value c.finish.ensures.small (c.finish.ensures.first ∙ first) c.finish.ensures.mode (adds_more g.N.Notes.noted c.args.run.now.mode _ _ _ _ _ c.evaluate-count.ensures.notes notes) c.finish.ensures.notes
 
 -- ---- terms side by side
 
