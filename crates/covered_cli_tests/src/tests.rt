@@ -1,7 +1,7 @@
 //! Commands over files in memory, and what they write and say.
 use cov_host::{Calls, MemoryHost, NoMemory, Words};
 use covered_cli::{Status, covered};
-use std::alloc::Global;
+use std::alloc::{AllocError, Global};
 
 /// A name and a text.
 type File = (&'static str, &'static str);
@@ -204,4 +204,60 @@ fn commands_end_as_they_should(rt: HostRuntime) {
             case.printed
         );
     }
+}
+
+/// A module of 4,095 inputs of 128 bits, which have 256 points each, and of more inputs.
+fn wide_module(alloc: Global, more: &str) -> Result<String, AllocError> {
+    let mut source = String::new(alloc);
+    source.push_str("module m(")?;
+    for number in 0..4095u32 {
+        source.push_str("input [127:0] i")?;
+        source.push_str(number.to_string(alloc)?.as_str())?;
+        source.push_str(", ")?;
+    }
+    source.push_str(more)?;
+    source.push_str(");\nendmodule\n")?;
+    Ok(source)
+}
+
+/// How the score of such a module ends where there is no dump, and what is warned.
+fn ends_wide(alloc: Global, more: &str, status: Status, warned: &str) -> bool {
+    let case = Case {
+        words: SCORE_M,
+        files: &[],
+        status,
+        output: NONE,
+        printed: "",
+        warned: "",
+    };
+    let (Ok(source), Ok(words), Ok(mut host)) = (
+        wide_module(alloc, more),
+        words_of(alloc, &case),
+        host_of(alloc, &case),
+    ) else {
+        return false;
+    };
+    host.put("m.v", source.as_bytes()).is_ok()
+        && covered(alloc, &words, &mut host) == status
+        && host.warned() == warned.as_bytes()
+}
+
+#[test]
+fn a_design_has_a_million_points(rt: HostRuntime) {
+    assert!(rt;
+        ends_wide(
+            rt.alloc(),
+            "input [127:0] z",
+            Status::Files,
+            "covered: files: open_read D\n"
+        )
+    );
+    assert!(rt;
+        ends_wide(
+            rt.alloc(),
+            "input [127:0] z, input a",
+            Status::Source,
+            "covered: source: points 3 TooManyPoints\n"
+        )
+    );
 }
