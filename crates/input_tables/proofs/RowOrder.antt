@@ -101,7 +101,7 @@ only_first top [] up first k d l e = absurd (omega (arith, l))
 only_first top (row ∷ rows) up first zero d l e = refl
 only_first top (row ∷ rows) up first (suc k) d l e =
     let less : bytes_cmp top top ≡ Less =
-        ap (bytes_cmp top) (sym e) ∙ ap (λ p. bytes_cmp p (get_or rows k d).path) (sym first) ∙ Rises-head (λ (a b : DbInstance). bytes_cmp a.path b.path) (λ x y z p q. nat_list_cmp_total.trans x.path y.path z.path p q) row rows up k d (omega (arith, l)) in
+    ap (bytes_cmp top) (sym e) ∙ ap (λ p. bytes_cmp p (get_or rows k d).path) (sym first) ∙ Rises-head (λ (a b : DbInstance). bytes_cmp a.path b.path) (λ x y z p q. nat_list_cmp_total.trans x.path y.path z.path p q) row rows up k d (omega (arith, l)) in
     absurd (not_both top top less less)
 
 -- the instances of the design in the order of their numbers

@@ -29,7 +29,7 @@ use Rattle.vcd_reader.specs.Dump.{Dump, steps_of, times_of}
 use Rattle.vcd_reader.specs.declared.entry.Entry.{Entry}
 use Rattle.vcd_reader.specs.declared.vars.Var.{Var}
 use Rattle.input_toggles.specs.InputDesign.{IsInputDesign}
-use Rattle.input_toggles.specs.Points.{HasIndex, IsTogglePoint, toggle_address}
+use Rattle.input_toggles.specs.Points.{HasIndex, IsTogglePoint, place_of, toggle_address}
 use Rattle.input_toggles.specs.Scored.{AreSources, HasHead, IsScored, IsToggleTable, ListsTogglePoints, Tells, no_row as no_instance_row, row_of}
 use Rattle.input_toggles.specs.Scores.{Scores}
 use Rattle.input_toggles.specs.Toggling.{TogglesIn, has_toggle}
@@ -106,17 +106,24 @@ module _ (design : Design) (d : IsInputDesign design) (lawful : IsLawfulDesign (
       let t = toggle k l in
       named_address t.signal t.index t.rise (get_or db.points k no_row).address t.listed (subst (λ x. IsAddressOf (design_view design) db.instances x (get_or db.points k no_row).address) t.is (each.each k l))
 
+  signal_there : (k : ℕ) (l : k < length db.points) → Contains design.signals (signal_of (toggle k l).signal)
+  unfolding signal_of
+  signal_there k l = let t = toggle k l in (t.signal, t.listed, get_or_default design.signals t.signal (signal_of t.signal) no_signal t.listed)
+
+  index_there : (k : ℕ) (l : k < length db.points) → HasIndex (signal_of (toggle k l).signal) (index_if (signal_of (toggle k l).signal).ranged (toggle k l).index)
+  unfolding signal_of
+  index_there k l = let t = toggle k l in has_index (signal_of t.signal) (input_at design d ps all.listed t.signal t.listed) t.index t.within
+
   -- each row is a toggle point
   row_is_point : (k : ℕ) → k < length db.points → IsTogglePoint design (get_or db.points k no_row).address
-  unfolding signal_of
   row_is_point k l =
       let t = toggle k l in
       record {
         signal = signal_of t.signal;
         index = index_if (signal_of t.signal).ranged t.index;
         rise = t.rise;
-        listed = (t.signal, t.listed, get_or_default design.signals t.signal (signal_of t.signal) no_signal t.listed);
-        has_index = has_index (signal_of t.signal) (input_at design d ps all.listed t.signal t.listed) t.index t.within;
+        listed = signal_there k l;
+        has_index = index_there k l;
         is = address_is k l;
       }
 
@@ -150,7 +157,7 @@ module _ (design : Design) (d : IsInputDesign design) (lawful : IsLawfulDesign (
     the_dump = record { vars = vars; steps = steps_of entries }
 
     row_scored : (k : ℕ) → k < length db.points → IsScored design the_dump instance (get_or db.points k no_row)
-    unfolding the_dump, signal_of
+    unfolding the_dump signal_of toggle
     row_scored k l =
         let t = toggle k l in
         let place = place_of_point design d ps all.listed k (within k l) in
@@ -159,17 +166,17 @@ module _ (design : Design) (d : IsInputDesign design) (lawful : IsLawfulDesign (
         let is_hit = has_toggle hit.0 place.place t.rise in
         let verdict : (get_or db.points k no_row).verdict ≡ row_verdict (design_view design) (hit_if is_hit) = shown.each k l ∙ ap (row_verdict (design_view design)) (verdict_at design d ps all.listed scorer vs count hits k (within k l)) in
         let says : Tells (row_verdict (design_view design) (hit_if is_hit)) (TogglesIn (steps_of entries) of.code place.place t.rise) = tells design is_hit _ (of.toggles_are place.place t.rise) in
-        let point = row_is_point k l in
+        let bit = place_of (signal_of t.signal) (index_if (signal_of t.signal).ranged t.index) in
         record {
-          signal = point.signal;
-          index = point.index;
-          rise = point.rise;
+          signal = signal_of t.signal;
+          index = index_if (signal_of t.signal).ranged t.index;
+          rise = t.rise;
           code = of.code;
-          listed = point.listed;
-          has_index = point.has_index;
-          is = point.is;
+          listed = signal_there k l;
+          has_index = index_there k l;
+          is = address_is k l;
           bound = of.bound;
-          verdict = subst (λ v. Tells v (TogglesIn (steps_of entries) of.code _ t.rise)) (sym verdict) (subst (λ p. Tells (row_verdict (design_view design) (hit_if is_hit)) (TogglesIn (steps_of entries) of.code p t.rise)) place.is says);
+          verdict = subst (λ v. Tells v (TogglesIn (steps_of entries) of.code bit t.rise)) (sym verdict) (subst (λ p. Tells (row_verdict (design_view design) (hit_if is_hit)) (TogglesIn (steps_of entries) of.code p t.rise)) place.is says);
         }
 
     toggle_table : IsToggleTable design the_dump sources instance db
