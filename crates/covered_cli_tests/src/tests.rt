@@ -220,44 +220,29 @@ fn wide_module(alloc: Global, more: &str) -> Result<String, AllocError> {
     Ok(source)
 }
 
-/// How the score of such a module ends where there is no dump, and what is warned.
-fn ends_wide(alloc: Global, more: &str, status: Status, warned: &str) -> bool {
-    let case = Case {
-        words: SCORE_M,
-        files: &[],
-        status,
-        output: NONE,
-        printed: "",
-        warned: "",
-    };
+/// Scores of such a module where there is no dump: the first has as many points as may be, the second two more.
+#[rattlefmt::skip]
+const WIDE: &[Case] = &[
+    Case { words: SCORE_M, files: &[], status: Status::Files, output: NONE, printed: "", warned: "covered: files: open_read D\n" },
+    Case { words: SCORE_M, files: &[], status: Status::Source, output: NONE, printed: "", warned: "covered: source: points 3 TooManyPoints\n" },
+];
+
+/// Whether the command of the case ends as the case says, on a host that has the wide module with these inputs more.
+fn ends_wide(alloc: Global, case: &Case, more: &str) -> bool {
     let (Ok(source), Ok(words), Ok(mut host)) = (
         wide_module(alloc, more),
-        words_of(alloc, &case),
-        host_of(alloc, &case),
+        words_of(alloc, case),
+        host_of(alloc, case),
     ) else {
         return false;
     };
     host.put("m.v", source.as_bytes()).is_ok()
-        && covered(alloc, &words, &mut host) == status
-        && host.warned() == warned.as_bytes()
+        && covered(alloc, &words, &mut host) == case.status
+        && is_left(&host, case)
 }
 
 #[test]
-fn a_design_has_a_million_points(rt: HostRuntime) {
-    assert!(rt;
-        ends_wide(
-            rt.alloc(),
-            "input [127:0] z",
-            Status::Files,
-            "covered: files: open_read D\n"
-        )
-    );
-    assert!(rt;
-        ends_wide(
-            rt.alloc(),
-            "input [127:0] z, input a",
-            Status::Source,
-            "covered: source: points 3 TooManyPoints\n"
-        )
-    );
+fn a_design_has_at_most_a_million_points(rt: HostRuntime) {
+    assert!(rt; ends_wide(rt.alloc(), &WIDE[0], "input [127:0] z"));
+    assert!(rt; ends_wide(rt.alloc(), &WIDE[1], "input [127:0] z, input a"));
 }

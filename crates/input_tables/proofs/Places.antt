@@ -8,7 +8,7 @@ use Rattle.design_model.specs.declared.design.Signal.{Signal}
 use Rattle.input_toggles.specs.InputDesign.{IsInput}
 use Rattle.input_toggles.specs.Points.{HasIndex, place_of}
 use Rattle.point_table.specs.Addresses.{index_if}
-use Rattle.signal_marks.specs.Toggled.{HasIndex as HasIndexAt, IsIndexed, index_at}
+use Rattle.signal_marks.specs.Toggled.{IsIndexed, index_at}
 
 -- the bit with the index is at this place
 pub record IsAt (x : Signal) (i : ℕ) : Type 0 where

@@ -83,4 +83,5 @@ module _ (design : Design) (d : IsInputDesign design) (ps : Points) (list : IsPo
     all_verdicts P hit missed =
         λ k e l.
         let within : k < length (points_of ps) = omega (arith, l, count) in
-        subst P (sym (get_or_default vs k e Missed l ∙ verdict_at k within)) (hit_or_missed P hit missed _)
+        let t = toggle_at k within in
+        subst P (sym (get_or_default vs k e Missed l ∙ verdict_at k within)) (hit_or_missed P hit missed (has_toggle (hits t.signal t.listed).0 (place_of_point k within).place t.rise))

@@ -39,7 +39,8 @@ pub(crate) fn mark_hits(marks: &mut Marks, design: &Design, scorer: &Scorer)
     ensures points { (ps : ThePoints) → AreMarksOf ps marks.old → AreMarksOf ps marks.new }
     ensures hits { (ps : ThePoints) → AreMarksOf ps marks.old → IsPointList (design_view design.now) [] ps → AreHits scorer.now design.now ps marks.new.verdicts }
 {
-    for (number, signal) in design.signals.iter().enumerate() {
+    let signals = design.signals.as_slice();
+    for (number, signal) in signals.iter().enumerate() {
         let toggles = sure(scorer.toggles(number));
         mark_toggles(marks, signal, number as u32, toggles, 0);
     }

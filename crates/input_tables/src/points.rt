@@ -4,10 +4,11 @@ ghost use Rattle.design_model.specs.View.{design_view};
 ghost use Rattle.input_tables.specs.Counted.{AreAllPoints, IsListFault};
 ghost use Rattle.input_tables.specs.declared.points.ListFault.TheVariants as list_fault;
 
+use cov_host::NoMemory;
 use cover_points::{PointFault, Points, list};
 use design_model::Design;
 use state_machines::States;
-use std::alloc::{AllocError, Global};
+use std::alloc::Global;
 
 /// Why the points of a design are not listed.
 #[derive(Clone, Copy, Debug, PartialEq, Eq)]
@@ -17,10 +18,10 @@ pub enum ListFault {
     TooManyPoints,
 }
 
-impl From<AllocError> for ListFault {
+impl From<NoMemory> for ListFault {
     ghost from_gives = { λ _ fault. fault ≡ list_fault.NoMemory };
 
-    fn from(_: AllocError) -> Self {
+    fn from(_: NoMemory) -> Self {
         ListFault::NoMemory
     }
 }
@@ -33,7 +34,7 @@ pub fn list_points(alloc: Global, design: &Design) -> Result<Box<Points>, ListFa
 {
     let states = States::new(alloc);
     match list(alloc, design, &states) {
-        Ok(points) => Ok(Box::new(alloc, points)?),
+        Ok(points) => Ok(boxed(alloc, points)?),
         Err(PointFault::NoMemory) => Err(ListFault::NoMemory),
         Err(PointFault::TooManyPoints) => Err(ListFault::TooManyPoints),
         // no state machine is named
@@ -41,4 +42,11 @@ pub fn list_points(alloc: Global, design: &Design) -> Result<Box<Points>, ListFa
             unreachable!()
         }
     }
+}
+
+/// The points in a box.
+fn boxed(alloc: Global, points: Points) -> Result<Box<Points>, NoMemory>
+    ensures { IfOk result (λ boxed. boxed.value ≡ points) }
+{
+    Ok(Box::new(alloc, points)?)
 }

@@ -13,7 +13,7 @@ use Rattle.input_toggles.proofs.BoundLemmas.{as_many, code_at}
 use Rattle.input_toggles.proofs.TimeLemmas.{toggled_is}
 
 -- the toggles are those of the code, whatever was said
-abbrev IsKept : Scorer → ℕ → Toggles → Type 0
+abbrev pub IsKept : Scorer → ℕ → Toggles → Type 0
 IsKept scorer code toggles =
     (entries : List Entry) → Follows scorer.tracks entries → IsTracked scorer.tracks code → (place : ℕ) (rise : Bool)
     → IsTrue (has_toggle toggles place rise) ↔ ToggledBy (value_so_far entries code) (count_of entries - 1) place rise
