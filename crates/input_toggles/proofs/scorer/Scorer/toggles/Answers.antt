@@ -1,5 +1,5 @@
 use Rattle.std.proofs.Common.{◌≡◌, ◌<◌, length, get_or, ap, subst, arith}
-use Rattle.input_toggles.proofs.ShownToggles.{IsKept, are_toggles, no_other}
+use Rattle.input_toggles.proofs.ShownToggles.{IsKept, are_toggles}
 use Rattle.input_toggles.proofs.scorer.Scorer.toggles.Goals as goal
 
 pub returns-in-Some : goal.returns-in-Some
