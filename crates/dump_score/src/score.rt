@@ -16,7 +16,7 @@ use cov_host::{Host, Name, Sequence};
 use cover_points::Points;
 use coverage_db::Db;
 use design_model::Design;
-use input_tables::{new_marks, table};
+use input_tables::{new_marks, score_table};
 use input_toggles::Scorer;
 use std::alloc::Global;
 
@@ -82,5 +82,5 @@ fn score_file<H: Host>(
     let span = opened.span;
     score_body(host, piece, &span, &mut opened.body, &mut scorer)?;
     score_end(&mut opened.body, &mut scorer)?;
-    Ok(table(alloc, design, points, marks, &scorer, sources)?)
+    Ok(score_table(alloc, design, points, marks, &scorer, sources)?)
 }

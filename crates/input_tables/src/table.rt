@@ -20,7 +20,7 @@ use std::alloc::Global;
 
 /// The table of a design of inputs, which was read from these files, under the dump whose times and changes the scorer was
 /// given.
-pub fn table(
+pub fn score_table(
     alloc: Global,
     design: &Design,
     points: &Points,

@@ -109,4 +109,4 @@ returns-clause-scored g c =
     let is = opened_bound name before now piece opened c.in_ok-scorer.scorer design instance o bound in
     let on = c.in_ok-score_body.ensures.ok name before design opened.vars instance is in
     let scored = c.in_ok-score_end.ensures.ok design opened.vars instance on.0 on.2 in
-    scored_file name before design c.args.sources instance on.0 opened.vars c.score_end.new.scorer _ on.1 scored c.in_ok-table.ensures
+    scored_file name before design c.args.sources instance on.0 opened.vars c.score_end.new.scorer _ on.1 scored c.in_ok-score_table.ensures

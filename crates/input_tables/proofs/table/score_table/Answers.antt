@@ -3,7 +3,7 @@ use Rattle.design_model.specs.View.{design_view}
 use Rattle.point_table.specs.Verdicts.{IsOfDesign}
 use Rattle.input_tables.proofs.Tables.{both_say, is_score}
 use Rattle.input_tables.proofs.TogglePoints.{all_verdicts}
-use Rattle.input_tables.proofs.table.table.Goals as goal
+use Rattle.input_tables.proofs.table.score_table.Goals as goal
 
 pub mark_hits-requires-clause-listed : goal.mark_hits-requires-clause-listed
 mark_hits-requires-clause-listed c = (c.args.points.now, c.requires.marks, c.requires.points.listed)
