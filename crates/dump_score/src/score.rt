@@ -78,9 +78,9 @@ fn score_file<H: Host>(
     open(host, name)?;
     let mut opened = read_header(alloc, host, piece)?;
     let mut scorer = Scorer::new(alloc, design, &opened.vars, instance)?;
-    let marks = new_marks(alloc, points)?;
+    let mut marks = new_marks(alloc, points)?;
     let span = opened.span;
     score_body(host, piece, &span, &mut opened.body, &mut scorer)?;
     score_end(&mut opened.body, &mut scorer)?;
-    Ok(score_table(alloc, design, points, marks, &scorer, sources)?)
+    Ok(score_table(alloc, design, points, &mut marks, &scorer, sources)?)
 }

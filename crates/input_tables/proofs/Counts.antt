@@ -1,14 +1,18 @@
 -- Two lists of the points of a design are equally long.
 use Rattle.std.proofs.Common.{◌≡◌, ◌⊎◌, ℕ, suc, ◌<◌, ◌≤◌, List, [], ◌∷◌, length, get_or, inl, inr, refl, sym, ap, subst, ◌∙◌, arith}
 use Rattle.std.proofs.lemmas.List.{get_or_default}
+use Rattle.cover_points.specs.Faults.{IsPointFault}
 use Rattle.cover_points.specs.Listed.{IsPointList, points_of}
 use Rattle.cover_points.specs.Visits.{no_point}
+use Rattle.cover_points.specs.declared.fault.PointFault.{PointFault}
+use Rattle.cover_points.specs.declared.fault.PointFault.TheVariants as fault
 use Rattle.cover_points.specs.declared.listing.Points.{Points}
 use Rattle.cover_points.proofs.Apart.{points_once}
 use Rattle.cover_points.proofs.Members.{in_contains}
 use Rattle.design_machines.specs.Faults.{IsStateFault}
 use Rattle.design_machines.specs.Machines.{AreMachines}
 use Rattle.design_machines.specs.declared.fault.StateFault.{StateFault}
+use Rattle.design_machines.specs.declared.fault.StateFault.TheVariants as of_machines
 use Rattle.design_machines.specs.declared.machine.Machine.{Machine}
 use Rattle.design_model.specs.Design.{AreDistinct, Design, In}
 use Rattle.design_model.specs.Points.{StateNames}
@@ -66,5 +70,19 @@ pub no_machines : (d : Design) (xs : List Machine) → AreMachines d [] xs → x
 no_machines d [] are = refl
 no_machines d (x ∷ xs) are = let m = are.each x (inl refl) in absurd m.1
 
-pub no_state_fault : (d : Design) (f : StateFault) → IsStateFault d [] f → ⊥
+no_state_fault : (d : Design) (f : StateFault) → IsStateFault d [] f → ⊥
 no_state_fault d f is = omega (arith, is.1)
+
+module _ (d : Design) (machines : List StateNames) (f : PointFault) (name : List ℕ) (none : machines ≡ []) (is : IsPointFault d machines f) where
+  pub no_unknown_state : f ≡ fault.NoState name → ⊥
+  no_unknown_state e = no_state_fault d (of_machines.NoState name) (subst (λ ms. IsPointFault d ms (fault.NoState name)) none (subst (IsPointFault d machines) e is))
+
+  pub no_same_state : f ≡ fault.SameState name → ⊥
+  no_same_state e = no_state_fault d (of_machines.SameState name) (subst (λ ms. IsPointFault d ms (fault.SameState name)) none (subst (IsPointFault d machines) e is))
+
+  pub no_state_count : f ≡ fault.TooManyStates name → ⊥
+  no_state_count e = no_state_fault d (of_machines.TooManyStates name) (subst (λ ms. IsPointFault d ms (fault.TooManyStates name)) none (subst (IsPointFault d machines) e is))
+
+-- more points than may be
+pub many_points : (d : Design) (machines : List StateNames) (f : PointFault) → machines ≡ [] → IsPointFault d machines f → f ≡ fault.TooManyPoints → HasManyPoints d
+many_points d machines f none is e = subst (λ ms. IsPointFault d ms fault.TooManyPoints) none (subst (IsPointFault d machines) e is)

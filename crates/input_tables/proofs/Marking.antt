@@ -83,3 +83,7 @@ lists_both design ps list s l input rise i w =
     let x = get_or design.signals s no_signal in
     let at = in_contains (toggle_point s (index_at x i) rise) (points_of ps) ((list.members (toggle_point s (index_at x i) rise)).1 (l, index_within x input i w)) in
     (at.0, (at.1, ap visit_of (get_or_default (points_of ps) at.0 no_point (toggle_point s (index_at x i) rise) at.1 ∙ at.2)))
+
+-- an item of the design's signals
+pub same_signal : (signals xs : List Signal) (n : ℕ) (x : Signal) → x ≡ get_or xs n x → xs ≡ signals → n < length signals → x ≡ get_or signals n no_signal
+same_signal signals xs n x is same l = is ∙ ap (λ ys. get_or ys n x) same ∙ get_or_default signals n x no_signal l

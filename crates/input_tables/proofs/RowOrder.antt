@@ -110,4 +110,4 @@ rows_again instances =
     ext_get_or no_row (map (row_at instances) (range_with_len 0 (length instances))) (map row_of instances) (length-map-range_with_len (row_at instances) 0 (length instances) ∙ sym (length-map instances row_of))
     (λ i l.
     let within : i < length instances = omega (arith, l, length-map-range_with_len (row_at instances) 0 (length instances)) in
-    get_or-map-range_with_len (row_at instances) 0 (length instances) i i no_row within refl ∙ sym (get_or-map row_of instances i no_instance no_row within))
+    get_or-map-range_with_len (row_at instances) 0 (length instances) i i no_row within (omega arith) ∙ sym (get_or-map row_of instances i no_instance no_row within))

@@ -142,7 +142,7 @@ module _ (design : Design) (d : IsInputDesign design) (lawful : IsLawfulDesign (
       let is_x : point_at ps k ≡ x = get_or_default (points_of ps) k no_point x at.1 ∙ at.2 in
       let own = named_address s number.0 t.rise (get_or db.points k no_row).address l (subst (λ y. IsAddressOf (design_view design) db.instances y (get_or db.points k no_row).address) is_x (each.each k row)) in
       let to : (get_or db.points k no_row).address ≡ a = own ∙ ap (λ i. toggle_address (signal_of s) i t.rise) number.2 ∙ ap (λ y. toggle_address y t.index t.rise) same ∙ sym t.is in
-      subst (Contains (map (λ (p : DbPoint). p.address) db.points)) to (Contains-map (λ (p : DbPoint). p.address) db.points (get_or db.points k no_row) (k, row, refl))
+      subst (Contains (map (λ (p : DbPoint). p.address) db.points)) to (Contains-map (λ (p : DbPoint). p.address) db.points (get_or db.points k no_row) (k, row, get_or_default db.points k (get_or db.points k no_row) no_row row))
 
   -- the address of a row
   listed_is_point : (a : Address) → Contains (map (λ (p : DbPoint). p.address) db.points) a → IsTogglePoint design a

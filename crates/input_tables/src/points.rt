@@ -38,9 +38,9 @@ pub fn list_points(alloc: Global, design: &Design) -> Result<Box<Points>, ListFa
         Err(PointFault::NoMemory) => Err(ListFault::NoMemory),
         Err(PointFault::TooManyPoints) => Err(ListFault::TooManyPoints),
         // no state machine is named
-        Err(PointFault::NoState(_) | PointFault::SameState(_) | PointFault::TooManyStates(_)) => {
-            unreachable!()
-        }
+        Err(PointFault::NoState(_)) => unreachable!(),
+        Err(PointFault::SameState(_)) => unreachable!(),
+        Err(PointFault::TooManyStates(_)) => unreachable!(),
     }
 }
 

@@ -24,19 +24,18 @@ pub fn score_table(
     alloc: Global,
     design: &Design,
     points: &Points,
-    marks: Box<Marks>,
+    marks: &mut Marks,
     scorer: &Scorer,
     sources: Sequence<Name>,
 ) -> Result<Db, NoMemory>
     requires inputs { IsInputDesign design.now }
     requires lawful { IsLawfulDesign (design_view design.now) }
     requires points { AreAllPoints (design_view design.now) points.now }
-    requires marks { AreMarksOf points.now marks.value }
-    requires none { IsMarked [] marks.value.verdicts }
+    requires marks { AreMarksOf points.now marks.old }
+    requires none { IsMarked [] marks.old.verdicts }
     requires sources { AreSources sources }
     ensures { IfOk result (IsScoreBy scorer.now design.now sources) }
 {
-    let mut marks = marks;
-    mark_hits(&mut marks, design, scorer);
-    collect(alloc, design, points, &marks, sources)
+    mark_hits(marks, design, scorer);
+    collect(alloc, design, points, marks, sources)
 }
