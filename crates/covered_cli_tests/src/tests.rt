@@ -1,7 +1,7 @@
 //! Commands over files in memory, and what they write and say.
 use cov_host::{Calls, MemoryHost, NoMemory, Words};
 use covered_cli::{Status, covered};
-use std::alloc::{AllocError, Global};
+use std::alloc::Global;
 
 /// A name and a text.
 type File = (&'static str, &'static str);
@@ -204,45 +204,4 @@ fn commands_end_as_they_should(rt: HostRuntime) {
             case.printed
         );
     }
-}
-
-/// A module of 4,095 inputs of 128 bits, which have 256 points each, and of more inputs.
-fn wide_module(alloc: Global, more: &str) -> Result<String, AllocError> {
-    let mut source = String::new(alloc);
-    source.push_str("module m(")?;
-    for number in 0..4095u32 {
-        source.push_str("input [127:0] i")?;
-        source.push_str(number.to_string(alloc)?.as_str())?;
-        source.push_str(", ")?;
-    }
-    source.push_str(more)?;
-    source.push_str(");\nendmodule\n")?;
-    Ok(source)
-}
-
-/// Scores of such a module where there is no dump: the first has as many points as may be, the second two more.
-#[rattlefmt::skip]
-const WIDE: &[Case] = &[
-    Case { words: SCORE_M, files: &[], status: Status::Files, output: NONE, printed: "", warned: "covered: files: open_read D\n" },
-    Case { words: SCORE_M, files: &[], status: Status::Source, output: NONE, printed: "", warned: "covered: source: points 3 TooManyPoints\n" },
-];
-
-/// Whether the command of the case ends as the case says, on a host that has the wide module with these inputs more.
-fn ends_wide(alloc: Global, case: &Case, more: &str) -> bool {
-    let (Ok(source), Ok(words), Ok(mut host)) = (
-        wide_module(alloc, more),
-        words_of(alloc, case),
-        host_of(alloc, case),
-    ) else {
-        return false;
-    };
-    host.put("m.v", source.as_bytes()).is_ok()
-        && covered(alloc, &words, &mut host) == case.status
-        && is_left(&host, case)
-}
-
-#[test]
-fn a_design_has_at_most_a_million_points(rt: HostRuntime) {
-    assert!(rt; ends_wide(rt.alloc(), &WIDE[0], "input [127:0] z"));
-    assert!(rt; ends_wide(rt.alloc(), &WIDE[1], "input [127:0] z, input a"));
 }
