@@ -22,7 +22,7 @@ use Rattle.source_design.specs.declared.fault.SourceFault.{SourceFault}
 use Rattle.source_design.specs.declared.fault.SourceFault.TheVariants as source_fault
 use Rattle.covered_cli.specs.SourceMessage.{source_status}
 use Rattle.covered_cli.specs.declared.fault.Fault.{Fault}
-use Rattle.covered_cli.specs.declared.fault.Fault.TheVariants.{Usage, Source, Dump, Files as FilesFault, Memory, Databases}
+use Rattle.covered_cli.specs.declared.fault.Fault.TheVariants.{Usage, Source, TooManyPoints, Dump, Files as FilesFault, Memory, Databases}
 use Rattle.covered_cli.specs.declared.status.Status.TheVariants as status
 use Rattle.whole_files.proofs.EffectLemmas.{Told-map}
 
@@ -38,6 +38,7 @@ IfErr-map (Err fault) step holds = step fault holds
 stands_as_score : (words : List (List ℕ)) (values : ScoreValues) (before after : Outside) → IsScore words values → (fault : Fault) → StandsIn values before after fault → Stands words before after fault
 stands_as_score words values before after is (Usage usage) stands = absurd stands
 stands_as_score words values before after is (Source f) stands = (values, is, stands)
+stands_as_score words values before after is TooManyPoints stands = (values, is, stands)
 stands_as_score words values before after is (Dump refusal) stands = (values, is, stands)
 stands_as_score words values before after is (FilesFault call file) stands = (values, is, stands)
 stands_as_score words values before after is Memory stands = (values, is, stands)
@@ -46,6 +47,7 @@ stands_as_score words values before after is (Databases f) stands = absurd stand
 stands_as_merge : (words : List (List ℕ)) (values : MergeValues) (before after : Outside) → IsMerge words values → (fault : Fault) → IsDatabaseFault (IsMergeFault values before after) fault → Stands words before after fault
 stands_as_merge words values before after is (Usage usage) stands = absurd stands
 stands_as_merge words values before after is (Source f) stands = absurd stands
+stands_as_merge words values before after is TooManyPoints stands = absurd stands
 stands_as_merge words values before after is (Dump refusal) stands = absurd stands
 stands_as_merge words values before after is (FilesFault call file) stands = absurd stands
 stands_as_merge words values before after is Memory stands = absurd stands
@@ -54,6 +56,7 @@ stands_as_merge words values before after is (Databases f) stands = inl (values,
 stands_as_report : (words : List (List ℕ)) (values : ReportValues) (before after : Outside) → IsReport words values → (fault : Fault) → IsDatabaseFault (IsReportFault values before after) fault → Stands words before after fault
 stands_as_report words values before after is (Usage usage) stands = absurd stands
 stands_as_report words values before after is (Source f) stands = absurd stands
+stands_as_report words values before after is TooManyPoints stands = absurd stands
 stands_as_report words values before after is (Dump refusal) stands = absurd stands
 stands_as_report words values before after is (FilesFault call file) stands = absurd stands
 stands_as_report words values before after is Memory stands = absurd stands
@@ -62,6 +65,7 @@ stands_as_report words values before after is (Databases f) stands = inr (inl (v
 stands_as_lcov : (words : List (List ℕ)) (values : LcovValues) (before after : Outside) → IsLcov words values → (fault : Fault) → IsDatabaseFault (IsLcovFault values before after) fault → Stands words before after fault
 stands_as_lcov words values before after is (Usage usage) stands = absurd stands
 stands_as_lcov words values before after is (Source f) stands = absurd stands
+stands_as_lcov words values before after is TooManyPoints stands = absurd stands
 stands_as_lcov words values before after is (Dump refusal) stands = absurd stands
 stands_as_lcov words values before after is (FilesFault call file) stands = absurd stands
 stands_as_lcov words values before after is Memory stands = absurd stands
@@ -139,6 +143,7 @@ source_no_usage source_fault.NotYet same = cc
 pub usage_exactly : (words : List (List ℕ)) (before after : Outside) → (fault : Fault) → Stands words before after fault → (status_of fault ≡ status.Usage) ↔ IsNoCommand words
 usage_exactly words before after (Usage usage) stands = (λ same. (usage, stands), λ none. refl)
 usage_exactly words before after (Source f) stands = (λ same. absurd (source_no_usage f same), λ none. absurd (command_or_fault words (score stands.0, stands.1) none))
+usage_exactly words before after TooManyPoints stands = (λ same. cc, λ none. absurd (command_or_fault words (score stands.0, stands.1) none))
 usage_exactly words before after (Dump refusal) stands = (λ same. cc, λ none. absurd (command_or_fault words (score stands.0, stands.1) none))
 usage_exactly words before after (FilesFault call file) stands = (λ same. cc, λ none. absurd (command_or_fault words (score stands.0, stands.1) none))
 usage_exactly words before after Memory stands = (λ same. cc, λ none. absurd (command_or_fault words (score stands.0, stands.1) none))

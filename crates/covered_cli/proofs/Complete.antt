@@ -8,7 +8,10 @@ use Rattle.command_line.specs.Command.{AreWordsOf, CommandValues, score as of_sc
 use Rattle.command_line.specs.CommandWords.{IsScore, ScoreValues}
 use Rattle.cov_host.specs.Outside.{Files, Outside, IsCounted}
 use Rattle.design_model.specs.Design.{no_signal}
+use Rattle.design_model.specs.View.{design_view}
 use Rattle.design_model.specs.declared.design.Design.{Design}
+use Rattle.input_tables.proofs.Counts.{few_or_many}
+use Rattle.input_tables.specs.Counted.{HasManyPoints}
 use Rattle.input_toggles.specs.Binding.{AreBound, code_of, stands_in}
 use Rattle.input_toggles.specs.Scored.{IsBound, first_value}
 use Rattle.vcd_reader.proofs.FaultLaws.{dump_excludes, fault_excludes}
@@ -23,7 +26,7 @@ use Rattle.whole_files.proofs.EffectLemmas.{IsCounted-later}
 use Rattle.whole_files.specs.declared.call.Call.{Call}
 use Rattle.whole_files.specs.declared.call.Call.TheVariants.{OpenRead, Read, OpenWrite, Write, CloseWrite}
 use Rattle.covered_cli.proofs.Causes.{command_or_fault, score_or_databases}
-use Rattle.covered_cli.specs.Complete.{EndsWith, HasBadDump, HasBadSource, HasText, HasUnboundDump, HaveTexts, IsCommandWith, IsGoodScore, IsOfBinding, NoFaults, RefusesBinding}
+use Rattle.covered_cli.specs.Complete.{EndsWith, HasBadDump, HasBadSource, HasText, HasUnboundDump, HaveTexts, IsCommandWith, IsGoodScore, IsOfBinding, IsTooLarge, NoFaults, RefusesBinding, RefusesPoints}
 use Rattle.covered_cli.specs.Effects.{WarnsLine}
 use Rattle.covered_cli.specs.Fault.{IsRefused, NamesFile, Stands, line_of, status_of}
 use Rattle.source_design.proofs.Told.{IsOfSources, design_or_fault, files_read, one_design, one_sources}
@@ -33,7 +36,7 @@ use Rattle.source_design.specs.declared.fault.SourceFault.{SourceFault}
 use Rattle.source_design.specs.declared.fault.SourceFault.TheVariants as source_fault
 use Rattle.verilog_lexer.specs.Sources.{SourceText}
 use Rattle.covered_cli.specs.ScoreSources.{sources_in}
-use Rattle.covered_cli.specs.Scoring.{HasDesign, HasNoScore, HasSomeDesign, IsDone, IsDoneBy, IsDoneIn, IsDumpRefusal, IsRefusedDump}
+use Rattle.covered_cli.specs.Scoring.{HasDesign, HasNoScore, HasSomeDesign, HasTooManyPoints, IsDone, IsDoneBy, IsDoneIn, IsDumpRefusal, IsRefusedDump}
 use Rattle.covered_cli.specs.SourceMessage.{source_status}
 use Rattle.covered_cli.specs.declared.dump_refusal.DumpRefusal.{DumpRefusal}
 use Rattle.covered_cli.specs.declared.dump_refusal.DumpRefusal.TheVariants as refusal
@@ -105,11 +108,15 @@ refused_call score before after text is CloseWrite file named counted = counted
 
 -- the sources of a command that are told
 module _ (score : ScoreValues) (before : Outside) (sources : List SourceText) (told : IsSome before.files) (gathered : HasSources (sources_in score) before sources) where
+  -- the design that other words find is that of the sources
+  one_found : (design : Design) → StandFor sources (sources_in score).defines score.top design → (others : List SourceText) (other : Design) → HasSources (sources_in score) before others → StandFor others (sources_in score).defines score.top other → design ≡ other
+  one_found design stands others other found stand =
+      one_design sources (sources_in score).defines score.top design other stands
+      (subst (λ ss. StandFor ss (sources_in score).defines score.top other) (sym (one_sources (sources_in score) before sources told gathered others found)) stand)
+
   -- the design that a relation finds is that of the sources
   same_design : (design : Design) → StandFor sources (sources_in score).defines score.top design → (others : List SourceText) (other : Design) → HasDesign score before others other → design ≡ other
-  same_design design stands others other has =
-      one_design sources (sources_in score).defines score.top design other stands
-      (subst (λ ss. StandFor ss (sources_in score).defines score.top other) (sym (one_sources (sources_in score) before sources told gathered others has.gathered)) has.stands)
+  same_design design stands others other has = one_found design stands others other has.gathered has.stands
 
   -- sources that stand for no design have none
   no_some_design : ((design : Design) → StandFor sources (sources_in score).defines score.top design → ⊥) → HasSomeDesign score before → ⊥
@@ -126,6 +133,12 @@ module _ (score : ScoreValues) (before : Outside) (sources : List SourceText) (t
 module _ (score : ScoreValues) (before : Outside) (design : Design) (text : List ℕ) (texts : HaveTexts score before design text) where
   told : IsSome before.files
   told = is_told before.files score.dump text texts.dump_is
+
+  -- its points are not too many
+  not_too_many : HasTooManyPoints score before → ⊥
+  not_too_many many =
+      let same = one_found score before texts.sources told texts.has_design.gathered design texts.has_design.stands many.sources many.design many.gathered many.stands in
+      few_or_many (design_view design) texts.has_design.few (subst (λ d. HasManyPoints (design_view d)) (sym same) many.many)
 
   -- the dump that a relation finds is the one that is told
   same_text : (other : List ℕ) → IfSome before.files (λ files. files score.dump ≡ Some other) → text ≡ other
@@ -162,18 +175,27 @@ module _ (score : ScoreValues) (before : Outside) (design : Design) (text : List
       none done.scores.dump (subst (λ text. IsDump text done.scores.dump) (sym (same_text done.dump done.dump_is)) done.scores.is_dump)
       (subst (λ design. IsBound design done.scores.dump score.instance) (sym (design_found done.sources done.design done.has_design)) done.scores.scores.bound)
 
--- how a fault ends that is no fault of the host, where it is known how one of the sources, of a dump and of a file ends
+-- a design of too many points has no score
+module _ (score : ScoreValues) (before : Outside) (large : IsTooLarge score before) where
+  too_large : (others : List SourceText) (other : Design) → HasDesign score before others other → ⊥
+  too_large others other has =
+      let p = large.points in
+      let same = same_design score before p.sources large.told p.gathered p.design p.stands others other has in
+      few_or_many (design_view other) has.few (subst (λ d. HasManyPoints (design_view d)) same p.many)
+
+-- how a fault ends that is no fault of the host, where it is known how one of the sources, of points, of a dump and of a file ends
 module _ (words : List (List ℕ)) (score : ScoreValues) (is_score : IsScore words score) (before middle after : Outside) where
-  ends_with : (expected : Status) → ((f : SourceFault) → IsSourceFault (sources_in score) before middle f → EndsWith expected (source_status f)) → ((r : DumpRefusal) → IsRefusedDump score before r → EndsWith expected (status_of (fault.Dump r)))
+  ends_with : (expected : Status) → ((f : SourceFault) → IsSourceFault (sources_in score) before middle f → EndsWith expected (source_status f)) → (HasTooManyPoints score before → EndsWith expected source_status_of) → ((r : DumpRefusal) → IsRefusedDump score before r → EndsWith expected (status_of (fault.Dump r)))
       → ((call : Call) (file : List ℕ) → NamesFile score call file → IsRefused call file before middle → HasSomeDesign score before → ⊥) → (f : Fault) → Stands words before middle f → EndsWith expected (status_of f)
-  ends_with expected of_source of_dump of_file (fault.Usage usage) stands = absurd (command_or_fault words (of_score score, is_score) (usage, stands))
-  ends_with expected of_source of_dump of_file (fault.Source f) stands = of_source f (subst (λ score. IsSourceFault (sources_in score) before middle f) (one_command words stands.0 score stands.1 is_score) stands.2)
-  ends_with expected of_source of_dump of_file (fault.Dump r) stands = of_dump r (subst (λ score. IsRefusedDump score before r) (one_command words stands.0 score stands.1 is_score) stands.2)
-  ends_with expected of_source of_dump of_file (fault.Files call file) stands =
+  ends_with expected of_source of_points of_dump of_file (fault.Usage usage) stands = absurd (command_or_fault words (of_score score, is_score) (usage, stands))
+  ends_with expected of_source of_points of_dump of_file (fault.Source f) stands = of_source f (subst (λ score. IsSourceFault (sources_in score) before middle f) (one_command words stands.0 score stands.1 is_score) stands.2)
+  ends_with expected of_source of_points of_dump of_file fault.TooManyPoints stands = of_points (subst (λ score. HasTooManyPoints score before) (one_command words stands.0 score stands.1 is_score) stands.2)
+  ends_with expected of_source of_points of_dump of_file (fault.Dump r) stands = of_dump r (subst (λ score. IsRefusedDump score before r) (one_command words stands.0 score stands.1 is_score) stands.2)
+  ends_with expected of_source of_points of_dump of_file (fault.Files call file) stands =
       let same = one_command words stands.0 score stands.1 is_score in
       absurd (of_file call file.now (subst (λ score. NamesFile score call file.now) same stands.2.0) stands.2.1 (subst (λ score. HasSomeDesign score before) same stands.2.2))
-  ends_with expected of_source of_dump of_file fault.Memory stands = inr refl
-  ends_with expected of_source of_dump of_file (fault.Databases f) stands = absurd (score_or_databases words score before middle f is_score stands)
+  ends_with expected of_source of_points of_dump of_file fault.Memory stands = inr refl
+  ends_with expected of_source of_points of_dump of_file (fault.Databases f) stands = absurd (score_or_databases words score before middle f is_score stands)
 
 -- a dump that does not bind the design is a bad one
 unbound_is_bad : (score : ScoreValues) (before : Outside) → HasUnboundDump score before → HasBadDump score before
@@ -210,13 +232,13 @@ module _ (words : List (List ℕ)) (before middle after : Outside) (first : Coun
 
   pub good_ends : IsCommandWith IsGoodScore words before → EndsWith Done (status_of f)
   good_ends (score, is, good) =
-      ends_with words score is before middle after Done (design_ends score good.design good.text good.texts Done)
+      ends_with words score is before middle after Done (design_ends score good.design good.text good.texts Done) (λ many. absurd (not_too_many score before good.design good.text good.texts many))
       (λ r refused. absurd (dump_stands score before good.design good.text good.texts good.dump good.is_dump good.bound r refused))
       (file_counted score good.text good.texts.dump_is) f stands
 
   pub bad_dump_ends : IsCommandWith HasBadDump words before → EndsWith dump_status (status_of f)
   bad_dump_ends (score, is, bad) =
-      ends_with words score is before middle after dump_status (design_ends score bad.design bad.text bad.texts dump_status)
+      ends_with words score is before middle after dump_status (design_ends score bad.design bad.text bad.texts dump_status) (λ many. absurd (not_too_many score before bad.design bad.text bad.texts many))
       (λ r refused. inl refl) (file_counted score bad.text bad.texts.dump_is) f stands
 
   bad_ends : (g : SourceFault) → IsOfSources g → EndsWith source_status_of (source_status g)
@@ -229,7 +251,7 @@ module _ (words : List (List ℕ)) (before middle after : Outside) (first : Coun
   pub bad_source_ends : IsCommandWith HasBadSource words before → EndsWith source_status_of (status_of f)
   bad_source_ends (score, is, bad) =
       ends_with words score is before middle after source_status_of
-      (λ g stands. bad_ends g (files_read (sources_in score) before bad.sources bad.told bad.gathered middle none_yet g stands))
+      (λ g stands. bad_ends g (files_read (sources_in score) before bad.sources bad.told bad.gathered middle none_yet g stands)) (λ many. inl refl)
       (λ r refused. absurd (no_design score before bad.sources bad.told bad.gathered bad.refused r refused))
       (λ call file named refused has. no_some_design score before bad.sources bad.told bad.gathered bad.refused has) f stands
 
@@ -246,6 +268,8 @@ module _ (words : List (List ℕ)) (before middle after : Outside) (first : Coun
       go (fault.Dump r) stands warned ends =
           let refused = subst (λ score. IsRefusedDump score before r) (one_command words stands.0 score stands.1 unbound.1) stands.2 in
           inl (refl, record { score = score; refusal = r; is_score = unbound.1; refused = refused; of_binding = of_binding score before u.design u.text u.texts u.b u.says u.refused r refused; warned = warned })
+      go fault.TooManyPoints stands warned (inl is) = cc
+      go fault.TooManyPoints stands warned (inr is) = inr is
       go (fault.Usage usage) stands warned (inl is) = cc
       go (fault.Usage usage) stands warned (inr is) = inr is
       go (fault.Source g) stands warned (inl is) = absurd (source_or_dump g is)
@@ -254,6 +278,25 @@ module _ (words : List (List ℕ)) (before middle after : Outside) (first : Coun
       go (fault.Files call file) stands warned (inr is) = inr is
       go fault.Memory stands warned ends = inr refl
       go (fault.Databases f) stands warned ends = absurd (score_or_databases words score before middle f unbound.1 stands)
+
+  -- of a design of too many points no other fault stands
+  pub points_end : IsCommandWith IsTooLarge words before → WarnsLine (line_of f) before after → RefusesPoints (status_of f) before after
+  points_end (score, is, large) warned = go f stands warned
+    where
+      go : (f : Fault) → Stands words before middle f → WarnsLine (line_of f) before after → RefusesPoints (status_of f) before after
+      go (fault.Usage usage) stands warned = absurd (command_or_fault words (of_score score, is) (usage, stands))
+      go (fault.Source g) stands warned =
+          let p = large.points in
+          inr (ap source_status (design_or_fault (sources_in score) before p.sources large.told p.gathered p.design p.stands middle none_yet g (subst (λ score. IsSourceFault (sources_in score) before middle g) (one_command words stands.0 score stands.1 is) stands.2)))
+      go fault.TooManyPoints stands warned = inl (refl, warned)
+      go (fault.Dump r) stands warned =
+          let refused = subst (λ score. IsRefusedDump score before r) (one_command words stands.0 score stands.1 is) stands.2 in
+          absurd (too_large score before large refused.sources refused.design refused.has_design)
+      go (fault.Files call file) stands warned =
+          let has = subst (λ score. HasSomeDesign score before) (one_command words stands.0 score stands.1 is) stands.2.2 in
+          absurd (too_large score before large has.0 has.1 has.2)
+      go fault.Memory stands warned = inr refl
+      go (fault.Databases f) stands warned = absurd (score_or_databases words score before middle f is stands)
 
 module _ (words : List (List ℕ)) (before after : Outside) (done : IsDone words before after) where
   -- what was done is done by the one command that the words are
@@ -274,3 +317,6 @@ module _ (words : List (List ℕ)) (before after : Outside) (done : IsDone words
 
   pub unbound_not_done : IsCommandWith HasUnboundDump words before → ⊥
   unbound_not_done unbound = bad_dump_not_done (bad_command words before unbound)
+
+  pub points_not_done : IsCommandWith IsTooLarge words before → ⊥
+  points_not_done (score, is, large) = let by = done_by score is in too_large score before large by.sources by.design by.has_design

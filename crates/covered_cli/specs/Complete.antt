@@ -9,15 +9,16 @@ use Rattle.vcd_reader.specs.Dump.{Dump as SpecDump, IsDump, SaysBody}
 use Rattle.vcd_reader.specs.Reading.{Body}
 use Rattle.covered_cli.specs.DumpRefusal.{refusal_line}
 use Rattle.covered_cli.specs.Effects.{WarnsLine}
+use Rattle.covered_cli.specs.Fault.{points_line}
 use Rattle.source_design.specs.Accepted.{StandFor}
 use Rattle.source_design.specs.Reading.{HasSources}
 use Rattle.verilog_lexer.specs.Sources.{SourceText}
 use Rattle.covered_cli.specs.ScoreSources.{sources_in}
-use Rattle.covered_cli.specs.Scoring.{HasDesign, HasNoScore, IsRefusedDump}
+use Rattle.covered_cli.specs.Scoring.{HasDesign, HasNoScore, HasTooManyPoints, IsRefusedDump}
 use Rattle.covered_cli.specs.declared.dump_refusal.DumpRefusal.{DumpRefusal}
 use Rattle.covered_cli.specs.declared.dump_refusal.DumpRefusal.TheVariants as refusal
 use Rattle.covered_cli.specs.declared.status.Status.{Status}
-use Rattle.covered_cli.specs.declared.status.Status.TheVariants.{Dump, Memory}
+use Rattle.covered_cli.specs.declared.status.Status.TheVariants.{Dump, Memory, Source}
 
 -- the files of the host are known, and this one has this text
 abbrev pub HasText : Outside → List ℕ → List ℕ → Type 0
@@ -44,6 +45,11 @@ pub record HasBadSource (score : ScoreValues) (before : Outside) : Type 0 where
   pub told : IsSome before.files
   pub gathered : HasSources (sources_in score) before sources
   pub refused : (design : Design) → StandFor sources (sources_in score).defines score.top design → ⊥
+
+-- the files are known, and the sources have a design of more points than are scored, whatever the dump is
+pub record IsTooLarge (score : ScoreValues) (before : Outside) : Type 0 where
+  pub told : IsSome before.files
+  pub points : HasTooManyPoints score before
 
 -- the sources have a design, and the text of the dump is none that has the instance, and each input with a first value
 pub record HasBadDump (score : ScoreValues) (before : Outside) : Type 0 where
@@ -87,6 +93,10 @@ NoFaults before after = IsCounted before.faults after.faults → ⊥
 -- the status is this one, or memory ran out
 abbrev pub EndsWith : Status → Status → Type 0
 EndsWith expected status = (status ≡ expected) ⊎ (status ≡ Memory)
+
+-- too many points were refused, with the line of that, or memory ran out
+abbrev pub RefusesPoints : Status → Outside → Outside → Type 0
+RefusesPoints status before after = ((status ≡ Source) × WarnsLine points_line before after) ⊎ (status ≡ Memory)
 
 -- a binding was refused, or memory ran out
 abbrev pub RefusesBinding : List (List ℕ) → Status → Outside → Outside → Type 0

@@ -12,15 +12,17 @@ use Rattle.database_commands.specs.Faults.{IsEarly as IsEarlyDatabase, IsMergeFa
 use Rattle.database_commands.specs.Reporting.{IsReportFault}
 use Rattle.database_commands.specs.Tracing.{IsLcovFault}
 use Rattle.database_commands.specs.declared.fault.CommandFault.{CommandFault}
+use Rattle.design_model.specs.View.{design_view}
 use Rattle.design_model.specs.declared.design.Design.{Design}
 use Rattle.dump_score.specs.Reading.{IsFile}
+use Rattle.input_tables.specs.Counted.{HasManyPoints}
 use Rattle.whole_files.specs.Call.{call_name}
 use Rattle.whole_files.specs.Effects.{IsMissing}
 use Rattle.whole_files.specs.declared.call.Call.{Call}
 use Rattle.whole_files.specs.declared.call.Call.TheVariants.{OpenRead, Read, OpenWrite, Write, CloseWrite}
 use Rattle.covered_cli.specs.Databases.{database_line, database_status}
 use Rattle.covered_cli.specs.ScoreSources.{sources_in}
-use Rattle.covered_cli.specs.Scoring.{HasSomeDesign, IsDumpRefusal, IsRefusedDump}
+use Rattle.covered_cli.specs.Scoring.{HasSomeDesign, HasTooManyPoints, IsDumpRefusal, IsRefusedDump}
 use Rattle.covered_cli.specs.SourceMessage.{source_line, source_status}
 use Rattle.covered_cli.specs.DumpRefusal.{refusal_line}
 use Rattle.source_design.specs.Reading.{IsSourceFault}
@@ -33,15 +35,21 @@ use Rattle.covered_cli.specs.declared.status.Status.TheVariants as status
 abbrev pub status_of : Fault → Status
 status_of (fault.Usage usage) = status.Usage
 status_of (fault.Source f) = source_status f
+status_of fault.TooManyPoints = status.Source
 status_of (fault.Dump refusal) = status.Dump
 status_of (fault.Files call file) = status.Files
 status_of fault.Memory = status.Memory
 status_of (fault.Databases f) = database_status f
 
+-- the line of a design that has more points than are scored
+abbrev pub points_line : List ℕ
+points_line = codes "covered: source: points 3 TooManyPoints\n"
+
 -- the line that is warned
 abbrev pub line_of : Fault → List ℕ
 line_of (fault.Usage usage) = codes "covered: usage: " ++ usage_text usage ++ codes "\n"
 line_of (fault.Source f) = source_line f
+line_of fault.TooManyPoints = points_line
 line_of (fault.Dump refusal) = refusal_line refusal
 line_of (fault.Files call file) = codes "covered: files: " ++ call_name call ++ codes " " ++ file.now ++ codes "\n"
 line_of fault.Memory = codes "covered: memory\n"
@@ -59,10 +67,11 @@ IsRefused OpenRead file before after = IsCounted before.faults after.faults ⊎ 
 IsRefused call file before after = IsCounted before.faults after.faults
 
 -- this command has the fault between two outsides; one of the dump or of the output only where the sources
--- have a design
+-- have a design, with no more points than are scored
 abbrev pub StandsIn : ScoreValues → Outside → Outside → Fault → Type 0
 StandsIn score before after (fault.Usage usage) = ⊥
 StandsIn score before after (fault.Source f) = IsSourceFault (sources_in score) before after f
+StandsIn score before after fault.TooManyPoints = HasTooManyPoints score before
 StandsIn score before after (fault.Dump refusal) = IsRefusedDump score before refusal
 StandsIn score before after (fault.Files call file) = NamesFile score call file.now × IsRefused call file.now before after × HasSomeDesign score before
 StandsIn score before after fault.Memory = Unit {0}
@@ -138,6 +147,12 @@ abbrev pub IsDesignFault : ScoreValues → Outside → Outside → Fault → Typ
 IsDesignFault score before after (fault.Source f) = IsSourceFault (sources_in score) before after f
 IsDesignFault score before after fault.Memory = Unit {0}
 IsDesignFault score before after other = ⊥
+
+-- the points of the design were not listed: they are too many
+abbrev pub IsPointsFault : Design → Fault → Type 0
+IsPointsFault design fault.TooManyPoints = HasManyPoints (design_view design)
+IsPointsFault design fault.Memory = Unit {0}
+IsPointsFault design other = ⊥
 
 -- the design was not scored by the command's dump
 abbrev pub IsScoringFault : ScoreValues → Design → Outside → Outside → Fault → Type 0

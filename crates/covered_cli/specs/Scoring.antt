@@ -12,6 +12,7 @@ use Rattle.design_model.specs.Design.{no_signal}
 use Rattle.database_commands.specs.Merging.{IsMergedIn}
 use Rattle.database_commands.specs.Reporting.{IsReportedIn}
 use Rattle.database_commands.specs.Tracing.{IsTracedIn}
+use Rattle.design_model.specs.View.{design_view}
 use Rattle.design_model.specs.declared.design.Design.{Design}
 use Rattle.vcd_reader.specs.Dump.{Dump, IsDump}
 use Rattle.vcd_reader.specs.declared.fault.DumpFault.TheVariants.{At}
@@ -20,6 +21,7 @@ use Rattle.dump_score.specs.Reading.{IsFile}
 use Rattle.input_runs.specs.Listed.{ListsPoints}
 use Rattle.input_runs.specs.Reasoned.{IsReasoned}
 use Rattle.input_runs.specs.Sound.{IsSound}
+use Rattle.input_tables.specs.Counted.{HasFewPoints, HasManyPoints}
 use Rattle.input_toggles.specs.Binding.{IsNotDumped, stands_in}
 use Rattle.input_toggles.specs.Scored.{HasHead, HasNoBaseline, IsBound, IsScored}
 use Rattle.source_design.specs.Accepted.{StandFor}
@@ -29,12 +31,21 @@ use Rattle.covered_cli.specs.ScoreSources.{sources_in}
 use Rattle.covered_cli.specs.declared.dump_refusal.DumpRefusal.{DumpRefusal}
 use Rattle.covered_cli.specs.declared.dump_refusal.DumpRefusal.TheVariants as refusal
 
--- the sources of the command have the design
+-- the sources of the command have the design, and it has no more points than are scored
 pub record HasDesign (score : ScoreValues) (before : Outside) (sources : List SourceText) (design : Design) : Type 0 where
   pub gathered : HasSources (sources_in score) before sources
   pub stands : StandFor sources (sources_in score).defines score.top design
+  pub few : HasFewPoints (design_view design)
 
--- the sources of the command have some design
+-- the sources of the command have a design, and it has more points than are scored
+pub record HasTooManyPoints (score : ScoreValues) (before : Outside) : Type 0 where
+  pub sources : List SourceText
+  pub design : Design
+  pub gathered : HasSources (sources_in score) before sources
+  pub stands : StandFor sources (sources_in score).defines score.top design
+  pub many : HasManyPoints (design_view design)
+
+-- the sources of the command have some design, with no more points than are scored
 abbrev pub HasSomeDesign : ScoreValues → Outside → Type 0
 HasSomeDesign score before = (sources : List SourceText) × (design : Design) × HasDesign score before sources design
 

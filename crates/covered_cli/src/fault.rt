@@ -19,6 +19,8 @@ pub(crate) enum Fault<'a> {
     Usage(UsageFault<'a>),
     /// No design was read from the sources.
     Source(SourceFault<'a>),
+    /// The design has more points than are scored.
+    TooManyPoints,
     /// The dump is refused.
     Dump(DumpRefusal<'a>),
     /// A call on the host gave nothing.
@@ -36,6 +38,7 @@ impl Fault<'_> {
         match self {
             Fault::Usage(_) => Status::Usage,
             Fault::Source(fault) => source_status(fault),
+            Fault::TooManyPoints => Status::Source,
             Fault::Dump(_) => Status::Dump,
             Fault::Files { .. } => Status::Files,
             Fault::Memory => Status::Memory,

@@ -28,7 +28,7 @@ pub(crate) fn warn_of<H: Host>(host: &mut H, fault: &Fault<'_>)
         Fault::Source(fault) => warn_source(host, fault),
         Fault::Dump(refusal) => warn_refusal(host, refusal),
         Fault::Databases(fault) => warn_database(host, fault),
-        Fault::Usage(_) | Fault::Files { .. } | Fault::Memory => {
+        Fault::Usage(_) | Fault::TooManyPoints | Fault::Files { .. } | Fault::Memory => {
             warn_texts(host, &pieces_of(fault))
         }
     }
@@ -41,6 +41,7 @@ fn pieces_of<'a>(fault: &Fault<'a>) -> [&'a str; 5]
     match fault {
         Fault::Usage(usage) => usage_pieces(usage),
         Fault::Source(_) | Fault::Dump(_) | Fault::Databases(_) => ["", "", "", "", ""],
+        Fault::TooManyPoints => ["covered: source: points 3 TooManyPoints\n", "", "", "", ""],
         Fault::Files { call, file } => file_pieces(*call, file),
         Fault::Memory => ["covered: memory\n", "", "", "", ""],
     }

@@ -5,13 +5,16 @@ ghost use Rattle.whole_files.specs.Effects.{CountsUp, OnlyReads};
 ghost use Rattle.coverage_db.specs.Table.{IsTable};
 ghost use Rattle.coverage_db.specs.Text.{text_of};
 ghost use Rattle.design_model.specs.Design.{no_signal};
+ghost use Rattle.design_model.specs.Lawful.{IsLawfulDesign};
+ghost use Rattle.design_model.specs.View.{design_view};
 ghost use Rattle.dump_score.specs.Faults.{IsScoreFault};
 ghost use Rattle.dump_score.specs.Scoring.{IsScoreOfFile};
+ghost use Rattle.input_tables.specs.Counted.{AreAllPoints};
 ghost use Rattle.input_toggles.specs.InputDesign.{IsInputDesign};
 ghost use Rattle.input_toggles.specs.Scored.{AreSources};
 ghost use Rattle.source_design.specs.Reading.{IsReadIn};
 ghost use Rattle.covered_cli.specs.Covered.{KeepsOthers};
-ghost use Rattle.covered_cli.specs.Fault.{IsDesignFault, StandsIn, IsEarly, IsWritingFault, IsScoringFault};
+ghost use Rattle.covered_cli.specs.Fault.{IsDesignFault, IsPointsFault, StandsIn, IsEarly, IsWritingFault, IsScoringFault};
 ghost use Rattle.covered_cli.specs.ScoreSources.{sources_in};
 ghost use Rattle.covered_cli.specs.Scoring.{IsDoneIn};
 ghost use Rattle.covered_cli.specs.declared.fault.Fault.TheVariants as fault_row;
@@ -21,17 +24,19 @@ use crate::fault::Fault;
 use crate::score_words::{defines_of, files_of};
 use command_line::ScoreWords;
 use cov_host::{Host, Name, NoMemory, Sequence, Text};
+use cover_points::Points;
 use coverage_db::{Db, write_db};
 use design_model::Design;
 use dump_score::{ScoreFault, score_dump};
+use input_tables::{ListFault, list_points};
 use input_toggles::{BindFault, NoBaseline};
 use source_design::{ReadDesign, SourceWords, read_design};
 use std::alloc::Global;
 use vcd_reader::DumpFault;
 use whole_files::{FileFault, write_file};
 
-/// Scores a dump and writes the database: sources, design, dump, binding, verdicts, database, in this order. The
-/// first refusal ends it.
+/// Scores a dump and writes the database: sources, design, points, dump, binding, verdicts, database, in this order.
+/// The first refusal ends it.
 pub(crate) fn run_score<'a, H: Host>(
     alloc: Global,
     words: &ScoreWords<'a>,
@@ -46,7 +51,8 @@ pub(crate) fn run_score<'a, H: Host>(
     ensures counts { CountsUp (H.outside host.old) (H.outside host.new) }
 {
     let ReadDesign { design, sources } = design_of(alloc, host, words)?;
-    let db = db_of(alloc, host, &design, sources, words)?;
+    let points = points_of(alloc, &design)?;
+    let db = db_of(alloc, host, &design, &points, sources, words)?;
     let text = text_of(alloc, &db)?;
     write(host, words.output, &text)
 }
@@ -75,6 +81,19 @@ fn design_of<'a, H: Host>(
     }
 }
 
+/// The points of a design, of which there are not too many.
+fn points_of<'a>(alloc: Global, design: &Design) -> Result<Box<Points>, Fault<'a>>
+    requires { IsLawfulDesign (design_view design.now) }
+    ensures points { IfOk result (λ points. AreAllPoints (design_view design.now) points.value) }
+    ensures fault { IfErr result (IsPointsFault design.now) }
+{
+    match list_points(alloc, design) {
+        Ok(points) => Ok(points),
+        Err(ListFault::TooManyPoints) => Err(Fault::TooManyPoints),
+        Err(ListFault::NoMemory) => Err(Fault::Memory),
+    }
+}
+
 /// Writes a file whole.
 fn write<'a, H: Host>(host: &mut H, name: &'a str, text: &Text) -> Result<(), Fault<'a>>
     ensures written { OnOk result (Told (HasFile name.now text.now) (H.outside host.old).files (H.outside host.new).files) }
@@ -90,21 +109,32 @@ fn write<'a, H: Host>(host: &mut H, name: &'a str, text: &Text) -> Result<(), Fa
     }
 }
 
-/// The database of a design under the command's dump.
+/// The database of a design with these points under the command's dump.
 fn db_of<'a, H: Host>(
     alloc: Global,
     host: &mut H,
     design: &Design,
+    points: &Points,
     sources: Sequence<Name>,
     words: &ScoreWords<'a>,
 ) -> Result<Db, Fault<'a>>
     requires design { IsInputDesign design.now }
+    requires lawful { IsLawfulDesign (design_view design.now) }
+    requires points { AreAllPoints (design_view design.now) points.now }
     requires sources { AreSources sources }
     ensures scored { IfOk result (IsScoreOfFile words.now.dump.now (H.outside host.old) design.now sources words.now.instance.now) }
     ensures fault { IfErr result (IsScoringFault (score_values words.now) design.now (H.outside host.old) (H.outside host.new)) }
     ensures effects { OnlyReads (H.outside host.old) (H.outside host.new) }
 {
-    match score_dump(alloc, host, words.dump, design, sources, words.instance) {
+    match score_dump(
+        alloc,
+        host,
+        words.dump,
+        design,
+        points,
+        sources,
+        words.instance,
+    ) {
         Ok(db) => Ok(db),
         Err(fault) => Err(fault_of(alloc, design, words, fault)),
     }

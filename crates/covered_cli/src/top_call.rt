@@ -2,7 +2,7 @@ ghost use Rattle.std.specs.Prelude.{◌≡◌, ◌≢◌, ◌↔◌, IfErr, OnOk
 ghost use Rattle.cov_host.specs.Outside.{KeepsFiles, Told};
 ghost use Rattle.database_commands.specs.Reporting.{KeepsUnlessNamed, PrintsIfUnnamed};
 ghost use Rattle.whole_files.specs.Effects.{CountsUp};
-ghost use Rattle.covered_cli.specs.Complete.{EndsWith, HasBadDump, HasBadSource, HasUnboundDump, IsCommandWith, IsGoodScore, NoFaults, RefusesBinding};
+ghost use Rattle.covered_cli.specs.Complete.{EndsWith, HasBadDump, HasBadSource, HasUnboundDump, IsCommandWith, IsGoodScore, IsTooLarge, NoFaults, RefusesBinding, RefusesPoints};
 ghost use Rattle.covered_cli.specs.Covered.{HasDatabaseCause, HasEarlyStatus, HasFilesCause, HasGoodDatabases, IsNoCommand, IsSomeCommand, KeepsUnnamed, PrintsReport, WarnsFault};
 ghost use Rattle.covered_cli.specs.Fault.{HasForms, IsEarly, Stands, StandsInWork, output_of};
 ghost use Rattle.covered_cli.specs.Scoring.{IsDone, IsDoneWork};
@@ -35,10 +35,12 @@ pub fn covered<H: Host>(alloc: Global, words: &Words, host: &mut H) -> Status
     ensures done { result ≡ Status.Done → IsDone words.now (H.outside host.old) (H.outside host.new) }
 
     // Where the files are known and no call of the host fails, their texts decide the status, want of memory aside. A
-    // design that the header of a dump does not bind is refused for that, whatever the dump's body holds.
+    // design of too many points is refused for that, whatever the dump is, and one that the header of a dump does not
+    // bind for that, whatever the dump's body holds.
     ensures complete { IsCommandWith IsGoodScore words.now (H.outside host.old) → NoFaults (H.outside host.old) (H.outside host.new) → EndsWith Status.Done result }
     ensures databases { HasGoodDatabases words.now (H.outside host.old) → NoFaults (H.outside host.old) (H.outside host.new) → EndsWith Status.Done result }
     ensures source { IsCommandWith HasBadSource words.now (H.outside host.old) → NoFaults (H.outside host.old) (H.outside host.new) → EndsWith Status.Source result }
+    ensures points { IsCommandWith IsTooLarge words.now (H.outside host.old) → NoFaults (H.outside host.old) (H.outside host.new) → RefusesPoints result (H.outside host.old) (H.outside host.new) }
     ensures unbound { IsCommandWith HasUnboundDump words.now (H.outside host.old) → NoFaults (H.outside host.old) (H.outside host.new) → RefusesBinding words.now result (H.outside host.old) (H.outside host.new) }
     ensures dump { IsCommandWith HasBadDump words.now (H.outside host.old) → NoFaults (H.outside host.old) (H.outside host.new) → EndsWith Status.Dump result }
 

@@ -20,7 +20,8 @@ use Rattle.vcd_reader.specs.declared.fault.DumpFault.TheVariants as dump_fault
 use Rattle.vcd_reader.specs.declared.header.Header.{Header}
 use Rattle.vcd_reader.specs.declared.vars.Var.{Var}
 use Rattle.input_toggles.specs.Binding.{AreBound, IsBindFault}
-use Rattle.input_toggles.specs.Scores.{IsScoreBy, Scores}
+use Rattle.input_toggles.specs.Scores.{Scores}
+use Rattle.input_tables.specs.Marked.{IsScoreBy}
 use Rattle.input_toggles.specs.declared.scorer.Scorer.{Scorer}
 use Rattle.whole_files.specs.Effects.{OnlyReads}
 use Rattle.dump_score.specs.Faults.{Binds, IsDumpFault, IsEndFault, IsFaultOfHeader, IsFileFault, IsFoundFault, IsScoreFault}

@@ -1,1 +1,7 @@
+pub mod Counts
+pub mod Places
+pub mod Marking
+pub mod RowOrder
 pub mod Inputs
+pub mod TogglePoints
+pub mod Tables

@@ -1,17 +1,19 @@
-//! A theorem of the tables that are collected of designs of inputs; there is no code.
+//! The points of a design of inputs, and its table by the toggles that a scorer has kept.
 //!
-//! Such a design is written ([`written_inputs_law`]), so what is collected of it is a table by the laws of `table_laws`, where it
-//! is lawful too.
+//! [`list_points`] lists the points of a design for which no state machine is named, or says that they are too many, and
+//! [`new_marks`] makes room for their marks. [`score_table`] marks each toggle that the dump shows and collects the table; it
+//! is proved to list exactly the toggle points of the design, and each verdict says whether the dump shows the toggle.
+//!
+//! A design of inputs is written ([`written_inputs_law`]), so what is collected of it is a table by the laws of
+//! `table_laws`. A design does not have few points and many at once ([`count_law`]).
 #![tactic(auto)]
 
-ghost use Rattle.std.specs.Prelude.{ℕ, List};
-ghost use Rattle.design_model.specs.View.{design_view};
-ghost use Rattle.design_model.specs.declared.design.Design.{Design};
-ghost use Rattle.input_toggles.specs.InputDesign.{IsInputDesign};
-ghost use Rattle.input_toggles.specs.Scored.{AreSources};
-ghost use Rattle.table_laws.specs.Written.{IsWritten};
+mod laws;
+mod marks;
+mod points;
+mod table;
 
-/// A design of inputs is written, with the names of the files that it is read from.
-pub fn written_inputs_law()
-    ensures { (design : Design) (sources : List (List ℕ)) → IsInputDesign design → AreSources sources → IsWritten sources (design_view design) }
-{}
+pub use laws::{count_law, written_inputs_law};
+pub use marks::new_marks;
+pub use points::{ListFault, list_points};
+pub use table::score_table;

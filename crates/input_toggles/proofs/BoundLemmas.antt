@@ -53,7 +53,7 @@ module _ (of : Signal → Option ℕ) where
   first_codes : (count : ℕ) (signals : List Signal) (codes : List ℕ) → map Some codes ≡ map of signals → map Some (take count codes) ≡ map of (take count signals)
   first_codes count signals codes e = sym (take-map (λ (c : ℕ). Some c) count codes) ∙ ap (take count) e ∙ take-map of count signals
 
-  code_at : (signals : List Signal) (codes : List ℕ) (k d : ℕ) (s : Signal) → map Some codes ≡ map of signals → k < length codes → of (get_or signals k s) ≡ Some (get_or codes k d)
+  pub code_at : (signals : List Signal) (codes : List ℕ) (k d : ℕ) (s : Signal) → map Some codes ≡ map of signals → k < length codes → of (get_or signals k s) ≡ Some (get_or codes k d)
   code_at signals [] k d s e l = absurd (omega (arith, l))
   code_at [] (c ∷ cs) k d s e l = absurd (cc)
   code_at (x ∷ xs) (c ∷ cs) zero d s e l = cc

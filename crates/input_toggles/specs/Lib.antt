@@ -3,8 +3,5 @@ pub mod Points
 pub mod Binding
 pub mod Toggling
 pub mod Tracked
-pub mod Watched
-pub mod Rows
 pub mod Scored
-pub mod PointList
 pub mod Scores

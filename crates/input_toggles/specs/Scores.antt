@@ -1,22 +1,20 @@
 -- What a scorer keeps: a design under what a dump has said so far.
-use Rattle.std.specs.Prelude.{◌≡◌, ◌-◌, ◌<◌, ◌≤◌, ◌↔◌, ℕ, Bool, true, false, IsTrue, is_some, IsSome, List, [], map, length, take, slice_index_or, All}
+use Rattle.std.specs.Prelude.{◌≡◌, ◌<◌, ◌≤◌, ◌↔◌, ℕ, Bool, true, false, IsTrue, is_some, IsSome, Some, List, [], length, take, slice_index_or, All}
 use Rattle.std.specs.List.{list_any}
-use Rattle.coverage_db.specs.declared.db.Db.{Db}
+use Rattle.design_model.specs.Design.{no_signal}
 use Rattle.design_model.specs.Shows.{AreRising}
 use Rattle.design_model.specs.declared.design.Design.{Design}
 use Rattle.design_model.specs.declared.design.Signal.{Signal}
-use Rattle.vcd_reader.specs.Dump.{steps_of, times_of}
+use Rattle.vcd_reader.specs.Dump.{Dump, steps_of, times_of}
 use Rattle.vcd_reader.specs.Wanted.{is_wanted}
 use Rattle.vcd_reader.specs.declared.entry.Entry.{Entry}
 use Rattle.vcd_reader.specs.declared.vars.Var.{Var}
-use Rattle.input_toggles.specs.Binding.{AreCodes, stands_in}
-use Rattle.input_toggles.specs.Scored.{IsToggleTable}
-use Rattle.input_toggles.specs.Toggling.{has_toggle}
-use Rattle.input_toggles.specs.Tracked.{Follows, IsTracked, ToggledBy, count_of, has_value, track_of, value_so_far}
-use Rattle.input_toggles.specs.Watched.{signals_of}
+use Rattle.input_toggles.specs.Binding.{AreCodes, code_of, stands_in}
+use Rattle.input_toggles.specs.Toggling.{TogglesIn, has_toggle}
+use Rattle.input_toggles.specs.Tracked.{Follows, IsTracked, count_of, has_value, track_of, value_so_far}
 use Rattle.input_toggles.specs.declared.scorer.Scorer.{Scorer}
+use Rattle.input_toggles.specs.declared.toggles.Toggles.{Toggles}
 use Rattle.input_toggles.specs.declared.tracks.Tracks.{Tracks}
-use Rattle.input_toggles.specs.declared.watched.Watched.{Watched}
 
 -- the codes are followed, and nothing was said
 pub record FollowsAll (tracks : Tracks) (codes : List ℕ) : Type 0 where
@@ -38,20 +36,14 @@ pub record LacksValue (scorer : Scorer) (signal : ℕ) : Type 0 where
   pub earlier : All (λ code. IsTrue (has_value scorer.tracks code)) (take signal scorer.codes.items)
   pub none : has_value scorer.tracks (slice_index_or scorer.codes.items signal 0) ≡ false
 
--- the toggles are those of the code, whatever was said
-abbrev pub HasToggles : Tracks → Watched → Type 0
-HasToggles tracks w =
-    (entries : List Entry) → Follows tracks entries → IsTracked tracks w.code → (place : ℕ) (rise : Bool)
-    → IsTrue (has_toggle w.toggles place rise) ↔ ToggledBy (value_so_far entries w.code) (count_of entries - 1) place rise
+-- the signal has a variable, and these are its toggles over the steps of the window
+pub record AreShownToggles (design : Design) (dump : Dump) (instance : List ℕ) (signal : Signal) (toggles : Toggles) : Type 0 where
+  pub code : ℕ
+  pub bound : code_of design dump.vars instance signal ≡ Some code
+  pub toggles_are : (place : ℕ) (rise : Bool) → IsTrue (has_toggle toggles place rise) ↔ TogglesIn dump.steps code place rise
 
--- the signals with the codes and the toggles of the scorer
-pub record AreWatched (scorer : Scorer) (signals : List Signal) (watched : List Watched) : Type 0 where
-  pub signals_are : signals_of watched ≡ signals
-  pub codes_are : map (λ w. w.code) watched ≡ scorer.codes.items
-  pub toggles_are : All (HasToggles scorer.tracks) watched
-
--- the table is that of the design under whatever was said
-abbrev pub IsScoreBy : Scorer → Design → List (List ℕ) → Db → Type 0
-IsScoreBy scorer design sources db =
-    (vars : List Var) (instance : List ℕ) (entries : List Entry) → Scores scorer design vars instance entries
-    → AreRising (times_of (steps_of entries)) → IsToggleTable design (record { vars = vars; steps = steps_of entries }) sources instance db
+-- the toggles are those of the signal with this number, whatever was said so far
+abbrev pub AreToggles : Scorer → Design → ℕ → Toggles → Type 0
+AreToggles scorer design signal toggles =
+    (vars : List Var) (instance : List ℕ) (entries : List Entry) → Scores scorer design vars instance entries → AreRising (times_of (steps_of entries))
+    → AreShownToggles design (record { vars = vars; steps = steps_of entries }) instance (slice_index_or design.signals signal no_signal) toggles

@@ -1,4 +1,4 @@
-ghost use Rattle.std.specs.Prelude.{◌≡◌, ◌++◌, ◌∷◌, [], ℕ, List, None, IfErr, IfOk, OnErr, OnOk, IsTrue, All, length};
+ghost use Rattle.std.specs.Prelude.{◌≡◌, ◌<◌, ◌++◌, ◌∷◌, [], ℕ, List, None, IfErr, IfOk, OnErr, OnOk, IsTrue, All, length};
 ghost use Rattle.design_model.specs.declared.design.Design.{Design as SpecDesign};
 ghost use Rattle.vcd_reader.specs.Times.{Rises};
 ghost use Rattle.vcd_reader.specs.Wanted.{IsUnwanted};
@@ -7,25 +7,22 @@ ghost use Rattle.vcd_reader.specs.declared.entry.Entry.TheVariants as entry;
 ghost use Rattle.vcd_reader.specs.declared.vars.Var.{Var as SpecVar};
 ghost use Rattle.input_toggles.specs.Binding.{IsBindFault};
 ghost use Rattle.input_toggles.specs.InputDesign.{IsInputDesign};
-ghost use Rattle.input_toggles.specs.Scored.{AreSources, HasNoBaseline};
-ghost use Rattle.input_toggles.specs.Scores.{AreWatched, FollowsAll, IsScoreBy, LacksValue, Scores};
+ghost use Rattle.input_toggles.specs.Scored.{HasNoBaseline};
+ghost use Rattle.input_toggles.specs.Scores.{AreToggles, FollowsAll, LacksValue, Scores};
 ghost use Rattle.input_toggles.specs.Tracked.{has_value};
 
 use crate::binding::bind;
-use crate::table::table_of;
 use crate::tracks::Tracks;
-use crate::watched::Watched;
-use crate::{BindFault, NoBaseline};
-use cov_host::{Name, NoMemory, Sequence};
-use coverage_db::Db;
-use design_model::{Design, Signal};
+use crate::{BindFault, NoBaseline, Toggles};
+use cov_host::NoMemory;
+use design_model::Design;
 use four_state::Four;
 use std::alloc::Global;
 use vcd_reader::Vars;
 
 /// Scores a dump for a design of inputs alone while the dump is read.
 ///
-/// It is made when the header ends. Only `new` and `finish` take memory.
+/// It is made when the header ends. Only `new` takes memory.
 #[derive(Drop)]
 pub struct Scorer {
     /// The codes of the signals in order.
@@ -103,42 +100,14 @@ impl Scorer {
         Ok(())
     }
 
-    /// The database of the design, which was read from these files, under the dump whose times and changes it was
-    /// given.
-    pub fn finish(
-        &self,
-        alloc: Global,
-        design: &Design,
-        sources: Sequence<Name>,
-    ) -> Result<Db, NoMemory>
-        requires design { IsInputDesign design.now }
-        requires sources { AreSources sources }
-        requires codes { length self.now.codes.items ≡ length design.now.signals }
-        ensures { IfOk result (IsScoreBy self.now design.now sources) }
+    /// The toggles of the signal with this number from each step to the next, the last one left out.
+    pub fn toggles(&self, signal: usize) -> Toggles
+        ensures { (design : SpecDesign) → signal < length design.signals → AreToggles self.now design signal result }
     {
-        let watched = self.watched(alloc, design.signals.as_slice())?;
-        table_of(alloc, design, sources, watched)
-    }
-
-    /// The signals with their toggles.
-    fn watched<'a>(
-        &self,
-        alloc: Global,
-        signals: &'a [Signal],
-    ) -> Result<Vec<Watched<'a>>, NoMemory>
-        requires { length self.now.codes.items ≡ length signals.now }
-        ensures { IfOk result (λ watched. AreWatched self.now signals.now watched.items) }
-    {
-        let mut watched = Vec::new(alloc);
-        for (place, signal) in signals.iter().enumerate() {
-            let code = self.codes[place];
-            watched.push(Watched {
-                signal,
-                code,
-                toggles: self.tracks.toggles(code),
-            })?;
+        match self.codes.get(signal) {
+            Some(code) => self.tracks.toggles(*code),
+            None => Toggles::none(),
         }
-        Ok(watched)
     }
 }
 

@@ -1,15 +1,15 @@
-ghost use Rattle.std.specs.Prelude.{◌≡◌, ◌<◌, ◌||◌, ℕ, Bool, false, Some};
+ghost use Rattle.std.specs.Prelude.{◌≡◌, ◌||◌, ℕ, Bool, false, Some};
 ghost use Rattle.input_toggles.specs.Toggling.{bit_at, has_toggle, toggles};
 
 use four_state::Four;
 
 /// The bits of a signal that toggled, at their places from the lowest bit on.
 #[derive(Clone, Copy, Debug)]
-pub(crate) struct Toggles {
+pub struct Toggles {
     /// The bits that went from 0 to 1.
-    rises: u128,
+    pub rises: u128,
     /// The bits that went from 1 to 0.
-    falls: u128,
+    pub falls: u128,
 }
 
 impl Toggles {
@@ -18,15 +18,6 @@ impl Toggles {
         ensures { (place : ℕ) (rise : Bool) → has_toggle result place rise ≡ false }
     {
         Toggles { rises: 0, falls: 0 }
-    }
-
-    /// Whether the bit at this place toggled in this direction.
-    pub(crate) fn has(&self, place: u8, rise: bool) -> bool
-        requires { place < 128 }
-        ensures { result ≡ has_toggle self.now place rise }
-    {
-        let bits = if rise { self.rises } else { self.falls };
-        bits >> place & 1 == 1
     }
 
     /// With the toggles of one step more, which goes from the old value to the new one.

@@ -2,8 +2,8 @@ use Rattle.std.proofs.lemmas.Result.{err_from_is_err_and}
 use Rattle.command_line.specs.CommandWords.{score_values}
 use Rattle.whole_files.proofs.EffectLemmas.{CountsUp-trans, KeepsFiles-trans}
 use Rattle.covered_cli.proofs.Inputs.{good_names}
-use Rattle.covered_cli.proofs.InputDesigns.{design_of_inputs}
-use Rattle.covered_cli.proofs.Scoring.{IfErr-map, OnOk-map, design_stands, others_kept, others_kept_since, score_is_done, scoring_stands, writing_is_late, writing_stands}
+use Rattle.covered_cli.proofs.InputDesigns.{design_of_inputs, lawful_design}
+use Rattle.covered_cli.proofs.Scoring.{IfErr-map, OnOk-map, design_stands, has_listed, others_kept, others_kept_since, points_stand, score_is_done, scoring_stands, writing_is_late, writing_stands}
 use Rattle.covered_cli.proofs.score.run_score.Goals as goal
 
 pub returns-in_err-design-clause-fault : goal.returns-in_err-design-clause-fault
@@ -13,6 +13,21 @@ returns-in_err-design-clause-fault g c =
     let after = g.H.Host.outside c.design_of.new.host in
     let fault = err_from_is_err_and c.from_residual.result c.from_residual.ensures.1 in
     rw (fault.1, fault.2) (design_stands score before after _ c.in_err-design.ensures.fault)
+
+pub points_of-requires : goal.points_of-requires
+points_of-requires g c = lawful_design _ _ _ _ c.in_ok-design.ensures.read.stands
+
+pub returns-in_err-points-clause-fault : goal.returns-in_err-points-clause-fault
+returns-in_err-points-clause-fault g c =
+    let score = score_values c.args.words.now in
+    let before = g.H.Host.outside c.args.host.now in
+    let after = g.H.Host.outside c.design_of.new.host in
+    let read = c.in_ok-design.ensures.read in
+    let fault = err_from_is_err_and c.from_residual-in_err-points.result c.from_residual-in_err-points.ensures.1 in
+    rw (fault.1, fault.2) (points_stand score before after read.sources _ read.gathered read.stands _ c.in_err-points.ensures.fault)
+
+pub db_of-requires-clause-lawful : goal.db_of-requires-clause-lawful
+db_of-requires-clause-lawful g c = lawful_design _ _ _ _ c.in_ok-design.ensures.read.stands
 
 pub db_of-requires-clause-design : goal.db_of-requires-clause-design
 db_of-requires-clause-design g c = design_of_inputs _ _ _ _ c.in_ok-design.ensures.read.stands
@@ -31,7 +46,7 @@ returns-in_err-db-clause-fault g c =
     let read = c.in_ok-design.ensures.read in
     let effects = c.in_ok-design.ensures.effects in
     let fault = err_from_is_err_and c.from_residual-in_err-db.result c.from_residual-in_err-db.ensures.1 in
-    rw (fault.1, fault.2) (scoring_stands score read.sources _ before middle after (record { gathered = read.gathered; stands = read.stands }) effects.files effects.counts c.in_err-db.ensures.effects.counts _ c.in_err-db.ensures.fault)
+    rw (fault.1, fault.2) (scoring_stands score read.sources _ before middle after (has_listed score before read.sources _ _ read.gathered read.stands c.in_ok-points.ensures.points) effects.files effects.counts c.in_err-db.ensures.effects.counts _ c.in_err-db.ensures.fault)
 
 pub returns-clause-done : goal.returns-clause-done
 returns-clause-done g c =
@@ -44,7 +59,7 @@ returns-clause-done g c =
     let effects = c.in_ok-design.ensures.effects in
     let db = c.in_ok-db.ensures in
     let kept = KeepsFiles-trans before middle later effects.files db.effects.files in
-    OnOk-map c.write.result (score_is_done score read.sources _ _ _ _ before middle later after (record { gathered = read.gathered; stands = read.stands }) read.names (design_of_inputs _ _ _ _ read.stands) effects.files kept db.scored c.in_ok-text.ensures.text) c.write.ensures.written
+    OnOk-map c.write.result (score_is_done score read.sources _ _ _ _ before middle later after (has_listed score before read.sources _ _ read.gathered read.stands c.in_ok-points.ensures.points) read.names (design_of_inputs _ _ _ _ read.stands) effects.files kept db.scored c.in_ok-text.ensures.text) c.write.ensures.written
 
 pub returns-in_err-text-clause-others : goal.returns-in_err-text-clause-others
 returns-in_err-text-clause-others g c =
@@ -70,7 +85,7 @@ returns-clause-fault g c =
     let after = g.H.Host.outside c.write.new.host in
     let counts = CountsUp-trans before middle later c.in_ok-design.ensures.effects.counts c.in_ok-db.ensures.effects.counts in
     let read = c.in_ok-design.ensures.read in
-    IfErr-map c.write.result (writing_stands score before later after (read.sources, _, record { gathered = read.gathered; stands = read.stands }) counts c.write.ensures.counts) c.write.ensures.fault
+    IfErr-map c.write.result (writing_stands score before later after (read.sources, _, has_listed score before read.sources _ _ read.gathered read.stands c.in_ok-points.ensures.points) counts c.write.ensures.counts) c.write.ensures.fault
 
 pub returns-clause-early : goal.returns-clause-early
 returns-clause-early g c =

@@ -1,7 +1,7 @@
 use Rattle.std.proofs.Common.{◌∙◌, sym}
 use Rattle.whole_files.proofs.EffectLemmas.{KeepsFiles-trans, Told-trans}
 use Rattle.covered_cli.proofs.Causes.{command_or_fault, usage_exactly}
-use Rattle.covered_cli.proofs.Complete.{bad_dump_ends, bad_dump_not_done, bad_source_ends, bad_source_not_done, good_ends, unbound_ends, unbound_not_done}
+use Rattle.covered_cli.proofs.Complete.{bad_dump_ends, bad_dump_not_done, bad_source_ends, bad_source_not_done, good_ends, points_end, points_not_done, unbound_ends, unbound_not_done}
 use Rattle.covered_cli.proofs.Databases.{database_cause, early_status, files_cause, good_databases_end, stands_later}
 use Rattle.covered_cli.proofs.Lines.{WarnsLine-since}
 use Rattle.covered_cli.proofs.top_call.covered.Goals as goal
@@ -17,6 +17,16 @@ returns-in-Ok-clause-source g c bad none = absurd (bad_source_not_done _ _ _ c.i
 
 pub returns-in-Ok-clause-dump : goal.returns-in-Ok-clause-dump
 returns-in-Ok-clause-dump g c bad none = absurd (bad_dump_not_done _ _ _ c.in-Ok.ensures.done bad)
+
+pub returns-in-Ok-clause-points : goal.returns-in-Ok-clause-points
+returns-in-Ok-clause-points g c large none = absurd (points_not_done _ _ _ c.in-Ok.ensures.done large)
+
+pub returns-in-Err-clause-points : goal.returns-in-Err-clause-points
+returns-in-Err-clause-points g c large none =
+    let before = g.H.Host.outside c.args.host.now in
+    let middle = g.H.Host.outside c.run.new.host in
+    let after = g.H.Host.outside c.warn_of.new.host in
+    rw c.status.ensures (points_end c.args.words.now before middle after c.run.ensures.counts c.warn_of.ensures.counts none c.in-Err.fault c.in-Err.ensures.fault large (WarnsLine-since _ before middle after c.run.ensures.warned c.run.ensures.counts c.warn_of.ensures.counts c.warn_of.ensures.line))
 
 pub returns-in-Ok-clause-unbound : goal.returns-in-Ok-clause-unbound
 returns-in-Ok-clause-unbound g c unbound none = absurd (unbound_not_done _ _ _ c.in-Ok.ensures.done unbound)

@@ -1,5 +1,5 @@
 use Rattle.std.proofs.lemmas.Result.{err_from_is_err_and}
-use Rattle.input_toggles.proofs.BoundLemmas.{as_many}
+use Rattle.design_model.specs.View.{design_view}
 use Rattle.dump_score.proofs.FileLemmas.{header_refuses, nothing_read}
 use Rattle.dump_score.proofs.Opening.{bind_in_file, can_end_binds, end_in_file, opened_bound, opened_reading, scored_file}
 use Rattle.dump_score.proofs.score.score_file.Goals as goal
@@ -91,22 +91,8 @@ returns-in_err-score_end-clause-fault g c =
     let on = c.in_ok-score_body.ensures.ok name before design opened.vars instance is in
     rw (fault.1, fault.2) (end_in_file name before (g.H.Host.outside c.score_body.new.host) design instance on.0 _ on.1 (can_end_binds _ _ design opened.vars instance on.0 on.2) (c.in_err-score_end.ensures.fault design opened.vars instance on.0 on.2))
 
-pub finish-requires-clause-codes : goal.finish-requires-clause-codes
-finish-requires-clause-codes g c =
-    let name = c.args.name.now in
-    let before = g.H.Host.outside c.args.host.now in
-    let start = nothing_read name before (g.H.Host.outside c.open.new.host) c.in_ok-open.ensures.opened c.in_ok-open.ensures.effects in
-    let now = g.H.Host.outside c.read_header.new.host in
-    let piece = c.read_header.new.piece in
-    let opened = c.in_ok-opened.opened in
-    let o = c.in_ok-opened.ensures.opened name before start in
-    let design = c.args.design.now in
-    let instance = c.args.instance.now in
-    let bound = c.in_ok-scorer.ensures.bound in
-    let is = opened_bound name before now piece opened c.in_ok-scorer.scorer design instance o bound in
-    let on = c.in_ok-score_body.ensures.ok name before design opened.vars instance is in
-    let scored = c.in_ok-score_end.ensures.ok design opened.vars instance on.0 on.2 in
-    as_many design opened.vars instance design.signals _ scored.scores.codes_are
+pub new_marks-requires : goal.new_marks-requires
+new_marks-requires g c = (design_view c.args.design.now, c.requires.points)
 
 pub returns-clause-scored : goal.returns-clause-scored
 returns-clause-scored g c =
@@ -123,4 +109,4 @@ returns-clause-scored g c =
     let is = opened_bound name before now piece opened c.in_ok-scorer.scorer design instance o bound in
     let on = c.in_ok-score_body.ensures.ok name before design opened.vars instance is in
     let scored = c.in_ok-score_end.ensures.ok design opened.vars instance on.0 on.2 in
-    scored_file name before design c.args.sources instance on.0 opened.vars c.score_end.new.scorer _ on.1 scored c.in_ok-finish.ensures
+    scored_file name before design c.args.sources instance on.0 opened.vars c.score_end.new.scorer _ on.1 scored c.in_ok-score_table.ensures
