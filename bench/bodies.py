@@ -4,7 +4,7 @@ the same expressions on plain u128 in Rust, compiled and as trees that are walke
 
     bench/bodies.py PROGRAM [TERMS]
 
-PROGRAM is crates/body_bench/out/body_bench, built by `rt run` in crates/body_bench. Each body is run until about so many
+PROGRAM is crates/bench/out/bench, built by `rt run` in crates/bench. Each body is run until about so many
 terms are evaluated. A term is an operator or an operand. Printed are nanoseconds of processor time, the least of several
 tries, and instructions by `valgrind --tool=callgrind`, which other work does not change: each is what the runs take more than
 none. It needs rustc and valgrind.
@@ -190,8 +190,8 @@ def instructions(command, rounds):
 def commands(program, plain, source, number):
     """The commands that are compared, each as a function of the number of rounds."""
     return {
-        "all known": lambda rounds: [program, source, str(rounds), "0"],
-        "one in ten unknown": lambda rounds: [program, source, str(rounds), "10"],
+        "all known": lambda rounds: [program, "bodies", source, str(rounds), "0"],
+        "one in ten unknown": lambda rounds: [program, "bodies", source, str(rounds), "10"],
         "u128, trees": lambda rounds: [plain, str(number), str(rounds), "trees"],
         "u128, compiled": lambda rounds: [plain, str(number), str(rounds), "compiled"],
     }
@@ -214,7 +214,7 @@ def main():
             source = str(folder / f"body{number}.v")
             pathlib.Path(source).write_text(verilog(body))
             compared = commands(program, plain, source, number)
-            sums = {output(compared[name](1)) for name in compared if name != "one in ten unknown"}
+            sums = {output(compared[name](1)).split()[0] for name in compared if name != "one in ten unknown"}
             assert len(sums) == 1, "the outputs differ"
             print(f"{len(body)} assignments, {terms} terms")
             for name, command in compared.items():

@@ -1,12 +1,12 @@
 #!/usr/bin/env python3
 """Scores generated dumps with 100 and with 100,000 variables, and prints how fast.
 
-    bench/dump.py PROGRAM [MEGABYTES [READER]]
+    bench/dump.py PROGRAM [MEGABYTES [BENCH]]
 
 For each dump: seconds of `covered score`, megabytes a second, the ratio to a plain pass over the same bytes (`wc -l`)
 and to `vcd2fst` of the Debian package gtkwave where it is installed, and the resident memory for the dump and for one
-of a quarter of its length; and, with READER, which is `crates/dump_bench/out/dump_bench`, the same for the reader of
-dumps alone. Seconds are processor time, since other work on the machine changes it less than the time of the clock. The
+of a quarter of its length; and, with BENCH, which is `crates/bench/out/bench`, the same for the reader of dumps
+alone. Seconds are processor time, since other work on the machine changes it less than the time of the clock. The
 least of three runs counts, and all are of the same file.
 """
 import os
@@ -82,18 +82,18 @@ def least(words):
     return min(seconds for seconds, _ in runs), max(memory for _, memory in runs)
 
 
-def measure(program, folder, variables, megabytes, reader):
+def measure(program, folder, variables, megabytes, bench):
     source, dump, short, out = (f"{folder}/{name}" for name in ("wide.v", "long.vcd", "short.vcd", "wide.db"))
     write_source(source)
     write_dump(dump, variables, megabytes * 1_000_000)
     write_dump(short, variables, megabytes * 250_000)
     score = [program, "score", "-t", "wide", "-i", "tb.dut", "-v", source, "-o", out, "-vcd"]
     print(f"{variables} variables")
-    show(score, reader, dump, short, f"{folder}/long.fst")
+    show(score, bench, dump, short, f"{folder}/long.fst")
 
 
-def show(score, reader, dump, short, fst):
-    """Prints the figures of the command, and of the reader if there is one, for a dump and for a short one."""
+def show(score, bench, dump, short, fst):
+    """Prints the figures of the command for a dump and for a short one, and with `bench` those of the reader alone."""
     seconds, memory = least([*score, dump])
     _, short_memory = run([*score, short])
     plain, _ = least(["wc", "-l", dump])
@@ -101,8 +101,9 @@ def show(score, reader, dump, short, fst):
     other = least(["vcd2fst", dump, fst])[0] if shutil.which("vcd2fst") else None
     print(f"  {size:.0f} MB: {figures(size, seconds, plain, other)}, "
           f"{memory} kB resident ({short_memory} kB for a quarter of it)")
-    if reader:
-        print(f"  the reader alone: {figures(size, least([reader, dump])[0], plain, other)}")
+    if bench:
+        alone, _ = least([bench, "dump", dump])
+        print(f"  the reader alone: {figures(size, alone, plain, other)}")
 
 
 def figures(size, seconds, plain, other):
@@ -115,10 +116,10 @@ def main():
     if len(sys.argv) < 2:
         sys.exit(__doc__)
     megabytes = int(sys.argv[2]) if len(sys.argv) > 2 else 200
-    reader = os.path.abspath(sys.argv[3]) if len(sys.argv) > 3 else None
+    bench = os.path.abspath(sys.argv[3]) if len(sys.argv) > 3 else None
     with tempfile.TemporaryDirectory() as folder:
         for variables in (100, 100_000):
-            measure(os.path.abspath(sys.argv[1]), folder, variables, megabytes, reader)
+            measure(os.path.abspath(sys.argv[1]), folder, variables, megabytes, bench)
 
 
 if __name__ == "__main__":

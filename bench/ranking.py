@@ -7,19 +7,29 @@ PROGRAM is crates/bench/out/bench, built by `rt run` in crates/bench. Without nu
 points.
 """
 import os
+import subprocess
 import sys
+
+PATTERNS = {
+    "half": "half of all points each",
+    "own": "few points of its own each",
+    "rising": "more points each than the one before",
+}
 
 
 def main():
     if len(sys.argv) not in (2, 4):
         sys.exit(__doc__)
     program = sys.argv[1]
-    numbers = sys.argv[2:] or ["1000", "100000"]
-    child = os.spawnv(os.P_NOWAIT, program, [program, "ranking", *numbers])
-    _, status, usage = os.wait4(child, 0)
-    bits = int(numbers[0]) * int(numbers[1]) // 8
-    print(f"resident memory: {usage.ru_maxrss:,} kB; the bits of all tables take {bits // 1024:,} kB")
-    sys.exit(os.waitstatus_to_exitcode(status))
+    tables, points = sys.argv[2:] or ["1000", "100000"]
+    for pattern, name in PATTERNS.items():
+        run = subprocess.Popen([program, "ranking", pattern, tables, points], stdout=subprocess.PIPE, text=True)
+        millis, used, hit, _ = run.stdout.read().split()
+        _, status, usage = os.wait4(run.pid, 0)
+        print(f"{name}: {millis} ms, {used} used, {hit} of {points} points, {usage.ru_maxrss:,} kB resident memory")
+        if status:
+            sys.exit(os.waitstatus_to_exitcode(status))
+    print(f"the bits of all tables take {int(tables) * int(points) // 8192:,} kB")
 
 
 if __name__ == "__main__":

@@ -1,7 +1,7 @@
 #!/usr/bin/env python3
 """Scores dumps that simulators write of a real design, `designs/chip.v`, and prints how fast.
 
-    bench/simulated.py PROGRAM [MEGABYTES [READER]]
+    bench/simulated.py PROGRAM [MEGABYTES [BENCH]]
 
 The dumps are written by Icarus Verilog (`iverilog` and `vvp`) and by Verilator, each where it is installed. The design that
 is scored binds the first hundred variables of the instance `dut` of the chip. What is printed is as for `dump.py`.
@@ -62,7 +62,7 @@ def variables_of(file):
     sys.exit(f"{file} has no header")
 
 
-def measure(program, reader, name, words, folder, megabytes):
+def measure(program, bench, name, words, folder, megabytes):
     source, long, short, out = (f"{folder}/{it}" for it in ("bound.v", "long.vcd", "short.vcd", "bound.db"))
     write_dump(words, long, megabytes * 1_000_000)
     write_dump(words, short, megabytes * 250_000)
@@ -71,20 +71,20 @@ def measure(program, reader, name, words, folder, megabytes):
         it.write(f"module bound({', '.join(list(ports.values())[:BOUND])});\nendmodule\n")
     score = [program, "score", "-t", "bound", "-i", path, "-v", source, "-o", out, "-vcd"]
     print(f"{name}, {min(BOUND, len(ports))} of its variables bound")
-    dump.show(score, reader, long, short, f"{folder}/long.fst")
+    dump.show(score, bench, long, short, f"{folder}/long.fst")
 
 
 def main():
     if len(sys.argv) < 2:
         sys.exit(__doc__)
     megabytes = int(sys.argv[2]) if len(sys.argv) > 2 else 200
-    reader = os.path.abspath(sys.argv[3]) if len(sys.argv) > 3 else None
+    bench = os.path.abspath(sys.argv[3]) if len(sys.argv) > 3 else None
     for command, (name, build) in SIMULATORS.items():
         if not shutil.which(command):
             print(f"{name} is not installed")
             continue
         with tempfile.TemporaryDirectory() as folder:
-            measure(os.path.abspath(sys.argv[1]), reader, name, build(folder), folder, megabytes)
+            measure(os.path.abspath(sys.argv[1]), bench, name, build(folder), folder, megabytes)
 
 
 if __name__ == "__main__":

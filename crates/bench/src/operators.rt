@@ -1,25 +1,29 @@
-//! Times the operators: a line for each operator and width, with the nanoseconds of all rounds.
+//! Times the operators of four-state vectors.
 ghost use Rattle.std.specs.Prelude.{◌≡◌, ◌≤◌, false, length};
 
-use anyhow::Result;
+use crate::{Figures, nanos_since};
 use four_state::{Binary, Four};
 use std::rt::Clock;
 use std::time::Instant;
 
-const OPERATORS: [(Binary, &str); 12] = [
-    (Binary::Add, "+"),
-    (Binary::Subtract, "-"),
-    (Binary::Multiply, "*"),
-    (Binary::Divide, "/"),
-    (Binary::BitwiseAnd, "&"),
-    (Binary::BitwiseXor, "^"),
-    (Binary::ShiftLeft, "<<"),
-    (Binary::ShiftRight, ">>"),
-    (Binary::LessThan, "<"),
-    (Binary::Equal, "=="),
-    (Binary::CaseEqual, "==="),
-    (Binary::LogicalAnd, "&&"),
-];
+/// The operator that is written so.
+fn operator_of(word: &str) -> Option<Binary> {
+    match word {
+        "+" => Some(Binary::Add),
+        "-" => Some(Binary::Subtract),
+        "*" => Some(Binary::Multiply),
+        "/" => Some(Binary::Divide),
+        "&" => Some(Binary::BitwiseAnd),
+        "^" => Some(Binary::BitwiseXor),
+        "<<" => Some(Binary::ShiftLeft),
+        ">>" => Some(Binary::ShiftRight),
+        "<" => Some(Binary::LessThan),
+        "==" => Some(Binary::Equal),
+        "===" => Some(Binary::CaseEqual),
+        "&&" => Some(Binary::LogicalAnd),
+        _ => None,
+    }
+}
 
 /// The unsigned vector of a number, cut to a width.
 fn vector(width: u8, number: u128) -> Four
@@ -32,7 +36,7 @@ fn vector(width: u8, number: u128) -> Four
 }
 
 /// The sum of what an operator gives of `rounds` pairs of numbers, each made from the one before.
-fn sum_of(op: Binary, width: u8, rounds: u64) -> u128
+fn sum_of(op: Binary, width: u8, rounds: u32) -> u128
     requires at_least { 1 ≤ width }
     requires at_most { width ≤ 128 }
 {
@@ -49,18 +53,15 @@ fn sum_of(op: Binary, width: u8, rounds: u64) -> u128
     sum
 }
 
-/// Times this number of rounds of each operator, and prints nothing for 0.
-pub(crate) fn measure(rt: &(impl Clock + Print), rounds: u64) -> Result<()> {
-    if rounds == 0 {
-        return Ok(());
+/// Times this number of rounds of an operator at a width of 1 to 128 bits. The figures are the nanoseconds, and the sum of the
+/// answers.
+pub(crate) fn measure(rt: &impl Clock, operator: &str, width: u32, rounds: u32) -> Option<Figures> {
+    let operator = operator_of(operator)?;
+    let width = u8::try_from(width).ok()?;
+    if width < 1 || width > 128 {
+        return None;
     }
-    for width in [8, 64, 128] {
-        for (op, name) in OPERATORS {
-            let start = Instant::now(rt)?;
-            let sum = sum_of(op, width, rounds);
-            let taken = start.elapsed(rt)?;
-            println!(rt; "{name} {width} {} {sum}", taken.as_nanos())?;
-        }
-    }
-    Ok(())
+    let start = Instant::now(rt).ok()?;
+    let sum = sum_of(operator, width, rounds);
+    Some([nanos_since(rt, start)?, sum, 0, 0])
 }

@@ -1,4 +1,4 @@
-//! Tables of points that are hit in one way or another.
+//! The hit points of tables that are hit in one way or another.
 ghost use Rattle.std.specs.Prelude.{◌≡◌, All, IfOk, length};
 
 use cov_host::{NoMemory, Sequence};
@@ -17,6 +17,18 @@ pub(crate) enum Pattern {
     Rising,
 }
 
+impl Pattern {
+    /// The pattern with this name.
+    pub(crate) fn of(name: &str) -> Option<Pattern> {
+        match name {
+            "half" => Some(Pattern::Half),
+            "own" => Some(Pattern::Own),
+            "rising" => Some(Pattern::Rising),
+            _ => None,
+        }
+    }
+}
+
 /// The sets of hit points of `tables` tables.
 pub(crate) fn make_tables(
     alloc: Global,
@@ -29,48 +41,67 @@ pub(crate) fn make_tables(
     let mut sets = Vec::new(alloc);
     let mut state = 1;
     for table in 0..tables {
-        let db = make_table(alloc, pattern, table, points, &mut state)?;
-        let set = HitSet::of(alloc, &db)?;
+        let set = make_set(alloc, pattern, table, points, &mut state)?;
         sets.push(set)?;
     }
     Ok(sets)
 }
 
-/// A table with `count` points.
-fn make_table(
+/// The set of hit points of a table with `count` points.
+fn make_set(
     alloc: Global,
     pattern: Pattern,
     table: u32,
     count: u32,
     state: &mut u64,
-) -> Result<Db, NoMemory>
-    ensures { IfOk result (λ db. length db.points ≡ count) }
+) -> Result<HitSet, NoMemory>
+    ensures { IfOk result (λ set. length set ≡ count) }
+{
+    let db = Db {
+        top: Sequence::new(alloc),
+        sources: Sequence::new(alloc),
+        instances: Sequence::new(alloc),
+        points: make_points(alloc, pattern, table, count, state)?,
+    };
+    HitSet::of(alloc, &db)
+}
+
+/// The points of a table.
+fn make_points(
+    alloc: Global,
+    pattern: Pattern,
+    table: u32,
+    count: u32,
+    state: &mut u64,
+) -> Result<Sequence<DbPoint>, NoMemory>
+    ensures { IfOk result (λ points. length points ≡ count) }
 {
     let mut points = Sequence::new(alloc);
     for number in 0..count {
         *state = next_state(*state);
-        points.push(DbPoint {
-            address: Address {
-                instance: 0,
-                subject: Subject::Line {
-                    number,
-                    at: SourceLine { source: 1, line: 1 },
-                    word: LineWord::Assign,
-                },
-            },
-            verdict: if is_hit(pattern, table, number, count, *state) {
-                DbVerdict::Hit
-            } else {
-                DbVerdict::Missed
-            },
-        })?;
+        let is_hit = is_hit(pattern, table, number, count, *state);
+        points.push(make_point(number, is_hit))?;
     }
-    Ok(Db {
-        top: Sequence::new(alloc),
-        sources: Sequence::new(alloc),
-        instances: Sequence::new(alloc),
-        points,
-    })
+    Ok(points)
+}
+
+/// The point of the statement with this number.
+fn make_point(number: u32, is_hit: bool) -> DbPoint {
+    DbPoint {
+        address: Address {
+            instance: 0,
+            subject: Subject::Line {
+                number,
+                at: SourceLine { source: 1, line: 1 },
+                word: LineWord::Assign,
+            },
+        },
+        verdict: if is_hit {
+            DbVerdict::Hit
+        } else {
+            DbVerdict::Missed
+        },
+    }
 }
 
 /// Whether the table has hit the point.
