@@ -1,5 +1,6 @@
 -- What is reported in a step is added to what was reported before.
-use Rattle.std.proofs.Common.{◌≡◌, ◌≢◌, ◌<◌, ◌++◌, ◌⊎◌, ℕ, Bool, true, false, List, [], ◌∷◌, length, refl, sym, ap, subst, ◌∙◌, inl, inr, append_assoc, append_nil}
+use Rattle.std.proofs.Common.{◌≡◌, ◌≢◌, ◌<◌, ◌++◌, ◌⊎◌, ℕ, Bool, true, false, List, [], ◌∷◌, length, refl, sym, ap, subst, ◌∙◌, inl, inr, append_assoc}
+use Rattle.std.proofs.lemmas.List.{append-nil}
 use Rattle.std.specs.Prelude.{if◌then◌else◌}
 use Rattle.body_replay.specs.Contract.{Doubted}
 use Rattle.bit_changes.specs.declared.toggles.Toggles.{Toggles}
@@ -24,7 +25,7 @@ abbrev Extends : List Marking → List Marking → Type 0
 Extends ns ms = (more : List Marking) × (ms ≡ ns ++ more)
 
 same : (ns : List Marking) → Extends ns ns
-same ns = ([], sym (append_nil ns))
+same ns = ([], sym (append-nil ns))
 
 both : (a b c : List Marking) → Extends a b → Extends b c → Extends a c
 both a b c f g = (f.0 ++ g.0, g.1 ∙ ap (λ (ns : List Marking). ns ++ g.0) f.1 ∙ append_assoc a f.0 g.0)
