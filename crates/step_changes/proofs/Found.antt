@@ -1,10 +1,10 @@
 -- The changes of a step are those of the dump, and so are the sets that are found by them.
-use Rattle.std.proofs.Common.{◌≡◌, ◌≢◌, ◌↔◌, ℕ, ◌+◌, ◌-◌, ◌<◌, ◌≤◌, Bool, true, false, ◌&&◌, List, [], ◌∷◌, length, map, get_or, Option, Some, None, refl, sym, ap, ap₂, subst, ◌∙◌, arith, lt-ltb, ⊎_elim, inl, inr}
-use Rattle.std.specs.Prelude.{is_some, nat_lt, slice_index_or}
+use Rattle.std.proofs.Common.{◌≡◌, ◌≢◌, ◌↔◌, ℕ, ◌+◌, ◌-◌, ◌<◌, ◌≤◌, Bool, true, false, ◌&&◌, List, [], ◌∷◌, ◌++◌, length, map, get_or, take, Option, Some, None, refl, sym, ap, ap₂, subst, ◌∙◌, arith, lt-ltb, ⊎_elim, inl, inr}
+use Rattle.std.specs.Prelude.{is_some, nat_lt, slice_get, slice_index_or}
 use Rattle.std.specs.List.{All, Contains, range_with_len}
 use Rattle.std.proofs.lemmas.Bool.{and_from, and_parts, false≢true}
 use Rattle.std.proofs.lemmas.Bool.Decides.{nat_tests}
-use Rattle.std.proofs.lemmas.List.{get_or-map, get_or_default, length-map}
+use Rattle.std.proofs.lemmas.List.{get_or-map, get_or_default, length-map, take_more}
 use Rattle.std.proofs.lemmas.List.Elements.{All-from_get_or}
 use Rattle.event_machine.specs.Cell.{Cell}
 use Rattle.event_machine.specs.Told.{IsMovingInput}
@@ -176,3 +176,22 @@ module _ (d : Design) (dump : BoundDump) (t : ℕ) (flags : List Bool) (codes : 
     sets_are after h of same sets =
         let none : HasNoWriters after = λ x. ap (λ xs. get_or xs x None) same ∙ due.writers x in
         (sets dump t h none_early due.lawful (inl (none, due.round)) (λ x input. due.bound x ∙ sym (due.flags x)) (changes_are after none) (λ p s is. absurd (no_trigger after of.tables p s is))).sets
+
+-- ---- the list of the changes
+
+map_push : {B : Type 0} (f : ℕ → B) (xs : List ℕ) (x : ℕ) → map f (xs ++ x ∷ []) ≡ map f xs ++ f x ∷ []
+map_push f [] x = refl
+map_push f (y ∷ xs) x = ap (λ ys. f y ∷ ys) (map_push f xs x)
+
+-- one change more
+pub one_more : (codes : List (Option ℕ)) (values : Values) (xs : List ℕ) (i : ℕ) (changes : List SignalChange) → i < length xs → changes ≡ map (change_by codes values) (take i xs)
+    → changes ++ change_by codes values (get_or xs i 0) ∷ [] ≡ map (change_by codes values) (take (i + 1) xs)
+one_more codes values xs i changes l e =
+    ap (λ ys. ys ++ change_by codes values (get_or xs i 0) ∷ []) e
+    ∙ sym (map_push (change_by codes values) (take i xs) (get_or xs i 0))
+    ∙ ap (map (change_by codes values)) (sym (take_more xs i 0 l))
+
+-- the first bit of a value
+pub first_bit : (bs : List Bit) (b : Bit) → slice_get bs 0 ≡ Some b → b ≡ get_or bs 0 X
+first_bit [] b e = absurd (let no : None ≡ Some b = e in cc)
+first_bit (x ∷ bs) b e = let same : Some x ≡ Some b = e in cc

@@ -39,8 +39,8 @@ pub fn first_moved(
 {
     let mut found = None;
     for signal in changed {
-        let moved = moved(*signal as u32, sets, codes, values, store);
-        found = lesser(found, moved);
+        let next = moved(*signal as u32, sets, codes, values, store);
+        found = lesser(found, next);
     }
     found
 }

@@ -1,0 +1,5 @@
+use Rattle.step_changes.proofs.Found.{first_bit}
+use Rattle.step_changes.proofs.changes.lowest.Goals as goal
+
+pub returns-in-Some : goal.returns-in-Some
+returns-in-Some c = first_bit c.in-Some.value.bits c.bit.result c.bit.ensures
