@@ -13,7 +13,7 @@ use Rattle.design_model.specs.declared.design.Signal.{Signal}
 use Rattle.point_marks.specs.declared.verdict.Verdict.{Verdict}
 use Rattle.replay_model.specs.Step.{Closing, all_run, known_bits}
 use Rattle.signal_marks.specs.Seen.{MarksChange}
-use Rattle.step_values.specs.Vectors.{StepVectors}
+use Rattle.step_values.specs.Vectors.{StepVectors, vector_at}
 use Rattle.toggle_laws.specs.Turns.{MarksInTurn, MarksMoved}
 use Rattle.toggle_laws.proofs.Turns.{one_more}
 use Rattle.step_marks.specs.Marked.{IsOver, IsSeenAfter}
@@ -69,3 +69,12 @@ pub more_marked : (st : Closing) (ps : Points) (moves : List ℕ) (i thing : ℕ
     → MarksInTurn st ps (take i moves) before middle → MarksMoved st ps thing middle after → MarksInTurn st ps (take (i + 1) moves) before after
 more_marked st ps moves i thing before middle after l e h last =
     subst (λ ss. MarksInTurn st ps ss before after) (ap (λ z. take i moves ++ z ∷ []) e ∙ sym (take_more moves i thing l)) (one_more st ps (take i moves) thing before middle after h last)
+
+-- what a signal is marked by
+module _ (st : Closing) (ps : Points) (thing time : ℕ) (x : Store) (v : StepVectors) (seen : List Toggles) (m : Marks) (over : IsOver st ps (thing ∷ []) time x v seen m) where
+  may_move : st.sets.moves thing ≡ true
+  may_move = over.moves thing (ap (λ b. b || false) (eq-eqb thing thing refl))
+
+  -- the vector that is set aside is what was known at the start of the step
+  pub before_is : thing < length st.design.signals → (vector_at v.before thing).bits ≡ known_bits st.design st.start.kept thing
+  before_is l = over.values.before thing l may_move
