@@ -22,14 +22,16 @@ module _ (old new : Values Bit) (f : ℕ → Cell) where
   -- where they are not, some bit is not
   pub apart_at : (a w : ℕ) → (map old (map f (range_with_len a w)) ≡ map new (map f (range_with_len a w)) → ⊥) → (j : ℕ) × (j < w) × (old (f (a + j)) ≢ new (f (a + j)))
   apart_at a zero ne = absurd (ne refl)
-  apart_at a (suc w) ne = go (same_bit (old (f a)) (new (f a))) refl
+  apart_at a (suc w) ne = go (same_bit (old (f a)) (new (f a))) refl (λ h. apart_at (a + 1) w h)
     where
-      go : (t : Bool) → same_bit (old (f a)) (new (f a)) ≡ t → (j : ℕ) × (j < suc w) × (old (f (a + j)) ≢ new (f (a + j)))
-      go false e =
+      go : (t : Bool) → same_bit (old (f a)) (new (f a)) ≡ t
+          → ((map old (map f (range_with_len (a + 1) w)) ≡ map new (map f (range_with_len (a + 1) w)) → ⊥) → (j : ℕ) × (j < w) × (old (f (a + 1 + j)) ≢ new (f (a + 1 + j))))
+          → (j : ℕ) × (j < suc w) × (old (f (a + j)) ≢ new (f (a + j)))
+      go false e later =
           let start : a ≡ a + 0 = omega arith in
           (0, omega arith, subst (λ i. old (f i) ≢ new (f i)) start (λ same. both_ways _ e (subst (λ b. same_bit (old (f a)) b ≡ true) same (same_bit_self (old (f a))))))
-      go true e =
-          let r = apart_at (a + 1) w (λ h. ne (ap₂ (λ (b : Bit) (bs : List Bit). b ∷ bs) (same_bit_is (old (f a)) (new (f a)) e) h)) in
+      go true e later =
+          let r = later (λ h. ne (ap₂ (λ (b : Bit) (bs : List Bit). b ∷ bs) (same_bit_is (old (f a)) (new (f a)) e) h)) in
           let next : a + 1 + r.0 ≡ a + suc r.0 = omega arith in
           (suc r.0, omega (arith, r.1), subst (λ i. old (f i) ≢ new (f i)) next r.2)
 

@@ -89,9 +89,6 @@ same_value : (v w : Vector) → v.bits ≡ w.bits → v.signed ≡ false → w.s
 same_value v w bits a b = let make : List Bit → Bool → Vector = λ (bs : List Bit). λ (s : Bool). record { bits = bs; signed = s } in ap₂ make bits (a ∙ sym b)
 
 module _ (d : Design) (dump : BoundDump) (t : ℕ) (flags : List Bool) (codes : List (Option ℕ)) (values : Values) (w : WakeState) (due : IsDue d dump t flags codes values w) where
-  width : ℕ → ℕ
-  width s = (signal_at d s).width
-
   -- a code with another value has other bits
   pub differ : (s code : ℕ) → slice_index_or codes s None ≡ Some code → IsChanged values code → signal_bits d (dump.values (t - 1)) s ≡ signal_bits d (dump.values t) s → ⊥
   differ s code is changed same =

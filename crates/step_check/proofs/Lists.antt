@@ -29,22 +29,22 @@ all_in P (y ∷ ys) x all (inr i) = all_in P ys x (All-tail P y ys all) i
 
 pub in_last : (xs : List ℕ) (x : ℕ) → In x xs → In x (last_of_each xs)
 in_last [] x i = absurd i
-in_last (y ∷ ys) x i = go (list_any (λ z. y == z) ys) refl i
+in_last (y ∷ ys) x i = go (list_any (λ z. y == z) ys) refl i (in_last ys x)
   where
-    go : (t : Bool) → list_any (λ z. y == z) ys ≡ t → In x (y ∷ ys) → In x (if t then last_of_each ys else y ∷ last_of_each ys)
-    go true e (inl same) = let z = any_in (λ z. y == z) ys e in in_last ys x (subst (λ k. In k ys) (sym (eqb-true y z.0 z.2) ∙ same) z.1)
-    go true e (inr i) = in_last ys x i
-    go false e (inl same) = inl same
-    go false e (inr i) = inr (in_last ys x i)
+    go : (t : Bool) → list_any (λ z. y == z) ys ≡ t → In x (y ∷ ys) → (In x ys → In x (last_of_each ys)) → In x (if t then last_of_each ys else y ∷ last_of_each ys)
+    go true e (inl same) later = let z = any_in (λ z. y == z) ys e in later (subst (λ k. In k ys) (sym (eqb-true y z.0 z.2) ∙ same) z.1)
+    go true e (inr i) later = later i
+    go false e (inl same) later = inl same
+    go false e (inr i) later = inr (later i)
 
 pub last_in : (xs : List ℕ) (x : ℕ) → In x (last_of_each xs) → In x xs
 last_in [] x i = absurd i
-last_in (y ∷ ys) x i = go (list_any (λ z. y == z) ys) i
+last_in (y ∷ ys) x i = go (list_any (λ z. y == z) ys) i (last_in ys x)
   where
-    go : (t : Bool) → In x (if t then last_of_each ys else y ∷ last_of_each ys) → In x (y ∷ ys)
-    go true i = inr (last_in ys x i)
-    go false (inl same) = inl same
-    go false (inr i) = inr (last_in ys x i)
+    go : (t : Bool) → In x (if t then last_of_each ys else y ∷ last_of_each ys) → (In x (last_of_each ys) → In x ys) → In x (y ∷ ys)
+    go true i later = inr (later i)
+    go false (inl same) later = inl same
+    go false (inr i) later = inr (later i)
 
 -- ---- rows one after the other
 
@@ -64,25 +64,23 @@ flat_in row (q ∷ ps) x i = elim (in_either x (row q) (flat_map row ps) (subst 
 
 checked_in : (codes : List (Option ℕ)) (row : List Bits) (b : Bits) → In b row → is_checked codes b ≡ true → In b.signal (checked codes row)
 checked_in codes [] b i h = absurd i
-checked_in codes (y ∷ row) b i h = go (is_checked codes y) refl i
+checked_in codes (y ∷ row) b i h = go (is_checked codes y) refl i (λ j. checked_in codes row b j h)
   where
-    go : (t : Bool) → is_checked codes y ≡ t → In b (y ∷ row) → In b.signal (map (λ (z : Bits). z.signal) (if t then y ∷ filter (is_checked codes) row else filter (is_checked codes) row))
-    go true e (inl same) = inl (ap (λ (z : Bits). z.signal) same)
-    go true e (inr i) = inr (checked_in codes row b i h)
-    go false e (inl same) = absurd (both_ways _ e (subst (λ z. is_checked codes z ≡ true) (sym same) h))
-    go false e (inr i) = checked_in codes row b i h
+    go : (t : Bool) → is_checked codes y ≡ t → In b (y ∷ row) → (In b row → In b.signal (checked codes row)) → In b.signal (map (λ (z : Bits). z.signal) (if t then y ∷ filter (is_checked codes) row else filter (is_checked codes) row))
+    go true e (inl same) later = inl (ap (λ (z : Bits). z.signal) same)
+    go true e (inr i) later = inr (later i)
+    go false e (inl same) later = absurd (both_ways _ e (subst (λ z. is_checked codes z ≡ true) (sym same) h))
+    go false e (inr i) later = later i
 
 in_checked : (codes : List (Option ℕ)) (row : List Bits) (s : ℕ) → In s (checked codes row) → (b : Bits) × In b row × (b.signal ≡ s) × (is_checked codes b ≡ true)
 in_checked codes [] s i = absurd i
-in_checked codes (y ∷ row) s i = go (is_checked codes y) refl i
+in_checked codes (y ∷ row) s i = go (is_checked codes y) refl i (λ j. let r = in_checked codes row s j in (r.0, inr r.1, r.2, r.3))
   where
-    more : In s (checked codes row) → (b : Bits) × In b (y ∷ row) × (b.signal ≡ s) × (is_checked codes b ≡ true)
-    more i = let r = in_checked codes row s i in (r.0, inr r.1, r.2, r.3)
-
-    go : (t : Bool) → is_checked codes y ≡ t → In s (map (λ (z : Bits). z.signal) (if t then y ∷ filter (is_checked codes) row else filter (is_checked codes) row)) → (b : Bits) × In b (y ∷ row) × (b.signal ≡ s) × (is_checked codes b ≡ true)
-    go true e (inl same) = (y, inl refl, same, e)
-    go true e (inr i) = more i
-    go false e i = more i
+    go : (t : Bool) → is_checked codes y ≡ t → In s (map (λ (z : Bits). z.signal) (if t then y ∷ filter (is_checked codes) row else filter (is_checked codes) row)) → (In s (checked codes row) → (b : Bits) × In b (y ∷ row) × (b.signal ≡ s) × (is_checked codes b ≡ true))
+        → (b : Bits) × In b (y ∷ row) × (b.signal ≡ s) × (is_checked codes b ≡ true)
+    go true e (inl same) later = (y, inl refl, same, e)
+    go true e (inr i) later = later i
+    go false e i later = later i
 
 -- ---- masks
 

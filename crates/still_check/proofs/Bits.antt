@@ -20,13 +20,14 @@ module _ (k : Kept) (new : Values Bit) (f : ℕ → Cell) where
   -- or some bit is not
   pub differs : (a w : ℕ) → allows_bits (map k (map f (range_with_len a w))) (map new (map f (range_with_len a w))) ≡ false → (j : ℕ) × (j < w) × (allows_bit (k (f (a + j))) (new (f (a + j))) ≡ false)
   differs a zero e = absurd (false≢true (sym e))
-  differs a (suc w) e = go (allows_bit (k (f a)) (new (f a))) refl e
+  differs a (suc w) e = go (allows_bit (k (f a)) (new (f a))) refl e (λ h. differs (a + 1) w h)
     where
       go : (t : Bool) → allows_bit (k (f a)) (new (f a)) ≡ t → (t && allows_bits (map k (map f (range_with_len (a + 1) w))) (map new (map f (range_with_len (a + 1) w)))) ≡ false
+          → (allows_bits (map k (map f (range_with_len (a + 1) w))) (map new (map f (range_with_len (a + 1) w))) ≡ false → (j : ℕ) × (j < w) × (allows_bit (k (f (a + 1 + j))) (new (f (a + 1 + j))) ≡ false))
           → (j : ℕ) × (j < suc w) × (allows_bit (k (f (a + j))) (new (f (a + j))) ≡ false)
-      go false h e = let start : a ≡ a + 0 = omega arith in (0, omega arith, subst (λ i. allows_bit (k (f i)) (new (f i)) ≡ false) start h)
-      go true h e =
-          let r = differs (a + 1) w e in
+      go false h e later = let start : a ≡ a + 0 = omega arith in (0, omega arith, subst (λ i. allows_bit (k (f i)) (new (f i)) ≡ false) start h)
+      go true h e later =
+          let r = later e in
           let next : a + 1 + r.0 ≡ a + suc r.0 = omega arith in
           (suc r.0, omega (arith, r.1), subst (λ i. allows_bit (k (f i)) (new (f i)) ≡ false) next r.2)
 

@@ -22,11 +22,11 @@ use Rattle.still_check.proofs.Bits.{allowed, allows_own, differ_of, differs, exa
 
 stays_in : (st : Closing) (ss : List ℕ) (s : ℕ) → All (Stays st) ss → is_in ss s ≡ true → Stays st s
 stays_in st [] s all h = absurd (false≢true h)
-stays_in st (x ∷ ss) s all h = go (x == s) refl h
+stays_in st (x ∷ ss) s all h = go (x == s) refl h (stays_in st ss s (All-tail (Stays st) x ss all))
   where
-    go : (t : Bool) → (x == s) ≡ t → (t || is_in ss s) ≡ true → Stays st s
-    go true e k = subst (Stays st) (eqb-true x s e) (All-head (Stays st) x ss all)
-    go false e k = stays_in st ss s (All-tail (Stays st) x ss all) k
+    go : (t : Bool) → (x == s) ≡ t → (t || is_in ss s) ≡ true → (is_in ss s ≡ true → Stays st s) → Stays st s
+    go true e k later = subst (Stays st) (eqb-true x s e) (All-head (Stays st) x ss all)
+    go false e k later = later k
 
 pub stays : StaysLaw
 stays st changed known unchanged all c has still = go (is_in changed c.thing) refl

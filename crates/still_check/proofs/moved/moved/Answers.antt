@@ -1,13 +1,8 @@
-use Rattle.std.proofs.Common.{◌≡◌, ◌∙◌, Bool, true, false, not, None, Some, length, refl, ap, sym}
-use Rattle.known_state.specs.Partly.{Partly, allows_bits}
-use Rattle.design_model.specs.View.{design_view}
-use Rattle.early_sets.specs.Has.{is_in}
+use Rattle.std.proofs.Common.{◌≡◌, ◌∙◌, Bool, true, false, not, Some, refl, sym}
 use Rattle.early_sets.specs.WakeState.{state_of}
 use Rattle.early_sets.proofs.Membership.{is_in_is}
 use Rattle.step_values.specs.Dumped.{dumped_of}
-use Rattle.step_values.proofs.Dumps.{said_width, value_bits}
-use Rattle.step_values.proofs.Forgets.{known_width}
-use Rattle.still_check.proofs.Moves.{allows, apart, may_move, not_said}
+use Rattle.still_check.proofs.Moves.{apart}
 use Rattle.still_check.proofs.moved.moved.Goals as goal
 
 no_not : (b : Bool) → not b ≡ false → b ≡ true
@@ -17,3 +12,13 @@ no_not false e = sym e
 no_not_true : (b : Bool) → not b ≡ true → b ≡ false
 no_not_true true e = sym e
 no_not_true false e = refl
+
+pub returns : goal.returns
+returns c = λ st at.
+    let is : dumped_of c.args.codes.now c.args.values.now.last c.args.signal ≡ Some c.in_ok-dumped.dumped = sym c.dumped.ensures ∙ c.in_ok-dumped.was in
+    let still = sym (is_in_is (state_of c.args.sets.now).moves c.args.signal c.may_move.result c.may_move.ensures) ∙ c.if-may_move.false in
+    (
+      refl,
+      apart st c.args.store.now (state_of c.args.sets.now) c.args.codes.now c.args.values.now.last c.args.signal at c.known_signal-computed.result c.in_ok-dumped.dumped c.requires.coded is
+          (c.known_signal-computed.ensures st.design st.start.kept at.knows) still (no_not_true _ (sym c.differs.ensures ∙ no_not _ c.if-not-differs.false)),
+    )
