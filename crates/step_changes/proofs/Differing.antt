@@ -8,7 +8,7 @@ use Rattle.four_state.specs.declared.bit.Bit.{Bit}
 use Rattle.four_state.specs.declared.bit.Bit.TheVariants.{X}
 use Rattle.design_model.proofs.Lawful.{same_bit_is, same_bit_self}
 
-rest : List Bit → List Bit
+abbrev rest : List Bit → List Bit
 rest [] = []
 rest (b ∷ bs) = bs
 

@@ -172,7 +172,7 @@ module _ (d : Design) (dump : BoundDump) (t : ℕ) (flags : List Bool) (codes : 
     pub sets_are : (after : WakeState) (h : Habit) → IsOfDesign d flags after → after.writers ≡ w.writers → StepSets d flags changes after → AreSets d (habit_of h) dump t (sets_of after none_early)
     sets_are after h of same sets =
         let none : HasNoWriters after = λ x. ap (λ xs. get_or xs x None) same ∙ due.writers x in
-        (sets dump t h none_early due.lawful (inl (none, due.round)) (λ x input. due.bound x ∙ sym (due.flags x)) (changes_are after none) (λ p s is. absurd (no_trigger after of.tables p s is))).sets
+        (sets dump t h none_early due.lawful (inl (none, due.round)) (λ x input. due.bound x ∙ sym (due.flagged x)) (changes_are after none) (λ p s is. absurd (no_trigger after of.tables p s is))).sets
 
 -- ---- the list of the changes
 
@@ -181,9 +181,9 @@ map_push f [] x = refl
 map_push f (y ∷ xs) x = ap (λ ys. f y ∷ ys) (map_push f xs x)
 
 -- one change more
-pub one_more : (codes : List (Option ℕ)) (values : Values) (xs : List ℕ) (i : ℕ) (changes : List SignalChange) → i < length xs → changes ≡ map (change_by codes values) (take i xs)
-    → changes ++ change_by codes values (get_or xs i 0) ∷ [] ≡ map (change_by codes values) (take (i + 1) xs)
-one_more codes values xs i changes l e =
+pub one_more : (codes : List (Option ℕ)) (values : Values) (xs : List ℕ) (i : ℕ) (found : List SignalChange) → i < length xs → found ≡ map (change_by codes values) (take i xs)
+    → found ++ change_by codes values (get_or xs i 0) ∷ [] ≡ map (change_by codes values) (take (i + 1) xs)
+one_more codes values xs i found l e =
     ap (λ ys. ys ++ change_by codes values (get_or xs i 0) ∷ []) e
     ∙ sym (map_push (change_by codes values) (take i xs) (get_or xs i 0))
     ∙ ap (map (change_by codes values)) (sym (take_more xs i 0 l))

@@ -28,14 +28,14 @@ use Rattle.step_changes.specs.Changes.{WokenLaw}
 
 -- what is no Clocked lists no edge
 pub no_edge : (q : Process) (e : Edge) (c : Cell) → (IsClocked q → ⊥) → lists_edge q e c ≡ true → ⊥
-no_edge (assign i x t counted) e c no h = false≢true h
-no_edge (comb i wakes s) e c no h = false≢true h
-no_edge (clocked i events s) e c no h = no tt
+no_edge (assign i x t counted) e c never h = false≢true h
+no_edge (comb i wakes s) e c never h = false≢true h
+no_edge (clocked i events s) e c never h = never tt
 
 pub no_events : (q : Process) → (IsClocked q → ⊥) → events_of q ≡ []
-no_events (assign i x t counted) no = refl
-no_events (comb i wakes s) no = refl
-no_events (clocked i events s) no = absurd (no tt)
+no_events (assign i x t counted) never = refl
+no_events (comb i wakes s) never = refl
+no_events (clocked i events s) never = absurd (never tt)
 
 -- where the tables have no Clocked there is none
 pub none_clocked : (d : Design) (bound : ℕ → Bool) (tables : Tables) → AreTables d bound tables → tables.clocked ≡ [] → (p : ℕ) → IsClocked (process_at d p) → ⊥

@@ -61,7 +61,7 @@ pub record IsDue (d : Design) (dump : BoundDump) (t : ℕ) (flags : List Bool) (
   pub writers : HasNoWriters w
   pub round : dump.round t ≡ 0
   pub bound : (s : ℕ) → dump.bound s ≡ has_code codes s
-  pub flags : (s : ℕ) → flag_at flags s ≡ has_code codes s
+  pub flagged : (s : ℕ) → flag_at flags s ≡ has_code codes s
   pub signals : (s : ℕ) → dump.bound s ≡ true → s < length d.signals
   pub old : AreDumped d codes values.closed (dump.values (t - 1))
   pub new : AreDumped d codes values.last (dump.values t)

@@ -42,9 +42,9 @@ module _ (st : Closing) (ran : List ℕ) (targets : List (List Bits)) (checks : 
   -- a bound signal of which a process that ran may write a cell is checked
   is_listed : (p : ℕ) (c : Cell) → In p (st.tables.order ++ st.tables.last) → is_touched st p ≡ true → blocking_target st.design (body_at st.design p) c ≡ true → st.bound c.thing ≡ true → In c.thing order
   is_listed p c listed touched writes bound =
-      let has : row_has (row_at targets p) c ≡ true = (run.targets.each p).bits.has c (run.signals c.thing bound) ∙ writes in
-      let row = subst (In c.thing) (sym (run.checks.each p)) (has_checked codes (row_at targets p) c has (sym (run.bound c.thing) ∙ bound)) in
-      in_last (flat_map (row_at checks) ran) c.thing (in_flat (row_at checks) ran p c.thing ((run.ran p).1 (listed, touched)) row)
+      let has : row_has (row_at targets p) c ≡ true = (run.rows.each p).bits.has c (run.signals c.thing bound) ∙ writes in
+      let row = subst (In c.thing) (sym (run.checked.each p)) (has_checked codes (row_at targets p) c has (sym (run.bound c.thing) ∙ bound)) in
+      in_last (flat_map (row_at checks) ran) c.thing (in_flat (row_at checks) ran p c.thing ((run.running p).1 (listed, touched)) row)
 
   -- what was made of a bound signal that may move
   made_bits : (s : ℕ) → st.sets.moves s ≡ true → st.bound s ≡ true → (made_of v.made s).bits ≡ known_bits st.design (all_run st).made s
@@ -74,8 +74,8 @@ module _ (st : Closing) (ran : List ℕ) (targets : List (List Bits)) (checks : 
             → st.sets.moves c.thing ≡ true
             → ((signal_at st.design c.thing).input ≡ true) ⊎ ((p : ℕ) × (b : Cell) × (b.thing ≡ c.thing) × In p (st.tables.order ++ st.tables.last) × (is_touched st p ≡ true) × (blocking_target st.design (body_at st.design p) b ≡ true))
             → ⊥
-        by_mover has bound wide no differ moves (inl input) = both_ways _ (ap not input) no
-        by_mover has bound wide no differ moves (inr (p, b, same, listed, touched, writes)) =
+        by_mover has bound wide driven differ moves (inl input) = both_ways _ (ap not input) driven
+        by_mover has bound wide driven differ moves (inr (p, b, same, listed, touched, writes)) =
             let i = subst (λ s. In s order) same (is_listed p b listed touched writes (subst (λ s. st.bound s ≡ true) (sym same) bound)) in
             let inside : c.place < (signal_at st.design c.thing).width = grind (arith, nat_tests, wide) in
             let start : 0 + c.place ≡ c.place = omega arith in
@@ -88,10 +88,10 @@ module _ (st : Closing) (ran : List ℕ) (targets : List (List Bits)) (checks : 
       let d = first.differs in
       let i = last_in (flat_map (row_at checks) ran) s (subst (In s) (sym first.is) (in_right s first.before (s ∷ first.after) (inl refl))) in
       let p = flat_in (row_at checks) ran s i in
-      let rows = (run.targets.each p.0).bits in
-      let b = checked_has st.design codes (row_at targets p.0) s rows.inside (subst (In s) (run.checks.each p.0) p.2) in
+      let rows = (run.rows.each p.0).bits in
+      let b = checked_has st.design codes (row_at targets p.0) s rows.inside (subst (In s) (run.checked.each p.0) p.2) in
       let bound : st.bound s ≡ true = run.bound s ∙ b.0 in
-      let ran_p = (run.ran p.0).0 p.1 in
+      let ran_p = (run.running p.0).0 p.1 in
       let c = b.1.0 in
       let writes : blocking_target st.design (body_at st.design p.0) c ≡ true = sym (rows.has c (subst (λ y. y < length st.design.signals) (sym b.1.1) (run.signals s bound))) ∙ b.1.2 in
       let moves : st.sets.moves s ≡ true = subst (λ y. st.sets.moves y ≡ true) b.1.1 (run.drives p.0 c ran_p.1 writes) in

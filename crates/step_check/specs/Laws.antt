@@ -40,9 +40,9 @@ pub record HasRun (st : Closing) (ran : List ℕ) (targets : List (List Bits)) (
   pub moved : AreMoved st
   pub drives : MoveTargets st
   pub lawful : IsLawfulDesign st.design
-  pub ran : (p : ℕ) → In p ran ↔ (In p (st.tables.order ++ st.tables.last) × (is_touched st p ≡ true))
-  pub targets : AreTargetRows st.design targets
-  pub checks : AreCheckRows codes targets checks
+  pub running : (p : ℕ) → In p ran ↔ (In p (st.tables.order ++ st.tables.last) × (is_touched st p ≡ true))
+  pub rows : AreTargetRows st.design targets
+  pub checked : AreCheckRows codes targets checks
   pub bound : (s : ℕ) → st.bound s ≡ has_code codes s
   pub signals : (s : ℕ) → st.bound s ≡ true → s < length st.design.signals
   pub dumped : AreDumped st.design codes last st.new

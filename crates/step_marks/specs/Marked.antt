@@ -18,18 +18,18 @@ use Rattle.step_values.specs.Vectors.{StepVectors}
 use Rattle.toggle_laws.specs.Turns.{MarksInTurn}
 
 -- the processes of the step have run, these may move, and the masks say no more than the marks of the points of the design
-pub record IsOver (st : Closing) (ps : Points) (moves : List ℕ) (time : ℕ) (x : Store) (v : StepVectors) (seen : List Toggles) (m : Marks) : Type 0 where
+pub record IsOver (st : Closing) (ps : Points) (moving : List ℕ) (end : ℕ) (x : Store) (v : StepVectors) (masks : List Toggles) (m : Marks) : Type 0 where
   pub values : HasValues st (all_run st) x v
-  pub moves : (s : ℕ) → is_in moves s ≡ true → st.sets.moves s ≡ true
-  pub time : st.time ≡ time
+  pub moves : (s : ℕ) → is_in moving s ≡ true → st.sets.moves s ≡ true
+  pub time : st.time ≡ end
   pub listed : IsPointList st.design [] ps
   pub marks : AreMarksOf ps m
-  pub seen : AreSeen st.design ps seen m.verdicts
+  pub seen : AreSeen st.design ps masks m.verdicts
 
 -- the marks are still those of the points, and the masks say no more than they do
-pub record IsSeenAfter (st : Closing) (ps : Points) (seen : List Toggles) (m : Marks) : Type 0 where
+pub record IsSeenAfter (st : Closing) (ps : Points) (masks : List Toggles) (m : Marks) : Type 0 where
   pub marks : AreMarksOf ps m
-  pub seen : AreSeen st.design ps seen m.verdicts
+  pub seen : AreSeen st.design ps masks m.verdicts
 
 -- once the toggles of what may move are marked, the parts of the code are those of the replay after the step
 abbrev pub ClosedLaw : Type 0

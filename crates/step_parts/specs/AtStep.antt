@@ -25,18 +25,18 @@ abbrev pub AreActed : Design → List Bool → (ℕ → Bool) → Type 0
 AreActed d flags acted = (p : ℕ) → IsComb (process_at d p) → flag_at flags p ≡ acted p
 
 -- within a step the store, the vectors that are set aside, the sets, the flags and the marks of these points are those of the replay
-pub record AtStep (st : Closing) (ps : Points) (w : Working) (x : Store) (v : StepVectors) (sets : WakeState) (acted : List Bool) (m : Marks) : Type 0 where
+pub record AtStep (st : Closing) (ps : Points) (w : Working) (x : Store) (v : StepVectors) (sets : WakeState) (flags : List Bool) (m : Marks) : Type 0 where
   pub values : HasValues st w x v
   pub still : IsStillAt st w
   pub moves : (s : ℕ) → st.sets.moves s ≡ is_in sets.moves s
-  pub acted : AreActed st.design acted w.acted
+  pub acted : AreActed st.design flags w.acted
   pub points : AreMarksOf ps m
   pub marks : AreVerdicts st.design ps w.notes m.verdicts
 
 -- between steps the store, the flags, the marks of these points and the masks of what is marked already are those of the replay
-pub record AtRest (d : Design) (ps : Points) (a : Replay) (x : Store) (acted : List Bool) (m : Marks) (seen : List Toggles) : Type 0 where
+pub record AtRest (d : Design) (ps : Points) (a : Replay) (x : Store) (flags : List Bool) (m : Marks) (masks : List Toggles) : Type 0 where
   pub knows : Knows d a.kept x
-  pub acted : AreActed d acted a.acted
+  pub acted : AreActed d flags a.acted
   pub points : AreMarksOf ps m
   pub marks : AreVerdicts d ps a.notes m.verdicts
-  pub seen : AreSeen d ps seen m.verdicts
+  pub seen : AreSeen d ps masks m.verdicts

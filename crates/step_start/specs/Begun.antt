@@ -31,10 +31,10 @@ use Rattle.step_start.specs.declared.room.StepRoom.{StepRoom}
 use Rattle.step_start.specs.declared.room.StepTables.{StepTables}
 
 -- the tables and the room are of the size of the design, and so are the values of codes
-pub record FitsStep (d : Design) (x : StepTables) (r : StepRoom) (values : Values) : Type 0 where
+pub record FitsStep (d : Design) (x : StepTables) (r : StepRoom) (given : Values) : Type 0 where
   pub lawful : IsLawfulDesign d
   pub signals : AreSignalsOf x.codes.items x.signals
-  pub rows : length x.signals ≡ length values.last
+  pub rows : length x.signals ≡ length given.last
   pub coded : (s : ℕ) → has_code x.codes.items s ≡ true → s < length d.signals
   pub targets : AreTargetRows d x.targets
   pub order : List ℕ

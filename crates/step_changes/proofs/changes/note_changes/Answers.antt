@@ -9,12 +9,12 @@ push-requires c =
     let size = ap length c.loop-place.invariant.1 ∙ length-map (take c.loop-place.place c.args.changed.now.items) (change_by c.args.codes.now c.args.values.now) in
     let front = length-take c.loop-place.place c.args.changed.now.items in
     let room = c.loop-place.invariant.0 in
-    omega (arith, size, front, room, c.loop-place-test.true, c.len-place.ensures.value, c.len-place.ensures.within, c.requires.room)
+    omega (arith, size, front, room, c.loop-place-test.true, c.len-place-end.ensures.value, c.len-place-end.ensures.within, c.requires.room)
 
 pub loop-place-preserved : goal.loop-place-preserved
 loop-place-preserved c =
     let xs = c.args.changed.now.items in
-    let l = omega (arith, c.loop-place-test.true, c.len-place.ensures.value) in (
+    let l : c.loop-place.place < length xs = omega (arith, c.loop-place-test.true, c.len-place-end.ensures.value) in (
       ap (λ q. q.room) c.push.ensures ∙ c.loop-place.invariant.0,
       ap (λ q. q.items) c.push.ensures
           ∙ ap (λ x. c.loop-place.changes.items ++ x ∷ []) (c.change_of.ensures ∙ ap (change_by c.args.codes.now c.args.values.now) c.get-signal.ensures.value)
@@ -22,4 +22,4 @@ loop-place-preserved c =
     )
 
 pub returns-clause-changes : goal.returns-clause-changes
-returns-clause-changes c = c.loop-place.invariant.1 ∙ ap (map (change_by c.args.codes.now c.args.values.now)) (take_all c.loop-place.place c.args.changed.now.items (omega (arith, c.loop-place-test.false, c.len-place.ensures.value)))
+returns-clause-changes c = c.loop-place.invariant.1 ∙ ap (map (change_by c.args.codes.now c.args.values.now)) (take_all c.loop-place.place c.args.changed.now.items (omega (arith, c.loop-place-test.false, c.len-place-end.ensures.value)))
