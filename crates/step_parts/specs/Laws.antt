@@ -1,5 +1,5 @@
 -- A step from its start to its end.
-use Rattle.std.specs.Prelude.{◌≡◌, ◌++◌, ℕ, List, []}
+use Rattle.std.specs.Prelude.{◌≡◌, ◌++◌, ℕ, Bool, List, []}
 use Rattle.bit_changes.specs.declared.toggles.Toggles.{Toggles}
 use Rattle.body_store.specs.declared.store.Store.{Store}
 use Rattle.cover_marks.specs.declared.marks.Marks.{Marks}

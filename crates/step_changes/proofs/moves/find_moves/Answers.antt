@@ -17,7 +17,7 @@ pub find-requires : goal.find-requires
 find-requires c =
     let are : AreChangedSignals c.args.codes.now c.args.values.now c.add_changed.new.changed.items = changed_are c.args.codes.now c.args.values.now c.args.signals.now c.clear.new.self.items c.add_changed.new.changed.items c.requires.signals c.clear.ensures.items c.add_changed.ensures.changed in
     let n = (state_of c.args.sets.now).tables.things in
-    subst (All (λ (e : SignalChange). e.signal < n)) (sym c.note_changes.ensures.changes)
+    subst (All (λ (e : SignalChange). e.signal < n)) (sym (c.as_slice.ensures ∙ c.note_changes.ensures.changes))
     (changes_below c.args.codes.now c.args.values.now c.add_changed.new.changed.items n are (λ s coded. let l = c.requires.below s coded in omega (arith, l, c.requires.things)))
 
 pub returns-clause-changed : goal.returns-clause-changed
@@ -30,5 +30,5 @@ pub returns-clause-sets : goal.returns-clause-sets
 returns-clause-sets c = λ d dump t h bound due.
     let are = changed_are c.args.codes.now c.args.values.now c.args.signals.now c.clear.new.self.items c.add_changed.new.changed.items c.requires.signals c.clear.ensures.items c.add_changed.ensures.changed in
     let after = state_of c.find.new.wakes in
-    let sets : StepSets d bound (map (change_by c.args.codes.now c.args.values.now) c.add_changed.new.changed.items) after = subst (λ changes. StepSets d bound changes after) c.note_changes.ensures.changes (c.find.ensures.sets d bound due.tables) in
+    let sets : StepSets d bound (map (change_by c.args.codes.now c.args.values.now) c.add_changed.new.changed.items) after = subst (λ changes. StepSets d bound changes after) (c.as_slice.ensures ∙ c.note_changes.ensures.changes) (c.find.ensures.sets d bound due.tables) in
     sets_are d dump t bound c.args.codes.now c.args.values.now (state_of c.args.sets.now) due c.add_changed.new.changed.items are after h (c.find.ensures.design d bound due.tables) c.find.ensures.writers sets
