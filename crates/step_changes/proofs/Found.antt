@@ -1,7 +1,7 @@
 -- The changes of a step are those of the dump, and so are the sets that are found by them.
-use Rattle.std.proofs.Common.{◌≡◌, ◌≢◌, ◌↔◌, ℕ, ◌+◌, ◌-◌, ◌<◌, ◌≤◌, Bool, true, false, ◌&&◌, List, [], ◌∷◌, ◌++◌, length, map, get_or, take, Option, Some, None, refl, sym, ap, ap₂, subst, ◌∙◌, arith, lt-ltb, ⊎_elim, inl, inr}
+use Rattle.std.proofs.Common.{◌≡◌, ℕ, ◌+◌, ◌-◌, ◌<◌, ◌≤◌, Bool, true, false, List, [], ◌∷◌, ◌++◌, length, map, get_or, take, Option, Some, None, refl, sym, ap, ap₂, subst, ◌∙◌, arith, ⊎_elim, inl, inr}
 use Rattle.std.specs.Prelude.{is_some, nat_lt, slice_get, slice_index_or}
-use Rattle.std.specs.List.{All, Contains, range_with_len}
+use Rattle.std.specs.List.{All, Contains}
 use Rattle.std.proofs.lemmas.Bool.{and_from, and_parts, false≢true}
 use Rattle.std.proofs.lemmas.Bool.Decides.{nat_tests}
 use Rattle.std.proofs.lemmas.List.{get_or-map, get_or_default, length-map, take_more}
@@ -11,19 +11,18 @@ use Rattle.event_machine.specs.Told.{IsMovingInput}
 use Rattle.four_state.specs.Vector.{Vector}
 use Rattle.four_state.specs.declared.bit.Bit.{Bit}
 use Rattle.four_state.specs.declared.bit.Bit.TheVariants.{X}
-use Rattle.design_model.specs.Design.{Design, IsClocked, cell, process_at, signal_at, signal_bits}
+use Rattle.design_model.specs.Design.{Design, cell, process_at, signal_at, signal_bits}
 use Rattle.design_model.specs.Machine.{machine}
 use Rattle.design_model.specs.MayMove.{told_at}
 use Rattle.design_model.specs.Shows.{BoundDump}
 use Rattle.design_model.proofs.AssignLaws.{has_bit}
 use Rattle.code_values.specs.Values.{AddsChanged, IsChanged, Values, value_of}
-use Rattle.early_sets.specs.Rounds.{writer_at}
 use Rattle.early_sets.specs.WakeState.{WakeState, can_wake_by, first_signal, trigger_by, trigger_of, waker_of}
 use Rattle.early_sets.specs.declared.habit.Habit.{Habit}
 use Rattle.index_sets.specs.Rows.{row_at}
 use Rattle.replay_model.specs.Sets.{AreSets}
-use Rattle.replay_sets.specs.SetsOf.{AreChosen, sets_of}
-use Rattle.step_values.specs.Dumped.{AreDumped, coded_value}
+use Rattle.replay_sets.specs.SetsOf.{sets_of}
+use Rattle.step_values.specs.Dumped.{coded_value}
 use Rattle.step_values.specs.Loose.{has_code}
 use Rattle.step_values.proofs.Dumps.{bits_in}
 use Rattle.step_wakes.specs.Step.{AreChanges, IsOfDesign, StepSets}

@@ -1,5 +1,5 @@
 -- The processes that may be woken, where none is a Clocked.
-use Rattle.std.proofs.Common.{◌≡◌, ◌↔◌, ◌⊎◌, inl, inr, ℕ, ◌<◌, Bool, true, false, ◌++◌, List, [], ◌∷◌, length, Option, Some, None, refl, sym, ap, subst, ◌∙◌, arith}
+use Rattle.std.proofs.Common.{◌≡◌, inl, inr, ℕ, ◌<◌, Bool, true, ◌++◌, List, [], length, refl, sym, ap, subst, ◌∙◌, arith}
 use Rattle.std.specs.List.{Contains, list_any}
 use Rattle.std.proofs.lemmas.Bool.{and_parts, cases_lt, false≢true}
 use Rattle.std.proofs.lemmas.List.{get_or_past}
@@ -8,7 +8,7 @@ use Rattle.event_machine.specs.Habit.{Habit}
 use Rattle.event_machine.specs.Machine.{Edge}
 use Rattle.event_machine.specs.MayMove.{of_input, of_target}
 use Rattle.design_model.specs.Design.{Design, In, IsClocked, cell, no_process, no_signal, process_at, signal_at}
-use Rattle.design_model.specs.Machine.{events_of, is_level, lists_edge}
+use Rattle.design_model.specs.Machine.{events_of, lists_edge}
 use Rattle.design_model.specs.MayMove.{MayMoveAt}
 use Rattle.design_model.specs.Shows.{BoundDump}
 use Rattle.design_model.specs.Tree.{Process, assign, clocked, comb}
@@ -18,7 +18,7 @@ use Rattle.early_sets.specs.Rounds.{HasMoves}
 use Rattle.early_sets.specs.WakeState.{WakeState, edges_at, nothing_left}
 use Rattle.early_sets.proofs.Membership.{is_in_from, is_in_gives}
 use Rattle.index_sets.specs.Rows.{row_at}
-use Rattle.process_order.proofs.Distinct.{contains_in, in_contains, in_either, in_left, in_right}
+use Rattle.process_order.proofs.Distinct.{contains_in, in_contains, in_left, in_right}
 use Rattle.replay_model.specs.Sets.{AreSets}
 use Rattle.replay_model.specs.Tables.{AreTables, Tables}
 use Rattle.replay_model.proofs.Bits.{any_in, in_any}

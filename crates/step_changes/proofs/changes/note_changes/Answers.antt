@@ -1,4 +1,4 @@
-use Rattle.std.proofs.Common.{◌≡◌, ◌∙◌, ◌<◌, ◌++◌, [], ◌∷◌, length, map, take, get_or, refl, sym, ap, arith}
+use Rattle.std.proofs.Common.{◌∙◌, ◌<◌, ◌++◌, [], ◌∷◌, length, map, take, ap, arith}
 use Rattle.std.proofs.lemmas.List.{length-map, length-take, take_all}
 use Rattle.step_changes.specs.Changes.{change_by}
 use Rattle.step_changes.proofs.Found.{one_more}

@@ -1,6 +1,6 @@
-use Rattle.std.proofs.Common.{◌≡◌, ◌∙◌, ◌<◌, ◌≤◌, length, map, refl, sym, ap, subst, arith}
+use Rattle.std.proofs.Common.{◌∙◌, ◌<◌, map, sym, subst, arith}
 use Rattle.std.specs.List.{All}
-use Rattle.early_sets.specs.WakeState.{WakeState, state_of}
+use Rattle.early_sets.specs.WakeState.{state_of}
 use Rattle.wake_laws.proofs.RoundsLaw.{has_moves}
 use Rattle.step_wakes.specs.Step.{StepSets}
 use Rattle.step_wakes.specs.declared.step.SignalChange.{SignalChange}
