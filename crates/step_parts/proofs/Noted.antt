@@ -1,9 +1,7 @@
 -- What is reported in a step is added to what was reported before.
-use Rattle.std.proofs.Common.{◌≡◌, ◌≢◌, ◌<◌, ◌++◌, ◌⊎◌, ℕ, Bool, true, false, List, [], ◌∷◌, length, refl, sym, ap, subst, ◌∙◌, inl, inr, append_assoc}
+use Rattle.std.proofs.Common.{◌≡◌, ◌≢◌, ◌<◌, ◌++◌, ℕ, Bool, true, false, List, [], ◌∷◌, length, refl, sym, ap, subst, ◌∙◌, inl, inr, append_assoc}
 use Rattle.std.proofs.lemmas.List.{append-nil}
 use Rattle.std.specs.Prelude.{if◌then◌else◌}
-use Rattle.body_replay.specs.Contract.{Doubted}
-use Rattle.bit_changes.specs.declared.toggles.Toggles.{Toggles}
 use Rattle.cover_points.specs.Listed.{points_of}
 use Rattle.cover_points.specs.Visits.{point_at}
 use Rattle.cover_points.specs.declared.listing.Points.{Points}
@@ -13,7 +11,7 @@ use Rattle.mark_laws.specs.Marked.{AreVerdicts, verdict_at}
 use Rattle.mark_laws.specs.Numbered.{verdict_view}
 use Rattle.point_marks.specs.declared.verdict.Verdict.{Verdict}
 use Rattle.point_marks.specs.declared.verdict.Verdict.TheVariants as marks
-use Rattle.replay_model.specs.Marks.{IsFirstDoubt, IsHitMarked, IsKeyOf, IsUnmarked, IsVerdict, Marking}
+use Rattle.replay_model.specs.Marks.{IsHitMarked, IsKeyOf, IsUnmarked, IsVerdict, Marking}
 use Rattle.replay_model.specs.Step.{Closing, Working, after_settling, all_run, certainty, clocked_run, is_touched, plain_store, run_all_settling, run_settling, settle_start, settled_kept}
 use Rattle.replay_steps.proofs.Settling.{clocked_none}
 use Rattle.step_parts.specs.Laws.{NotedLaw, SeenLaw}

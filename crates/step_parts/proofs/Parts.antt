@@ -1,14 +1,8 @@
 -- The parts of the code as the first process runs.
-use Rattle.std.proofs.Common.{◌≡◌, ℕ, Bool, List, [], sym, ap, subst, ◌∙◌}
-use Rattle.bit_changes.specs.declared.toggles.Toggles.{Toggles}
-use Rattle.body_store.specs.declared.store.Store.{Store}
-use Rattle.cover_marks.specs.declared.marks.Marks.{Marks}
-use Rattle.cover_points.specs.declared.listing.Points.{Points}
-use Rattle.early_sets.specs.WakeState.{WakeState}
+use Rattle.std.proofs.Common.{sym, ap, subst, ◌∙◌}
 use Rattle.mark_laws.specs.Marked.{AreVerdicts}
-use Rattle.replay_model.specs.Step.{Closing, Working}
+use Rattle.replay_model.specs.Step.{Working}
 use Rattle.replay_steps.proofs.Settling.{clocked_none, start_still}
-use Rattle.step_values.specs.Vectors.{StepVectors}
 use Rattle.step_parts.specs.Laws.{StartLaw}
 
 pub starts : StartLaw

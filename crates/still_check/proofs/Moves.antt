@@ -1,11 +1,10 @@
 -- Whether one signal has moved that may not.
-use Rattle.std.proofs.Common.{◌≡◌, ◌∙◌, ℕ, Bool, true, false, not, List, map, Option, Some, None, refl, sym, ap, ap₂}
+use Rattle.std.proofs.Common.{◌≡◌, ◌∙◌, ℕ, true, false, List, map, Option, Some, None, sym, ap₂}
 use Rattle.std.proofs.lemmas.Bool.{both_ways}
 use Rattle.four_state.specs.Vector.{Vector}
 use Rattle.known_state.specs.Partly.{Partly, allows_bits}
 use Rattle.design_model.specs.Design.{signal_cells}
 use Rattle.body_store.specs.declared.store.Store.{Store}
-use Rattle.dump_check.specs.declared.order.Difference.{Difference}
 use Rattle.early_sets.specs.Has.{is_in}
 use Rattle.early_sets.specs.WakeState.{WakeState}
 use Rattle.replay_model.specs.Step.{Closing}

@@ -1,7 +1,7 @@
 -- What may not move, where the dump agrees with what was known and where it does not.
-use Rattle.std.proofs.Common.{◌≡◌, ℕ, ◌+◌, ◌<◌, ◌==◌, Bool, true, false, ◌&&◌, ◌||◌, not, ◌++◌, List, [], ◌∷◌, Option, Some, None, refl, sym, ap, ap₂, subst, ◌∙◌, arith}
+use Rattle.std.proofs.Common.{◌≡◌, ℕ, ◌+◌, ◌<◌, ◌==◌, Bool, true, false, ◌&&◌, ◌||◌, not, ◌++◌, List, [], ◌∷◌, Some, None, refl, sym, ap, ap₂, subst, ◌∙◌, arith}
 use Rattle.std.specs.Prelude.{if◌then◌else◌, nat_lt}
-use Rattle.std.specs.List.{All, list_any}
+use Rattle.std.specs.List.{All}
 use Rattle.std.proofs.lemmas.Bool.{and_from, and_parts, both_ways, eqb-true, false_from_ne_true, false≢true}
 use Rattle.std.proofs.lemmas.Bool.Decides.{nat_tests}
 use Rattle.std.proofs.lemmas.List.Elements.{All-head, All-tail}
@@ -9,15 +9,14 @@ use Rattle.event_machine.specs.Cell.{Cell}
 use Rattle.design_model.specs.Design.{body_at, cell, signal_at, signal_bits}
 use Rattle.design_model.specs.Mentions.{blocking_target}
 use Rattle.body_calls.specs.Own.{is_in}
-use Rattle.dump_check.specs.declared.order.Difference.{Difference}
 use Rattle.known_state.specs.Partly.{allows_bit, allows_bits}
-use Rattle.replay_model.specs.Step.{Closing, Working, after_settling, all_run, certainty, clocked_run, contradicts, is_dumped, is_loose, is_touched, known_bits, plain_store, run_all_settling, run_settling, settle_start, settled_kept, surely_differ}
+use Rattle.replay_model.specs.Step.{Closing, Working, after_settling, all_run, certainty, clocked_run, is_dumped, is_loose, is_touched, known_bits, plain_store, run_all_settling, run_settling, settle_start, settled_kept, surely_differ}
 use Rattle.replay_model.proofs.Bits.{any_in}
 use Rattle.replay_model.proofs.Clocked.{at_false}
-use Rattle.replay_steps.specs.Settling.{MoveTargets, loosened}
+use Rattle.replay_steps.specs.Settling.{MoveTargets}
 use Rattle.replay_steps.proofs.Settling.{starts_settled}
-use Rattle.still_check.specs.Laws.{AreUnchanged, InputsStay, KnowsBound, MovedLaw, StaysLaw}
-use Rattle.still_check.specs.Stays.{IsMoved, Stays}
+use Rattle.still_check.specs.Laws.{MovedLaw, StaysLaw}
+use Rattle.still_check.specs.Stays.{Stays}
 use Rattle.still_check.proofs.Bits.{allowed, allows_own, differ_of, differs, exact}
 
 stays_in : (st : Closing) (ss : List ℕ) (s : ℕ) → All (Stays st) ss → is_in ss s ≡ true → Stays st s
