@@ -5,10 +5,10 @@
 //! ([`agree_law`]), and where there is one, it does ([`differ_law`]); [`moves_law`] gives what both ask of the sets.
 #![tactic(auto)]
 
-mod check;
+mod dump;
 mod laws;
 mod rows;
 
-pub use check::check;
+pub use dump::check;
 pub use laws::{agree_law, differ_law, moves_law};
 pub use rows::check_rows;

@@ -4,7 +4,7 @@ use Rattle.std.specs.List.{All}
 use Rattle.dump_check.specs.Checks.{FitsAt, last_of_each}
 use Rattle.index_sets.specs.Rows.{row_at}
 use Rattle.step_check.proofs.Fits.{all_fit}
-use Rattle.step_check.proofs.check.check.Goals as goal
+use Rattle.step_check.proofs.dump.check.Goals as goal
 
 pub first_difference-requires : goal.first_difference-requires
 first_difference-requires c =
