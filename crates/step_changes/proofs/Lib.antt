@@ -1,0 +1,3 @@
+pub mod Woken
+pub mod Differing
+pub mod Found

@@ -1,0 +1,53 @@
+ghost use Rattle.std.specs.Prelude.{◌≡◌, ◌<◌, ◌≤◌, ℕ, Bool, List, length, true};
+ghost use Rattle.design_model.specs.Design.{Design};
+ghost use Rattle.design_model.specs.Shows.{BoundDump};
+ghost use Rattle.early_sets.specs.Rounds.{HasMoves};
+ghost use Rattle.early_sets.specs.WakeState.{state_of};
+ghost use Rattle.early_sets.specs.declared.habit.Habit.{Habit};
+ghost use Rattle.replay_model.specs.Sets.{AreSets};
+ghost use Rattle.replay_sets.specs.SetsOf.{sets_of};
+ghost use Rattle.step_values.specs.Loose.{has_code};
+ghost use Rattle.step_wakes.specs.Step.{IsOfDesign};
+ghost use Rattle.wake_laws.specs.Laws.{habit_of};
+ghost use Rattle.step_changes.specs.Changes.{AreChangedSignals, AreSignalsOf, IsDue, none_early};
+
+use crate::changes::note_changes;
+use code_values::CodeValues;
+use early_sets::{Uncounted, Wakes};
+use index_sets::{IndexSet, Rows};
+use step_wakes::{SignalChange, find};
+use value_store::Queue;
+
+/// Finds the signals whose value has changed since the last closed step, and what may move by that. `codes` has the code of
+/// each signal, and `signals` the signals of each code; `changes` is scratch room. It takes no memory, and time for the codes
+/// that were given a value, the signals that have changed and the inputs that the dump does not give, for what may move, for
+/// the processes that this may wake and for what those may write.
+pub fn find_moves(
+    codes: &[Option<u32>],
+    signals: &Rows<u32>,
+    values: &CodeValues,
+    changed: &mut IndexSet,
+    changes: &mut Queue<SignalChange>,
+    sets: &mut Wakes,
+)
+    requires signals { AreSignalsOf codes.now signals.now }
+    requires rows { length signals.now ≡ length values.now.last }
+    requires below { (s : ℕ) → has_code codes.now s ≡ true → s < changed.old.size }
+    requires few { changed.old.size ≤ 65536 }
+    requires things { changed.old.size ≤ (state_of sets.old).tables.things }
+    requires room { changed.old.size ≤ changes.old.room }
+    ensures size { changed.new.size ≡ changed.old.size }
+    ensures room { changes.new.room ≡ changes.old.room }
+    ensures changed { AreChangedSignals codes.now values.now changed.new.items }
+    ensures design { (d : Design) (bound : List Bool) → IsOfDesign d bound (state_of sets.old) → IsOfDesign d bound (state_of sets.new) }
+    ensures tables { (state_of sets.new).tables ≡ (state_of sets.old).tables }
+    ensures writers { (state_of sets.new).writers ≡ (state_of sets.old).writers }
+    ensures moves { HasMoves (state_of sets.new) }
+    ensures sets { (d : Design) (dump : BoundDump) (t : ℕ) (h : Habit) (bound : List Bool) → IsDue d dump t bound codes.now values.now (state_of sets.old) → AreSets d (habit_of h) dump t (sets_of (state_of sets.new) none_early) }
+{
+    changed.clear();
+    values.add_changed(signals, changed);
+    changes.clear();
+    note_changes(changed, codes, values, changes);
+    find(sets, changes.as_slice(), &mut Uncounted);
+}

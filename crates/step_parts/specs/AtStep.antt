@@ -1,0 +1,42 @@
+-- The parts of the code beside the replay, between steps and within a step.
+use Rattle.std.specs.Prelude.{◌≡◌, ℕ, Bool, false, List, slice_index_or}
+use Rattle.bit_changes.specs.declared.toggles.Toggles.{Toggles}
+use Rattle.body_store.specs.declared.store.Store.{Store}
+use Rattle.cover_marks.specs.Marks.{AreMarksOf}
+use Rattle.cover_marks.specs.declared.marks.Marks.{Marks}
+use Rattle.cover_points.specs.declared.listing.Points.{Points}
+use Rattle.design_model.specs.Design.{Design, IsComb, process_at}
+use Rattle.early_sets.specs.Has.{is_in}
+use Rattle.early_sets.specs.WakeState.{WakeState}
+use Rattle.mark_laws.specs.Marked.{AreVerdicts}
+use Rattle.replay_model.specs.Step.{Closing, Replay, Working}
+use Rattle.replay_steps.specs.Settling.{IsStillAt}
+use Rattle.signal_marks.specs.Seen.{AreSeen}
+use Rattle.step_values.specs.Starts.{HasValues}
+use Rattle.step_values.specs.Vectors.{StepVectors}
+use Rattle.store_knowledge.specs.Knows.{Knows}
+
+-- the flag of a process, false where there is none
+abbrev pub flag_at : List Bool → ℕ → Bool
+flag_at flags p = slice_index_or flags p false
+
+-- the flags say which Combs have surely acted
+abbrev pub AreActed : Design → List Bool → (ℕ → Bool) → Type 0
+AreActed d flags acted = (p : ℕ) → IsComb (process_at d p) → flag_at flags p ≡ acted p
+
+-- within a step the store, the vectors that are set aside, the sets, the flags and the marks of these points are those of the replay
+pub record AtStep (st : Closing) (ps : Points) (w : Working) (x : Store) (v : StepVectors) (sets : WakeState) (flags : List Bool) (m : Marks) : Type 0 where
+  pub values : HasValues st w x v
+  pub still : IsStillAt st w
+  pub moves : (s : ℕ) → st.sets.moves s ≡ is_in sets.moves s
+  pub acted : AreActed st.design flags w.acted
+  pub points : AreMarksOf ps m
+  pub marks : AreVerdicts st.design ps w.notes m.verdicts
+
+-- between steps the store, the flags, the marks of these points and the masks of what is marked already are those of the replay
+pub record AtRest (d : Design) (ps : Points) (a : Replay) (x : Store) (flags : List Bool) (m : Marks) (masks : List Toggles) : Type 0 where
+  pub knows : Knows d a.kept x
+  pub acted : AreActed d flags a.acted
+  pub points : AreMarksOf ps m
+  pub marks : AreVerdicts d ps a.notes m.verdicts
+  pub seen : AreSeen d ps masks m.verdicts

@@ -1,0 +1,2 @@
+pub mod AtStep
+pub mod Laws

@@ -1,0 +1,4 @@
+pub mod Bits
+pub mod Still
+pub mod Least
+pub mod Moves

@@ -1,0 +1,9 @@
+use Rattle.std.proofs.Common.{take}
+use Rattle.early_sets.specs.WakeState.{state_of}
+use Rattle.replay_model.specs.Step.{Closing}
+use Rattle.still_check.specs.Stays.{IsAtStart, IsLeastMoved}
+use Rattle.still_check.proofs.moved.first_moved.Given as goal
+
+-- the least of the signals so far
+abbrev pub invariant-loop-signal : goal.invariant-loop-signal
+invariant-loop-signal l = (st : Closing) → IsAtStart st l.store (state_of l.sets) l.codes l.values.last → IsLeastMoved st (take l.signal-index l.changed) l.found
