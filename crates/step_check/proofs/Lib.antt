@@ -1,4 +1,0 @@
-pub mod Lists
-pub mod Moved
-pub mod Checked
-pub mod Fits
