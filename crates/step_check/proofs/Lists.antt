@@ -1,9 +1,10 @@
 -- Members of the lists of signals that are checked.
-use Rattle.std.proofs.Common.{◌≡◌, ◌⊎◌, inl, inr, ℕ, zero, suc, ◌+◌, ◌<◌, ◌^◌, ◌==◌, ◌&&◌, Bool, true, false, not, ◌++◌, List, [], ◌∷◌, length, map, Option, refl, sym, ap, subst, ◌∙◌, arith}
+use Rattle.std.proofs.Common.{◌≡◌, ◌⊎◌, inl, inr, ℕ, zero, suc, ◌+◌, ◌<◌, ◌≤◌, ◌^◌, ◌==◌, ◌&&◌, Bool, true, false, not, ◌++◌, List, [], ◌∷◌, length, map, Option, refl, sym, ap, subst, ◌∙◌, arith}
 use Rattle.std.specs.Prelude.{flat_map, if◌then◌else◌}
 use Rattle.std.specs.List.{All, filter, list_any, range_with_len}
-use Rattle.std.proofs.lemmas.Bool.{and_from, and_parts, both_ways, cases_eq, eq-eqb, eqb-true, false≢true}
+use Rattle.std.proofs.lemmas.Bool.{and_from, and_parts, both_ways, cases_eq, cases_lt, eq-eqb, eqb-true, false≢true}
 use Rattle.std.proofs.lemmas.Bool.Decides.{nat_tests}
+use Rattle.std.proofs.lemmas.List.{get_or_past}
 use Rattle.std.proofs.lemmas.List.Concat.{flat_map-cons}
 use Rattle.std.proofs.lemmas.List.Elements.{All-head, All-tail}
 use Rattle.std.proofs.lemmas.Nat.{pow_pos}
@@ -12,13 +13,14 @@ use Rattle.four_state.specs.Masks.{is_set}
 use Rattle.four_state.proofs.Places.{is_set-zero, same_from_places}
 use Rattle.design_model.specs.Design.{Design, In, cell, signal_at}
 use Rattle.dump_check.specs.Checks.{last_of_each}
+use Rattle.index_sets.specs.Rows.{row_at}
 use Rattle.process_order.proofs.Distinct.{in_either, in_left, in_right}
 use Rattle.process_targets.specs.Rows.{IsInside}
 use Rattle.process_targets.specs.Targets.{row_has}
 use Rattle.process_targets.specs.declared.bits.Bits.{Bits}
 use Rattle.replay_model.proofs.Bits.{any_in, in_any, none_in}
 use Rattle.step_values.specs.Loose.{has_code}
-use Rattle.step_check.specs.Checks.{checked, is_checked}
+use Rattle.step_check.specs.Checks.{AreCheckRows, checked, is_checked}
 
 pub all_in : {A : Type 0} (P : A → Type 0) (xs : List A) (x : A) → All P xs → In x xs → P x
 all_in P [] x all i = absurd i
@@ -120,3 +122,15 @@ checked_has d codes row s inside i =
     let both = and_parts (has_code codes b.0.signal) (not (b.0.mask == 0)) b.3 in
     let place = some_place b.0.mask (signal_at d b.0.signal).width (all_in (IsInside d) row b.0 inside b.1).1 both.1 in
     (sym (ap (has_code codes) b.2) ∙ both.0, (cell b.0.signal place.0, b.2, in_any _ row b.0 b.1 (and_from (b.0.signal == b.0.signal) (is_set b.0.mask place.0) (eq-eqb b.0.signal b.0.signal refl) place.1)))
+
+-- ---- the rows
+
+-- rows that have a list for each process have one for each number
+pub all_rows : (codes : List (Option ℕ)) (targets : List (List Bits)) (rows : List (List ℕ)) (n : ℕ) → length rows ≡ length targets → length targets ≤ n → ((p : ℕ) → p < n → row_at rows p ≡ checked codes (row_at targets p)) → AreCheckRows codes targets rows
+all_rows codes targets rows n count all each = record {
+  count = count;
+  each = λ p. elim (cases_lt p n) [
+    | inl l ↦ each p l
+    | inr past ↦ get_or_past rows p [] (omega (arith, past, count, all)) ∙ sym (ap (checked codes) (get_or_past targets p [] (omega (arith, past, all))))
+  ];
+}

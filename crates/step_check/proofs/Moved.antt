@@ -39,7 +39,7 @@ module _ (d : Design) (h : Habit) (dump : BoundDump) (run : Runs) (tables : Tabl
 
   level : (x p : ℕ) → MayWake (machine d) (told_at dump (suc t)) (IsSingleAt d dump (suc t)) x p → is_level (process_at d p) x ≡ true
   level x p (inl l) = l
-  level x p (inr (c, same, edge, lists, single)) = absurd (no_edge (process_at d p) edge c (other p) lists)
+  level x p (inr w) = absurd (no_edge (process_at d p) w.2.0 w.0 (other p) w.2.1)
 
   -- a process that watches something is one of the design
   listed : (x p : ℕ) → is_level (process_at d p) x ≡ true → In p (tables.order ++ tables.last)
