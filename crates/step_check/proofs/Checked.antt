@@ -1,12 +1,12 @@
 -- Whether a step is contradicted, by what was made of the signals that are checked.
-use Rattle.std.proofs.Common.{◌≡◌, ◌⊎◌, inl, inr, ℕ, ◌+◌, ◌<◌, Bool, true, false, not, ◌&&◌, ◌++◌, List, [], ◌∷◌, length, Option, Some, None, refl, sym, ap, ap₂, subst, ◌∙◌, arith}
-use Rattle.std.specs.Prelude.{flat_map, nat_lt, slice_index_or}
+use Rattle.std.proofs.Common.{◌≡◌, ◌⊎◌, inl, inr, ℕ, ◌+◌, ◌<◌, true, false, not, ◌++◌, List, ◌∷◌, length, Option, Some, None, refl, sym, ap, ap₂, subst, ◌∙◌, arith}
+use Rattle.std.specs.Prelude.{flat_map, nat_lt}
 use Rattle.std.specs.List.{All}
 use Rattle.std.proofs.lemmas.Bool.{and_from, and_parts, both_ways, cases_Bool, false_from_ne_true, false≢true}
 use Rattle.std.proofs.lemmas.Bool.Decides.{nat_tests}
 use Rattle.std.proofs.lemmas.List.{get_or_default}
 use Rattle.event_machine.specs.Cell.{Cell}
-use Rattle.four_state.specs.Vector.{Vector, same_bit}
+use Rattle.four_state.specs.Vector.{Vector}
 use Rattle.four_state.specs.declared.bit.Bit.{Bit}
 use Rattle.known_state.specs.Partly.{Partly, allows_bit, allows_bits}
 use Rattle.design_model.specs.Design.{In, body_at, cell, signal_at, signal_bits}
@@ -21,8 +21,7 @@ use Rattle.process_order.proofs.Distinct.{in_right}
 use Rattle.process_targets.specs.Targets.{row_has}
 use Rattle.process_targets.specs.declared.bits.Bits.{Bits}
 use Rattle.replay_model.specs.Step.{Closing, all_run, contradicts, is_dumped, is_touched, known_bits, surely_differ}
-use Rattle.step_values.specs.Loose.{has_code}
-use Rattle.step_values.specs.Vectors.{StepVectors, vector_at}
+use Rattle.step_values.specs.Vectors.{StepVectors}
 use Rattle.step_values.proofs.Dumps.{bits_in}
 use Rattle.still_check.proofs.Bits.{allowed, differ_of, differs}
 use Rattle.step_changes.proofs.Found.{code_of}

@@ -1,5 +1,5 @@
 -- What was made of the signals that are checked is as wide as what the dump says.
-use Rattle.std.proofs.Common.{◌≡◌, ◌∙◌, ◌<◌, ℕ, List, [], ◌∷◌, length, get_or, Option, Some, None, sym, ap, arith}
+use Rattle.std.proofs.Common.{◌∙◌, ◌<◌, ℕ, List, length, get_or, Option, sym, ap, arith}
 use Rattle.std.specs.Prelude.{flat_map}
 use Rattle.std.specs.List.{All, Contains}
 use Rattle.std.proofs.lemmas.List.{get_or_default}
@@ -8,7 +8,7 @@ use Rattle.event_machine.specs.Cell.{Values}
 use Rattle.four_state.specs.Vector.{Vector}
 use Rattle.four_state.specs.declared.bit.Bit.{Bit}
 use Rattle.known_state.specs.Partly.{Partly}
-use Rattle.design_model.specs.Design.{Design, In}
+use Rattle.design_model.specs.Design.{Design}
 use Rattle.dump_check.specs.Checks.{FitsAt, last_of_each, no_value as nothing_made}
 use Rattle.index_sets.specs.Rows.{row_at}
 use Rattle.process_order.proofs.Distinct.{contains_in, in_contains}

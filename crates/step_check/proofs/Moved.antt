@@ -1,5 +1,5 @@
 -- What may move is an input, or a target of a process that watches something that may move.
-use Rattle.std.proofs.Common.{◌≡◌, ◌⊎◌, inl, inr, ℕ, suc, ◌<◌, Bool, true, false, ◌&&◌, ◌++◌, List, [], ◌∷◌, length, refl, sym, ap, subst, ◌∙◌}
+use Rattle.std.proofs.Common.{◌≡◌, ◌⊎◌, inl, inr, ℕ, suc, true, ◌++◌, [], length, refl, sym, ap, ◌∙◌}
 use Rattle.std.specs.List.{list_any}
 use Rattle.std.proofs.lemmas.Bool.{and_parts, cases_lt, false≢true}
 use Rattle.std.proofs.lemmas.List.{get_or_past}
@@ -9,22 +9,20 @@ use Rattle.event_machine.specs.Machine.{IsTarget}
 use Rattle.event_machine.specs.MayMove.{MayWake, of_input, of_target}
 use Rattle.design_model.specs.Design.{Design, In, IsClocked, body_at, no_process, process_at, signal_at}
 use Rattle.design_model.specs.Lawful.{IsLawfulDesign}
-use Rattle.design_model.specs.Machine.{is_level, lists_edge, machine}
+use Rattle.design_model.specs.Machine.{is_level, machine}
 use Rattle.design_model.specs.MayMove.{IsSingleAt, MayMoveAt, told_at}
 use Rattle.design_model.specs.Mentions.{blocking_target}
 use Rattle.design_model.specs.Shows.{BoundDump}
-use Rattle.design_model.specs.Tree.{Process, assign, clocked, comb}
 use Rattle.body_replay.specs.Runs.{Runs}
 use Rattle.process_order.proofs.Distinct.{in_left, in_right}
 use Rattle.process_targets.proofs.Settled.{settled_law}
-use Rattle.replay_model.specs.Laws.{closing_at}
 use Rattle.replay_model.specs.Sets.{AreSets, Sets}
 use Rattle.replay_model.specs.Step.{Replay}
 use Rattle.replay_model.specs.Tables.{AreTables, Tables}
 use Rattle.replay_model.proofs.Bits.{in_any}
 use Rattle.replay_model.proofs.Targets.{queues_assigns, queues_from}
 use Rattle.step_changes.proofs.Woken.{no_edge, none_clocked}
-use Rattle.step_check.specs.Laws.{AreMoved, MovesLaw}
+use Rattle.step_check.specs.Laws.{MovesLaw}
 
 module _ (d : Design) (h : Habit) (dump : BoundDump) (run : Runs) (tables : Tables) (sets : Sets) (t : ℕ) (a : Replay) (lawful : IsLawfulDesign d) (tabled : AreTables d dump.bound tables) (none : tables.clocked ≡ []) (are : AreSets d h dump (suc t) sets) where
   other : (p : ℕ) → IsClocked (process_at d p) → ⊥
