@@ -1,0 +1,14 @@
+//! The check of a step against the dump, once its processes have run: in a design without Clocked processes.
+//!
+//! [`check_rows`] makes once the lists of signals that each process has the step checked for. [`check`] finds the first signal of
+//! which the step made something else than what the dump says. Where there is none, nothing contradicts the step
+//! ([`agree_law`]), and where there is one, it does ([`differ_law`]); [`moves_law`] gives what both ask of the sets.
+#![tactic(auto)]
+
+mod dump;
+mod laws;
+mod rows;
+
+pub use dump::check;
+pub use laws::{agree_law, differ_law, moves_law};
+pub use rows::check_rows;
