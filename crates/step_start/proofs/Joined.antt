@@ -60,16 +60,16 @@ module _ (due : Due) (x : StepTables) (before w : WakeState) (values : Values) (
   unchanged = still_known due.design due.dump.bound due.replay.kept x.codes.items values.closed values.last (due.dump.values due.time) (due.dump.values (suc due.time)) changed is.changes.bound old is.changes.new (are_listed x.codes.items values changed are) is.known
 
   bound : KnowsBound (step_of due w)
-  bound c has = (due.dump.values due.time c, is.known c has)
+  bound c dumped = (due.dump.values due.time c, is.known c dumped)
 
   inputs : InputsStay (step_of due w)
-  inputs c input has still = is.known c has ∙ go (same_bit (due.dump.values due.time c) (due.dump.values (suc due.time) c)) refl
+  inputs c input dumped still = is.known c dumped ∙ go (same_bit (due.dump.values due.time c) (due.dump.values (suc due.time) c)) refl
     where
       go : (t : Bool) → same_bit (due.dump.values due.time c) (due.dump.values (suc due.time) c) ≡ t → Some (due.dump.values due.time c) ≡ Some (due.dump.values (suc due.time) c)
       go true e = ap Some (same_bit_is _ _ e)
       go false e =
-          let parts = and_parts (due.dump.bound c.thing) _ has in
-          let apart = λ same. both_ways _ e (subst (λ b. same_bit (due.dump.values due.time c) b ≡ true) same (same_bit_self (due.dump.values due.time c))) in
+          let parts = and_parts (due.dump.bound c.thing) _ dumped in
+          let apart : due.dump.values due.time c ≡ due.dump.values (suc due.time) c → ⊥ = λ same. both_ways _ e (subst (λ b. same_bit (due.dump.values due.time c) b ≡ true) same (same_bit_self (due.dump.values due.time c))) in
           absurd (both_ways _ still ((sets.moves c.thing).1 (of_input c (and_from (signal_at due.design c.thing).input _ input parts.1, λ told same. apart (ap (λ t. due.dump.values t c) (sym back) ∙ same)))))
 
   -- where no signal has moved that may not
@@ -98,7 +98,7 @@ module _ (due : Due) (x : StepTables) (before w : WakeState) (values : Values) (
 
     pub parts : (after : Store) (v : StepVectors) → HasValues (step_of due w) (settle_start (step_of due w) (clocked_run (step_of due w))) after v
         → AtStep (step_of due w) due.points (settle_start (step_of due w) (clocked_run (step_of due w))) after v w due.acted due.marks
-    parts after v has = starts (step_of due w) due.points store after v w due.acted due.marks due.seen is.unclocked moving still (λ s. refl) is.rest has
+    parts after v known = starts (step_of due w) due.points store after v w due.acted due.marks due.seen is.unclocked moving still (λ s. refl) is.rest known
 
   -- where one has
   pub against : (d : Difference) → In d.signal changed → IsMoved (step_of due w) d → (c : Cell) × (c.thing ≡ d.signal) × (contradicts (step_of due w) c ≡ true)
