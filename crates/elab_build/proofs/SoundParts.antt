@@ -70,21 +70,21 @@ module _ (g : Scope) where
 
   -- a number
   number_part : (e : Expr) → none (number_faults g e (faults g e)) ≡ true → names_faulty g e ≡ false → IsSound g e
-  number_part e f n = ((number_clean g e (faults g e) f n).1, n)
+  number_part e f n = ((number_clean g e f n).1, n)
 
   pub sound_part : (p : Place) (of h l : Expr) (b : Place) → IsSound g (part_select p of h l b) → IsSound g of × (IsSound g h × IsSound g l)
   sound_part p of h l b s =
       let f = both_none (faults g of) _ s.0 in
       let q = four_none (select_faults (selected g of)) (bound_faults g b h (faults g h)) (bound_faults g b l (faults g l)) _ f.1 in
       let n = neither_of_three is_bad (identifiers of) (identifiers h) (identifiers l) s.1 in
-      ((f.0, n.0), (number_part h (bound_clean g b h (faults g h) q.1 n.1).0 n.1, number_part l (bound_clean g b l (faults g l) q.2 n.2).0 n.2))
+      ((f.0, n.0), (number_part h (bound_clean g b h q.1 n.1).0 n.1, number_part l (bound_clean g b l q.2 n.2).0 n.2))
 
   pub sound_slide : (p : Place) (of b w : Expr) (up : Bool) (k : Place) → IsSound g (indexed_part p of b w up k) → IsSound g of × (IsSound g b × IsSound g w)
   sound_slide p of b w up k s =
       let f = both_none (faults g of) _ s.0 in
       let q = four_none (select_faults (selected g of)) (faults g b) (width_faults g k w (faults g w)) _ f.1 in
       let n = neither_of_three is_bad (identifiers of) (identifiers b) (identifiers w) s.1 in
-      ((f.0, n.0), ((q.1, n.1), number_part w (width_clean g k w (faults g w) q.2 n.2).0 n.2))
+      ((f.0, n.0), ((q.1, n.1), number_part w (width_clean g k w q.2 n.2).0 n.2))
 
   pub sound_word : (p : Place) (of i : Expr) → is_memory_name g of ≡ true → IsSound g (bit_select p of i) → IsSound g i
   sound_word p of i memory s =

@@ -51,12 +51,12 @@ or_none (Some f) b e = absurd cc
 
 -- a width without a fault is from 1 to 128
 pub clean_width : (g : Scope) (k : Place) (w : Expr) → none (width_faults g k w (faults g w)) ≡ true → names_faulty g w ≡ false → IsWidth (count_of (number_of (names g) w))
-clean_width g k w f n = width_within (count_of (number_of (names g) w)) k (or_none _ _ (width_clean g k w (faults g w) f n).1)
+clean_width g k w f n = width_within (count_of (number_of (names g) w)) k (or_none _ _ (width_clean g k w f n).1)
 
 -- and its constant is told
 pub told_width : (g : Scope) (k : Place) (w : Expr) → none (width_faults g k w (faults g w)) ≡ true → names_faulty g w ≡ false → told (constant_answer (names g) w) ≡ Ok (constant g w)
 told_width g k w f n =
-    let number = number_clean g w (faults g w) (width_clean g k w (faults g w) f n).0 n in
+    let number = number_clean g w (width_clean g k w f n).0 n in
     rw (constant_none g w number.0 number.1) refl
 
 same_value : (r : Result Vector ConstFault) (x y : Vector) → r ≡ Ok x → r ≡ Ok y → x ≡ y
@@ -226,8 +226,8 @@ module _ (g : Scope) where
       let whole = clear_sound clear (part_select p of h l b) (sound_leaf mode (look_up g (base_name of).name) (part_select p of h l b) f known) in
       let inner = (both_none (faults g of) _ whole.0).1 in
       let parts = four_none (select_faults (selected g of)) (bound_faults g b h (faults g h)) (bound_faults g b l (faults g l)) _ inner in
-      let number = (bound_clean g b h (faults g h) parts.1 (clear_names clear h)).0 in
-      let constant = (number_clean g h (faults g h) number (clear_names clear h)).0 in
+      let number = (bound_clean g b h parts.1 (clear_names clear h)).0 in
+      let constant = (number_clean g h number (clear_names clear h)).0 in
       (whole, ((sound_part g p of h l b whole).1.1, (of_nodes mode (part_select p of h l b) of f known (range_part p of h l b) parts.0, constant_nodes h constant)))
 
   -- the base of an indexed part, its width, and that nothing else in it is counted
@@ -237,8 +237,8 @@ module _ (g : Scope) where
       let whole = clear_sound clear (indexed_part p of b w up k) (sound_leaf mode (look_up g (base_name of).name) (indexed_part p of b w up k) f known) in
       let inner = (both_none (faults g of) _ whole.0).1 in
       let parts = four_none (select_faults (selected g of)) (faults g b) (width_faults g k w (faults g w)) _ inner in
-      let number = (width_clean g k w (faults g w) parts.2 (clear_names clear w)).0 in
-      let constant = (number_clean g w (faults g w) number (clear_names clear w)).0 in
+      let number = (width_clean g k w parts.2 (clear_names clear w)).0 in
+      let constant = (number_clean g w number (clear_names clear w)).0 in
       ((sound_slide g p of b w up k whole).1.0, (parts.2, (of_nodes mode (indexed_part p of b w up k) of f known (slide_part p of b w up k) parts.0, constant_nodes w constant)))
 
   each_target : (mode : Mode) (es : Exprs) → none (all_target_faults g mode es) ≡ true → EachSoundTarget g es

@@ -32,11 +32,6 @@ with_true : (a : Bool) → (a && true) ≡ a
 with_true true = refl
 with_true false = refl
 
--- what is told after other faults, where the test holds
-pub goes_both : (t u v : Tally) (s r : Bool) (xs ys : List Fault) (test : Bool) → u ≡ after_faults t xs → s ≡ none xs → v ≡ after_faults u ys → r ≡ none ys → test ≡ true →
-    (v ≡ after_faults t (xs ++ (if test then ys else []))) × ((s && r) ≡ none (xs ++ (if test then ys else [])))
-goes_both t u v s r xs ys test p q a b e = rw e (met_then t u v xs ys p a, none_then_both s r xs ys q b)
-
 -- one fault by a second test, where the first holds
 pub one_goes_on : (t u v : Tally) (s r : Bool) (xs : List Fault) (f : Fault) (test bad : Bool) → u ≡ after_faults t xs → s ≡ none xs → s ≡ true → v ≡ after_faults u (fault_if bad f) → r ≡ none (fault_if bad f) → test ≡ true →
     (v ≡ after_faults t (xs ++ fault_if (test && bad) f)) × (r ≡ none (xs ++ fault_if (test && bad) f))
@@ -88,8 +83,8 @@ slid_by_base base constant bs ws p q r = rw (p, q, r) (with_true ((base && true)
 -- the width of an indexed part, where it has no fault
 pub width_known : (g : Scope) (p : Place) (e : Expr) → names_constants g e ≡ true → none (width_faults g p e (faults g e)) ≡ true → (none (faults g e) ≡ true) × IsWidth (natural_number g e)
 width_known g p e constant sound =
-    let width = width_clean g p e (faults g e) sound (constant_not_faulty g e constant) in
-    let number = number_clean g e (faults g e) width.0 (constant_not_faulty g e constant) in
+    let width = width_clean g p e sound (constant_not_faulty g e constant) in
+    let number = number_clean g e width.0 (constant_not_faulty g e constant) in
     (number.1, within (is_below_one (number_of (names g) e)) (natural_number g e) width.1)
   where
     tests : (a b c : Bool) → or_else (const.fault_if a BadRange p) (or_else (const.fault_if b BadRange p) (const.fault_if c TooWide p)) ≡ None → (b ≡ false) × (c ≡ false)

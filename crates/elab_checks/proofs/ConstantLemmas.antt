@@ -1,5 +1,5 @@
 -- The faults of expressions that must be constant, in the order in which they are told.
-use Rattle.std.proofs.Common.{◌≡◌, refl, ap, Bool, true, false, ◌&&◌, if◌then◌else◌, List, [], ◌∷◌, ◌++◌, is_none, Option, Some, None}
+use Rattle.std.proofs.Common.{◌≡◌, refl, ap, Bool, true, false, ◌&&◌, if◌then◌else◌, List, [], ◌∷◌, ◌++◌, Option, Some, None}
 use Rattle.std.specs.List.{list_all, list_any}
 use Rattle.verilog_tree.specs.Tree.{Expr}
 use Rattle.verilog_tree.specs.declared.item.Named.{Named}
@@ -10,31 +10,24 @@ use Rattle.flat_design.specs.Scope.{Scope, look_up, names_constants, is_constant
 use Rattle.flat_design.specs.declared.entry.Entry.{Entry}
 use Rattle.flat_design.specs.declared.entry.Entry.TheVariants.{Constant as a_constant, Turn as a_turn}
 use Rattle.elab_scope.specs.Tally.{Tally, after_faults}
-use Rattle.elab_checks.proofs.ExpressionLemmas.{missing, met_then, none_then_both}
+use Rattle.elab_checks.proofs.ExpressionLemmas.{met_then, none_then_both}
 use Rattle.flat_design.proofs.NoConstFaults.{both_true}
 
--- constants are declared
-known_constant : (o : Option Entry) → is_constant_entry o ≡ true → (is_none o ≡ false) × (is_no_constant o ≡ false)
+known_constant : (o : Option Entry) → is_constant_entry o ≡ true → is_no_constant o ≡ false
 known_constant None a = absurd cc
-known_constant (Some (a_constant v)) a = (refl, refl)
-known_constant (Some (a_turn v)) a = (refl, refl)
+known_constant (Some (a_constant v)) a = refl
+known_constant (Some (a_turn v)) a = refl
 known_constant (Some _) a = absurd cc
-
-none_missing : (g : Scope) (xs : List Named) → list_all (λ x. is_constant_entry (look_up g x.name)) xs ≡ true → missing g xs ≡ []
-none_missing g [] a = refl
-none_missing g (x ∷ xs) a =
-    let p = both_true (is_constant_entry (look_up g x.name)) (list_all (λ x. is_constant_entry (look_up g x.name)) xs) a in
-    rw ((known_constant (look_up g x.name) p.0).0, none_missing g xs p.1) refl
 
 none_other : (g : Scope) (xs : List Named) → list_all (λ x. is_constant_entry (look_up g x.name)) xs ≡ true → list_any (λ x. is_no_constant (look_up g x.name)) xs ≡ false
 none_other g [] a = refl
 none_other g (x ∷ xs) a =
     let p = both_true (is_constant_entry (look_up g x.name)) (list_all (λ x. is_constant_entry (look_up g x.name)) xs) a in
-    rw ((known_constant (look_up g x.name) p.0).1, none_other g xs p.1) refl
+    rw (known_constant (look_up g x.name) p.0, none_other g xs p.1) refl
 
 -- the faults of what names constants alone
 pub constant_faults_are : (g : Scope) (e : Expr) (fs : List Fault) → names_constants g e ≡ true → constant_faults g e fs ≡ fs
-constant_faults_are g e fs a = rw (none_missing g (identifiers e) a, none_other g (identifiers e) a, a) refl
+constant_faults_are g e fs a = rw (none_other g (identifiers e) a) refl
 
 -- it is sound where it has no fault as a constant
 pub sound_is : (g : Scope) (e : Expr) (fs : List Fault) → is_sound_constant g e fs ≡ (none (constant_faults g e fs) && names_constants g e)

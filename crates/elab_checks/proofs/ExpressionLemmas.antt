@@ -1,5 +1,5 @@
 -- The faults of expressions in the order in which they are told.
-use Rattle.std.proofs.Common.{◌≡◌, ◌∙◌, refl, sym, ap, ℕ, Bool, true, false, ◌&&◌, ◌||◌, if◌then◌else◌, List, [], ◌∷◌, ◌++◌, flat_map, is_none, None, Result, Ok, Err, ◌<◌, ◌+◌, ◌≤◌, length, drop, drop-cons, get_or, add-one, arith}
+use Rattle.std.proofs.Common.{◌≡◌, ◌∙◌, refl, sym, ap, ℕ, Bool, true, false, ◌&&◌, ◌||◌, if◌then◌else◌, List, [], ◌∷◌, ◌++◌, None, Result, Ok, Err, ◌<◌, ◌+◌, ◌≤◌, length, drop, drop-cons, get_or, add-one, arith}
 use Rattle.std.specs.List.{list_any}
 use Rattle.std.proofs.lemmas.List.{map-append}
 use Rattle.std.proofs.lemmas.Grind.{flat_map-append}
@@ -11,7 +11,7 @@ use Rattle.elab_const.specs.Calls.{told}
 use Rattle.elab_const.specs.Faults.{constant_answer, shape_answer}
 use Rattle.flat_design.specs.Bodies.{Met, met_faults, met_fault}
 use Rattle.elab_const.specs.Meaning.{parts_of}
-use Rattle.flat_design.specs.Expressions.{faults, all_faults, undeclared, index_faults, bound_faults, Selected, is_inside, some_offset}
+use Rattle.flat_design.specs.Expressions.{faults, all_faults, index_faults, bound_faults, Selected, is_inside, some_offset}
 use Rattle.flat_design.specs.Expressions as spec
 use Rattle.cov_host.specs.declared.place.Place.{Place}
 use Rattle.elab_const.specs.Faults.{is_bad_bound}
@@ -20,9 +20,7 @@ use Rattle.elab_const.specs.Scope as const
 use Rattle.elab_const.specs.declared.fault.ConstKind.TheVariants.{BadRange}
 use Rattle.elab_checks.specs.Selected as inside
 use Rattle.elab_checks.proofs.RangeLemmas.{bit_inside, slide_inside}
-use Rattle.flat_design.specs.Fault.{Fault, fault_at, fault_if, none}
-use Rattle.flat_design.specs.declared.fault.ElabKind.TheVariants.{Undeclared}
-use Rattle.verilog_tree.specs.declared.item.Named.{Named}
+use Rattle.flat_design.specs.Fault.{Fault, none}
 use Rattle.flat_design.specs.Identifiers.{identifiers, all_identifiers}
 use Rattle.flat_design.specs.Scope as of
 use Rattle.flat_design.specs.Scope.{Scope, look_up, names, is_faulty_entry, names_constants, names_faulty}
@@ -81,26 +79,6 @@ width_next g e es all w n k total is whole here more = let h = rw is at whole in
 
 pub ruleset met_in_turn = (after_append, none_append, flat_map-append)
 
--- the names of a list without declaration
-abbrev pub missing : Scope → List Named → List Fault
-missing g xs = flat_map (λ x. fault_if (is_none (look_up g x.name)) (fault_at Undeclared x)) xs
-
-pub missing_append : (g : Scope) (xs ys : List Named) → missing g (xs ++ ys) ≡ missing g xs ++ missing g ys
-missing_append g xs ys = flat_map-append (λ x. fault_if (is_none (look_up g x.name)) (fault_at Undeclared x)) xs ys
-
-pub missing_then : (g : Scope) (t u v : Tally) (xs ys : List Named) → u ≡ after_faults t (missing g xs) → v ≡ after_faults u (missing g ys) → v ≡ after_faults t (missing g (xs ++ ys))
-missing_then g t u v xs ys p q = rw (missing_append g xs ys) (met_then t u v (missing g xs) (missing g ys) p q)
-
-pub missing_both : (g : Scope) (a b : Bool) (xs ys : List Named) → a ≡ none (missing g xs) → b ≡ none (missing g ys) → (a && b) ≡ none (missing g (xs ++ ys))
-missing_both g a b xs ys p q = rw (missing_append g xs ys) (none_then_both a b (missing g xs) (missing g ys) p q)
-
--- two expressions, and a third
-pub missing_then_more : (g : Scope) (t u v : Tally) (xs ys zs : List Named) → u ≡ after_faults t (missing g xs ++ missing g ys) → v ≡ after_faults u (missing g zs) → v ≡ after_faults t (missing g (xs ++ ys ++ zs))
-missing_then_more g t u v xs ys zs p q = missing_then g t u v (xs ++ ys) zs (rw (missing_append g xs ys) p) q
-
-pub missing_both_more : (g : Scope) (a b : Bool) (xs ys zs : List Named) → a ≡ none (missing g xs ++ missing g ys) → b ≡ none (missing g zs) → (a && b) ≡ none (missing g (xs ++ ys ++ zs))
-missing_both_more g a b xs ys zs p q = missing_both g a b (xs ++ ys) zs (rw (missing_append g xs ys) p) q
-
 -- one more of a list of faults
 pub met_next : (t u w : Tally) (xs ys all : List Fault) → all ≡ xs ++ ys → after_faults t all ≡ w → u ≡ after_faults t xs → after_faults u ys ≡ w
 met_next t u w xs ys all is whole here = rw here (sym (after_append t xs ys) ∙ ap (after_faults t) (sym is) ∙ whole)
@@ -134,8 +112,8 @@ bounds_sound g p h l a b e =
   where
     one : (x : Expr) → names_constants g x ≡ true → none (bound_faults g p x (faults g x)) ≡ true → (none (faults g x) ≡ true) × (is_bad_bound (number_of (names g) x) ≡ false)
     one x a e =
-        let clean = bound_clean g p x (faults g x) e (constant_not_faulty g x a) in
-        let number = number_clean g x (faults g x) clean.0 (constant_not_faulty g x a) in
+        let clean = bound_clean g p x e (constant_not_faulty g x a) in
+        let number = number_clean g x clean.0 (constant_not_faulty g x a) in
         (number.1, no_bad (is_bad_bound (number_of (names g) x)) p clean.1)
 
 -- what counts where the test holds
@@ -159,4 +137,4 @@ none_three a b c xs ys zs p q r = and_assoc a b c ∙ none_then_both a (b && c) 
 
 -- a number without a fault
 pub number_known : (g : Scope) (e : Expr) → names_constants g e ≡ true → none (spec.number_faults g e (faults g e)) ≡ true → none (faults g e) ≡ true
-number_known g e a b = (number_clean g e (faults g e) b (constant_not_faulty g e a)).1
+number_known g e a b = (number_clean g e b (constant_not_faulty g e a)).1

@@ -154,8 +154,8 @@ module _ (g : Scope) (s : SignalEntry) where
   sound_part p of h l k e f n =
       let q = four_none (select_faults (selected g of)) (bound_faults g k h (faults g h)) (bound_faults g k l (faults g l)) _ (both_none (faults g of) _ f).1 in
       let c = neither_of_three (λ x. is_faulty_entry (look_up g x.name)) (identifiers of) (identifiers h) (identifiers l) n in
-      let hc = (number_clean g h (faults g h) (bound_clean g k h (faults g h) q.1 c.1).0 c.1).0 in
-      let lc = (number_clean g l (faults g l) (bound_clean g k l (faults g l) q.2 c.2).0 c.2).0 in
+      let hc = (number_clean g h (bound_clean g k h q.1 c.1).0 c.1).0 in
+      let lc = (number_clean g l (bound_clean g k l q.2 c.2).0 c.2).0 in
       let both = none_both (bound_faults g k h (faults g h)) (bound_faults g k l (faults g l)) q.1 q.2 in
       let bounds = bounds_sound g k h l hc lc both in
       let b = selected_bits g of s e q.0 in
@@ -182,7 +182,7 @@ module _ (g : Scope) (s : SignalEntry) where
   sound_slide p of b w up k e f n =
       let q = four_none (select_faults (selected g of)) (faults g b) (width_faults g k w (faults g w)) _ (both_none (faults g of) _ f).1 in
       let c = neither_of_three (λ x. is_faulty_entry (look_up g x.name)) (identifiers of) (identifiers b) (identifiers w) n in
-      let wc = (number_clean g w (faults g w) (width_clean g k w (faults g w) q.2 c.2).0 c.2).0 in
+      let wc = (number_clean g w (width_clean g k w q.2 c.2).0 c.2).0 in
       let known = width_known g k w wc q.2 in
       let bits = selected_bits g of s e q.0 in
       record {

@@ -16,7 +16,6 @@ ghost use Rattle.verilog_tree.specs.View.{expr_view, exprs_view};
 use crate::indexes::{check_bounds, check_index, check_slid};
 use crate::selected::{Selected, memory_named, selection};
 use crate::sizes::{check_bound_number, check_copies, check_known, check_size, check_width_number};
-use crate::undeclared::check_declared;
 use crate::values::{number, one_names_faulty, total_width};
 use cov_host::Place;
 use elab_const::ConstKind;
@@ -143,17 +142,14 @@ fn check_slide<'a>(
     before & check_slid(scope, bits, base, width, up, tally)
 }
 
-/// Reports the faults of an expression that must be constant (4.1), and says whether it has no fault.
+/// Reports the faults of an expression that must be constant (4.1), those that it has as any expression among them, and
+/// says whether it has no fault.
 #[cycle(check)]
 pub fn check_constant<'a>(scope: &Scope, expr: &'a Expr, tally: &mut Tally<'a>) -> bool
     ensures met { tally.new ≡ after_faults tally.old (spec.constant_faults (binding_of scope.now) (expr_view expr.now) (faults (binding_of scope.now) (expr_view expr.now))) }
     ensures sound { result ≡ none (spec.constant_faults (binding_of scope.now) (expr_view expr.now) (faults (binding_of scope.now) (expr_view expr.now))) }
 {
-    let known = check_declared(scope, expr, tally) & check_constancy(scope, expr, tally);
-    if !names_constants(scope, expr) {
-        return known;
-    }
-    known & check(scope, expr, tally)
+    check_constancy(scope, expr, tally) & check(scope, expr, tally)
 }
 
 /// Reports the faults of an expression that must be a constant number, and says whether it has no fault.

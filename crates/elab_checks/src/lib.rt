@@ -17,7 +17,6 @@ mod selected;
 mod sizes;
 mod statements;
 mod targets;
-mod undeclared;
 mod values;
 mod writings;
 

@@ -23,7 +23,7 @@ use Rattle.elab_declarations.proofs.BoundLemmas.{bound_within, bounds_of, is_sou
 number_within : (g : Scope) (p : Place) (e : Expr) → is_sound_bound g p e ≡ true → natural_number g e ≤ 1048575
 number_within g p e sound =
     let parts = both_true (none (bound_faults g p e (faults g e))) (not (names_faulty g e)) sound in
-    let good : is_bad_bound (number_of (names g) e) ≡ false = no_fault _ _ _ (bound_clean g p e (faults g e) parts.0 (not_true _ parts.1)).1 in
+    let good : is_bad_bound (number_of (names g) e) ≡ false = no_fault _ _ _ (bound_clean g p e parts.0 (not_true _ parts.1)).1 in
     let there = number_there (number_of (names g) e) good in
     let small : there.0 ≤ 1048575 = bound_within there.0 (ap is_bad_bound (sym there.1) ∙ good) in
     let P : ℕ → Type 0 = λ n. n ≤ 1048575 in

@@ -36,7 +36,7 @@ module _ (P : Option Expr → Bool) (label : Named) where
 
 -- the value of an override without a fault is a constant
 pub override_clean : (g : Scope) (v : Option Expr) (e : Expr) → v ≡ Some e → none (override_value_faults g v) ≡ true → value_names_faulty g v ≡ false → (names_constants g e ≡ true) × (none (faults g e) ≡ true)
-override_clean g v e is sound known = constant_clean g e (faults g e) (sym (ap (λ v. none (override_value_faults g v)) is) ∙ sound) (sym (ap (value_names_faulty g) is) ∙ known)
+override_clean g v e is sound known = constant_clean g e (sym (ap (λ v. none (override_value_faults g v)) is) ∙ sound) (sym (ap (value_names_faulty g) is) ∙ known)
 
 module _ (g : Scope) (label : Named) (m : Module) (cs : List Given) (xs : List Named) (found : List Connection) (names : xs ≡ free_names m) (made : found ≡ connections label xs cs) where
   -- the connections of the parameters that may be given another value

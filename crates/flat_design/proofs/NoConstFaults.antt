@@ -1,5 +1,5 @@
 -- An expression that has no fault, and names nothing that has one, has none of constants, bounds and widths.
-use Rattle.std.proofs.Common.{◌≡◌, ◌∙◌, refl, sym, ℕ, ◌*◌, nat_le, Bool, true, false, not, ◌&&◌, ◌||◌, if◌then◌else◌, List, [], ◌∷◌, ◌++◌, flat_map, is_none, Option, Some, None}
+use Rattle.std.proofs.Common.{◌≡◌, ◌∙◌, refl, sym, ℕ, ◌*◌, nat_le, Bool, true, false, not, ◌&&◌, ◌||◌, if◌then◌else◌, List, [], ◌∷◌, ◌++◌, is_some, Option, Some, None}
 use Rattle.std.specs.List.{list_all, list_any}
 use Rattle.std.proofs.lemmas.List.Folds.{list_any-append, list_all-append}
 use Rattle.cov_host.specs.declared.place.Place.{Place}
@@ -13,9 +13,8 @@ use Rattle.elab_const.specs.Meaning.{number_of, count_of, parts_of, part_width, 
 use Rattle.elab_const.specs.Scope as const_scope
 use Rattle.elab_const.specs.Scope.{unless, or_else, earlier}
 use Rattle.elab_const.specs.declared.fault.ConstKind.TheVariants.{NotConstant, BadRange}
-use Rattle.flat_design.specs.Expressions.{faults, all_faults, use_faults, Selected, selected, selected_of, selected_name, selected_word, select_faults, part_range_faults, bound_faults, width_faults, number_faults, constant_faults, undeclared, is_no_constant, names_no_constant, is_sound_constant, is_sound_number, bit_faults, word_faults, index_faults, joined_faults, replication_faults, size_faults}
-use Rattle.flat_design.specs.Fault.{Fault, fault_at, fault_if, of_constant, answer_faults, none}
-use Rattle.flat_design.specs.declared.fault.ElabKind.TheVariants.{Undeclared}
+use Rattle.flat_design.specs.Expressions.{faults, all_faults, use_faults, Selected, selected, selected_of, selected_name, selected_word, select_faults, part_range_faults, bound_faults, width_faults, number_faults, constant_faults, is_no_constant, names_no_constant, is_sound_constant, is_sound_number, bit_faults, word_faults, index_faults, joined_faults, replication_faults, size_faults}
+use Rattle.flat_design.specs.Fault.{Fault, fault_if, of_constant, answer_faults, none}
 use Rattle.flat_design.specs.Identifiers.{named, identifiers, all_identifiers, base_name}
 use Rattle.flat_design.specs.declared.entry.Entry.{Entry}
 use Rattle.flat_design.specs.declared.entry.Entry.TheVariants.{Constant as a_constant, Turn as a_turn, Signal as a_signal, Memory as a_memory, Faulty as a_faulty_one}
@@ -100,22 +99,110 @@ pub answer_none : {A : Type 0} (o : Option _) (x : A) → none (answer_faults (t
 answer_none None x e = refl
 answer_none (Some f) x e = absurd cc
 
--- an entry that is declared, is no constant's fault and has no fault, is a constant
-constant_if : (o : Option Entry) (f : Fault) → none (fault_if (is_none o) f) ≡ true → is_no_constant o ≡ false → is_faulty_entry o ≡ false → is_constant_entry o ≡ true
-constant_if None f a b c = absurd cc
-constant_if (Some (a_constant v)) f a b c = refl
-constant_if (Some (a_turn v)) f a b c = refl
-constant_if (Some a_faulty_one) f a b c = absurd cc
-constant_if (Some _) f a b c = absurd cc
+-- what stands before a select
+before_none : (g : Scope) (of : Expr) (i : Expr) (is : List Fault) → none (bit_faults g of (faults g of) i is) ≡ true → (none is ≡ true) × (is_memory_name g of ≡ false → none (faults g of) ≡ true)
+before_none g of i is a = go (is_memory_name g of) (look_up g (base_name of).name) refl a
+  where
+    go : (memory : Bool) (o : Option Entry) → memory ≡ memory → none (if memory then word_faults g o (base_name of) i is else faults g of ++ select_faults (selected g of) ++ is ++ index_faults g (selected g of) i is) ≡ true →
+        (none is ≡ true) × (memory ≡ false → none (faults g of) ≡ true)
+    go false o m a = let p = four_none (faults g of) (select_faults (selected g of)) is _ a in (p.2, λ e. p.0)
+    go true None m a = (a, λ e. absurd cc)
+    go true (Some (a_memory k)) m a = ((both_none is _ a).0, λ e. absurd cc)
+    go true (Some _) m a = (a, λ e. absurd cc)
 
-constants_if : (g : Scope) (xs : List Named) → none (flat_map (λ x. fault_if (is_none (look_up g x.name)) (fault_at Undeclared x)) xs) ≡ true →
+-- the name has a declaration
+abbrev declared : Scope → Named → Bool
+declared g x = is_some (look_up g x.name)
+
+memory_declared : (o : Option Entry) → is_memory_entry o ≡ true → (is_some o && true) ≡ true
+memory_declared None a = absurd cc
+memory_declared (Some e) a = refl
+
+memory_name_declared : (g : Scope) (of : Expr) → is_memory_name g of ≡ true → list_all (declared g) (identifiers of) ≡ true
+memory_name_declared g (identifier p x) a = memory_declared (look_up g x) a
+memory_name_declared g _ a = absurd cc
+
+selected_declared : (g : Scope) (of : Expr) → (is_memory_name g of ≡ false → list_all (declared g) (identifiers of) ≡ true) → list_all (declared g) (identifiers of) ≡ true
+selected_declared g of other = go (is_memory_name g of) (memory_name_declared g of) other
+  where
+    go : (b : Bool) → (b ≡ true → list_all (declared g) (identifiers of) ≡ true) → (b ≡ false → list_all (declared g) (identifiers of) ≡ true) → list_all (declared g) (identifiers of) ≡ true
+    go true p q = p refl
+    go false p q = q refl
+
+name_declared : (o : Option Entry) (x : Named) → none (use_faults o x) ≡ true → (is_some o && true) ≡ true
+name_declared None x a = absurd cc
+name_declared (Some e) x a = refl
+
+-- the names in both lists
+all_both : {X : Type 0} (p : X → Bool) (xs ys : List X) → list_all p xs ≡ true → list_all p ys ≡ true → list_all p (xs ++ ys) ≡ true
+all_both p xs ys a b = list_all-append p xs ys ∙ true_both _ _ a b
+
+-- the faults of a constant, and of one that must be a number, have those of the expression
+constant_part : (g : Scope) (e : Expr) (fs : List Fault) → none (constant_faults g e fs) ≡ true → none fs ≡ true
+constant_part g e fs a = (both_none (fault_if (names_no_constant g e) (of_constant NotConstant (place_of e))) fs a).1
+
+number_part : (g : Scope) (e : Expr) (fs : List Fault) → none (number_faults g e fs) ≡ true → none fs ≡ true
+number_part g e fs a = constant_part g e fs (both_none (constant_faults g e fs) _ a).0
+
+bound_part : (g : Scope) (p : Place) (e : Expr) (fs : List Fault) → none (bound_faults g p e fs) ≡ true → none fs ≡ true
+bound_part g p e fs a = number_part g e fs (both_none (number_faults g e fs) _ a).0
+
+width_part : (g : Scope) (p : Place) (e : Expr) (fs : List Fault) → none (width_faults g p e fs) ≡ true → none fs ≡ true
+width_part g p e fs a = number_part g e fs (both_none (number_faults g e fs) _ a).0
+
+-- all names of an expression without a fault are declared
+mutual
+  all_declared : (g : Scope) (e : Expr) → none (faults g e) ≡ true → list_all (declared g) (identifiers e) ≡ true
+  all_declared g (literal p v) a = refl
+  all_declared g (identifier p x) a = name_declared (look_up g x) (named x p) a
+  all_declared g (bit_select p of i) a =
+      let d = before_none g of i (faults g i) a in
+      all_both (declared g) (identifiers of) (identifiers i) (selected_declared g of (λ m. all_declared g of (d.1 m))) (all_declared g i d.0)
+  all_declared g (part_select p of h l k) a =
+      let d = both_none (faults g of) _ a in
+      let e = four_none (select_faults (selected g of)) (bound_faults g k h (faults g h)) (bound_faults g k l (faults g l)) _ d.1 in
+      all_both (declared g) (identifiers of ++ identifiers h) (identifiers l) (all_both (declared g) (identifiers of) (identifiers h) (all_declared g of d.0) (all_declared g h (bound_part g k h (faults g h) e.1))) (all_declared g l (bound_part g k l (faults g l) e.2))
+  all_declared g (indexed_part p of k w up q) a =
+      let d = both_none (faults g of) _ a in
+      let e = four_none (select_faults (selected g of)) (faults g k) (width_faults g q w (faults g w)) _ d.1 in
+      all_both (declared g) (identifiers of ++ identifiers k) (identifiers w) (all_both (declared g) (identifiers of) (identifiers k) (all_declared g of d.0) (all_declared g k e.1)) (all_declared g w (width_part g q w (faults g w) e.2))
+  all_declared g (unary_operator p op x) a = all_declared g x a
+  all_declared g (binary_operator p op x y) a =
+      let d = both_none (faults g x) (faults g y) a in
+      all_both (declared g) (identifiers x) (identifiers y) (all_declared g x d.0) (all_declared g y d.1)
+  all_declared g (conditional p t x y) a =
+      let d = three_none (faults g t) (faults g x) (faults g y) a in
+      all_both (declared g) (identifiers t ++ identifiers x) (identifiers y) (all_both (declared g) (identifiers t) (identifiers x) (all_declared g t d.0) (all_declared g x d.1)) (all_declared g y d.2)
+  all_declared g (concatenation p es) a = each_declared g es (both_none (all_faults g es) _ a).0
+  all_declared g (replication p n es) a =
+      let d = both_none (all_faults g es) _ a in
+      let e = both_none (number_faults g n (faults g n)) _ d.1 in
+      all_both (declared g) (identifiers n) (all_identifiers es) (all_declared g n (number_part g n (faults g n) e.0)) (each_declared g es d.0)
+  all_declared g (sign_cast p s x) a = all_declared g x a
+  all_declared g (parentheses p x) a = all_declared g x a
+
+  each_declared : (g : Scope) (es : Exprs) → none (all_faults g es) ≡ true → list_all (declared g) (all_identifiers es) ≡ true
+  each_declared g no_exprs a = refl
+  each_declared g (an_expr e es) a =
+      let d = both_none (faults g e) (all_faults g es) a in
+      all_both (declared g) (identifiers e) (all_identifiers es) (all_declared g e d.0) (each_declared g es d.1)
+
+-- an entry that is declared, is no constant's fault and has no fault, is a constant
+constant_if : (o : Option Entry) → is_some o ≡ true → is_no_constant o ≡ false → is_faulty_entry o ≡ false → is_constant_entry o ≡ true
+constant_if None a b c = absurd cc
+constant_if (Some (a_constant v)) a b c = refl
+constant_if (Some (a_turn v)) a b c = refl
+constant_if (Some a_faulty_one) a b c = absurd cc
+constant_if (Some _) a b c = absurd cc
+
+constants_if : (g : Scope) (xs : List Named) → list_all (declared g) xs ≡ true →
     list_any (λ x. is_no_constant (look_up g x.name)) xs ≡ false → list_any (λ x. is_faulty_entry (look_up g x.name)) xs ≡ false → list_all (λ x. is_constant_entry (look_up g x.name)) xs ≡ true
 constants_if g [] a b c = refl
 constants_if g (x ∷ xs) a b c =
-    let p = both_none (fault_if (is_none (look_up g x.name)) (fault_at Undeclared x)) (flat_map (λ x. fault_if (is_none (look_up g x.name)) (fault_at Undeclared x)) xs) a in
+    let p = both_true (declared g x) (list_all (declared g) xs) a in
     let q = both_false (is_no_constant (look_up g x.name)) (list_any (λ x. is_no_constant (look_up g x.name)) xs) b in
     let r = both_false (is_faulty_entry (look_up g x.name)) (list_any (λ x. is_faulty_entry (look_up g x.name)) xs) c in
-    true_both _ _ (constant_if (look_up g x.name) (fault_at Undeclared x) p.0 q.0 r.0) (constants_if g xs p.1 q.1 r.1)
+    true_both _ _ (constant_if (look_up g x.name) p.0 q.0 r.0) (constants_if g xs p.1 q.1 r.1)
 
 -- constants have no faults
 constant_sound : (o : Option Entry) → is_constant_entry o ≡ true → is_faulty_entry o ≡ false
@@ -135,20 +222,19 @@ pub constant_not_faulty : (g : Scope) (e : Expr) → names_constants g e ≡ tru
 constant_not_faulty g e a = constants_sound g (identifiers e) a
 
 -- an expression that must be constant, without a fault
-pub constant_clean : (g : Scope) (e : Expr) (fs : List Fault) → none (constant_faults g e fs) ≡ true → names_faulty g e ≡ false → (names_constants g e ≡ true) × (none fs ≡ true)
-constant_clean g e fs a b =
+pub constant_clean : (g : Scope) (e : Expr) → none (constant_faults g e (faults g e)) ≡ true → names_faulty g e ≡ false → (names_constants g e ≡ true) × (none (faults g e) ≡ true)
+constant_clean g e a b =
     let wrong = fault_if (names_no_constant g e) (of_constant NotConstant (place_of e)) in
-    let p = three_none (undeclared g e) wrong (if names_constants g e then fs else []) a in
-    let con = constants_if g (identifiers e) p.0 (not_if _ _ p.1) b in
-    (con, none_then (names_constants g e) fs [] con p.2)
+    let p = both_none wrong (faults g e) a in
+    (constants_if g (identifiers e) (all_declared g e p.1) (not_if _ _ p.0) b, p.1)
 
 -- and that must be a number
-pub number_clean : (g : Scope) (e : Expr) (fs : List Fault) → none (number_faults g e fs) ≡ true → names_faulty g e ≡ false →
-    (names_constants g e ≡ true) × (none fs ≡ true) × (is_no_number (number_of (names g) e) ≡ false)
-number_clean g e fs a b =
-    let p = both_none (constant_faults g e fs) _ a in
-    let c = constant_clean g e fs p.0 b in
-    let n = not_if (is_sound_constant g e fs && is_no_number (number_of (names g) e)) _ p.1 in
+pub number_clean : (g : Scope) (e : Expr) → none (number_faults g e (faults g e)) ≡ true → names_faulty g e ≡ false →
+    (names_constants g e ≡ true) × (none (faults g e) ≡ true) × (is_no_number (number_of (names g) e) ≡ false)
+number_clean g e a b =
+    let p = both_none (constant_faults g e (faults g e)) _ a in
+    let c = constant_clean g e p.0 b in
+    let n = not_if (is_sound_constant g e (faults g e) && is_no_number (number_of (names g) e)) _ p.1 in
     (c.0, c.1, not_both _ _ (true_both _ _ c.0 c.1) n)
   where
     not_both : (x y : Bool) → x ≡ true → (x && y) ≡ false → y ≡ false
@@ -156,29 +242,29 @@ number_clean g e fs a b =
     not_both false y p q = absurd cc
 
 -- it is a sound number
-pub number_sound : (g : Scope) (e : Expr) (fs : List Fault) → none (number_faults g e fs) ≡ true → names_faulty g e ≡ false → is_sound_number g e fs ≡ true
-number_sound g e fs a b = true_both _ _ (number_clean g e fs a b).0 a
+pub number_sound : (g : Scope) (e : Expr) → none (number_faults g e (faults g e)) ≡ true → names_faulty g e ≡ false → is_sound_number g e (faults g e) ≡ true
+number_sound g e a b = true_both _ _ (number_clean g e a b).0 a
 
 -- a bound without a fault
-pub bound_clean : (g : Scope) (p : Place) (e : Expr) (fs : List Fault) → none (bound_faults g p e fs) ≡ true → names_faulty g e ≡ false →
-    (none (number_faults g e fs) ≡ true) × (const_scope.fault_if (is_bad_bound (number_of (names g) e)) BadRange p ≡ None)
-bound_clean g p e fs a b =
-    let q = both_none (number_faults g e fs) _ a in
-    (q.0, answer_none _ _ (none_then (is_sound_number g e fs) _ [] (number_sound g e fs q.0 b) q.1))
+pub bound_clean : (g : Scope) (p : Place) (e : Expr) → none (bound_faults g p e (faults g e)) ≡ true → names_faulty g e ≡ false →
+    (none (number_faults g e (faults g e)) ≡ true) × (const_scope.fault_if (is_bad_bound (number_of (names g) e)) BadRange p ≡ None)
+bound_clean g p e a b =
+    let q = both_none (number_faults g e (faults g e)) _ a in
+    (q.0, answer_none _ _ (none_then (is_sound_number g e (faults g e)) _ [] (number_sound g e q.0 b) q.1))
 
 -- the width of a part without a fault
-pub width_clean : (g : Scope) (p : Place) (e : Expr) (fs : List Fault) → none (width_faults g p e fs) ≡ true → names_faulty g e ≡ false →
-    (none (number_faults g e fs) ≡ true) × (or_else (const_scope.fault_if (is_below_one (number_of (names g) e)) BadRange p) (size_fault (count_of (number_of (names g) e)) p) ≡ None)
-width_clean g p e fs a b =
-    let q = both_none (number_faults g e fs) _ a in
-    (q.0, answer_none _ _ (none_then (is_sound_number g e fs) _ [] (number_sound g e fs q.0 b) q.1))
+pub width_clean : (g : Scope) (p : Place) (e : Expr) → none (width_faults g p e (faults g e)) ≡ true → names_faulty g e ≡ false →
+    (none (number_faults g e (faults g e)) ≡ true) × (or_else (const_scope.fault_if (is_below_one (number_of (names g) e)) BadRange p) (size_fault (count_of (number_of (names g) e)) p) ≡ None)
+width_clean g p e a b =
+    let q = both_none (number_faults g e (faults g e)) _ a in
+    (q.0, answer_none _ _ (none_then (is_sound_number g e (faults g e)) _ [] (number_sound g e q.0 b) q.1))
 
 -- the count of a replication without a fault, and the width of all copies
-pub count_clean : (g : Scope) (p : Place) (e : Expr) (fs : List Fault) (width : ℕ) → none (replication_faults g p e fs true width) ≡ true → names_faulty g e ≡ false →
-    (none (number_faults g e fs) ≡ true) × (const_scope.fault_if (is_below_one (number_of (names g) e)) BadRange p ≡ None) × (size_fault (natural_number g e * width) p ≡ None)
-count_clean g p e fs width a b =
-    let q = both_none (number_faults g e fs) _ a in
-    let r = go (is_below_one (number_of (names g) e)) (count_of (number_of (names g) e)) (none_then (is_sound_number g e fs) _ [] (number_sound g e fs q.0 b) q.1) in
+pub count_clean : (g : Scope) (p : Place) (e : Expr) (width : ℕ) → none (replication_faults g p e (faults g e) true width) ≡ true → names_faulty g e ≡ false →
+    (none (number_faults g e (faults g e)) ≡ true) × (const_scope.fault_if (is_below_one (number_of (names g) e)) BadRange p ≡ None) × (size_fault (natural_number g e * width) p ≡ None)
+count_clean g p e width a b =
+    let q = both_none (number_faults g e (faults g e)) _ a in
+    let r = go (is_below_one (number_of (names g) e)) (count_of (number_of (names g) e)) (none_then (is_sound_number g e (faults g e)) _ [] (number_sound g e q.0 b) q.1) in
     (q.0, r.0, r.1)
   where
     go : (below : Bool) (n : ℕ) → none (if below then answer_faults (told (unless (const_scope.fault_if below BadRange p) n)) else joined_faults true (n * width) p) ≡ true →
@@ -256,7 +342,7 @@ mutual
       let c = each (λ x. is_constant_entry (look_up g x.name)) (identifiers n) (all_identifiers es) a in
       let d = both_none (all_faults g es) _ b in
       let e = both_none (number_faults g n (faults g n)) _ d.1 in
-      let f = number_clean g n (faults g n) e.0 (constant_not_faulty g n c.0) in
+      let f = number_clean g n e.0 (constant_not_faulty g n c.0) in
       true_both _ _ (constant_there g n c.0 f.1) (constants_there g es c.1 d.0)
   constant_there g (sign_cast p s x) a b = constant_there g x a b
   constant_there g (parentheses p x) a b = constant_there g x a b
@@ -268,9 +354,9 @@ mutual
       let d = both_none (faults g e) (all_faults g es) b in
       true_both _ _ (constant_there g e c.0 d.0) (constants_there g es c.1 d.1)
 
-number_none : (g : Scope) (e : Expr) (fs : List Fault) → none (number_faults g e fs) ≡ true → names_faulty g e ≡ false → is_constant (names g) e ≡ true → fault_of (names g) e ≡ None →
+number_none : (g : Scope) (e : Expr) → none (number_faults g e (faults g e)) ≡ true → names_faulty g e ≡ false → is_constant (names g) e ≡ true → fault_of (names g) e ≡ None →
     number_fault (names g) e (fault_of (names g) e) ≡ None
-number_none g e fs a b con n = rw (con, n, (number_clean g e fs a b).2) refl
+number_none g e a b con n = rw (con, n, (number_clean g e a b).2) refl
 
 -- a part of a name's bits
 range_part : (r : Option Range) (x : Named) (p : Place) (h l : ℕ) → none (select_faults (selected_of r x)) ≡ true → none (part_range_faults (selected_of r x) p h l) ≡ true →
@@ -309,17 +395,6 @@ name_none (Some (a_turn v)) x p u f = refl
 name_none (Some (a_signal s)) x p u f = refl
 name_none (Some _) x p u f = absurd cc
 
--- what stands before a select
-before_none : (g : Scope) (of : Expr) (i : Expr) (is : List Fault) → none (bit_faults g of (faults g of) i is) ≡ true → (none is ≡ true) × (is_memory_name g of ≡ false → none (faults g of) ≡ true)
-before_none g of i is a = go (is_memory_name g of) (look_up g (base_name of).name) refl a
-  where
-    go : (memory : Bool) (o : Option Entry) → memory ≡ memory → none (if memory then word_faults g o (base_name of) i is else faults g of ++ select_faults (selected g of) ++ is ++ index_faults g (selected g of) i is) ≡ true →
-        (none is ≡ true) × (memory ≡ false → none (faults g of) ≡ true)
-    go false o m a = let p = four_none (faults g of) (select_faults (selected g of)) is _ a in (p.2, λ e. p.0)
-    go true None m a = (a, λ e. absurd cc)
-    go true (Some (a_memory k)) m a = ((both_none is _ a).0, λ e. absurd cc)
-    go true (Some _) m a = (a, λ e. absurd cc)
-
 -- a memory has a value
 memory_none : (o : Option Entry) (p : Place) → is_memory_entry o ≡ true → const_scope.fault_if (const.is_unknown (value_entry o)) NotConstant p ≡ None
 memory_none None p a = absurd cc
@@ -352,22 +427,22 @@ mutual
       let c = neither_of_three (faulty g) (identifiers of) (identifiers h) (identifiers l) b in
       let d = both_none (faults g of) _ a in
       let e = four_none (select_faults (selected g of)) (bound_faults g k h (faults g h)) (bound_faults g k l (faults g l)) _ d.1 in
-      let high = bound_clean g k h (faults g h) e.1 c.1 in
-      let low = bound_clean g k l (faults g l) e.2 c.2 in
-      let hc = number_clean g h (faults g h) high.0 c.1 in
-      let lc = number_clean g l (faults g l) low.0 c.2 in
+      let high = bound_clean g k h e.1 c.1 in
+      let low = bound_clean g k l e.2 c.2 in
+      let hc = number_clean g h high.0 c.1 in
+      let lc = number_clean g l low.0 c.2 in
       let inside = true_both _ _ (true_both _ _ hc.0 lc.0) (none_both (bound_faults g k h (faults g h)) (bound_faults g k l (faults g l)) e.1 e.2) in
       let size = selected_part g of k (natural_number g h) (natural_number g l) d.0 c.0 e.0 (none_then _ _ [] inside e.3) in
-      let hn = number_none g h (faults g h) high.0 c.1 (constant_there g h hc.0 hc.1) (no_const_fault g h hc.1 c.1) in
-      let ln = number_none g l (faults g l) low.0 c.2 (constant_there g l lc.0 lc.1) (no_const_fault g l lc.1 c.2) in
+      let hn = number_none g h high.0 c.1 (constant_there g h hc.0 hc.1) (no_const_fault g h hc.1 c.1) in
+      let ln = number_none g l low.0 c.2 (constant_there g l lc.0 lc.1) (no_const_fault g l lc.1 c.2) in
       rw (no_const_fault g of d.0 c.0, hn, ln, high.1, low.1, size) refl
   no_const_fault g (indexed_part p of k w up q) a b =
       let c = neither_of_three (faulty g) (identifiers of) (identifiers k) (identifiers w) b in
       let d = both_none (faults g of) _ a in
       let e = four_none (select_faults (selected g of)) (faults g k) (width_faults g q w (faults g w)) _ d.1 in
-      let width = width_clean g q w (faults g w) e.2 c.2 in
-      let wc = number_clean g w (faults g w) width.0 c.2 in
-      let wn = number_none g w (faults g w) width.0 c.2 (constant_there g w wc.0 wc.1) (no_const_fault g w wc.1 c.2) in
+      let width = width_clean g q w e.2 c.2 in
+      let wc = number_clean g w width.0 c.2 in
+      let wn = number_none g w width.0 c.2 (constant_there g w wc.0 wc.1) (no_const_fault g w wc.1 c.2) in
       rw (no_const_fault g of d.0 c.0, no_const_fault g k e.1 c.1, wn, width.1) refl
   no_const_fault g (unary_operator p op x) a b = no_const_fault g x a b
   no_const_fault g (binary_operator p op x y) a b =
@@ -386,9 +461,9 @@ mutual
       let c = neither (faulty g) (identifiers n) (all_identifiers es) b in
       let d = both_none (all_faults g es) _ a in
       let sound = true_both _ _ d.0 (is_not _ c.1) in
-      let e = count_clean g p n (faults g n) (parts_of (names g) es).width (rw sound at d.1) c.0 in
-      let nc = number_clean g n (faults g n) e.0 c.0 in
-      let nn = number_none g n (faults g n) e.0 c.0 (constant_there g n nc.0 nc.1) (no_const_fault g n nc.1 c.0) in
+      let e = count_clean g p n (parts_of (names g) es).width (rw sound at d.1) c.0 in
+      let nc = number_clean g n e.0 c.0 in
+      let nn = number_none g n e.0 c.0 (constant_there g n nc.0 nc.1) (no_const_fault g n nc.1 c.0) in
       rw (nn, e.1, no_const_faults g es d.0 c.1, e.2) refl
   no_const_fault g (sign_cast p s x) a b = no_const_fault g x a b
   no_const_fault g (parentheses p x) a b = no_const_fault g x a b

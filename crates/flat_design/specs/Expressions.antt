@@ -1,5 +1,5 @@
 -- The faults of an expression in a scope: of its names, selects, constants and widths.
-use Rattle.std.specs.Prelude.{ℕ, ◌+◌, ◌*◌, nat_le, min, max, Bool, true, false, not, ◌&&◌, if◌then◌else◌, List, [], ◌∷◌, ◌++◌, flat_map, is_none, ℤ, pos, negsuc, Option, Some, None}
+use Rattle.std.specs.Prelude.{ℕ, ◌+◌, ◌*◌, nat_le, min, max, Bool, true, false, not, ◌&&◌, if◌then◌else◌, List, [], ◌∷◌, ◌++◌, ℤ, pos, negsuc, Option, Some, None}
 use Rattle.std.specs.List.{list_any}
 use Rattle.cov_host.specs.declared.place.Place.{Place}
 use Rattle.design_model.specs.Lawful.{span}
@@ -83,10 +83,6 @@ abbrev pub some_offset : Range → Option ℤ → Option ℤ
 some_offset r None = None
 some_offset r (Some i) = Some (offset r i)
 
--- the names without declaration
-abbrev pub undeclared : Scope → Expr → List Fault
-undeclared g e = flat_map (λ x. fault_if (is_none (look_up g x.name)) (fault_at Undeclared x)) (identifiers e)
-
 -- declared, and not as a constant
 abbrev pub is_no_constant : Option Entry → Bool
 is_no_constant None = false
@@ -99,10 +95,9 @@ is_no_constant _ = true
 abbrev pub names_no_constant : Scope → Expr → Bool
 names_no_constant g e = list_any (λ x. is_no_constant (look_up g x.name)) (identifiers e)
 
--- an expression that must be constant; the list has its faults as an expression
+-- an expression that must be constant, which has its faults as an expression too: the list has these
 abbrev pub constant_faults : Scope → Expr → List Fault → List Fault
-constant_faults g e faults =
-    undeclared g e ++ fault_if (names_no_constant g e) (of_constant NotConstant (place_of e)) ++ (if names_constants g e then faults else [])
+constant_faults g e faults = fault_if (names_no_constant g e) (of_constant NotConstant (place_of e)) ++ faults
 
 -- a constant without a fault
 abbrev pub is_sound_constant : Scope → Expr → List Fault → Bool

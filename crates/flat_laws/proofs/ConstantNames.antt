@@ -59,13 +59,13 @@ module _ (base : ℕ) (g : Scope) (sound : IsSoundScope g) where
     constant_names (part_select p of i j b) free n s c =
         let first = both_none (faults g of) _ free in
         let parts = four_none (select_faults (selected g of)) (bound_faults g b i (faults g i)) (bound_faults g b j (faults g j)) _ first.1 in
-        let high = number_clean g i (faults g i) (bound_clean g b i (faults g i) parts.1 (names_sound g sound i)).0 (names_sound g sound i) in
-        let low = number_clean g j (faults g j) (bound_clean g b j (faults g j) parts.2 (names_sound g sound j)).0 (names_sound g sound j) in
+        let high = number_clean g i (bound_clean g b i parts.1 (names_sound g sound i)).0 (names_sound g sound i) in
+        let low = number_clean g j (bound_clean g b j parts.2 (names_sound g sound j)).0 (names_sound g sound j) in
         all_of_two IsConstantName (identifiers of ++ identifiers i) (identifiers j) (all_of_two IsConstantName (identifiers of) (identifiers i) (constant_names of first.0 n (shape g of) (and_parts _ _ c).0) high.0) low.0
     constant_names (indexed_part p of b w up k) free n s c =
         let first = both_none (faults g of) _ free in
         let parts = four_none (select_faults (selected g of)) (faults g b) (width_faults g k w (faults g w)) _ first.1 in
-        let width = number_clean g w (faults g w) (width_clean g k w (faults g w) parts.2 (names_sound g sound w)).0 (names_sound g sound w) in
+        let width = number_clean g w (width_clean g k w parts.2 (names_sound g sound w)).0 (names_sound g sound w) in
         let q = and_parts (is_constant (term base g of n (shape g of))) _ c in
         let r = and_parts (is_constant (term base g b (n + nodes g of) (shape g b))) _ q.1 in
         all_of_two IsConstantName (identifiers of ++ identifiers b) (identifiers w) (all_of_two IsConstantName (identifiers of) (identifiers b) (constant_names of first.0 n (shape g of) q.0) (constant_names b parts.1 (n + nodes g of) (shape g b) r.0)) width.0
@@ -85,7 +85,7 @@ module _ (base : ℕ) (g : Scope) (sound : IsSoundScope g) where
     constant_names (concatenation p es) free n s c = constants_names es (both_none (all_faults g es) _ free).0 n c
     constant_names (replication p k es) free n s c =
         let parts = both_none (all_faults g es) _ free in
-        let number = number_clean g k (faults g k) (both_none (number_faults g k (faults g k)) _ parts.1).0 (names_sound g sound k) in
+        let number = number_clean g k (both_none (number_faults g k (faults g k)) _ parts.1).0 (names_sound g sound k) in
         all_of_two IsConstantName (identifiers k) (all_identifiers es) number.0 (constants_names es parts.0 (n + nodes g k) (and_parts (is_constant (term base g k n (shape g k))) _ c).1)
     constant_names (sign_cast p signed a) free n s c = constant_names a free n (shape g a) c
     constant_names (parentheses p a) free n s c = constant_names a free n s c

@@ -172,7 +172,7 @@ extended_width w s t bs h = subst IsWidth (sym (length-fit w (if s then top bs e
 -- a constant without fault has its width
 constant_width : (g : Scope) → HasWidths g → (e : Expr) → AreFit (literals e) → none (constant_faults g e (faults g e)) ≡ true → names_faulty g e ≡ false → HasWidth (constant g e)
 constant_width g h e fit sound named =
-    let clean = constant_clean g e (faults g e) sound named in
+    let clean = constant_clean g e sound named in
     extended_width (shape g e).width (shape g e).signed (shape g e).signed ((meaning (names g) e).bits (shape g e).width (shape g e).signed) (expr_width g h e fit (no_const_fault g e clean.1 named))
 
 -- so have the values of overrides

@@ -44,7 +44,7 @@ not_bad true p h = absurd cc
 not_bad false p h = refl
 
 small_bound : (g : Scope) (p : Place) (e : Expr) → none (bound_faults g p e (faults g e)) ≡ true → names_faulty g e ≡ false → natural_number g e ≤ 1048575
-small_bound g p e h k = good_bound (number_of (names g) e) (not_bad _ p (bound_clean g p e (faults g e) h k).1)
+small_bound g p e h k = good_bound (number_of (names g) e) (not_bad _ p (bound_clean g p e h k).1)
 
 not_true : (b : Bool) → not b ≡ true → b ≡ false
 not_true true h = absurd (false≢true h)

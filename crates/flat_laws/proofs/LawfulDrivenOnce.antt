@@ -68,7 +68,7 @@ low_constant : (d : Design) (base : ℕ) (g : Scope) → IsPlaced d base g → (
 low_constant d base g h p of a l b sound =
     let f = both_empty (faults g of) _ sound in
     let e = four_none (select_faults (selected g of)) (bound_faults g b a (faults g a)) (bound_faults g b l (faults g l)) _ (ap none f.1) in
-    (number_clean g l (faults g l) (both_none (number_faults g l (faults g l)) _ e.2).0 (names_sound g h.good.sound l)).0
+    (number_clean g l (both_none (number_faults g l (faults g l)) _ e.2).0 (names_sound g h.good.sound l)).0
 
 fixed_bit : (b : Bool) (m s : ℕ) (i : Term) → b ≡ false → is_fixed_target (bits_of s i 1) ≡ true → is_fixed_target (if b then word_of m i else bits_of s i 1) ≡ true
 fixed_bit false m s i e h = h

@@ -80,7 +80,7 @@ constant_number g e a b c =
 
 pub sound_number : (g : Scope) → IsSoundScope g → (e : Expr) → number_faults g e (faults g e) ≡ [] → ((z : ℤ) × IsNumber g e z) × (names_constants g e ≡ true)
 sound_number g sound e h =
-    let c = number_clean g e (faults g e) (ap none h) (names_sound g sound e) in
+    let c = number_clean g e (ap none h) (names_sound g sound e) in
     (constant_number g e c.0 c.1 c.2, c.0)
 
 -- a target of a continuous assignment without concatenation is a signal, and its index is a constant number
@@ -166,7 +166,7 @@ drives_part d base g h p of a l b s found sound n c write =
     record { entry = s; found = found; number = q.0; bit = q.1 }
   where
     constant_of : (g : Scope) (e : Expr) → none (number_faults g e (faults g e)) ≡ true → names_faulty g e ≡ false → ((z : ℤ) × IsNumber g e z) × (names_constants g e ≡ true)
-    constant_of g e x y = let c = number_clean g e (faults g e) x y in (constant_number g e c.0 c.1 c.2, c.0)
+    constant_of g e x y = let c = number_clean g e x y in (constant_number g e c.0 c.1 c.2, c.0)
 
 -- x[b +: w] and x[b -: w]
 pub selected_bits : (g : Scope) (of : Expr) (s : SignalEntry) → look_up g (base_name of).name ≡ Some (a_signal s) → select_faults (selected g of) ≡ [] → (r : Range) × (x : Named) × (s.range ≡ Some r) × (selected g of ≡ bits_in r x)
@@ -216,8 +216,8 @@ drives_slide d base g h p of b w up k s found sound fixed n c write =
     let of_select = both_empty (select_faults (selected g of)) (faults g b) first.0 in
     let bits = selected_bits g of s found of_select.0 in
     let number = sound_number g h.good.sound b fixed in
-    let width = width_clean g k w (faults g w) (ap none first.1) (names_sound g h.good.sound w) in
-    let width_named = number_clean g w (faults g w) width.0 (names_sound g h.good.sound w) in
+    let width = width_clean g k w (ap none first.1) (names_sound g h.good.sound w) in
+    let width_named = number_clean g w width.0 (names_sound g h.good.sound w) in
     let small : natural_number g w ≤ 128 = small_size (number_of (names g) w) k width.1 in
     let sound_base : is_sound_constant g b (faults g b) ≡ true = true_both _ _ number.1 (ap none of_select.1) in
     let all_sound : (is_sound_constant g b (faults g b) && names_constants g w && none (width_faults g k w (faults g w))) ≡ true = true_both _ _ (true_both _ _ sound_base width_named.0) (ap none first.1) in

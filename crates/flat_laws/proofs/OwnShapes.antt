@@ -168,10 +168,10 @@ module _ (d : Design) (base : ℕ) (base_is : base ≡ length d.signals) where
     own_shape g good (bit_select p of i) free n c = own_select g good of _ _ _ _
     own_shape g good (part_select p of i j b) free n c =
         let parts = four_none (select_faults (selected g of)) (bound_faults g b i (faults g i)) (bound_faults g b j (faults g j)) _ (both_none (faults g of) _ free).1 in
-        let high = bound_clean g b i (faults g i) parts.1 (names_sound g good.sound i) in
-        let low = bound_clean g b j (faults g j) parts.2 (names_sound g good.sound j) in
-        let above = number_clean g i (faults g i) high.0 (names_sound g good.sound i) in
-        let below = number_clean g j (faults g j) low.0 (names_sound g good.sound j) in
+        let high = bound_clean g b i parts.1 (names_sound g good.sound i) in
+        let low = bound_clean g b j parts.2 (names_sound g good.sound j) in
+        let above = number_clean g i high.0 (names_sound g good.sound i) in
+        let below = number_clean g j low.0 (names_sound g good.sound j) in
         let whole = no_const_fault g (part_select p of i j b) free (names_sound g good.sound (part_select p of i j b)) in
         let size = none_in_turn (earlier (fault_of (names g) of) (earlier (bound_fault (names g) b i (fault_of (names g) i)) (bound_fault (names g) b j (fault_of (names g) j)))) _ whole in
         record {
@@ -183,8 +183,8 @@ module _ (d : Design) (base : ℕ) (base_is : base ≡ length d.signals) where
         }
     own_shape g good (indexed_part p of b w up k) free n c =
         let parts = four_none (select_faults (selected g of)) (faults g b) (width_faults g k w (faults g w)) _ (both_none (faults g of) _ free).1 in
-        let width = width_clean g k w (faults g w) parts.2 (names_sound g good.sound w) in
-        let number = number_clean g w (faults g w) width.0 (names_sound g good.sound w) in
+        let width = width_clean g k w parts.2 (names_sound g good.sound w) in
+        let number = number_clean g w width.0 (names_sound g good.sound w) in
         record {
           width = size_value g w (n + nodes g of + nodes g b) (constant_there g w number.0 number.1) (no_const_fault g w number.1 (names_sound g good.sound w)) (no_fault _ _ _ (none_in_turn _ (size_fault (count_of (number_of (names g) w)) k) width.1).0);
           signed = refl;
@@ -206,7 +206,7 @@ module _ (d : Design) (base : ℕ) (base_is : base ≡ length d.signals) where
     own_shape g good (concatenation p es) free n c = record { width = own_shapes g good es (both_none (all_faults g es) _ free).0 n; signed = refl }
     own_shape g good (replication p k es) free n c =
         let parts = both_none (all_faults g es) _ free in
-        let number = number_clean g k (faults g k) (both_none (number_faults g k (faults g k)) _ parts.1).0 (names_sound g good.sound k) in
+        let number = number_clean g k (both_none (number_faults g k (faults g k)) _ parts.1).0 (names_sound g good.sound k) in
         let whole = no_const_fault g (replication p k es) free (names_sound g good.sound (replication p k es)) in
         let count = no_earlier (count_fault (names g) p k (fault_of (names g) k)) (first_fault (names g) None es) (none_in_turn _ (size_fault (count_of (number_of (names g) k) * (parts_of (names g) es).width) p) whole).0 in
         let con = constant_there g k number.0 number.1 in

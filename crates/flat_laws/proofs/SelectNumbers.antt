@@ -37,8 +37,8 @@ module _ (d : Design) (base : ℕ) (g : Scope) (good : IsGoodScope d.signals d.m
 
   pub bound_number : (k : Place) (e : Expr) → none (bound_faults g k e (faults g e)) ≡ true → ((n : ℕ) × IsNumber g e (pos n)) × (names_constants g e ≡ true)
   bound_number k e free =
-      let q = bound_clean g k e (faults g e) free (names_sound g good.sound e) in
-      let r = number_clean g e (faults g e) q.0 (names_sound g good.sound e) in
+      let q = bound_clean g k e free (names_sound g good.sound e) in
+      let r = number_clean g e q.0 (names_sound g good.sound e) in
       let x = constant_number g e r.0 r.1 r.2 in
       let y = good_number (whole_number g e) k q.1 x.0 x.1.number in
       ((y.0, subst (IsNumber g e) y.1 x.1), r.0)
@@ -71,8 +71,8 @@ module _ (d : Design) (base : ℕ) (g : Scope) (good : IsGoodScope d.signals d.m
   -- the width of an indexed part
   pub width_number : (k : Place) (e : Expr) → none (width_faults g k e (faults g e)) ≡ true → (n : ℕ) × IsNumber g e (pos n)
   width_number k e free =
-      let q = width_clean g k e (faults g e) free (names_sound g good.sound e) in
-      let r = number_clean g e (faults g e) q.0 (names_sound g good.sound e) in
+      let q = width_clean g k e free (names_sound g good.sound e) in
+      let r = number_clean g e q.0 (names_sound g good.sound e) in
       let x = constant_number g e r.0 r.1 r.2 in
       let y = from_one (whole_number g e) k q.1 x.0 x.1.number in
       (y.0, subst (IsNumber g e) y.1 x.1)
@@ -83,10 +83,10 @@ module _ (d : Design) (base : ℕ) (g : Scope) (good : IsGoodScope d.signals d.m
 
   -- it names constants alone, and is from 1 to 128
   pub width_constant : (k : Place) (e : Expr) → none (width_faults g k e (faults g e)) ≡ true → names_constants g e ≡ true
-  width_constant k e free = (number_clean g e (faults g e) (width_clean g k e (faults g e) free (names_sound g good.sound e)).0 (names_sound g good.sound e)).0
+  width_constant k e free = (number_clean g e (width_clean g k e free (names_sound g good.sound e)).0 (names_sound g good.sound e)).0
 
   pub width_one : (k : Place) (e : Expr) → none (width_faults g k e (faults g e)) ≡ true → 1 ≤ natural_number g e
-  width_one k e free = one_bit (natural_number g e) k (second_none _ _ (width_clean g k e (faults g e) free (names_sound g good.sound e)).1)
+  width_one k e free = one_bit (natural_number g e) k (second_none _ _ (width_clean g k e free (names_sound g good.sound e)).1)
 
   pub width_small : (k : Place) (e : Expr) → none (width_faults g k e (faults g e)) ≡ true → natural_number g e ≤ 128
-  width_small k e free = small_size (number_of (names g) e) k (width_clean g k e (faults g e) free (names_sound g good.sound e)).1
+  width_small k e free = small_size (number_of (names g) e) k (width_clean g k e free (names_sound g good.sound e)).1

@@ -166,7 +166,7 @@ module _ (d : Design) (base : ℕ) (base_is : base ≡ length d.signals) (g : Sc
   part_target p of i j b fit (inl l) n =
       let whole : Expr = part_select p of i j b in
       let parts = four_none (select_faults (selected g of)) (bound_faults g b i (faults g i)) (bound_faults g b j (faults g j)) _ (both_none (faults g of) _ l.free).1 in
-      let low = number_clean g j (faults g j) (bound_clean g b j (faults g j) parts.2 (names_sound g good.sound j)).0 (names_sound g good.sound j) in
+      let low = number_clean g j (bound_clean g b j parts.2 (names_sound g good.sound j)).0 (names_sound g good.sound j) in
       both_true _ _ (both_true _ _ (signal_number (base_name of).name l.entry l.found) (sound_alone d base base_is g good wide j (fit_third (literals of) (literals i) (literals j) fit) low.1 (n + nodes g of + nodes g i)))
       (le-leb 1 (shape g whole).width (sound_width d base base_is g good wide whole fit l.free).0)
   part_target p of i j b fit (inr l) n = absurd (no_part g p of i j b l.entry l.found l.whole (both_none (faults g of) _ l.free).0)

@@ -257,8 +257,8 @@ module _ (d : Design) (base : ℕ) (base_is : base ≡ length d.signals) where
     shaped g good wide (part_select p of i j b) fit free n c w =
         let first = both_none (faults g of) _ free in
         let parts = four_none (select_faults (selected g of)) (bound_faults g b i (faults g i)) (bound_faults g b j (faults g j)) _ first.1 in
-        let high = number_clean g i (faults g i) (bound_clean g b i (faults g i) parts.1 (names_sound g good.sound i)).0 (names_sound g good.sound i) in
-        let low = number_clean g j (faults g j) (bound_clean g b j (faults g j) parts.2 (names_sound g good.sound j)).0 (names_sound g good.sound j) in
+        let high = number_clean g i (bound_clean g b i parts.1 (names_sound g good.sound i)).0 (names_sound g good.sound i) in
+        let low = number_clean g j (bound_clean g b j parts.2 (names_sound g good.sound j)).0 (names_sound g good.sound j) in
         let fit_of = fit_first (literals of) (literals i) (literals j) fit in
         let fit_i = fit_second (literals of) (literals i) (literals j) fit in
         let fit_j = fit_third (literals of) (literals i) (literals j) fit in
@@ -271,7 +271,7 @@ module _ (d : Design) (base : ℕ) (base_is : base ≡ length d.signals) where
     shaped g good wide (indexed_part p of b k up bracket) fit free n c w =
         let first = both_none (faults g of) _ free in
         let parts = four_none (select_faults (selected g of)) (faults g b) (width_faults g bracket k (faults g k)) _ first.1 in
-        let number = number_clean g k (faults g k) (width_clean g bracket k (faults g k) parts.2 (names_sound g good.sound k)).0 (names_sound g good.sound k) in
+        let number = number_clean g k (width_clean g bracket k parts.2 (names_sound g good.sound k)).0 (names_sound g good.sound k) in
         let fit_of = fit_first (literals of) (literals b) (literals k) fit in
         let fit_b = fit_second (literals of) (literals b) (literals k) fit in
         let fit_k = fit_third (literals of) (literals b) (literals k) fit in
@@ -311,7 +311,7 @@ module _ (d : Design) (base : ℕ) (base_is : base ≡ length d.signals) where
     shaped g good wide (concatenation p es) fit free n c w = both_true _ _ (head_shaped p c None w) (all_shaped g good wide es fit (both_none (all_faults g es) _ free).0 n)
     shaped g good wide (replication p k es) fit free n c w =
         let parts = both_none (all_faults g es) _ free in
-        let number = number_clean g k (faults g k) (both_none (number_faults g k (faults g k)) _ parts.1).0 (names_sound g good.sound k) in
+        let number = number_clean g k (both_none (number_faults g k (faults g k)) _ parts.1).0 (names_sound g good.sound k) in
         let fit_k = fit_left (literals k) (all_literals es) fit in
         both_true _ _ (both_true _ _ (both_true _ _ (head_shaped p c None w)
         (term_alone g good k number.1 n (shaped g good wide k fit_k number.1 n (shape g k) (sound_width g good wide k fit_k number.1))))

@@ -234,7 +234,7 @@ module _ (d : Design) (base : ℕ) (base_is : base ≡ length d.signals) (g : Sc
       let m : ℕ = n + nodes g of + nodes g i in
       let first = both_none (faults g of) _ l.free in
       let parts = four_none (select_faults (selected g of)) (bound_faults g b i (faults g i)) (bound_faults g b j (faults g j)) _ first.1 in
-      let low = number_clean g j (faults g j) (bound_clean g b j (faults g j) parts.2 (names_sound g good.sound j)).0 (names_sound g good.sound j) in
+      let low = number_clean g j (bound_clean g b j parts.2 (names_sound g good.sound j)).0 (names_sound g good.sound j) in
       let c = bound_number d base g good b j parts.2 in
       let same = alone_whole base d blank g j c.0.1.is_constant c.0.1.no_fault m in
       let at = signal_ranged d base base_is g good of l.entry l.found first.0 parts.0 in

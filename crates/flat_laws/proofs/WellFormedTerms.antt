@@ -117,14 +117,14 @@ module _ (d : Design) (base : ℕ) (base_is : base ≡ length d.signals) where
     well g good (part_select p of i j b) free n c =
         let first = both_none (faults g of) _ free in
         let parts = four_none (select_faults (selected g of)) (bound_faults g b i (faults g i)) (bound_faults g b j (faults g j)) _ first.1 in
-        let high = number_clean g i (faults g i) (bound_clean g b i (faults g i) parts.1 (names_sound g good.sound i)).0 (names_sound g good.sound i) in
-        let low = number_clean g j (faults g j) (bound_clean g b j (faults g j) parts.2 (names_sound g good.sound j)).0 (names_sound g good.sound j) in
+        let high = number_clean g i (bound_clean g b i parts.1 (names_sound g good.sound i)).0 (names_sound g good.sound i) in
+        let low = number_clean g j (bound_clean g b j parts.2 (names_sound g good.sound j)).0 (names_sound g good.sound j) in
         both_true _ _ (part_inside d base base_is g good (head_as p c None) p of i j b free n (n + nodes g of) (n + nodes g of + nodes g i))
         (both_true _ _ (well g good of first.0 n (shape g of)) (both_true _ _ (well g good i high.1 (n + nodes g of) (shape g i)) (well g good j low.1 (n + nodes g of + nodes g i) (shape g j))))
     well g good (indexed_part p of b w up k) free n c =
         let first = both_none (faults g of) _ free in
         let parts = four_none (select_faults (selected g of)) (faults g b) (width_faults g k w (faults g w)) _ first.1 in
-        let number = number_clean g w (faults g w) (width_clean g k w (faults g w) parts.2 (names_sound g good.sound w)).0 (names_sound g good.sound w) in
+        let number = number_clean g w (width_clean g k w parts.2 (names_sound g good.sound w)).0 (names_sound g good.sound w) in
         both_true _ _ (slide_inside d base base_is g good (head_as p c None) p of b w up k free n (n + nodes g of) (n + nodes g of + nodes g b))
         (both_true _ _ (well g good of first.0 n (shape g of)) (both_true _ _ (well g good b parts.1 (n + nodes g of) (shape g b)) (well g good w number.1 (n + nodes g of + nodes g b) (shape g w))))
     well g good (unary_operator p op a) free n c =
@@ -146,7 +146,7 @@ module _ (d : Design) (base : ℕ) (base_is : base ≡ length d.signals) where
     well g good (concatenation p es) free n c = all_well g good es (both_none (all_faults g es) _ free).0 n
     well g good (replication p k es) free n c =
         let parts = both_none (all_faults g es) _ free in
-        let number = number_clean g k (faults g k) (both_none (number_faults g k (faults g k)) _ parts.1).0 (names_sound g good.sound k) in
+        let number = number_clean g k (both_none (number_faults g k (faults g k)) _ parts.1).0 (names_sound g good.sound k) in
         both_true _ _ (well g good k number.1 n (shape g k)) (all_well g good es parts.0 (n + nodes g k))
     well g good (sign_cast p signed a) free n c = well g good a free n (shape g a)
     well g good (parentheses p a) free n c = well g good a free n c

@@ -15,13 +15,13 @@ pub constant_value-value-requires-clause-constants : goal.constant_value-value-r
 constant_value-value-requires-clause-constants c =
     let g = binding_of c.args.scope.now in
     let e = expr_view c.args.param.now.value in
-    (constant_clean g e (faults g e) c.requires.value c.requires.known).0
+    (constant_clean g e c.requires.value c.requires.known).0
 
 pub constant_value-value-requires-clause-sound : goal.constant_value-value-requires-clause-sound
 constant_value-value-requires-clause-sound c =
     let g = binding_of c.args.scope.now in
     let e = expr_view c.args.param.now.value in
-    (constant_clean g e (faults g e) c.requires.value c.requires.known).1
+    (constant_clean g e c.requires.value c.requires.known).1
 
 pub returns : goal.returns
 returns c =

@@ -13,20 +13,20 @@ pub constant_value-requires-clause-constants : goal.constant_value-requires-clau
 constant_value-requires-clause-constants c =
     let g = binding_of c.args.scope.now in
     let e = expr_view c.args.bound.now in
-    (number_clean g e (faults g e) (bound_clean g c.args.bracket e (faults g e) c.requires.sound c.requires.known).0 c.requires.known).0
+    (number_clean g e (bound_clean g c.args.bracket e c.requires.sound c.requires.known).0 c.requires.known).0
 
 pub constant_value-requires-clause-sound : goal.constant_value-requires-clause-sound
 constant_value-requires-clause-sound c =
     let g = binding_of c.args.scope.now in
     let e = expr_view c.args.bound.now in
-    (number_clean g e (faults g e) (bound_clean g c.args.bracket e (faults g e) c.requires.sound c.requires.known).0 c.requires.known).1
+    (number_clean g e (bound_clean g c.args.bracket e c.requires.sound c.requires.known).0 c.requires.known).1
 
 pub unreachable-requires : goal.unreachable-requires
 unreachable-requires c =
     let g = binding_of c.args.scope.now in
     let e = expr_view c.args.bound.now in
     let is : c.index.result ≡ number_of (names g) e = c.index.ensures ∙ ap (λ v. index_of (index v.signed v.bits)) c.constant_value.ensures in
-    let good : is_bad_bound (number_of (names g) e) ≡ false = no_fault _ _ _ (bound_clean g c.args.bracket e (faults g e) c.requires.sound c.requires.known).1 in
+    let good : is_bad_bound (number_of (names g) e) ≡ false = no_fault _ _ _ (bound_clean g c.args.bracket e c.requires.sound c.requires.known).1 in
     let there = number_there (number_of (names g) e) good in
     c.in_default.not-At there.0 (is ∙ there.1)
 
@@ -35,7 +35,7 @@ returns-clause-within c =
     let g = binding_of c.args.scope.now in
     let e = expr_view c.args.bound.now in
     let is : c.index.result ≡ number_of (names g) e = c.index.ensures ∙ ap (λ v. index_of (index v.signed v.bits)) c.constant_value.ensures in
-    let good : is_bad_bound (number_of (names g) e) ≡ false = no_fault _ _ _ (bound_clean g c.args.bracket e (faults g e) c.requires.sound c.requires.known).1 in
+    let good : is_bad_bound (number_of (names g) e) ≡ false = no_fault _ _ _ (bound_clean g c.args.bracket e c.requires.sound c.requires.known).1 in
     bound_within c.in-At.number (ap is_bad_bound (sym c.in-At.is ∙ is) ∙ good)
 
 pub overflow_cast-result : goal.overflow_cast-result
@@ -43,6 +43,6 @@ overflow_cast-result c =
     let g = binding_of c.args.scope.now in
     let e = expr_view c.args.bound.now in
     let is : c.index.result ≡ number_of (names g) e = c.index.ensures ∙ ap (λ v. index_of (index v.signed v.bits)) c.constant_value.ensures in
-    let good : is_bad_bound (number_of (names g) e) ≡ false = no_fault _ _ _ (bound_clean g c.args.bracket e (faults g e) c.requires.sound c.requires.known).1 in
+    let good : is_bad_bound (number_of (names g) e) ≡ false = no_fault _ _ _ (bound_clean g c.args.bracket e c.requires.sound c.requires.known).1 in
     let within : c.in-At.number ≤ 1048575 = bound_within c.in-At.number (ap is_bad_bound (sym c.in-At.is ∙ is) ∙ good) in
     search (rules, within)
