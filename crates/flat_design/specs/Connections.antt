@@ -175,3 +175,27 @@ unless_joined _ fs = []
 -- what is wrong with a connection that joins nothing
 abbrev pub port_faults : Scope → JoinedPort → List Fault
 port_faults g j = unless_joined (joining g j.port j.label j.value) (joined_faults g j.label j.port j.value)
+
+-- what is wrong with the expression of a port that has a fault: where it has no direction, with the expression alone
+abbrev pub faulty_port_faults : Scope → Option Declaration → Named → Expr → List Fault
+faulty_port_faults g None label e = faults g e
+faulty_port_faults g (Some d) label e = if is_sound_port d then [] else (if is_some d.direction then joined_faults g label d e else faults g e)
+
+-- the same of a connection, where it has an expression
+abbrev pub valued_faults : Scope → Option Declaration → Named → Option Expr → List Fault
+valued_faults g d label None = []
+valued_faults g d label (Some e) = faulty_port_faults g d label e
+
+-- the same of a port, where it is connected
+abbrev pub connected_faults : Scope → Option Declaration → Option Connection → List Fault
+connected_faults g d None = []
+connected_faults g d (Some c) = valued_faults g d c.label c.value
+
+-- the same of the port x
+abbrev pub listed_faults : Scope → List Declaration → List Connection → Named → List Fault
+listed_faults g ds cs x = connected_faults g (declaration_of ds x.name) (connection_of cs x.name)
+
+-- all that is wrong with the connections of an instance
+abbrev pub instance_faults : Scope → List Override → Module → Named → List Given → List Fault
+instance_faults g os m label cs =
+    given_faults label m.ports cs ++ flat_map (port_faults g) (joined_ports os m label cs) ++ flat_map (listed_faults g (declared os m) (connections label m.ports cs)) m.ports

@@ -1,7 +1,7 @@
-use Rattle.std.proofs.Common.{◌≡◌, ap, map, sym, ◌∙◌}
+use Rattle.std.proofs.Common.{◌≡◌, ◌++◌, ap, map, sym, ◌∙◌}
 use Rattle.std.specs.Prelude.{flat_map}
 use Rattle.verilog_tree.specs.View.{givens_view, module_view}
-use Rattle.flat_design.specs.Connections.{connections, given_faults, joined_port, joining, port_faults}
+use Rattle.flat_design.specs.Connections.{connections, given_faults, joined_port, joined_ports, joining, listed_faults, port_faults}
 use Rattle.flat_design.specs.Instances.{declared}
 use Rattle.flat_design.specs.Scope.{binding_of}
 use Rattle.elab_declarations.specs.Constants.{overrides_view}
@@ -36,8 +36,19 @@ returns-clause-met c =
     let t = c.args.tally.now in
     let given : c.check_given.new.tally ≡ after_faults t (given_faults label m.ports cs) =
     c.in_ok-connections.ensures.met ∙ ap (λ x. after_faults t (given_faults x (names_view c.deref.result.now) cs)) c.of-label.ensures ∙ ap (λ ns. after_faults t (given_faults label (names_view ns) cs)) c.deref.ensures.value ∙ ap (λ ns. after_faults t (given_faults label ns cs)) c.in_ok-names.ensures in
+    let os = overrides_view c.args.of.now.overrides.items in
+    let js = joined_ports os m label cs in
+    let u = c.join_all.new.tally in
+    let joined : u ≡ after_faults t (given_faults label m.ports cs ++ flat_map (port_faults g) js) =
     c.in_ok-joined.ensures.met
     ∙ ap (λ u. after_faults u (flat_map (port_faults g) (ports_view c.deref-4.result.now))) given
     ∙ ap (λ js. after_faults (after_faults t (given_faults label m.ports cs)) (flat_map (port_faults g) (ports_view js))) c.deref-4.ensures.value
     ∙ ap (λ js. after_faults (after_faults t (given_faults label m.ports cs)) (flat_map (port_faults g) js)) (returns-clause-ports c)
-    ∙ sym (after_faults-append t (given_faults label m.ports cs) _)
+    ∙ sym (after_faults-append t (given_faults label m.ports cs) _) in
+    c.in_ok-check_faulty_ports.ensures
+    ∙ ap (λ ds. after_faults u (flat_map (listed_faults g ds (connections_view c.deref-5.result.now)) m.ports)) (c.in_ok-declared.ensures ∙ ap (λ ys. declared (overrides_view ys) m) c.deref-2.ensures.value)
+    ∙ ap (λ ws. after_faults u (flat_map (listed_faults g (declared os m) (connections_view ws)) m.ports)) c.deref-5.ensures.value
+    ∙ ap (λ ws. after_faults u (flat_map (listed_faults g (declared os m) ws) m.ports))
+    (c.in_ok-connections.ensures.connections ∙ ap (λ x. connections x (names_view c.deref.result.now) cs) c.of-label.ensures ∙ ap (λ ns. connections label (names_view ns) cs) c.deref.ensures.value ∙ ap (λ ns. connections label ns cs) c.in_ok-names.ensures)
+    ∙ ap (λ v. after_faults v (flat_map (listed_faults g (declared os m) (connections label m.ports cs)) m.ports)) joined
+    ∙ sym (after_faults-append t (given_faults label m.ports cs ++ flat_map (port_faults g) js) _)
