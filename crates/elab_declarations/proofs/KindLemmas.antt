@@ -13,6 +13,6 @@ kind_sort_view true s = refl
 kind_sort_view false s = refl
 
 -- a memory, if its words have no fault
-pub memory_if : (b : Bool) (r : Range) → memory_of (if b then Some r else None) ≡ spec.sort_if b (spec.words_from r)
-memory_if true r = refl
-memory_if false r = refl
+pub memory_is : (b : Bool) (r : Range) → memory_of (if b then Some r else None) ≡ spec.memory_if b r
+memory_is true r = refl
+memory_is false r = refl

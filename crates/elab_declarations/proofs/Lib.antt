@@ -4,6 +4,7 @@ pub mod ListLemmas
 pub mod TableLemmas
 pub mod TypedLemmas
 pub mod BoundLemmas
+pub mod DirectedLemmas
 pub mod OthersLemmas
 pub mod ConstantsLemmas
 pub mod SmallRanges

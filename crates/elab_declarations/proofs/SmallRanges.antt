@@ -10,7 +10,7 @@ use Rattle.verilog_tree.specs.declared.item.Named.{Named}
 use Rattle.verilog_tree.specs.Tree.{Declared, Expr, RangeExpr, Item, ItemForm, port_item, net_item, variable_item, integer_item, parameter_item, continuous_item, always_item, initial_item, instance_item, Module}
 use Rattle.elab_const.specs.Faults.{is_bad_bound}
 use Rattle.elab_const.specs.Meaning.{count_of, number_of}
-use Rattle.flat_design.specs.Declarations.{Declaration, Sort, a_net, a_variable, words_from, an_integer, a_parameter, some_instance, add_declaration, all_declarations, bounds_faults, completed, completes, declaration, declarations, declarations_from, is_sound_range, is_sound_vector, is_variable, item_declarations, range_value, sort_if, vector_faults, words_faults, words_sort}
+use Rattle.flat_design.specs.Declarations.{Declaration, Sort, a_net, a_variable, words_from, an_integer, a_parameter, some_instance, add_declaration, all_declarations, bounds_faults, completed, completes, declaration, declarations, declarations_from, is_sound_range, is_sound_vector, is_variable, item_declarations, memory_if, range_value, sort_if, vector_faults, words_faults, words_sort}
 use Rattle.flat_design.specs.Expressions.{bound_faults, faults}
 use Rattle.flat_design.specs.Fault.{Fault, fault_if, none}
 use Rattle.flat_design.specs.Scope.{Scope, names, names_faulty, natural_number}
@@ -67,7 +67,7 @@ words_within : (g : Scope) (p : Place) (r : Option RangeExpr) → AreFewWords (w
 words_within g p None = tt
 words_within g p (Some r) = by (none (words_faults g p r)) (is_sound_range g r) refl refl
   where
-    by : (a b : Bool) → none (words_faults g p r) ≡ a → is_sound_range g r ≡ b → AreFewWords (sort_if (a && b) (words_from (bounds_of g r)))
+    by : (a b : Bool) → none (words_faults g p r) ≡ a → is_sound_range g r ≡ b → AreFewWords (memory_if (a && b) (bounds_of g r))
     by true true clean sound = (range_within g r sound, span_within (bounds_faults g r) (is_sound_range g r) 65536 _ _ sound clean)
     by true false clean sound = tt
     by false b clean sound = tt

@@ -18,5 +18,5 @@ kind_sort sound sort = if sound then sort else Faulty
 
 -- a memory, if its words have no fault
 abbrev pub memory_of : Option Range → spec.Sort
-memory_of None = spec.faulty
+memory_of None = spec.faulty_memory
 memory_of (Some r) = spec.words_from r

@@ -16,8 +16,10 @@ pub enum Sort {
     Integer,
     Parameter,
     Instance,
-    /// Its declaration has a fault.
+    /// Its range has a fault.
     Faulty,
+    /// A memory, of whose words the range has a fault.
+    FaultyMemory,
 }
 
 /// A declared name.
@@ -51,7 +53,14 @@ impl Sort {
     fn is_faulty(self) -> bool
         ensures { result ≡ spec.is_faulty (sort_view self) }
     {
-        matches!(self, Sort::Faulty)
+        matches!(self, Sort::Faulty | Sort::FaultyMemory)
+    }
+
+    /// A net or a variable, as far as its range tells.
+    fn may_be_vector(self) -> bool
+        ensures { result ≡ spec.is_vector (sort_view self) }
+    {
+        matches!(self, Sort::Net | Sort::Variable | Sort::Faulty)
     }
 }
 
@@ -69,18 +78,23 @@ impl<'a> Declaration<'a> {
             && self.signed == other.signed
     }
 
-    /// Whether a later declaration of the same name is a fault, of which neither has one of its own.
-    pub(crate) fn clashes(&self, other: &Declaration) -> bool
-        ensures { result ≡ not (spec.completes (declaration_view self.now) (declaration_view other.now) || spec.is_faulty (sort_view self.now.sort) || spec.is_faulty (sort_view other.now.sort)) }
+    /// Whether a port may be declared once more, where a range has a fault and all else is as it has to be.
+    fn may_complete(&self, other: &Declaration) -> bool
+        ensures { result ≡ spec.may_complete (declaration_view self.now) (declaration_view other.now) }
     {
-        !(self.completes(other) || self.sort.is_faulty() || other.sort.is_faulty())
+        (self.sort.is_faulty() || other.sort.is_faulty())
+            && !self.twice
+            && self.direction.is_some() != other.direction.is_some()
+            && self.sort.may_be_vector()
+            && other.sort.may_be_vector()
+            && self.signed == other.signed
     }
 
-    /// Whether it is a port, or has a fault.
-    pub(crate) fn is_port(&self) -> bool
-        ensures { result ≡ (spec.has_direction (declaration_view self.now) || spec.is_faulty (sort_view self.now.sort)) }
+    /// Whether a later declaration of the same name is a fault.
+    pub(crate) fn clashes(&self, other: &Declaration) -> bool
+        ensures { result ≡ not (spec.completes (declaration_view self.now) (declaration_view other.now) || spec.may_complete (declaration_view self.now) (declaration_view other.now)) }
     {
-        self.direction.is_some() || self.sort.is_faulty()
+        !(self.completes(other) || self.may_complete(other))
     }
 
     /// The first declaration of a name, completed by a later one where that declares a port once more.

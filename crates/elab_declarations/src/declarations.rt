@@ -1,7 +1,9 @@
-ghost use Rattle.std.specs.Prelude.{◌≡◌, ◌++◌, [], All, IfOk, OnOk};
+ghost use Rattle.std.specs.Prelude.{◌≡◌, ◌++◌, ◌∷◌, [], All, IfOk, OnOk};
 ghost use Rattle.std.specs.Option.{option_map};
 ghost use Rattle.elab_declarations.specs.DeclarationBounds.{IsInBounds};
 ghost use Rattle.elab_declarations.specs.DeclarationView.{declaration_view, declarations_view};
+ghost use Rattle.elab_declarations.specs.Directed.{undirected_faults, with_directed};
+ghost use Rattle.elab_scope.specs.NameSet.{has};
 ghost use Rattle.elab_scope.specs.Tally.{after_faults};
 ghost use Rattle.flat_design.specs.Connections.{declaration_of};
 ghost use Rattle.flat_design.specs.Declarations as spec;
@@ -11,7 +13,7 @@ ghost use Rattle.verilog_tree.specs.View.{module_view};
 
 use crate::declaration::Declaration;
 use crate::items::all_declarations;
-use cov_host::{Name, NoMemory};
+use cov_host::NoMemory;
 use elab_scope::{FoundFault, NameAt, NameSet, Scope, Tally};
 use flat_design::ElabKind;
 use indexmap::IndexMap;
@@ -83,16 +85,6 @@ impl<'a> Declarations<'a> {
             None => false,
         }
     }
-
-    /// Whether a name has a direction, or a fault in its declaration.
-    pub(crate) fn is_port(&self, name: &Name) -> bool
-        ensures { result ≡ spec.is_port self.now name.now }
-    {
-        match self.found.get(name.as_slice()) {
-            Some(declaration) => declaration.is_port(),
-            None => false,
-        }
-    }
 }
 
 /// The declared names, each once, with the faults of those that are declared again.
@@ -131,19 +123,56 @@ pub(crate) fn check_listed<'a>(
     Ok(())
 }
 
-/// The listed ports without a direction (IEEE 1364-2001 clause 12.3.3).
-pub(crate) fn check_directions<'a>(
-    declarations: &Declarations,
-    ports: &'a [Named],
-    tally: &mut Tally<'a>,
-)
-    ensures { tally.new ≡ after_faults tally.old (spec.direction_faults declarations.now ports.now) }
+/// Adds the name of a declaration that gives it a direction.
+fn add_directed<'a>(
+    names: &mut NameSet<'a>,
+    declaration: &Declaration<'a>,
+) -> Result<(), NoMemory>
+    ensures { OnOk result (has names.new ≡ with_directed (declaration_view declaration.now ∷ []) (has names.old)) }
+{
+    match declaration.direction {
+        Some(_) => {
+            let _ = names.add(declaration.name.name.as_slice())?;
+            Ok(())
+        }
+        None => Ok(()),
+    }
+}
+
+/// The names to which some declaration gives a direction.
+fn directed_names<'a>(alloc: Global, all: &[Declaration<'a>]) -> Result<NameSet<'a>, NoMemory>
+    ensures { IfOk result (λ names. has names ≡ spec.is_port (declarations_view all.now)) }
+{
+    let mut names = NameSet::new(alloc);
+    for declaration in all {
+        add_directed(&mut names, declaration)?;
+    }
+    Ok(names)
+}
+
+/// The listed ports that are none of the names that have a direction.
+fn check_directed<'a>(directed: &NameSet, ports: &'a [Named], tally: &mut Tally<'a>)
+    ensures { tally.new ≡ after_faults tally.old (undirected_faults (has directed.now) ports.now) }
 {
     for port in ports {
-        if !declarations.is_port(&port.name) {
+        if !directed.has(port.name.as_slice()) {
             tally.fault(FoundFault::at(ElabKind::PortMismatch, NameAt::of(port)));
         }
     }
+}
+
+/// The listed ports to which no declaration gives a direction (IEEE 1364-2001 clause 12.3.3).
+pub(crate) fn check_directions<'a>(
+    alloc: Global,
+    all: &[Declaration],
+    ports: &'a [Named],
+    tally: &mut Tally<'a>,
+) -> Result<(), NoMemory>
+    ensures { OnOk result (tally.new ≡ after_faults tally.old (spec.direction_faults (declarations_view all.now) ports.now)) }
+{
+    let directed = directed_names(alloc, all)?;
+    check_directed(&directed, ports, tally);
+    Ok(())
 }
 
 /// The declared names of a module, each once, with the faults of its ranges, of names that are declared again, and of
@@ -156,11 +185,11 @@ pub fn check_declarations<'a>(
 ) -> Result<Declarations<'a>, NoMemory>
     ensures names { IfOk result (λ d. d ≡ spec.declarations (binding_of scope.now) (module_view definition.now)) }
     ensures within { IfOk result (All IsInBounds) }
-    ensures met { OnOk result (tally.new ≡ after_faults tally.old (range_faults (binding_of scope.now) (module_view definition.now) ++ spec.twice_faults [] (spec.all_declarations (binding_of scope.now) (module_view definition.now)) ++ spec.listed_twice [] definition.now.ports ++ spec.direction_faults (spec.declarations (binding_of scope.now) (module_view definition.now)) definition.now.ports)) }
+    ensures met { OnOk result (tally.new ≡ after_faults tally.old (range_faults (binding_of scope.now) (module_view definition.now) ++ spec.twice_faults [] (spec.all_declarations (binding_of scope.now) (module_view definition.now)) ++ spec.listed_twice [] definition.now.ports ++ spec.direction_faults (spec.all_declarations (binding_of scope.now) (module_view definition.now)) definition.now.ports)) }
 {
     let all = all_declarations(alloc, scope, definition, tally)?;
     let declared = declare_all(alloc, &all, tally)?;
     check_listed(alloc, definition.ports.as_slice(), tally)?;
-    check_directions(&declared, definition.ports.as_slice(), tally);
+    check_directions(alloc, &all, definition.ports.as_slice(), tally)?;
     Ok(declared)
 }

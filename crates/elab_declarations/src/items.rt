@@ -200,7 +200,7 @@ fn memory_sort(words: Option<Range>) -> Sort
 {
     match words {
         Some(words) => Sort::Memory(words),
-        None => Sort::Faulty,
+        None => Sort::FaultyMemory,
     }
 }
 

@@ -157,7 +157,7 @@ pub opened_met : (i : Instantiation) (os : List Override) (g : Scope) (ds : List
     os ≡ i.overrides → g ≡ constant_scope i.overrides i.of_module → ds ≡ declared i.overrides i.of_module → l ≡ linked_of i →
     first ≡ after_all t (met_instance i.item ∷ met_faults (path_faults i.item i.path)) →
     second ≡ after_faults first (constants_faults (other_names i.of_module) os [] (params_of i.of_module)) →
-    third ≡ after_faults second (range_faults g i.of_module ++ twice_faults [] (all_declarations g i.of_module) ++ listed_twice [] i.of_module.ports ++ direction_faults (declarations g i.of_module) i.of_module.ports) →
+    third ≡ after_faults second (range_faults g i.of_module ++ twice_faults [] (all_declarations g i.of_module) ++ listed_twice [] i.of_module.ports ++ direction_faults (all_declarations g i.of_module) i.of_module.ports) →
     last ≡ after_all third (flat_map (λ d. role_met (role_of l d) i d) ds) → last ≡ after_all t (opening_met i)
 opened_met i os g ds l t first second third last given scope names links one two three four =
     let m : Module = i.of_module in
@@ -165,10 +165,10 @@ opened_met i os g ds l t first second third last given scope names links one two
     let path : List Fault = path_faults i.item i.path in
     let own : List Fault = constants_faults (other_names m) i.overrides [] (params_of m) in
     let front : Tally = after_faults (after_faults start path) own in
-    let others : Scope → List Fault = λ h. range_faults h m ++ twice_faults [] (all_declarations h m) ++ listed_twice [] m.ports ++ direction_faults (declarations h m) m.ports in
+    let others : Scope → List Fault = λ h. range_faults h m ++ twice_faults [] (all_declarations h m) ++ listed_twice [] m.ports ++ direction_faults (all_declarations h m) m.ports in
     let to_second : second ≡ front = two ∙ ap (λ o. after_faults first (constants_faults (other_names m) o [] (params_of m))) given ∙ ap (λ u. after_faults u own) one in
     let to_third : third ≡ after_all t (opening_front i) =
-    three ∙ ap (λ u. after_faults u (others g)) to_second ∙ ap (λ h. after_faults front (others h)) scope ∙ faults_in_turn start path own (range_faults (constant_scope i.overrides m) m) (twice_faults [] (all_declarations (constant_scope i.overrides m) m)) (listed_twice [] m.ports) (direction_faults (declared i.overrides m) m.ports)
+    three ∙ ap (λ u. after_faults u (others g)) to_second ∙ ap (λ h. after_faults front (others h)) scope ∙ faults_in_turn start path own (range_faults (constant_scope i.overrides m) m) (twice_faults [] (all_declarations (constant_scope i.overrides m) m)) (listed_twice [] m.ports) (direction_faults (all_declarations (constant_scope i.overrides m) m) m.ports)
     in
     four
     ∙ ap (λ u. after_all u (flat_map (λ d. role_met (role_of l d) i d) ds)) to_third

@@ -103,7 +103,8 @@ pub data Sort : Type 0 where
   an_integer : Sort
   a_parameter : Sort
   some_instance : Sort
-  faulty : Sort
+  faulty : Sort  -- its range has a fault
+  faulty_memory : Sort  -- the range of its words has one
 
 -- a declared name, with the place of its item
 pub record Declaration : Type 0 where
@@ -123,10 +124,14 @@ declaration p sort r signed direction x = record { name = x; item = p; sort = so
 abbrev pub sort_if : Bool → Sort → Sort
 sort_if sound sort = if sound then sort else faulty
 
+-- a memory, if the range of its words has no fault
+abbrev pub memory_if : Bool → Range → Sort
+memory_if sound words = if sound then words_from words else faulty_memory
+
 -- a memory where the name has a range of words, else the item's sort
 abbrev pub words_sort : Scope → Place → Option RangeExpr → Sort → Sort
 words_sort g p None sort = sort
-words_sort g p (Some r) sort = sort_if (none (words_faults g p r) && is_sound_range g r) (words_from (record { high = natural_number g r.high; low = natural_number g r.low }))
+words_sort g p (Some r) sort = memory_if (none (words_faults g p r) && is_sound_range g r) (record { high = natural_number g r.high; low = natural_number g r.low })
 
 -- the names that an item declares, with their ranges
 abbrev pub item_declarations : Scope → Place → ItemForm → List Declaration
@@ -175,7 +180,15 @@ is_variable _ = false
 -- its declaration has a fault
 abbrev pub is_faulty : Sort → Bool
 is_faulty faulty = true
+is_faulty faulty_memory = true
 is_faulty _ = false
+
+-- declared as a net or a variable, as far as its range tells
+abbrev pub is_vector : Sort → Bool
+is_vector a_net = true
+is_vector a_variable = true
+is_vector faulty = true
+is_vector _ = false
 
 -- declared as a port
 abbrev pub has_direction : Declaration → Bool
@@ -213,9 +226,14 @@ declarations_from sofar (d ∷ ds) = declarations_from (add_declaration sofar d)
 abbrev pub declarations : Scope → Module → List Declaration
 declarations g m = declarations_from [] (all_declarations g m)
 
+-- a port may be declared once more, where a range has a fault and all else is as it has to be
+abbrev pub may_complete : Declaration → Declaration → Bool
+may_complete c d =
+    (is_faulty c.sort || is_faulty d.sort) && (not c.twice && not (same_bool (has_direction c) (has_direction d)) && is_vector c.sort && is_vector d.sort && same_bool c.signed d.signed)
+
 -- a name that is declared again, other than as a port's net or variable
 abbrev pub is_declared_again : List Declaration → Declaration → Bool
-is_declared_again sofar d = list_any (λ c. bytes_eq c.name.name d.name.name && not (completes c d || is_faulty c.sort || is_faulty d.sort)) sofar
+is_declared_again sofar d = list_any (λ c. bytes_eq c.name.name d.name.name && not (completes c d || may_complete c d)) sofar
 
 -- the names declared again, in order of text
 abbrev pub twice_faults : List Declaration → List Declaration → List Fault
@@ -227,10 +245,10 @@ abbrev pub listed_twice : List Named → List Named → List Fault
 listed_twice sofar [] = []
 listed_twice sofar (x ∷ xs) = fault_if (is_among sofar x.name) (fault_at TwiceDeclared x) ++ listed_twice (x ∷ sofar) xs
 
--- a listed port without direction
+-- some declaration of the name gives it a direction
 abbrev pub is_port : List Declaration → List ℕ → Bool
-is_port ds x = list_any (λ d. bytes_eq d.name.name x && (has_direction d || is_faulty d.sort)) ds
+is_port ds x = list_any (λ d. bytes_eq d.name.name x && has_direction d) ds
 
--- the listed ports without direction
+-- the listed ports without direction, by all declarations
 abbrev pub direction_faults : List Declaration → List Named → List Fault
 direction_faults ds xs = flat_map (λ x. fault_if (not (is_port ds x.name)) (fault_at PortMismatch x)) xs

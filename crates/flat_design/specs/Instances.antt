@@ -211,7 +211,7 @@ range_faults g m = flat_map (λ x. item_range_faults g x.place x.form) m.items
 -- the faults of the declarations of a module with these overrides
 abbrev pub declaration_faults : List Override → Module → List Fault
 declaration_faults os m =
-    constants_faults (other_names m) os [] (params_of m) ++ range_faults (constant_scope os m) m ++ twice_faults [] (all_declarations (constant_scope os m) m) ++ listed_twice [] m.ports ++ direction_faults (declared os m) m.ports
+    constants_faults (other_names m) os [] (params_of m) ++ range_faults (constant_scope os m) m ++ twice_faults [] (all_declarations (constant_scope os m) m) ++ listed_twice [] m.ports ++ direction_faults (all_declarations (constant_scope os m) m) m.ports
 
 -- what is met in the declarations of an instance
 abbrev pub opening_met : Instantiation → List Met

@@ -6,7 +6,7 @@ use Rattle.std.proofs.lemmas.Bool.{false≢true, and_parts}
 use Rattle.std.proofs.lemmas.List.{map-append}
 use Rattle.design_model.specs.Design.{In, AreDistinct}
 use Rattle.verilog_tree.specs.Tree.{Param, ItemForm, initial_item, port_item, net_item, variable_item, integer_item, parameter_item, continuous_item, always_item, instance_item, Item, Module}
-use Rattle.flat_design.specs.Declarations.{Declaration, Override, Sort, a_net, a_variable, a_parameter, declaration, item_declarations, all_declarations, is_net, is_variable, is_faulty, completes, completed, add_declaration, declarations_from, is_declared_again, twice_faults, param_entry, with_param, constants_from}
+use Rattle.flat_design.specs.Declarations.{Declaration, Override, Sort, a_net, a_variable, a_parameter, declaration, item_declarations, all_declarations, is_net, is_variable, is_faulty, completes, may_complete, completed, add_declaration, declarations_from, is_declared_again, twice_faults, param_entry, with_param, constants_from}
 use Rattle.flat_design.specs.Identifiers.{params_of, item_params}
 use Rattle.flat_design.specs.Instances.{constants, constant_scope, declaration_faults, declared, other_names}
 use Rattle.flat_design.specs.Scope.{Scope, Bindings, binding_of, with_bindings}
@@ -111,15 +111,15 @@ none_passes p (y ∷ ys) x h (inr k) = none_passes p ys x (neither (p y) (list_a
 -- what is neither net nor variable is not declared again
 pub not_again : (sofar : List Declaration) (c d : Declaration) → AreSound sofar → is_faulty d.sort ≡ false → is_plain d.sort ≡ true → is_declared_again sofar d ≡ false → In c sofar → name_of c ≡ name_of d → ⊥
 not_again sofar c d sound here plain once c_in same =
-    by_test (bytes_eq c.name.name d.name.name) (completes c d) (is_faulty c.sort) (is_faulty d.sort) (bytes_same c.name.name d.name.name same) (λ h. plain_second c d plain h) (sound.sound c c_in) here
-    (none_passes (λ x. bytes_eq x.name.name d.name.name && not (completes x d || is_faulty x.sort || is_faulty d.sort)) sofar c once c_in)
+    by_test (bytes_eq c.name.name d.name.name) (completes c d) (is_faulty c.sort) (is_faulty d.sort) _ (bytes_same c.name.name d.name.name same) (λ h. plain_second c d plain h) (sound.sound c c_in) here
+    (none_passes (λ x. bytes_eq x.name.name d.name.name && not (completes x d || may_complete x d)) sofar c once c_in)
   where
-    by_test : (a b e f : Bool) → a ≡ true → (b ≡ true → ⊥) → e ≡ false → f ≡ false → (a && not (b || e || f)) ≡ false → ⊥
-    by_test true true e f h k l m n = k refl
-    by_test true false true f h k l m n = false≢true (sym l)
-    by_test true false false true h k l m n = false≢true (sym m)
-    by_test true false false false h k l m n = false≢true (sym n)
-    by_test false b e f h k l m n = false≢true h
+    by_test : (a b e f rest : Bool) → a ≡ true → (b ≡ true → ⊥) → e ≡ false → f ≡ false → (a && not (b || ((e || f) && rest))) ≡ false → ⊥
+    by_test true true e f rest h k l m n = k refl
+    by_test true false true f rest h k l m n = false≢true (sym l)
+    by_test true false false true rest h k l m n = false≢true (sym m)
+    by_test true false false false rest h k l m n = false≢true (sym n)
+    by_test false b e f rest h k l m n = false≢true h
 
 -- a declaration that nothing completes stays
 stays_in : (cs : List Declaration) (e d : Declaration) → is_plain d.sort ≡ true → In d cs → In d (add_declaration cs e)

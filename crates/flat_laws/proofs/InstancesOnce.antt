@@ -8,7 +8,7 @@ use Rattle.std.proofs.lemmas.List.Elements.{filter-append}
 use Rattle.cov_host.specs.declared.place.Place.{Place}
 use Rattle.design_model.specs.Design.{In, AreDistinct}
 use Rattle.verilog_tree.specs.Tree.{Param, RangeExpr, One, ItemForm, initial_item, port_item, net_item, variable_item, integer_item, parameter_item, continuous_item, always_item, instance_item, Item, Module}
-use Rattle.flat_design.specs.Declarations.{Declaration, Override, Sort, a_net, a_variable, words_from, an_integer, a_parameter, some_instance, faulty, declaration, sort_if, words_sort, item_declarations, all_declarations, completes, completed, add_declaration, is_declared_again, twice_faults, words_faults, is_sound_range}
+use Rattle.flat_design.specs.Declarations.{Declaration, Override, Sort, a_net, a_variable, words_from, an_integer, a_parameter, some_instance, faulty, faulty_memory, declaration, memory_if, sort_if, words_sort, item_declarations, all_declarations, completes, completed, add_declaration, is_declared_again, twice_faults, words_faults, is_sound_range}
 use Rattle.flat_design.specs.Fault.{none}
 use Rattle.flat_design.specs.Instances.{constant_scope, declaration_faults}
 use Rattle.flat_design.specs.Scope.{Scope, natural_number}
@@ -103,6 +103,7 @@ instance_plain (words_from r) h = refl
 instance_plain an_integer h = refl
 instance_plain a_parameter h = refl
 instance_plain faulty h = refl
+instance_plain faulty_memory h = refl
 
 -- the name of an instance
 abbrev pub one_name : One → List ℕ
@@ -122,7 +123,11 @@ no_instance_port false = refl
 
 no_instance_words : (g : Scope) (p : Place) (r : Option RangeExpr) → is_instance_sort (words_sort g p r a_variable) ≡ false
 no_instance_words g p None = refl
-no_instance_words g p (Some r) = no_instance_if (none (words_faults g p r) && is_sound_range g r) (words_from (record { high = natural_number g r.high; low = natural_number g r.low })) refl
+no_instance_words g p (Some r) = by_test (none (words_faults g p r) && is_sound_range g r) (record { high = natural_number g r.high; low = natural_number g r.low })
+  where
+    by_test : (b : Bool) (words : Range) → is_instance_sort (memory_if b words) ≡ false
+    by_test true words = refl
+    by_test false words = refl
 
 instances_kept : (p : Place) (os : List One) → map name_of (filter is_instance (map (λ o. declaration p some_instance None false None o.name) os)) ≡ map one_name os
 instances_kept p [] = refl

@@ -8,7 +8,7 @@ use Rattle.design_model.specs.Design.{In}
 use Rattle.design_model.specs.Lawful.{span}
 use Rattle.verilog_tree.specs.declared.item.Named.{Named}
 use Rattle.verilog_tree.specs.Tree.{RangeExpr, ItemForm, initial_item, port_item, net_item, variable_item, integer_item, parameter_item, continuous_item, always_item, instance_item, Module}
-use Rattle.flat_design.specs.Declarations.{Declaration, Override, Sort, a_net, a_variable, words_from, an_integer, a_parameter, some_instance, faulty, range_value, bounds_faults, vector_faults, words_faults, is_sound_range, is_sound_vector, declaration, sort_if, words_sort, item_declarations, all_declarations, is_net, is_variable, is_faulty, completes, completed, add_declaration, declarations_from}
+use Rattle.flat_design.specs.Declarations.{Declaration, Override, Sort, a_net, a_variable, words_from, an_integer, a_parameter, some_instance, faulty, faulty_memory, range_value, bounds_faults, vector_faults, words_faults, is_sound_range, is_sound_vector, declaration, memory_if, sort_if, words_sort, item_declarations, all_declarations, is_net, is_variable, is_faulty, completes, completed, add_declaration, declarations_from}
 use Rattle.flat_design.specs.Fault.{Fault, fault_if, none}
 use Rattle.flat_design.specs.Instances.{declared, constant_scope}
 use Rattle.flat_design.specs.Scope.{Scope, range_width, natural_number}
@@ -54,7 +54,7 @@ few_words_sort : (g : Scope) (p : Place) (r : Option RangeExpr) → FewWords (wo
 few_words_sort g p None = tt
 few_words_sort g p (Some r) = by_test (none (words_faults g p r)) (is_sound_range g r) refl refl
   where
-    by_test : (a b : Bool) → none (words_faults g p r) ≡ a → is_sound_range g r ≡ b → FewWords (sort_if (a && b) (words_from (record { high = natural_number g r.high; low = natural_number g r.low })))
+    by_test : (a b : Bool) → none (words_faults g p r) ≡ a → is_sound_range g r ≡ b → FewWords (memory_if (a && b) (record { high = natural_number g r.high; low = natural_number g r.low }))
     by_test false b h k = tt
     by_test true false h k = tt
     by_test true true h k = small_span 65536 (is_sound_range g r) _ _ k (both_empty (bounds_faults g r) _ (is_empty (words_faults g p r) h)).1
@@ -91,6 +91,7 @@ sound_sort an_integer h = refl
 sound_sort a_parameter h = refl
 sound_sort some_instance h = refl
 sound_sort faulty h = absurd (false≢true h)
+sound_sort faulty_memory h = absurd (false≢true h)
 
 -- the declaration that is completed is a net or a variable
 pub completes_sound : (c d : Declaration) → completes c d ≡ true → is_faulty c.sort ≡ false

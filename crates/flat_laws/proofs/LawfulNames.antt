@@ -6,7 +6,7 @@ use Rattle.cov_host.specs.declared.place.Place.{Place}
 use Rattle.design_model.specs.Design.{In}
 use Rattle.verilog_tree.specs.declared.item.Named.{Named}
 use Rattle.verilog_tree.specs.Tree.{Param, ItemForm, initial_item, port_item, net_item, variable_item, integer_item, parameter_item, continuous_item, always_item, instance_item, Item, Module}
-use Rattle.flat_design.specs.Declarations.{Declaration, Override, Sort, a_net, a_variable, words_from, an_integer, a_parameter, some_instance, faulty, declaration, item_declarations, all_declarations, param_entry, with_param, constants_from}
+use Rattle.flat_design.specs.Declarations.{Declaration, Override, Sort, a_net, a_variable, words_from, an_integer, a_parameter, some_instance, faulty, faulty_memory, declaration, item_declarations, all_declarations, param_entry, with_param, constants_from}
 use Rattle.flat_design.specs.Identifiers.{names_of, declared_names, params_of, item_params}
 use Rattle.flat_design.specs.Instances.{Instantiation, constants, constant_scope, other_names, declared, other_entry, signal_entry, entries, scope_of, is_signal, alias_number}
 use Rattle.flat_design.specs.Scope.{Scope, Bindings, binding_of, entry_or, with_bindings, look_up}
@@ -126,6 +126,7 @@ other_told k d an_integer = refl
 other_told k d a_parameter = refl
 other_told k d some_instance = refl
 other_told k d faulty = refl
+other_told k d faulty_memory = refl
 
 pub scope_told : (i : Instantiation) (s k : ℕ) (x : List ℕ) → is_no_constant_entry (look_up (scope_of i s k) x) ≡ false
 scope_told i s k x =

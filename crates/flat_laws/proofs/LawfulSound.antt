@@ -8,7 +8,7 @@ use Rattle.design_model.specs.Design.{In}
 use Rattle.design_model.specs.declared.design.Range.{Range}
 use Rattle.verilog_tree.specs.declared.item.Named.{Named}
 use Rattle.verilog_tree.specs.Tree.{Expr, RangeExpr, Param, ItemForm, initial_item, port_item, net_item, variable_item, integer_item, parameter_item, continuous_item, always_item, instance_item, Item, Module, Declared}
-use Rattle.flat_design.specs.Declarations.{Declaration, Override, Sort, a_net, a_variable, words_from, an_integer, a_parameter, some_instance, faulty, bounds_faults, vector_faults, words_faults, is_sound_range, is_sound_vector, param_faults, param_entry, typed_value, overridden, with_param, constants_from, constants_faults, declaration, sort_if, words_sort, item_declarations, item_range_faults, declared_words_faults, all_declarations, is_variable, is_faulty, completes, completed, twice_faults, listed_twice, direction_faults}
+use Rattle.flat_design.specs.Declarations.{Declaration, Override, Sort, a_net, a_variable, words_from, an_integer, a_parameter, some_instance, faulty, faulty_memory, bounds_faults, vector_faults, words_faults, is_sound_range, is_sound_vector, param_faults, param_entry, typed_value, overridden, with_param, constants_from, constants_faults, declaration, memory_if, sort_if, words_sort, item_declarations, item_range_faults, declared_words_faults, all_declarations, is_variable, is_faulty, completes, completed, twice_faults, listed_twice, direction_faults}
 use Rattle.flat_design.specs.Expressions.{constant_faults, faults}
 use Rattle.flat_design.specs.Fault.{none}
 use Rattle.flat_design.specs.Identifiers.{identifiers, is_among, params_of, item_params, names_of}
@@ -89,7 +89,7 @@ others_sound m = record { sound = λ x. by_test (is_among (names_of m) x) }
 
 pub constant_scope_sound : (os : List Override) (m : Module) → declaration_faults os m ≡ [] → IsSoundScope (constant_scope os m)
 constant_scope_sound os m e =
-    let a = both_empty (constants_faults (other_names m) os [] (params_of m) ++ range_faults (constant_scope os m) m ++ twice_faults [] (all_declarations (constant_scope os m) m) ++ listed_twice [] m.ports) (direction_faults (declared os m) m.ports) e in
+    let a = both_empty (constants_faults (other_names m) os [] (params_of m) ++ range_faults (constant_scope os m) m ++ twice_faults [] (all_declarations (constant_scope os m) m) ++ listed_twice [] m.ports) (direction_faults (all_declarations (constant_scope os m) m) m.ports) e in
     let b = both_empty (constants_faults (other_names m) os [] (params_of m) ++ range_faults (constant_scope os m) m ++ twice_faults [] (all_declarations (constant_scope os m) m)) (listed_twice [] m.ports) a.0 in
     let c = both_empty (constants_faults (other_names m) os [] (params_of m) ++ range_faults (constant_scope os m) m) (twice_faults [] (all_declarations (constant_scope os m) m)) b.0 in
     let f = both_empty (constants_faults (other_names m) os [] (params_of m)) (range_faults (constant_scope os m) m) c.0 in
@@ -100,11 +100,11 @@ pub record NoDeclarationFaults (os : List Override) (m : Module) : Type 0 where
   pub ranges : range_faults (constant_scope os m) m ≡ []
   pub twice : twice_faults [] (all_declarations (constant_scope os m) m) ≡ []
   pub listed : listed_twice [] m.ports ≡ []
-  pub directions : direction_faults (declared os m) m.ports ≡ []
+  pub directions : direction_faults (all_declarations (constant_scope os m) m) m.ports ≡ []
 
 pub no_declaration_faults : (os : List Override) (m : Module) → declaration_faults os m ≡ [] → NoDeclarationFaults os m
 no_declaration_faults os m e =
-    let a = both_empty (constants_faults (other_names m) os [] (params_of m) ++ range_faults (constant_scope os m) m ++ twice_faults [] (all_declarations (constant_scope os m) m) ++ listed_twice [] m.ports) (direction_faults (declared os m) m.ports) e in
+    let a = both_empty (constants_faults (other_names m) os [] (params_of m) ++ range_faults (constant_scope os m) m ++ twice_faults [] (all_declarations (constant_scope os m) m) ++ listed_twice [] m.ports) (direction_faults (all_declarations (constant_scope os m) m) m.ports) e in
     let b = both_empty (constants_faults (other_names m) os [] (params_of m) ++ range_faults (constant_scope os m) m ++ twice_faults [] (all_declarations (constant_scope os m) m)) (listed_twice [] m.ports) a.0 in
     let c = both_empty (constants_faults (other_names m) os [] (params_of m) ++ range_faults (constant_scope os m) m) (twice_faults [] (all_declarations (constant_scope os m) m)) b.0 in
     let f = both_empty (constants_faults (other_names m) os [] (params_of m)) (range_faults (constant_scope os m) m) c.0 in
@@ -137,10 +137,14 @@ kept_sort : (P : Sort → Type 0) (b : Bool) (s : Sort) → b ≡ true → P s �
 kept_sort P true s e h = h
 kept_sort P false s e h = absurd (false≢true e)
 
+kept_memory : (P : Sort → Type 0) (b : Bool) (r : Range) → b ≡ true → P (words_from r) → P (memory_if b r)
+kept_memory P true r e h = h
+kept_memory P false r e h = absurd (false≢true e)
+
 words_kept : (P : Sort → Type 0) (g : Scope) → IsSoundScope g → (p : Place) (r : Option RangeExpr) → declared_words_faults g p r ≡ [] → P a_variable → ((q : Range) → P (words_from q)) → P (words_sort g p r a_variable)
 words_kept P g h p None e k l = k
 words_kept P g h p (Some r) e k l =
-    kept_sort P (none (words_faults g p r) && is_sound_range g r) (words_from _) (rw (empty_none (words_faults g p r) e, range_sound g h r (both_empty (bounds_faults g r) _ e).0) refl) (l _)
+    kept_memory P (none (words_faults g p r) && is_sound_range g r) _ (rw (empty_none (words_faults g p r) e, range_sound g h r (both_empty (bounds_faults g r) _ e).0) refl) (l _)
 
 item_fine : (m : Module) (g : Scope) → IsSoundScope g → (x : Item) → In x m.items → (form : ItemForm) → x.form ≡ form → item_range_faults g x.place form ≡ [] → (d : Declaration) → In d (item_declarations g x.place form) → IsFine m d
 unfolding not_parameter
@@ -236,6 +240,7 @@ sort_not_faulty m x k d an_integer n a b = refl
 sort_not_faulty m x k d some_instance n a b = refl
 sort_not_faulty m x k d a_parameter n a b = absurd (b refl)
 sort_not_faulty m x k d faulty n a b = absurd (false≢true (sym a))
+sort_not_faulty m x k d faulty_memory n a b = absurd (false≢true (sym a))
 sort_not_faulty m x k d a_net n a b = absurd (false≢true (sym n))
 sort_not_faulty m x k d a_variable n a b = absurd (false≢true (sym n))
 

@@ -23,9 +23,9 @@ returns c =
     let third : Tally = after_faults second (listed_twice [] ports) in
     let two : c.declare_all.new.tally ≡ second = c.in_ok-declared.ensures.met ∙ ap (λ t. after_faults t (twice_faults [] (declarations_view c.deref.result.now))) c.in_ok-all.ensures.met ∙ ap (λ ds. after_faults first (twice_faults [] ds)) all in
     let three : c.check_listed.new.tally ≡ third = c.in_ok-check_listed.ensures ∙ ap (λ t. after_faults t (listed_twice [] c.as_slice.result.now)) two ∙ ap (λ ps. after_faults second (listed_twice [] ps)) c.as_slice.ensures in
-    let four : c.check_directions.new.tally ≡ after_faults third (direction_faults (declarations g m) ports) = c.check_directions.ensures ∙ ap (λ t. after_faults t (direction_faults c.in_ok-declared.declared c.as_slice-2.result.now)) three ∙ ap (λ ps. after_faults third (direction_faults c.in_ok-declared.declared ps)) c.as_slice-2.ensures ∙ ap (λ ds. after_faults third (direction_faults ds ports)) names in
+    let four : c.check_directions.new.tally ≡ after_faults third (direction_faults (all_declarations g m) ports) = c.in_ok-check_directions.ensures ∙ ap (λ t. after_faults t (direction_faults (declarations_view c.deref-2.result.now) c.as_slice-2.result.now)) three ∙ ap (λ ps. after_faults third (direction_faults (declarations_view c.deref-2.result.now) ps)) c.as_slice-2.ensures ∙ ap (λ ds. after_faults third (direction_faults ds ports)) (ap declarations_view c.deref-2.ensures.value ∙ c.in_ok-all.ensures.names) in
     record {
       names = names;
       within = subst (All IsInBounds) (sym names) (declared_within g m);
-      met = four ∙ sym (after_faults-append_four (range_faults g m) (twice_faults [] (all_declarations g m)) (listed_twice [] ports) (direction_faults (declarations g m) ports) c.args.tally.now);
+      met = four ∙ sym (after_faults-append_four (range_faults g m) (twice_faults [] (all_declarations g m)) (listed_twice [] ports) (direction_faults (all_declarations g m) ports) c.args.tally.now);
     }

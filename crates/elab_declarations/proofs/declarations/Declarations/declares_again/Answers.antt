@@ -1,12 +1,12 @@
 use Rattle.std.proofs.Common.{◌||◌, Bool, not, sym, ap, ◌∙◌}
-use Rattle.flat_design.specs.Declarations.{Declaration, completes, is_faulty, is_declared_again}
+use Rattle.flat_design.specs.Declarations.{Declaration, completes, may_complete, is_declared_again}
 use Rattle.elab_declarations.specs.DeclarationView.{declaration_view}
 use Rattle.elab_declarations.proofs.TableLemmas.{any_named_at, holds_of}
 use Rattle.elab_declarations.proofs.declarations.Declarations.declares_again.Goals as goal
 
 -- at odds with a later declaration
 abbrev clashes : Declaration → Declaration → Bool
-clashes d c = not (completes c d || is_faulty c.sort || is_faulty d.sort)
+clashes d c = not (completes c d || may_complete c d)
 
 pub returns-in-Some : goal.returns-in-Some
 returns-in-Some c =
