@@ -39,6 +39,7 @@ cases: build built-cases
 
 built-cases:
 	python3 cases/run.py $(PROGRAM) --stage $(STAGE) $(AHEAD:%=--ahead %)
+	bash cases/arguments.sh $(PROGRAM)
 
 wrong-bodies:
 	bash .ci/wrong-bodies $(CRATES)
