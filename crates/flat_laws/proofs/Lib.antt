@@ -12,6 +12,7 @@ pub mod HierarchyText
 pub mod LoopText
 pub mod PortText
 pub mod FaultTexts
+pub mod FirstTexts
 pub mod ConstantText
 pub mod WholeDesigns
 pub mod LongLoop
