@@ -1,13 +1,11 @@
 -- Each token of sources is on a line of one of them.
 use Rattle.std.proofs.Common.{◌≡◌, ◌<◌, ◌≤◌, ◌+◌, ◌^◌, ◌==◌, ◌++◌, ◌∙◌, ℕ, zero, suc, Bool, true, false, if◌then◌else◌, List, [], ◌∷◌, length, get_or, Some, refl, sym, ap, subst, arith}
 use Rattle.std.specs.List.{All}
-use Rattle.std.specs.Prelude.{slice_get}
-use Rattle.std.proofs.lemmas.List.{get_or_default, length-append}
+use Rattle.std.proofs.lemmas.List.{length-append}
 use Rattle.std.proofs.lemmas.Option.{slice_get-get_or, slice_get_within}
 use Rattle.cov_host.specs.declared.place.Place.{Place}
-use Rattle.coverage_db.specs.Table.{IsSourceLine}
 use Rattle.verilog_lexer.specs.Sources.{SourceText}
-use Rattle.verilog_lexer.specs.Spot.{after_all, next_place}
+use Rattle.verilog_lexer.specs.Spot.{next_place}
 use Rattle.verilog_lexer.specs.TokenPlaces.{AreRead, AreReadInTurn, StandsAt, file_start, place_behind, nothing, blank_bytes, one_token, macro_use, inclusion, no_source, include_passed, root_read}
 use Rattle.verilog_lexer.specs.Tokens.{Lexeme}
 use Rattle.source_places.specs.Lines.{AreCounted, AreOnLines, IsOnLine}

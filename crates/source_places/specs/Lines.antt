@@ -2,7 +2,6 @@
 use Rattle.std.specs.Prelude.{◌<◌, ◌^◌, ℕ, suc, List, All, length}
 use Rattle.cov_host.specs.declared.place.Place.{Place}
 use Rattle.coverage_db.specs.Table.{IsSourceLine}
-use Rattle.coverage_db.specs.declared.address.SourceLine.{SourceLine}
 use Rattle.verilog_lexer.specs.Sources.{SourceText}
 use Rattle.verilog_lexer.specs.Tokens.{Lexeme}
 

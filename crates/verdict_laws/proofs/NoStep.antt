@@ -7,7 +7,7 @@ use Rattle.design_model.specs.Shows.{BoundDump, IsWindow}
 use Rattle.design_model.specs.declared.point.Point.{Point}
 use Rattle.event_machine.specs.Habit.{Habit}
 use Rattle.replay_model.specs.Laws.{AreReasonedVerdicts, AreSoundVerdicts}
-use Rattle.replay_model.specs.Marks.{IsVerdict, Marking, Hit, Undetermined}
+use Rattle.replay_model.specs.Marks.{IsVerdict, Hit, Undetermined}
 use Rattle.replay_model.specs.Step.{Replay}
 
 some_item : {A : Type 0} (before : List A) (x : A) (after : List A) → [] ≡ before ++ x ∷ after → ⊥

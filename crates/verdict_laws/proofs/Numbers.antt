@@ -1,5 +1,5 @@
 -- What is in doubt is a signal or a memory of the design, at a time before the last that the dump lists.
-use Rattle.std.proofs.Common.{◌≡◌, ◌<◌, ◌≤◌, ◌+◌, ◌&&◌, ◌==◌, ◌∙◌, ⊎_elim, ℕ, Bool, true, false, List, [], ◌∷◌, length, get_or, inl, inr, refl, sym, ap, subst, arith}
+use Rattle.std.proofs.Common.{◌≡◌, ◌<◌, ◌+◌, ◌&&◌, ◌==◌, ⊎_elim, ℕ, Bool, true, List, [], ◌∷◌, length, inl, inr, refl, subst, arith}
 use Rattle.std.specs.Prelude.{nat_lt}
 use Rattle.std.specs.List.{list_all, list_any}
 use Rattle.std.proofs.lemmas.Bool.{and_parts, eqb-true, ltb-true, or_cases, false≢true}
@@ -7,12 +7,12 @@ use Rattle.event_machine.specs.Cell.{Cell}
 use Rattle.event_machine.specs.Habit.{Habit}
 use Rattle.event_machine.specs.Machine.{Edge as MachineEdge}
 use Rattle.four_state.specs.declared.edge.Edge.{Edge}
-use Rattle.design_model.specs.Design.{Design, In, IsThing, Thing, a_word, body_at, is_number, owner, process_at, signal_at}
-use Rattle.design_model.specs.Doubt.{BlockDoubt, IsInDoubt, IsPointOn, IsReadEarly, WakesUnclean, unclear_at_start, read_early, not_clean, unclear_signal, unclear_word, own_target, of_block, of_signal}
+use Rattle.design_model.specs.Design.{Design, In, IsThing, Thing, a_word, body_at, owner, process_at, signal_at}
+use Rattle.design_model.specs.Doubt.{BlockDoubt, IsInDoubt, IsPointOn, unclear_at_start, read_early, not_clean, unclear_signal, unclear_word, own_target, of_block, of_signal}
 use Rattle.design_model.specs.Execution.{execution, execution_start}
 use Rattle.design_model.specs.Lawful.{IsLawfulDesign, is_alias}
 use Rattle.design_model.specs.Machine.{events_of, lists_edge, same_edge}
-use Rattle.design_model.specs.Points.{IsMachineAt, IsNameOf, IsPoint, StateNames}
+use Rattle.design_model.specs.Points.{IsNameOf, IsPoint, StateNames}
 use Rattle.design_model.specs.Reads.{PartialMap, ReadsFrom}
 use Rattle.design_model.specs.Shows.{BoundDump, IsListed, IsWindow, IsWindowOf, last_time}
 use Rattle.design_model.specs.Tree.{Process, assign, clocked, comb}

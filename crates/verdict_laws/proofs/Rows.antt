@@ -1,11 +1,10 @@
 -- The rows of a table by the verdicts of a replay.
-use Rattle.std.proofs.Common.{◌≡◌, ◌<◌, ◌∙◌, ℕ, List, [], ◌∷◌, length, get_or, inl, inr, refl, sym, ap, subst, arith}
+use Rattle.std.proofs.Common.{◌≡◌, ◌<◌, ◌∙◌, ℕ, List, [], ◌∷◌, length, get_or, inl, inr, refl, sym, subst, arith}
 use Rattle.std.specs.List.{All}
 use Rattle.std.proofs.lemmas.List.{get_or_default}
 use Rattle.coverage_db.specs.Table.{IsTable}
 use Rattle.coverage_db.specs.declared.db.Db.{Db}
 use Rattle.coverage_db.specs.declared.db.DbPoint.{DbPoint}
-use Rattle.coverage_db.specs.declared.verdict.DbVerdict.{DbVerdict}
 use Rattle.coverage_db.specs.declared.verdict.DbVerdict.TheVariants as row
 use Rattle.cover_points.specs.Listed.{IsPointList, points_of}
 use Rattle.cover_points.specs.Visits.{no_point, point_at}
@@ -13,7 +12,7 @@ use Rattle.cover_points.specs.declared.listing.Points.{Points}
 use Rattle.cover_points.proofs.Members.{in_at}
 use Rattle.design_model.specs.Design.{Design, In}
 use Rattle.design_model.specs.Lawful.{IsLawfulDesign}
-use Rattle.design_model.specs.Points.{IsHit, IsPoint, StateNames}
+use Rattle.design_model.specs.Points.{IsHit, StateNames}
 use Rattle.design_model.specs.Run.{Run}
 use Rattle.design_model.specs.Shows.{BoundDump}
 use Rattle.design_model.specs.declared.point.Point.{Point}
@@ -30,7 +29,7 @@ use Rattle.replay_model.specs.Step.{Replay}
 use Rattle.table_laws.specs.Rows.{IsAddressOf, ListsEach}
 use Rattle.table_laws.specs.Written.{IsWritten, IsWrittenMachine}
 use Rattle.verdict_laws.specs.Sound.{IsShownBy, IsSound, IsSoundRow, Says}
-use Rattle.verdict_laws.specs.Reasoned.{IsReachedPoint, IsReasoned, IsReasonedRow, IsReasonedVerdict}
+use Rattle.verdict_laws.specs.Reasoned.{IsReasoned, IsReasonedRow, IsReasonedVerdict}
 use Rattle.verdict_laws.proofs.OnePoint.{each, one_point}
 
 -- what the verdict of a listed point says of the runs

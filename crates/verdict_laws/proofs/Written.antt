@@ -1,12 +1,12 @@
 -- The verdicts of a replay can be written in a table.
-use Rattle.std.proofs.Common.{◌≡◌, ◌<◌, ◌^◌, ◌∙◌, ℕ, List, length, get_or, refl, sym, ap, subst, arith, lt-ltb}
+use Rattle.std.proofs.Common.{◌<◌, ◌^◌, ℕ, List, length, subst, arith, lt-ltb}
 use Rattle.std.specs.List.{All}
 use Rattle.std.proofs.lemmas.List.{get_or_default}
 use Rattle.cover_points.specs.Listed.{IsPointList, points_of}
 use Rattle.cover_points.specs.Visits.{no_point, point_at}
 use Rattle.cover_points.specs.declared.listing.Points.{Points}
 use Rattle.cover_points.proofs.Members.{in_at}
-use Rattle.design_model.specs.Design.{Design, In}
+use Rattle.design_model.specs.Design.{Design}
 use Rattle.design_model.specs.Lawful.{IsLawfulDesign}
 use Rattle.design_model.specs.Points.{IsPoint, StateNames}
 use Rattle.design_model.specs.Shows.{BoundDump, IsListed}

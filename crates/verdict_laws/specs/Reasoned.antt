@@ -1,7 +1,6 @@
 -- Why a point is left undetermined, and which points are decided.
 use Rattle.std.specs.Prelude.{◌≡◌, ℕ, List, All, ⊤}
 use Rattle.coverage_db.specs.declared.db.Db.{Db}
-use Rattle.coverage_db.specs.declared.db.DbInstance.{DbInstance}
 use Rattle.coverage_db.specs.declared.db.DbPoint.{DbPoint}
 use Rattle.coverage_db.specs.declared.verdict.DbVerdict.{DbVerdict}
 use Rattle.coverage_db.specs.declared.verdict.DbVerdict.TheVariants.{Hit, Undetermined}

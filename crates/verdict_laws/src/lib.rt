@@ -10,12 +10,16 @@
 ghost use Rattle.std.specs.Prelude.{◌≡◌, ◌<◌, ◌^◌, [], ℕ, List, All, length, slice_index_or};
 ghost use Rattle.coverage_db.specs.Table.{IsTable};
 ghost use Rattle.coverage_db.specs.declared.db.Db.{Db};
+ghost use Rattle.coverage_db.specs.declared.db.DbInstance.{DbInstance};
+ghost use Rattle.coverage_db.specs.declared.db.DbPoint.{DbPoint};
+ghost use Rattle.coverage_db.specs.declared.verdict.DbVerdict.TheVariants as verdict;
 ghost use Rattle.cover_points.specs.Listed.{IsPointList, points_of};
 ghost use Rattle.cover_points.specs.Visits.{point_at};
 ghost use Rattle.cover_points.specs.declared.listing.Points.{Points};
 ghost use Rattle.design_model.specs.Design.{Design};
 ghost use Rattle.design_model.specs.Lawful.{IsLawfulDesign};
-ghost use Rattle.design_model.specs.Points.{IsPoint, StateNames};
+ghost use Rattle.design_model.specs.Points.{IsHit, IsPoint, StateNames};
+ghost use Rattle.design_model.specs.Run.{Run};
 ghost use Rattle.design_model.specs.Shows.{BoundDump, IsListed, IsWindow};
 ghost use Rattle.design_model.specs.declared.point.Point.{Point};
 ghost use Rattle.event_machine.specs.Habit.{Habit};
@@ -27,8 +31,8 @@ ghost use Rattle.replay_model.specs.Laws.{AreReasonedVerdicts, AreSoundVerdicts}
 ghost use Rattle.replay_model.specs.Step.{Replay};
 ghost use Rattle.table_laws.specs.Rows.{IsAddressOf};
 ghost use Rattle.table_laws.specs.Written.{IsWritten, IsWrittenMachine, IsWrittenVerdict};
-ghost use Rattle.verdict_laws.specs.Reasoned.{IsReasoned};
-ghost use Rattle.verdict_laws.specs.Sound.{IsSound};
+ghost use Rattle.verdict_laws.specs.Reasoned.{IsReachedPoint, IsReasoned, IsReasonedRow};
+ghost use Rattle.verdict_laws.specs.Sound.{IsShownBy, IsSound, IsSoundRow};
 
 /// A row of a table names one point of the design, that of its own number.
 pub fn one_point_law()
@@ -63,4 +67,15 @@ pub fn written_law()
 pub fn no_step_law()
     ensures sound { (d : Design) (h : Habit) (dump : BoundDump) (points : List Point) (a : Replay) → ((t : ℕ) → IsWindow dump t → ⊥) → a.notes ≡ [] → AreSoundVerdicts d h dump points a }
     ensures reasoned { (d : Design) (h : Habit) (dump : BoundDump) (points : List Point) (a : Replay) → ((t : ℕ) → IsWindow dump t → ⊥) → a.notes ≡ [] → AreReasonedVerdicts d h dump points a }
+{}
+
+/// What the definitions refuse: a table that marks a point missed which a run that shows the dump hits, or hit which such a run does not
+/// hit, and one that leaves a point undetermined which a block reaches.
+pub fn refused_examples()
+    ensures missed { (d : Design) (h : Habit) (dump : BoundDump) (ms : List StateNames) (rows : List DbInstance) (row : DbPoint) (x : Point) (r : Run) → row.verdict ≡ verdict.Missed
+        → IsPoint d ms x → IsAddressOf d rows x row.address → IsShownBy d h dump r → IsHit d dump r x → IsSoundRow d h dump ms rows row → ⊥ }
+    ensures hit { (d : Design) (h : Habit) (dump : BoundDump) (ms : List StateNames) (rows : List DbInstance) (row : DbPoint) (x : Point) (r : Run) → row.verdict ≡ verdict.Hit
+        → IsPoint d ms x → IsAddressOf d rows x row.address → IsShownBy d h dump r → (IsHit d dump r x → ⊥) → IsSoundRow d h dump ms rows row → ⊥ }
+    ensures open { (d : Design) (h : Habit) (dump : BoundDump) (x : Point) (row : DbPoint) (time : ℕ) (path : List ℕ) → row.verdict ≡ verdict.Undetermined time path
+        → IsReachedPoint d h dump x → IsReasonedRow d h dump x row → ⊥ }
 {}
