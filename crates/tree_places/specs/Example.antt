@@ -1,0 +1,26 @@
+-- A test and the tokens of its text `if (a) y = b;`, of which only the places matter here.
+use Rattle.std.specs.Prelude.{ℕ, true, List, [], ◌∷◌, codes}
+use Rattle.cov_host.specs.declared.place.Place.{Place}
+use Rattle.verilog_lexer.specs.Tokens.{Lexeme}
+use Rattle.verilog_lexer.specs.declared.token.TokenKind.TheVariants.{Operator}
+use Rattle.verilog_tree.specs.Tree.{Statement, assignment, identifier, if_statement, no_statements}
+
+-- this column of the first line
+abbrev pub at : ℕ → Place
+at column = record { source = 1; line = 1; column = column }
+
+-- a token there
+abbrev pub token_at : ℕ → Lexeme
+token_at column = record { kind = Operator; text = []; place = at column }
+
+-- the tokens before the last name
+abbrev pub front : List Lexeme
+front = token_at 1 ∷ token_at 4 ∷ token_at 5 ∷ token_at 6 ∷ token_at 8 ∷ token_at 10 ∷ []
+
+-- all tokens
+abbrev pub whole : List Lexeme
+whole = token_at 12 ∷ token_at 13 ∷ front
+
+-- the test with the assignment in it
+abbrev pub test : Statement
+test = if_statement (at 1) (identifier (at 5) (codes "a")) (assignment (at 8) (identifier (at 8) (codes "y")) true (identifier (at 12) (codes "b"))) no_statements

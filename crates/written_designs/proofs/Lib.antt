@@ -1,0 +1,4 @@
+pub mod Texts
+pub mod Processes
+pub mod Elaborated
+pub mod Written
