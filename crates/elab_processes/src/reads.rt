@@ -154,29 +154,38 @@ fn names_signal(scope: &Scope, expr: &Expr) -> bool
     matches!(scope.get(base_name(expr).name), Some(Entry::Signal(_)))
 }
 
-/// Whether one of these targets drives one of these bits.
+/// Whether one of these targets drives one of these bits, or drives their signal where there is no certain bit.
 fn has_driver(driven: &[Written], read: &Written) -> bool
     requires within { All IsWithin driven.now }
     requires read { IsWithin read.now }
-    ensures { result ≡ list_any (λ w. spec_is_same_thing w.thing read.now.thing && spec.have_common w.offsets (range_with_len read.now.low read.now.count)) (map writing_view driven.now) }
+    ensures { result ≡ list_any (spec.reads_bits read.now.thing (range_with_len read.now.low read.now.count)) (map writing_view driven.now) }
 {
     for written in driven {
-        if share_bits(written, read) {
+        if reads_bits(written, read) {
             return true;
         }
     }
     false
 }
 
-/// Whether two have a bit of one signal in common.
+/// Whether what reads these bits reads one of a target; without a certain bit it may read any of its signal.
+fn reads_bits(written: &Written, read: &Written) -> bool
+    requires written { IsWithin written.now }
+    requires read { IsWithin read.now }
+    ensures { result ≡ spec.reads_bits read.now.thing (range_with_len read.now.low read.now.count) (writing_view written.now) }
+{
+    is_same_thing(written.thing, read.thing) && (read.count == 0 || share_bits(written, read))
+}
+
+/// Whether two have a bit in common.
 fn share_bits(a: &Written, b: &Written) -> bool
     requires first { IsWithin a.now }
     requires second { IsWithin b.now }
-    ensures { result ≡ (spec_is_same_thing a.now.thing b.now.thing && spec.have_common (range_with_len a.now.low a.now.count) (range_with_len b.now.low b.now.count)) }
+    ensures { result ≡ spec.have_common (range_with_len a.now.low a.now.count) (range_with_len b.now.low b.now.count) }
 {
     let low = a.low.max(b.low);
     let end = (a.low + a.count).min(b.low + b.count);
-    is_same_thing(a.thing, b.thing) && low < end
+    low < end
 }
 
 /// Whether both are one signal, or one memory.

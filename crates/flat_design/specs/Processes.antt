@@ -1,5 +1,5 @@
 -- The processes of items, and their faults: lists of names, edges, drivers, self assignments (clauses 6.1, 9.7).
-use Rattle.std.specs.Prelude.{ℕ, ◌+◌, ◌==◌, max, Bool, true, false, not, ◌&&◌, ◌||◌, if◌then◌else◌, List, [], ◌∷◌, ◌++◌, map, flat_map, Option, Some, None}
+use Rattle.std.specs.Prelude.{ℕ, ◌+◌, ◌==◌, max, Bool, true, false, not, ◌&&◌, ◌||◌, if◌then◌else◌, List, [], ◌∷◌, ◌++◌, length, map, flat_map, Option, Some, None}
 use Rattle.std.specs.Cmp.Lexicographic.{slice_cmp}
 use Rattle.std.specs.Ordering.{is_lt, nat_cmp}
 use Rattle.std.specs.List.{list_any, range_with_len}
@@ -19,7 +19,7 @@ use Rattle.flat_design.specs.Fault.{Fault, ElabKind, fault_at, fault_if, before_
 use Rattle.flat_design.specs.Identifiers.{base_name}
 use Rattle.flat_design.specs.Loops.{is_identifier}
 use Rattle.flat_design.specs.Numbering.{nodes}
-use Rattle.flat_design.specs.Scope.{Scope, Entry, a_signal, a_memory, a_faulty_one, SignalEntry, look_up, shape, names_faulty, range_width, is_same_thing, the_signal}
+use Rattle.flat_design.specs.Scope.{Scope, Entry, a_signal, a_memory, a_faulty_one, SignalEntry, look_up, shape, names_faulty, range_width, is_same_thing, the_signal, Thing}
 use Rattle.flat_design.specs.Targets.{Mode, Continuous, Combinational, Clocked, target, target_faults, leaves, Writing, writing_of}
 use Rattle.flat_design.specs.Terms.{right_side, head_as}
 
@@ -37,9 +37,13 @@ is_signal_entry _ = false
 abbrev pub have_common : List ℕ → List ℕ → Bool
 have_common xs ys = list_any (λ x. list_any (λ y. x == y) ys) xs
 
+-- what reads some of these bits reads a bit of this target; what names no certain bit, as by an index with an x, may read any
+abbrev pub reads_bits : Thing → List ℕ → Writing → Bool
+reads_bits x bits w = is_same_thing w.thing x && (length bits == 0 || have_common w.offsets bits)
+
 -- the select or name e reads a bit that the targets drive; by an index that is not constant it reads all bits
 abbrev pub reads_driven : Scope → List Writing → Expr → Bool
-reads_driven g ws e = is_signal_entry (look_up g (base_name e).name) && list_any (λ w. is_same_thing w.thing (writing_of g true true 0 e).thing && have_common w.offsets (writing_of g true true 0 e).offsets) ws
+reads_driven g ws e = is_signal_entry (look_up g (base_name e).name) && list_any (reads_bits (writing_of g true true 0 e).thing (writing_of g true true 0 e).offsets) ws
 
 -- the fault, where e reads a driven bit
 abbrev pub self_read : Scope → List Writing → Expr → List Fault

@@ -115,7 +115,7 @@ counted_mentions y n (t.concat h ts) = refl
 counted_mentions y n (t.repeat h k ts) = refl
 counted_mentions y n (t.sign h s a) = refl
 
-condition_mentions : (P : Type 0) (y : ℕ) (counted : Bool) (n : ℕ) (c : ℕ → Term) → ((k : ℕ) → mentions y (c k) ≡ true → P) → mentions y (condition_as counted n c) ≡ true → P
+pub condition_mentions : (P : Type 0) (y : ℕ) (counted : Bool) (n : ℕ) (c : ℕ → Term) → ((k : ℕ) → mentions y (c k) ≡ true → P) → mentions y (condition_as counted n c) ≡ true → P
 condition_mentions P y true n c f h = f (n + 1) (sym (counted_mentions y n (c (n + 1))) ∙ h)
 condition_mentions P y false n c f h = f n h
 

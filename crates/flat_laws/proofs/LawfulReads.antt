@@ -31,7 +31,7 @@ use Rattle.flat_design.specs.Identifiers.{base_name}
 use Rattle.flat_design.specs.Instances.{Sofar}
 use Rattle.flat_design.specs.Loops.{is_identifier}
 use Rattle.flat_design.specs.Numbering.{condition_nodes, is_counted_condition, nodes, one_if}
-use Rattle.flat_design.specs.Processes.{all_self_reads, have_common, reads_driven, self_faults, self_read, self_reads, uncounted, written}
+use Rattle.flat_design.specs.Processes.{all_self_reads, have_common, reads_bits, reads_driven, self_faults, self_read, self_reads, uncounted, written}
 use Rattle.flat_design.specs.Scope.{Scope, is_memory_name, is_same_thing, look_up, names_constants, names_faulty, names_thing, natural_number, range_or, range_width, shape, thing_number, thing_of, whole_number}
 use Rattle.flat_design.specs.declared.entry.Entry.{Entry}
 use Rattle.flat_design.specs.declared.entry.Entry.TheVariants.{Constant as a_constant, Turn as a_turn, Signal as a_signal, Memory as a_memory, LoopVariable as a_loop_variable, Instance as an_instance, NoConstant as no_constant, Faulty as a_faulty_one}
@@ -65,7 +65,7 @@ pub record IsWrittenBit (d : Design) (ws : List Writing) (c : Cell) : Type 0 whe
   pub inside : c.place < (signal_at d c.thing).width
 
 -- a select or name of the bit is one that reads what is driven
-any_of : (p : Writing → Bool) (w : Writing) (ws : List Writing) → In w ws → p w ≡ true → list_any p ws ≡ true
+pub any_of : (p : Writing → Bool) (w : Writing) (ws : List Writing) → In w ws → p w ≡ true → list_any p ws ≡ true
 any_of p w [] h k = absurd h
 any_of p w (v ∷ vs) (inl e) k = or_left (p v) (list_any p vs) (subst (λ z. p z ≡ true) (sym e) k)
 any_of p w (v ∷ vs) (inr h) k = or_right (p v) (list_any p vs) (any_of p w vs h k)
@@ -73,8 +73,11 @@ any_of p w (v ∷ vs) (inr h) k = or_right (p v) (list_any p vs) (any_of p w vs 
 read_told : (d : Design) (g : Scope) (ws : List Writing) (c : Cell) → IsWrittenBit d ws c → (e : Expr) → Drives g c e → self_read g ws e ≡ [] → ⊥
 read_told d g ws c b e h free = false≢true (sym (not_told (reads_driven g ws e) (fault_at SelfAssign (base_name e)) free) ∙ told)
   where
-    one : (is_same_thing b.writing.thing (writing_of g true true 0 e).thing && have_common b.writing.offsets (writing_of g true true 0 e).offsets) ≡ true
-    one = let f = leaf_driver g c true 0 e h in rw (b.driver.thing, f.thing) (true_both _ _ (eq-eqb c.thing c.thing refl) (common c.place b.writing.offsets (writing_of g true true 0 e).offsets b.driver.bit f.bit))
+    one : reads_bits (writing_of g true true 0 e).thing (writing_of g true true 0 e).offsets b.writing ≡ true
+    one =
+        let f = leaf_driver g c true 0 e h in
+        let bits = (writing_of g true true 0 e).offsets in
+        rw (b.driver.thing, f.thing) (true_both _ _ (eq-eqb c.thing c.thing refl) (or_right (length bits == 0) (have_common b.writing.offsets bits) (common c.place b.writing.offsets bits b.driver.bit f.bit)))
 
     told : reads_driven g ws e ≡ true
     told = rw h.found (any_of _ b.writing ws b.writing_in (rw h.found at one))
@@ -298,7 +301,7 @@ abbrev reads_own : Design → Cell → Process → Bool
 reads_own d c x = any_set (λ b y v. may_write d y c && may_read d v c) (body x)
 
 -- a continuous assignment without faults reads no bit that it drives
-self_told : (d : Design) (base : ℕ) (g : Scope) → IsPlaced d base g → (to v : Expr) → target_faults g Continuous to ≡ [] → faults g v ≡ [] → self_faults g to v ≡ [] → self_reads g (written g to) v ≡ []
+pub self_told : (d : Design) (base : ℕ) (g : Scope) → IsPlaced d base g → (to v : Expr) → target_faults g Continuous to ≡ [] → faults g v ≡ [] → self_faults g to v ≡ [] → self_reads g (written g to) v ≡ []
 self_told d base g h to v a b free = by_test (none (target_faults g Continuous to ++ faults g v)) (names_faulty g to || names_faulty g v) (rw (a, b) refl) (rw (names_sound g h.good.sound to, names_sound g h.good.sound v) refl) free
   where
     by_test : (x y : Bool) → x ≡ true → y ≡ false → (if x && not y then self_reads g (written g to) v else []) ≡ [] → self_reads g (written g to) v ≡ []

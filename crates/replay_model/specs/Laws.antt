@@ -13,7 +13,7 @@ use Rattle.design_model.specs.Points.{IsHit, IsHitAt, IsPoint, StateNames}
 use Rattle.design_model.specs.Doubt.{IsInDoubt}
 use Rattle.design_model.specs.Open.{IsReached}
 use Rattle.design_model.specs.Lawful.{IsLawfulDesign}
-use Rattle.model_laws.specs.Own.{HasKnownSelects}
+use Rattle.model_laws.specs.Own.{HasOwnWakes}
 use Rattle.body_replay.specs.Contract.{Doubted}
 use Rattle.body_replay.specs.Runs.{AreRuns, Runs}
 use Rattle.replay_model.specs.Sets.{AreFirstSets, Sets}
@@ -60,7 +60,7 @@ FirstSoundLaw =
 -- a closing step keeps it sound
 abbrev pub StepSoundLaw : Habit → Type 0
 StepSoundLaw h =
-    (d : Design) (dump : BoundDump) (run : Runs) (tables : Tables) (points : List Point) → IsReplayOf d h dump run tables points → HasKnownSelects d
+    (d : Design) (dump : BoundDump) (run : Runs) (tables : Tables) (points : List Point) → IsReplayOf d h dump run tables points → HasOwnWakes d
     → (t : ℕ) (sets : Sets) (a : Replay) → IsWindow dump (suc t) → IsListed dump (suc t) → AreFirstSets d h dump (suc t) sets → IsSound d h dump points t a
     → IsSound d h dump points (suc t) (closed_at d dump run tables points sets t a)
 
@@ -75,13 +75,13 @@ RestSoundLaw =
 abbrev pub FirstKnownLaw : Type 0
 FirstKnownLaw =
     (d : Design) (h : Habit) (dump : BoundDump) (run : Runs) (tables : Tables) (points : List Point) → IsReplayOf d h dump run tables points
-    → HasKnownSelects d → (t : ℕ) → IsFirst dump t → IsShown dump t → ((c : Cell) → contradicts_first d dump.bound run tables (dump.values t) c ≡ false)
+    → HasOwnWakes d → (t : ℕ) → IsFirst dump t → IsShown dump t → ((c : Cell) → contradicts_first d dump.bound run tables (dump.values t) c ≡ false)
     → AreKnown d h dump tables t (started d dump.bound run tables (dump.values t))
 
 -- a closing step without a contradiction keeps it that what is clear is sure
 abbrev pub StepKnownLaw : Habit → Type 0
 StepKnownLaw h =
-    (d : Design) (dump : BoundDump) (run : Runs) (tables : Tables) (points : List Point) → IsReplayOf d h dump run tables points → HasKnownSelects d
+    (d : Design) (dump : BoundDump) (run : Runs) (tables : Tables) (points : List Point) → IsReplayOf d h dump run tables points → HasOwnWakes d
     → (t : ℕ) (sets : Sets) (a : Replay) → IsWindow dump (suc t) → IsListed dump (suc t) → AreFirstSets d h dump (suc t) sets
     → AreKnown d h dump tables t a → ((c : Cell) → contradicts (closing_at d dump run tables sets t a) c ≡ false)
     → AreKnown d h dump tables (suc t) (closed_at d dump run tables points sets t a)
@@ -90,13 +90,13 @@ StepKnownLaw h =
 abbrev pub RestKnownLaw : Type 0
 RestKnownLaw =
     (d : Design) (h : Habit) (dump : BoundDump) (run : Runs) (tables : Tables) (points : List Point) → IsReplayOf d h dump run tables points
-    → HasKnownSelects d → (t : ℕ) (a : Replay) → IsWindow dump (suc t) → (IsListed dump (suc t) → ⊥) → AreKnown d h dump tables t a
+    → HasOwnWakes d → (t : ℕ) (a : Replay) → IsWindow dump (suc t) → (IsListed dump (suc t) → ⊥) → AreKnown d h dump tables t a
     → AreKnown d h dump tables (suc t) a
 
 -- Marking laws: a closing step without a contradiction keeps it that what is reported is reasoned.
 abbrev pub StepReasonedLaw : Habit → Type 0
 StepReasonedLaw h =
-    (d : Design) (dump : BoundDump) (run : Runs) (tables : Tables) (points : List Point) → IsReplayOf d h dump run tables points → HasKnownSelects d
+    (d : Design) (dump : BoundDump) (run : Runs) (tables : Tables) (points : List Point) → IsReplayOf d h dump run tables points → HasOwnWakes d
     → (t : ℕ) (sets : Sets) (a : Replay) → IsWindow dump (suc t) → IsListed dump (suc t) → AreFirstSets d h dump (suc t) sets
     → AreKnown d h dump tables t a → ((c : Cell) → contradicts (closing_at d dump run tables sets t a) c ≡ false) → AreReasoned d h dump t a
     → AreReasoned d h dump (suc t) (closed_at d dump run tables points sets t a)
@@ -112,13 +112,13 @@ RestReasonedLaw =
 abbrev pub FirstForcedLaw : Type 0
 FirstForcedLaw =
     (d : Design) (h : Habit) (dump : BoundDump) (run : Runs) (tables : Tables) (points : List Point) → IsReplayOf d h dump run tables points
-    → HasKnownSelects d → (t : ℕ) → IsFirst dump t → IsShown dump t → ((c : Cell) → contradicts_first d dump.bound run tables (dump.values t) c ≡ false)
+    → HasOwnWakes d → (t : ℕ) → IsFirst dump t → IsShown dump t → ((c : Cell) → contradicts_first d dump.bound run tables (dump.values t) c ≡ false)
     → AreForced d h dump t
 
 -- a closing step without a contradiction keeps it that no forced value differs
 abbrev pub StepForcedLaw : Habit → Type 0
 StepForcedLaw h =
-    (d : Design) (dump : BoundDump) (run : Runs) (tables : Tables) (points : List Point) → IsReplayOf d h dump run tables points → HasKnownSelects d
+    (d : Design) (dump : BoundDump) (run : Runs) (tables : Tables) (points : List Point) → IsReplayOf d h dump run tables points → HasOwnWakes d
     → (t : ℕ) (sets : Sets) (a : Replay) → IsWindow dump (suc t) → IsListed dump (suc t) → AreFirstSets d h dump (suc t) sets
     → AreKnown d h dump tables t a → ((c : Cell) → contradicts (closing_at d dump run tables sets t a) c ≡ false) → AreForced d h dump t
     → AreForced d h dump (suc t)
@@ -132,13 +132,13 @@ RestForcedLaw =
 abbrev pub FirstStandsLaw : Type 0
 FirstStandsLaw =
     (d : Design) (h : Habit) (dump : BoundDump) (run : Runs) (tables : Tables) (points : List Point) → IsReplayOf d h dump run tables points
-    → HasKnownSelects d → (t : ℕ) → IsFirst dump t → IsShown dump t → ((c : Cell) → contradicts_first d dump.bound run tables (dump.values t) c ≡ false)
+    → HasOwnWakes d → (t : ℕ) → IsFirst dump t → IsShown dump t → ((c : Cell) → contradicts_first d dump.bound run tables (dump.values t) c ≡ false)
     → Stands d h dump tables points t (started d dump.bound run tables (dump.values t))
 
 -- a closing step without a contradiction keeps all this
 abbrev pub StepStandsLaw : Habit → Type 0
 StepStandsLaw h =
-    (d : Design) (dump : BoundDump) (run : Runs) (tables : Tables) (points : List Point) → IsReplayOf d h dump run tables points → HasKnownSelects d
+    (d : Design) (dump : BoundDump) (run : Runs) (tables : Tables) (points : List Point) → IsReplayOf d h dump run tables points → HasOwnWakes d
     → (t : ℕ) (sets : Sets) (a : Replay) → IsWindow dump (suc t) → IsListed dump (suc t) → AreFirstSets d h dump (suc t) sets
     → ((c : Cell) → contradicts (closing_at d dump run tables sets t a) c ≡ false) → Stands d h dump tables points t a
     → Stands d h dump tables points (suc t) (closed_at d dump run tables points sets t a)
@@ -147,7 +147,7 @@ StepStandsLaw h =
 abbrev pub RestStandsLaw : Type 0
 RestStandsLaw =
     (d : Design) (h : Habit) (dump : BoundDump) (run : Runs) (tables : Tables) (points : List Point) → IsReplayOf d h dump run tables points
-    → HasKnownSelects d → (t : ℕ) (a : Replay) → IsWindow dump (suc t) → (IsListed dump (suc t) → ⊥) → Stands d h dump tables points t a
+    → HasOwnWakes d → (t : ℕ) (a : Replay) → IsWindow dump (suc t) → (IsListed dump (suc t) → ⊥) → Stands d h dump tables points t a
     → Stands d h dump tables points (suc t) a
 
 -- Contradiction law: where the replay contradicts, no run shows the dump up to that time.

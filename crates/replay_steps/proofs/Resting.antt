@@ -4,7 +4,7 @@ use Rattle.event_machine.specs.Habit.{Habit}
 use Rattle.design_model.specs.Design.{Design}
 use Rattle.design_model.specs.Shows.{BoundDump, IsListed, IsWindow}
 use Rattle.design_model.specs.declared.point.Point.{Point}
-use Rattle.model_laws.specs.Own.{HasKnownSelects}
+use Rattle.model_laws.specs.Own.{HasOwnWakes}
 use Rattle.body_replay.specs.Runs.{Runs}
 use Rattle.replay_model.specs.Laws.{IsReplayOf}
 use Rattle.replay_model.specs.Stands.{Stands}
@@ -12,11 +12,11 @@ use Rattle.replay_model.specs.Step.{Replay}
 use Rattle.replay_model.specs.Tables.{Tables}
 use Rattle.replay_model.proofs.StandsLaws.{rest_stands_law}
 
-pub rests : (d : Design) (h : Habit) (dump : BoundDump) (run : Runs) (tables : Tables) (points : List Point) → IsReplayOf d h dump run tables points → HasKnownSelects d
+pub rests : (d : Design) (h : Habit) (dump : BoundDump) (run : Runs) (tables : Tables) (points : List Point) → IsReplayOf d h dump run tables points → HasOwnWakes d
     → (t n : ℕ) (a : Replay) → ((u : ℕ) → t < u → u ≤ t + n → IsWindow dump u × (IsListed dump u → ⊥)) → Stands d h dump tables points t a → Stands d h dump tables points (t + n) a
-rests d h dump run tables points is selects t zero a gap s = subst (λ (u : ℕ). Stands d h dump tables points u a) (let same : t ≡ t + 0 = omega arith in same) s
-rests d h dump run tables points is selects t (suc n) a gap s =
-    let before = rests d h dump run tables points is selects t n a (λ u after within. gap u after (omega (arith, within))) s in
+rests d h dump run tables points is wakes t zero a gap s = subst (λ (u : ℕ). Stands d h dump tables points u a) (let same : t ≡ t + 0 = omega arith in same) s
+rests d h dump run tables points is wakes t (suc n) a gap s =
+    let before = rests d h dump run tables points is wakes t n a (λ u after within. gap u after (omega (arith, within))) s in
     let next = gap (suc (t + n)) (omega arith) (omega arith) in
     let same : suc (t + n) ≡ t + suc n = omega arith in
-    subst (λ (u : ℕ). Stands d h dump tables points u a) same (rest_stands_law d h dump run tables points is selects (t + n) a next.0 next.1 before)
+    subst (λ (u : ℕ). Stands d h dump tables points u a) same (rest_stands_law d h dump run tables points is wakes (t + n) a next.0 next.1 before)

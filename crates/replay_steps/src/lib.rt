@@ -17,7 +17,7 @@ ghost use Rattle.design_model.specs.Design.{Design, In, body_at};
 ghost use Rattle.design_model.specs.Mentions.{blocking_target, body_blocks};
 ghost use Rattle.design_model.specs.Shows.{BoundDump, IsDumpOf, IsListed, IsWindow};
 ghost use Rattle.design_model.specs.declared.point.Point.{Point};
-ghost use Rattle.model_laws.specs.Own.{HasKnownSelects};
+ghost use Rattle.model_laws.specs.Own.{HasOwnWakes};
 ghost use Rattle.body_replay.specs.Runs.{Runs};
 ghost use Rattle.replay_model.specs.Laws.{IsReplayOf, closing_at};
 ghost use Rattle.replay_model.specs.Stands.{Stands};
@@ -66,7 +66,7 @@ pub fn target_law()
 
 /// Over times that the dump does not list all stays that holds of the replay.
 pub fn rest_law()
-    ensures { (d : Design) (h : Habit) (dump : BoundDump) (run : Runs) (tables : Tables) (points : List Point) → IsReplayOf d h dump run tables points → HasKnownSelects d
+    ensures { (d : Design) (h : Habit) (dump : BoundDump) (run : Runs) (tables : Tables) (points : List Point) → IsReplayOf d h dump run tables points → HasOwnWakes d
         → (t : ℕ) (n : ℕ) (a : Replay) → ((u : ℕ) → t < u → u ≤ t + n → IsWindow dump u × (IsListed dump u → ⊥)) → Stands d h dump tables points t a → Stands d h dump tables points (t + n) a }
 {}
 

@@ -1,7 +1,6 @@
-use Rattle.std.proofs.Common.{◌≡◌, ◌&&◌, drop, map}
+use Rattle.std.proofs.Common.{◌≡◌, drop, map}
 use Rattle.std.specs.List.{list_any, range_with_len}
-use Rattle.flat_design.specs.Processes.{have_common}
-use Rattle.flat_design.specs.Scope.{is_same_thing}
+use Rattle.flat_design.specs.Processes.{reads_bits}
 use Rattle.elab_scope.specs.View.{writing_view}
 use Rattle.elab_processes.proofs.reads.has_driver.Given as goal
 
@@ -9,5 +8,5 @@ use Rattle.elab_processes.proofs.reads.has_driver.Given as goal
 abbrev pub invariant-loop-written : goal.invariant-loop-written
 invariant-loop-written l =
     let read = l.fn.read in
-    list_any (λ w. is_same_thing w.thing read.thing && have_common w.offsets (range_with_len read.low read.count)) (map writing_view (drop l.written-index l.driven))
-    ≡ list_any (λ w. is_same_thing w.thing read.thing && have_common w.offsets (range_with_len read.low read.count)) (map writing_view l.fn.driven)
+    list_any (reads_bits read.thing (range_with_len read.low read.count)) (map writing_view (drop l.written-index l.driven))
+    ≡ list_any (reads_bits read.thing (range_with_len read.low read.count)) (map writing_view l.fn.driven)

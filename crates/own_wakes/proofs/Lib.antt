@@ -1,0 +1,2 @@
+pub mod OwnReads
+pub mod OwnWakes
