@@ -87,6 +87,9 @@ module _ (due : Due) (codes ranks : List (Option ℕ)) (before w : WakeState) (v
   coded_in s r = coded_by codes s r.0 r.1
 
   -- where one has moved that may not
+  pub least : (d : Difference) → ((st : Closing) → IsAtStart st store w codes values.last → IsLeastMoved st changed (Some d)) → IsLeastMoved (step_of due w) changed (Some d)
+  least d by = by (step_of due w) at_start
+
   pub contradicted : (d : Difference) → ((st : Closing) → IsAtStart st store w codes values.last → IsLeastMoved st changed (Some d)) → IsContradicted due w d
   contradicted d least =
       let m = least (step_of due w) at_start in

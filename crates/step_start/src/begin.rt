@@ -1,12 +1,14 @@
-ghost use Rattle.std.specs.Prelude.{◌≡◌, [], ℕ, Bool, List, IfNone, IfSome, map};
+ghost use Rattle.std.specs.Prelude.{◌≡◌, [], ℕ, Bool, List, IfNone, IfSome, Some, map};
 ghost use Rattle.event_machine.specs.Cell.{Values};
 ghost use Rattle.four_state.specs.declared.bit.Bit.{Bit};
 ghost use Rattle.design_model.specs.Design.{Design};
 ghost use Rattle.design_model.specs.View.{design_view};
 ghost use Rattle.body_replay.specs.Store.{Kept};
 ghost use Rattle.early_sets.specs.WakeState.{state_of};
-ghost use Rattle.step_parts.specs.Due.{Due, HasBegun, IsContradicted, IsDueStep};
+ghost use Rattle.step_changes.specs.Changes.{AreChangedSignals};
+ghost use Rattle.step_parts.specs.Due.{Due, HasBegun, IsContradicted, IsDueStep, step_of};
 ghost use Rattle.step_values.specs.Dumped.{AreDumped};
+ghost use Rattle.still_check.specs.Stays.{IsLeastMoved};
 ghost use Rattle.step_wakes.specs.Step.{IsOfDesign};
 ghost use Rattle.store_knowledge.specs.Knows.{Knows};
 ghost use Rattle.step_start.specs.Fits.{FitsStep};
@@ -36,10 +38,13 @@ pub fn begin_step(
     ensures design { store.new.design ≡ store.old.design }
     ensures inputs { (d : Design) (flags : List Bool) → IsOfDesign d flags (state_of room.old.sets) → IsOfDesign d flags (state_of room.new.sets) }
     ensures writers { (state_of room.new.sets).writers ≡ (state_of room.old.sets).writers }
+    ensures changed { AreChangedSignals tables.now.codes.items values.now room.new.changed.items }
     ensures begun { IfNone result ((due : Due) → IsDueStep due tables.now.codes.items tables.now.order (state_of room.old.sets) values.now store.old
         → HasBegun due (state_of room.new.sets) (map (λ q. q.0) room.new.list.pairs) room.new.values store.new) }
     ensures contradicted { IfSome result (λ found. (due : Due) → IsDueStep due tables.now.codes.items tables.now.order (state_of room.old.sets) values.now store.old
         → IsContradicted due (state_of room.new.sets) found) }
+    ensures least { IfSome result (λ found. (due : Due) → IsDueStep due tables.now.codes.items tables.now.order (state_of room.old.sets) values.now store.old
+        → IsLeastMoved (step_of due (state_of room.new.sets)) room.new.changed.items (Some found)) }
     ensures kept { IfSome result (λ found. (store.new ≡ store.old) × (room.new.list.pairs ≡ [])) }
 {
     let codes = tables.codes.as_slice();

@@ -1,4 +1,4 @@
-use Rattle.std.proofs.Common.{◌≡◌, ◌∙◌, ◌≤◌, true, length, map, sym, ap, subst, arith}
+use Rattle.std.proofs.Common.{◌≡◌, ◌∙◌, ◌≤◌, true, length, map, Some, sym, ap, subst, arith}
 use Rattle.design_model.specs.Design.{Design}
 use Rattle.design_model.specs.View.{design_view}
 use Rattle.body_store.proofs.Lawful.{premises}
@@ -6,10 +6,11 @@ use Rattle.early_sets.specs.WakeState.{state_of}
 use Rattle.run_order.specs.Ranked.{AreRanksOf}
 use Rattle.process_targets.specs.Rows.{AreTargetRows}
 use Rattle.step_changes.specs.Changes.{AreChangedSignals, AreSignalsOf}
-use Rattle.step_parts.specs.Due.{IsDueStep}
+use Rattle.step_parts.specs.Due.{IsDueStep, step_of}
 use Rattle.step_values.specs.Dumped.{AreDumped, HaveCodes}
 use Rattle.step_values.specs.Loose.{HaveRows, has_code}
-use Rattle.step_start.proofs.Joined.{begun, contradicted}
+use Rattle.still_check.specs.Stays.{IsLeastMoved}
+use Rattle.step_start.proofs.Joined.{begun, contradicted, least}
 use Rattle.step_start.proofs.Members.{have_codes, have_rows}
 use Rattle.step_start.proofs.begin.begin_step.Goals as goal
 
@@ -71,6 +72,25 @@ begin-requires-clause-dumped c =
     (c.requires.dumped.0, subst (λ codes. AreDumped d codes c.args.values.now.last c.requires.dumped.0) (sym c.as_slice-codes.ensures.value) c.requires.dumped.1)
 
 -- ---- what has begun
+
+pub returns-in-Some-clause-changed : goal.returns-in-Some-clause-changed
+returns-in-Some-clause-changed c = subst (λ codes. AreChangedSignals codes c.args.values.now c.find_moves.new.changed.items) c.as_slice-codes.ensures.value c.find_moves.ensures.changed
+
+pub returns-clause-changed : goal.returns-clause-changed
+returns-clause-changed c = subst (λ codes. AreChangedSignals codes c.args.values.now c.find_moves.new.changed.items) c.as_slice-codes.ensures.value c.find_moves.ensures.changed
+
+pub returns-in-Some-clause-least : goal.returns-in-Some-clause-least
+returns-in-Some-clause-least c = λ due is.
+    let codes = c.as_slice-codes.result.now in
+    let ranks = c.args.tables.now.order in
+    let before = state_of c.args.room.now.sets in
+    let after = state_of c.find_moves.new.sets in
+    let values = c.args.values.now in
+    let store = c.args.store.now in
+    let changed = c.as_slice-changed.result.now in
+    let here : IsDueStep due codes ranks before values store = subst (λ cs. IsDueStep due cs ranks before values store) (sym c.as_slice-codes.ensures.value) is in
+    let are : AreChangedSignals codes values changed = subst (AreChangedSignals codes values) (sym c.as_slice-changed.ensures) c.find_moves.ensures.changed in
+    subst (λ ss. IsLeastMoved (step_of due after) ss (Some c.in-Some.found)) c.as_slice-changed.ensures (least due codes ranks before after values store here changed are c.find_moves.ensures.moves c.find_moves.ensures.tables c.find_moves.ensures.sets c.in-Some.found c.in-Some.ensures)
 
 pub returns-in-Some-clause-contradicted : goal.returns-in-Some-clause-contradicted
 returns-in-Some-clause-contradicted c = λ due is.
