@@ -1,17 +1,17 @@
--- What the words of a header and of a body keep: the codes are sized, and each change has the width of its code.
+-- What the words of a header and of a body keep: the codes are sized, times are small, and each change has the width of its code.
 use Rattle.std.proofs.Common.{◌≡◌, ◌⊎◌, ℕ, ◌-◌, ◌<◌, ◌≤◌, ◌==◌, Bool, true, false, cond, eqb, List, [], ◌∷◌, ◌++◌, length, map, Option, Some, None, Ok, Err, refl, sym, ap, ◌∙◌, inl, inr, arith}
 use Rattle.std.specs.Prelude.{bytes_eq, codes, not, ◌||◌, ◌^◌, nat_lt, nat_le, slice_index_or}
 use Rattle.std.specs.List.{All, list_all}
 use Rattle.std.specs.Option.{option_to_list}
-use Rattle.std.proofs.lemmas.Bool.{cases_lt, lt-ltb}
+use Rattle.std.proofs.lemmas.Bool.{cases_lt, false≢true, le-leb, lt-ltb}
 use Rattle.std.proofs.lemmas.List.{length-append, length-map, length-replicate, length-reverse}
 use Rattle.std.proofs.lemmas.List.Elements.{All-weaker}
 use Rattle.cov_host.specs.Decimal.{decimal_value}
 use Rattle.four_state.specs.Vector.{Vector, fill, top}
 use Rattle.vcd_reader.specs.Answer.{Answer, fault_if, unless}
-use Rattle.vcd_reader.specs.Body.{Begun, nothing, digits, passed, comment, Said, said, begins, new_time, time_fault, value_of, change_of, change, saying, scalar, time_word, digits_word, are_digits, is_group_word, is_passed_letter, dollar_word, first_word, behind_letter, word_after}
+use Rattle.vcd_reader.specs.Body.{Begun, nothing, digits, passed, comment, Said, said, begins, is_back, new_time, time_fault, value_of, change_of, change, saying, scalar, time_word, digits_word, are_digits, is_group_word, is_passed_letter, dollar_word, first_word, behind_letter, word_after}
 use Rattle.vcd_reader.specs.Codes.{Code, code_of, is_unread_kind}
-use Rattle.vcd_reader.specs.Header.{END, Declared, code_fault, end_fault, field_fault, has_other_size, is_printable, keyword_fault, keyword_of, name_of, number_of, size_in, size_of, variable_fault, with_section, with_variable}
+use Rattle.vcd_reader.specs.Header.{END, Declared, code_fault, end_fault, field_fault, has_other_size, is_decimal, is_printable, keyword_fault, keyword_of, name_of, number_of, size_in, size_of, variable_fault, with_section, with_variable}
 use Rattle.vcd_reader.specs.Reading.{HeaderReading, Section, header_word, is_last, opened, section_word, with_field, word_in}
 use Rattle.vcd_reader.specs.Values.{digit_bit, digit_bits, extension, is_digit, value_bits}
 use Rattle.vcd_reader.specs.Words.{Word}
@@ -19,12 +19,12 @@ use Rattle.vcd_reader.specs.declared.entry.Entry.{Entry}
 use Rattle.vcd_reader.specs.declared.entry.Entry.TheVariants.{Time, Value}
 use Rattle.vcd_reader.specs.declared.fault.DumpFault.{DumpFault}
 use Rattle.vcd_reader.specs.declared.fault.DumpFault.TheVariants.{At}
-use Rattle.vcd_reader.specs.declared.fault.DumpKind.TheVariants.{BadChange, BadHeader, Gap, LongCode, VectorTooLong}
+use Rattle.vcd_reader.specs.declared.fault.DumpKind.TheVariants.{BadChange, BadHeader, Gap, LongCode, TimeBack, TimeTooLarge, VectorTooLong}
 use Rattle.vcd_reader.specs.declared.keyword.Keyword.{Keyword}
 use Rattle.vcd_reader.specs.declared.keyword.Keyword.TheVariants.{Scope, Upscope, Variable, EndDefinitions, Passed}
 use Rattle.vcd_reader.specs.declared.vars.Var.{Var}
-use Rattle.change_widths.proofs.Codes.{AreSized, IsSizedIn, declared_more, found_at, sizes_of}
-use Rattle.change_widths.specs.Widths.{FitsCode, HasWidth}
+use Rattle.entry_laws.proofs.Codes.{AreSized, IsSizedIn, declared_more, found_at, sizes_of}
+use Rattle.entry_laws.specs.Entries.{FitsCode, IsEntry}
 
 -- ---- the header
 
@@ -161,20 +161,20 @@ fits_code vars table c text value is found long unsigned =
     }
 
 -- an entry, if there is one, is as wide as its code
-abbrev pub SaysWidth : List Var → Option Entry → Type 0
-SaysWidth vars None = Unit {0}
-SaysWidth vars (Some entry) = HasWidth vars entry
+abbrev pub SaysEntry : List Var → Option Entry → Type 0
+SaysEntry vars None = Unit {0}
+SaysEntry vars (Some entry) = IsEntry vars entry
 
-abbrev pub AnswersWidth : List Var → Answer (Option Entry) → Type 0
-AnswersWidth vars (Ok says) = SaysWidth vars says
-AnswersWidth vars (Err f) = Unit {0}
+abbrev pub AnswersEntry : List Var → Answer (Option Entry) → Type 0
+AnswersEntry vars (Ok says) = SaysEntry vars says
+AnswersEntry vars (Err f) = Unit {0}
 
 module _ (vars : List Var) (table : List Code) (is : AreSized vars table) where
-  some_width : (b : Bool) (entry : Entry) → HasWidth vars entry → SaysWidth vars (cond b (Some entry) None)
+  some_width : (b : Bool) (entry : Entry) → IsEntry vars entry → SaysEntry vars (cond b (Some entry) None)
   some_width true entry h = h
   some_width false entry h = tt
 
-  long_enough : (o : Option DumpFault) (says : Option Entry) → (o ≡ None → SaysWidth vars says) → AnswersWidth vars (unless o says)
+  long_enough : (o : Option DumpFault) (says : Option Entry) → (o ≡ None → SaysEntry vars says) → AnswersEntry vars (unless o says)
   long_enough None says h = h refl
   long_enough (Some f) says h = tt
 
@@ -185,51 +185,68 @@ module _ (vars : List Var) (table : List Code) (is : AreSized vars table) where
       go (inl less) = let no : Some (At VectorTooLong first) ≡ None = sym (ap (λ b. fault_if b VectorTooLong first) (lt-ltb size long less)) ∙ e in absurd cc
       go (inr within) = within
 
-  of_code : (o : Option Code) (text word : List ℕ) (first at : ℕ) → code_of table text ≡ o → AnswersWidth vars (change_of o word first at)
+  of_code : (o : Option Code) (text word : List ℕ) (first at : ℕ) → code_of table text ≡ o → AnswersEntry vars (change_of o word first at)
   of_code None text word first at found = tt
   of_code (Some c) text word first at found =
       long_enough (fault_if (nat_lt c.size (length word)) VectorTooLong first) (value_of c.is_read c.number c.size word)
       (λ none. some_width _ (Value c.number (record { bits = value_bits c.size word; signed = false })) (fits_code vars table c text _ is found (value_long c.size word (not_too_long c.size (length word) first none)) refl))
 
-  either_width : (b : Bool) (x y : Answer (Option Entry)) → AnswersWidth vars x → AnswersWidth vars y → AnswersWidth vars (cond b x y)
+  either_width : (b : Bool) (x y : Answer (Option Entry)) → AnswersEntry vars x → AnswersEntry vars y → AnswersEntry vars (cond b x y)
   either_width true x y p q = p
   either_width false x y p q = q
 
-  change_width : (word : List ℕ) (first : ℕ) (text : List ℕ) (at : ℕ) → AnswersWidth vars (change table word first text at)
+  change_width : (word : List ℕ) (first : ℕ) (text : List ℕ) (at : ℕ) → AnswersEntry vars (change table word first text at)
   change_width word first text at = either_width (nat_lt 8 (length text)) (Err (At LongCode at)) (change_of (code_of table text) word first at) tt (of_code (code_of table text) text word first at refl)
 
-  scalar_width : (digit : ℕ) (code : List ℕ) (at : ℕ) → AnswersWidth vars (scalar table digit code at)
+  scalar_width : (digit : ℕ) (code : List ℕ) (at : ℕ) → AnswersEntry vars (scalar table digit code at)
   scalar_width digit code at = either_width (length code == 0) (Err (At BadChange at)) (change table (digit ∷ []) at code at) tt (change_width (digit ∷ []) at code at)
 
   -- what a word says, if it is no fault
-  abbrev pub SaidWidth : Answer Said → Type 0
-  SaidWidth (Ok s) = SaysWidth vars s.0
-  SaidWidth (Err f) = Unit {0}
+  abbrev pub SaidEntry : Answer Said → Type 0
+  SaidEntry (Ok s) = SaysEntry vars s.0
+  SaidEntry (Err f) = Unit {0}
 
-  saying_width : (last : Option ℕ) (answer : Answer (Option Entry)) → AnswersWidth vars answer → SaidWidth (saying last answer)
+  saying_width : (last : Option ℕ) (answer : Answer (Option Entry)) → AnswersEntry vars answer → SaidEntry (saying last answer)
   saying_width last (Ok says) h = h
   saying_width last (Err f) h = tt
 
-  either_said : (b : Bool) (x y : Answer Said) → SaidWidth x → SaidWidth y → SaidWidth (cond b x y)
+  either_said : (b : Bool) (x y : Answer Said) → SaidEntry x → SaidEntry y → SaidEntry (cond b x y)
   either_said true x y p q = p
   either_said false x y p q = q
 
-  new_time_width : (last : Option ℕ) (time : ℕ) → SaysWidth vars (new_time last time)
-  new_time_width None time = tt
-  new_time_width (Some last) time = either (time == last)
+  new_time_width : (last : Option ℕ) (time : ℕ) → time < 2 ^ 63 → SaysEntry vars (new_time last time)
+  new_time_width None time small = small
+  new_time_width (Some last) time small = either (time == last)
     where
-      either : (b : Bool) → SaysWidth vars (cond b None (Some (Time time)))
+      either : (b : Bool) → SaysEntry vars (cond b None (Some (Time time)))
       either true = tt
-      either false = tt
+      either false = small
 
-  time_width : (word : List ℕ) (at : ℕ) (last : Option ℕ) → SaidWidth (time_word word at last)
-  time_width word at last = saying_width (Some (decimal_value word)) _ (long_enough (time_fault last word at) (new_time last (decimal_value word)) (λ none. new_time_width last (decimal_value word)))
+  small_time : (last : Option ℕ) (word : List ℕ) (at : ℕ) → time_fault last word at ≡ None → decimal_value word < 2 ^ 63
+  small_time last word at none = go (cases_lt (decimal_value word) (2 ^ 63))
+    where
+      second : (a b c : Bool) (f g h : DumpFault) → cond a (Some f) (cond b (Some g) (cond c (Some h) None)) ≡ None → b ≡ false
+      second true b c f g h e = absurd cc
+      second false true c f g h e = absurd cc
+      second false false c f g h e = refl
 
-  begins_width : (o : Option DumpFault) (last : Option ℕ) (begun : Begun) → SaidWidth (unless o (begins last begun))
+      go : (decimal_value word < 2 ^ 63) ⊎ (2 ^ 63 ≤ decimal_value word) → decimal_value word < 2 ^ 63
+      go (inl less) = less
+      go (inr great) =
+          let no = second (not (is_decimal word)) (nat_le (2 ^ 63) (decimal_value word)) (is_back last (decimal_value word)) (At BadChange at) (At TimeTooLarge at) (At TimeBack at) none in
+          let yes : nat_le (2 ^ 63) (decimal_value word) ≡ true = le-leb (2 ^ 63) (decimal_value word) great in
+          absurd (false≢true (sym no ∙ yes))
+
+  time_width : (word : List ℕ) (at : ℕ) (last : Option ℕ) → SaidEntry (time_word word at last)
+  time_width word at last =
+      saying_width (Some (decimal_value word)) _
+      (long_enough (time_fault last word at) (new_time last (decimal_value word)) (λ none. new_time_width last (decimal_value word) (small_time last word at none)))
+
+  begins_width : (o : Option DumpFault) (last : Option ℕ) (begun : Begun) → SaidEntry (unless o (begins last begun))
   begins_width None last begun = tt
   begins_width (Some f) last begun = tt
 
-  dollar_width : (word : List ℕ) (at : ℕ) (last : Option ℕ) → SaidWidth (dollar_word word at last)
+  dollar_width : (word : List ℕ) (at : ℕ) (last : Option ℕ) → SaidEntry (dollar_word word at last)
   dollar_width word at last =
       let bad : Answer Said = Err (At BadChange at) in
       let gap : Answer Said = cond (bytes_eq word (codes "$dumpoff")) (Err (At Gap at)) bad in
@@ -238,7 +255,7 @@ module _ (vars : List Var) (table : List Code) (is : AreSized vars table) where
       (either_said (bytes_eq word (codes "$comment")) (Ok (begins last comment)) gap tt
       (either_said (bytes_eq word (codes "$dumpoff")) (Err (At Gap at)) bad tt tt))
 
-  first_width : (bytes : List ℕ) (at : ℕ) (last : Option ℕ) → SaidWidth (first_word table bytes at last)
+  first_width : (bytes : List ℕ) (at : ℕ) (last : Option ℕ) → SaidEntry (first_word table bytes at last)
   first_width [] at last = tt
   first_width (byte ∷ bytes) at last =
       let other : Answer Said = dollar_word (byte ∷ bytes) at last in
@@ -251,12 +268,12 @@ module _ (vars : List Var) (table : List Code) (is : AreSized vars table) where
       (either_said (is_digit byte) (saying last (scalar table byte bytes at)) real (saying_width last (scalar table byte bytes at) (scalar_width byte bytes at))
       (either_said (is_passed_letter byte) (Ok (begins last passed)) other tt (dollar_width (byte ∷ bytes) at last))))
 
-  comment_width : (b : Bool) (last : Option ℕ) → SaidWidth (Ok (cond b (said None last) (begins last comment)))
+  comment_width : (b : Bool) (last : Option ℕ) → SaidEntry (Ok (cond b (said None last) (begins last comment)))
   comment_width true last = tt
   comment_width false last = tt
 
   -- a word of the body
-  pub word_width : (begun : Begun) (word : Word) (last : Option ℕ) → SaidWidth (word_after table begun word last)
+  pub word_width : (begun : Begun) (word : Word) (last : Option ℕ) → SaidEntry (word_after table begun word last)
   word_width nothing word last = first_width word.bytes word.at last
   word_width (digits first) word last = saying_width last _ (change_width (behind_letter first.bytes) first.at word.bytes word.at)
   word_width passed word last = tt

@@ -1,0 +1,4 @@
+pub mod Times
+pub mod Values
+pub mod Dumps
+pub mod Bits
