@@ -1,28 +1,29 @@
 -- The bits of bound signals.
-use Rattle.std.proofs.Common.{◌≡◌, ◌⊎◌, ℕ, zero, suc, ◌+◌, ◌<◌, ◌≤◌, ◌==◌, ◌&&◌, Bool, true, false, cond, is_some, List, [], ◌∷◌, ◌++◌, length, map, get_or, Option, None, Some, refl, sym, ap, subst, ◌∙◌, inl, inr, arith}
-use Rattle.std.specs.Prelude.{find, slice_index_or}
-use Rattle.std.specs.List.{All, Contains, range_with_len}
+use Rattle.std.proofs.Common.{◌≡◌, ◌⊎◌, ℕ, suc, ◌+◌, ◌<◌, ◌≤◌, ◌==◌, ◌&&◌, Bool, true, false, cond, is_some, List, [], ◌∷◌, ◌++◌, length, map, get_or, Option, None, Some, refl, sym, ap, subst, ◌∙◌, inl, inr, arith}
+use Rattle.std.specs.Prelude.{find}
+use Rattle.std.specs.List.{range_with_len}
 use Rattle.std.specs.Option.{option_map, option_or}
+use Rattle.std.specs.Str.{bytes_eq}
 use Rattle.std.proofs.lemmas.Bool.{cases_Bool, eqb-true, false≢true}
 use Rattle.std.proofs.lemmas.List.Elements.{All-head, All-tail}
 use Rattle.event_machine.specs.Cell.{Cell}
 use Rattle.four_state.specs.Vector.{Vector}
 use Rattle.four_state.specs.declared.bit.Bit.{Bit}
 use Rattle.four_state.specs.declared.bit.Bit.TheVariants.{X}
-use Rattle.design_model.specs.Design.{cell, signal_at, signal_bits}
+use Rattle.design_model.specs.Design.{cell, signal_bits}
 use Rattle.design_model.specs.View.{design_view}
 use Rattle.design_model.specs.declared.design.Design.{Design}
-use Rattle.vcd_reader.specs.Dump.{Change, last_value, steps_of}
+use Rattle.vcd_reader.specs.Dump.{steps_of}
 use Rattle.vcd_reader.specs.Times.{Rises, last_time}
 use Rattle.vcd_reader.specs.declared.entry.Entry.{Entry}
 use Rattle.vcd_reader.specs.declared.entry.Entry.TheVariants.{Time, Value}
 use Rattle.vcd_reader.specs.declared.vars.Var.{Var}
 use Rattle.entry_laws.specs.Entries.{FitsCode, IsEntry, AreEntries}
-use Rattle.signal_binding.specs.Binding.{code_of, codes_of, first_code, names_of, signal_of}
+use Rattle.signal_binding.specs.Binding.{codes_of, first_code, names_of, signal_of}
 use Rattle.signal_binding.specs.Kinds.{holds_value}
 use Rattle.signal_binding.specs.Names.{ScopedName, code_under, holds}
 use Rattle.shown_dumps.specs.Laws.{dump_with}
-use Rattle.shown_dumps.specs.Said.{changes_in, value_after}
+use Rattle.shown_dumps.specs.Said.{value_after}
 use Rattle.shown_dumps.specs.Shown.{bit_at, code_at, value_of_code}
 use Rattle.shown_dumps.proofs.Dumps.{code_is, coded_signal}
 use Rattle.shown_dumps.proofs.Values.{value_until}
@@ -57,7 +58,7 @@ found_under (var ∷ vars) width x code e = go (cases_Bool (holds x width var)) 
           found = var;
           is = λ d. refl;
           code_is = (let same : var.code ≡ code = cc in same);
-          size = eqb-true var.size width (last_two _ _ (var.size == width) (holds_value var.kind) is);
+          size = eqb-true var.size width (last_two (bytes_eq var.scope x.scope) (bytes_eq var.name x.name) (var.size == width) (holds_value var.kind) is);
         }
     go (inr other) later =
         let rest = later (sym (ap (λ b. option_map (λ (v : Var). v.code) (cond b (Some var) (find (holds x width) vars))) other) ∙ e) in
@@ -112,12 +113,12 @@ bits_are design vars instance entries more last next s code t value widths rises
     let within = coded_signal design vars instance s (ap is_some bound) in
     let var = found_first vars (signal_of design s).width (names_of design instance s) code (sym (code_is design vars instance s within) ∙ bound) in
     let fits = value_fits vars entries code value widths said in
-    let long : length value.bits ≡ (signal_of design s).width = fits.bits var.place var.found var.within (var.is var.found ∙ var.code_is) ∙ ap (λ (x : Var). x.size) (var.is var.found) ∙ var.size in
+    let long : length value.bits ≡ (signal_of design s).width = fits.bits var.place var.found var.within (ap (λ (x : Var). x.code) (var.is var.found) ∙ var.code_is) ∙ ap (λ (x : Var). x.size) (var.is var.found) ∙ var.size in
     let steps = steps_of (entries ++ Time next ∷ more) in
     let dumped : value_of_code steps t (code_at (codes_of design vars instance) s) ≡ Some value = ap (value_of_code steps t) bound ∙ value_until entries more last next rises is_last code t from until ∙ said in
     let at : Cell → Bit = (dump_with (codes_of design vars instance) entries next more).values t in (
       sym
-      (map_cells at s (range_with_len 0 (signal_of design s).width) ∙ ap (λ n. map (λ k. at (cell s k)) (range_with_len 0 n)) (sym long)
-      ∙ items_of (λ k. at (cell s k)) value.bits X 0 (λ k l. ap (λ o. bit_at o k) dumped)),
+          (map_cells at s (range_with_len 0 (signal_of design s).width) ∙ ap (λ n. map (λ k. at (cell s k)) (range_with_len 0 n)) (sym long)
+          ∙ items_of (λ k. at (cell s k)) value.bits X 0 (λ k l. let j : 0 + k ≡ k = omega arith in ap (λ n. at (cell s n)) j ∙ ap (λ o. bit_at o k) dumped)),
       fits.unsigned,
     )

@@ -2,3 +2,4 @@ pub mod Times
 pub mod Values
 pub mod Dumps
 pub mod Bits
+pub mod Fronts

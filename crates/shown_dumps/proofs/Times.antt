@@ -1,14 +1,13 @@
 -- The times of what is said.
-use Rattle.std.proofs.Common.{◌≡◌, ◌⊎◌, ℕ, zero, suc, ◌<◌, ◌≤◌, List, [], ◌∷◌, ◌++◌, length, Option, None, Some, refl, sym, ap, subst, ◌∙◌, inl, inr, arith, append_assoc}
+use Rattle.std.proofs.Common.{◌≡◌, ◌⊎◌, ℕ, ◌<◌, ◌≤◌, List, [], ◌∷◌, ◌++◌, Option, None, Some, refl, sym, ap, subst, ◌∙◌, inl, inr, arith, append_assoc}
 use Rattle.design_model.specs.Design.{In}
 use Rattle.design_model.specs.Shows.{AreRising, IsFirst, IsListed, IsShown, IsShownOf, IsWindow, IsWindowOf, last_time as last_of}
 use Rattle.vcd_reader.specs.Dump.{Change, DumpStep, leading, steps_of, timed, times_of, with_leading}
-use Rattle.vcd_reader.specs.Times.{IsLater, Rises, last_time}
+use Rattle.vcd_reader.specs.Times.{IsLater, Rises}
 use Rattle.vcd_reader.specs.declared.entry.Entry.{Entry}
 use Rattle.vcd_reader.specs.declared.entry.Entry.TheVariants.{Time, Value}
 use Rattle.shown_dumps.specs.Laws.{IsNextTime, dump_with}
 use Rattle.shown_dumps.specs.Said.{EndsIn, times_in}
-use Rattle.shown_dumps.specs.Shown.{dump_of}
 
 times_of_leading : (changes : List Change) (steps : List DumpStep) → times_of (with_leading changes steps) ≡ times_of steps
 times_of_leading changes [] = refl
@@ -98,8 +97,8 @@ in_window (x ∷ front) p t u back up =
     let parts : front ++ p ∷ t ∷ u ∷ back ≡ (front ++ p ∷ t ∷ []) ++ u ∷ back = sym (append_assoc front (p ∷ t ∷ []) (u ∷ back)) in (
       later x (front ++ p ∷ t ∷ u ∷ back) t up (subst (In t) (append_assoc front (p ∷ []) (t ∷ u ∷ back)) (in_middle (front ++ p ∷ []) t (u ∷ back))),
       let last = last_of_more x (front ++ p ∷ t ∷ []) u back (subst (λ ts. AreRising (x ∷ ts)) parts up) in
-      let same : last_of x (front ++ p ∷ t ∷ u ∷ back) ≡ last_of x ((front ++ p ∷ t ∷ []) ++ u ∷ back) = ap (last_of x) parts in
-      omega (arith, down.0, last, same),
+          let same : last_of x (front ++ p ∷ t ∷ u ∷ back) ≡ last_of x ((front ++ p ∷ t ∷ []) ++ u ∷ back) = ap (last_of x) parts in
+          omega (arith, down.0, last, same),
     )
 
 -- ---- the times of a dump

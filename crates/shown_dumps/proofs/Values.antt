@@ -1,9 +1,8 @@
 -- The values of codes by what is said.
-use Rattle.std.proofs.Common.{◌≡◌, ◌⊎◌, ℕ, zero, suc, ◌<◌, ◌≤◌, Bool, true, false, cond, nat_le, List, [], ◌∷◌, ◌++◌, length, Option, None, Some, refl, sym, ap, subst, ◌∙◌, inl, inr, arith, append_assoc, append-nil}
+use Rattle.std.proofs.Common.{◌≡◌, ℕ, ◌<◌, ◌≤◌, Bool, true, false, cond, nat_le, List, [], ◌∷◌, ◌++◌, Option, None, Some, refl, sym, ap, subst, ◌∙◌, arith, append_assoc, append-nil}
 use Rattle.std.specs.List.{All, filter, flat_map}
 use Rattle.std.proofs.lemmas.Bool.Decides.{nat_tests}
 use Rattle.std.proofs.lemmas.List.Elements.{All-cons, All-head, All-nil, All-tail, All-weaker, filter-append}
-use Rattle.four_state.specs.Vector.{Vector}
 use Rattle.vcd_reader.specs.Dump.{Change, DumpStep, last_value, leading, steps_of, timed, value_at, with_leading}
 use Rattle.vcd_reader.specs.Times.{IsLater, Rises, last_time}
 use Rattle.vcd_reader.specs.declared.entry.Entry.{Entry}
@@ -12,19 +11,19 @@ use Rattle.shown_dumps.specs.Bound.{first_value}
 use Rattle.shown_dumps.specs.Said.{changes_in, times_in, value_after}
 
 -- a time ends the changes before it
-leading_until : (entries more : List Entry) (next : ℕ) → leading (entries ++ Time next ∷ more) ≡ leading entries
+pub leading_until : (entries more : List Entry) (next : ℕ) → leading (entries ++ Time next ∷ more) ≡ leading entries
 leading_until [] more next = refl
 leading_until (Time time ∷ entries) more next = refl
 leading_until (Value code value ∷ entries) more next = ap (λ changes. record { code = code; value = value } ∷ changes) (leading_until entries more next)
 
-timed_until : (entries more : List Entry) (next : ℕ) → timed (entries ++ Time next ∷ more) ≡ timed entries ++ timed (Time next ∷ more)
+pub timed_until : (entries more : List Entry) (next : ℕ) → timed (entries ++ Time next ∷ more) ≡ timed entries ++ timed (Time next ∷ more)
 timed_until [] more next = refl
 timed_until (Time time ∷ entries) more next =
     ap (λ changes. record { time = time; changes = changes } ∷ timed (entries ++ Time next ∷ more)) (leading_until entries more next)
     ∙ ap (λ steps. record { time = time; changes = leading entries } ∷ steps) (timed_until entries more next)
 timed_until (Value code value ∷ entries) more next = timed_until entries more next
 
-abbrev changes_of : DumpStep → List Change
+abbrev pub changes_of : DumpStep → List Change
 changes_of step = step.changes
 
 all_changes : (entries : List Entry) → leading entries ++ flat_map changes_of (timed entries) ≡ changes_in entries
@@ -35,14 +34,14 @@ all_changes (Value code value ∷ entries) = ap (λ changes. record { code = cod
 -- ---- which steps are up to a time
 
 -- each of the steps is later than this time
-abbrev AllLater : Option ℕ → List DumpStep → Type 0
+abbrev pub AllLater : Option ℕ → List DumpStep → Type 0
 AllLater last steps = All (λ step. IsLater last step.time) steps
 
 later_still : (last : Option ℕ) (time : ℕ) (step : DumpStep) → IsLater last time → IsLater (Some time) step.time → IsLater last step.time
 later_still None time step l m = tt
 later_still (Some t) time step l m = omega (arith, l, m)
 
-timed_later : (last : Option ℕ) (entries : List Entry) → Rises last entries → AllLater last (timed entries)
+pub timed_later : (last : Option ℕ) (entries : List Entry) → Rises last entries → AllLater last (timed entries)
 timed_later last [] rises = All-nil (λ (step : DumpStep). IsLater last step.time)
 timed_later last (Time time ∷ entries) rises =
     All-cons (λ (step : DumpStep). IsLater last step.time) (record { time = time; changes = leading entries }) (timed entries) rises.0
@@ -50,7 +49,7 @@ timed_later last (Time time ∷ entries) rises =
 timed_later last (Value code value ∷ entries) rises = timed_later last entries rises
 
 -- the last time is not before this one
-abbrev IsUpTo : Option ℕ → ℕ → Type 0
+abbrev pub IsUpTo : Option ℕ → ℕ → Type 0
 IsUpTo None t = Unit {0}
 IsUpTo (Some last) t = last ≤ t
 
@@ -70,7 +69,7 @@ rises_front last [] others r = (tt, r)
 rises_front last (Time time ∷ entries) others r = let rest = rises_front (Some time) entries others r.1 in ((r.0, rest.0), rest.1)
 rises_front last (Value code value ∷ entries) others r = rises_front last entries others r
 
-abbrev is_up_to : ℕ → DumpStep → Bool
+abbrev pub is_up_to : ℕ → DumpStep → Bool
 is_up_to t step = nat_le step.time t
 
 keeps_all : (t : ℕ) (steps : List DumpStep) → All (λ step. step.time ≤ t) steps → filter (is_up_to t) steps ≡ steps
@@ -80,14 +79,14 @@ keeps_all t (step ∷ steps) h =
     let e : nat_le step.time t ≡ true = grind (arith, nat_tests) in
     ap (λ b. cond b (step ∷ filter (is_up_to t) steps) (filter (is_up_to t) steps)) e ∙ ap (λ ss. step ∷ ss) (keeps_all t steps (All-tail (λ (s : DumpStep). s.time ≤ t) step steps h))
 
-keeps_none : (t : ℕ) (steps : List DumpStep) → All (λ step. t < step.time) steps → filter (is_up_to t) steps ≡ []
+pub keeps_none : (t : ℕ) (steps : List DumpStep) → All (λ step. t < step.time) steps → filter (is_up_to t) steps ≡ []
 keeps_none t [] h = refl
 keeps_none t (step ∷ steps) h =
     let l = All-head (λ (s : DumpStep). t < s.time) step steps h in
     let e : nat_le step.time t ≡ false = grind (arith, nat_tests) in
     ap (λ b. cond b (step ∷ filter (is_up_to t) steps) (filter (is_up_to t) steps)) e ∙ keeps_none t steps (All-tail (λ (s : DumpStep). t < s.time) step steps h)
 
-leading_apart : (changes : List Change) (steps others : List DumpStep) → (steps ≡ [] → ⊥) → with_leading changes (steps ++ others) ≡ with_leading changes steps ++ others
+pub leading_apart : (changes : List Change) (steps others : List DumpStep) → (steps ≡ [] → ⊥) → with_leading changes (steps ++ others) ≡ with_leading changes steps ++ others
 leading_apart changes [] others some = absurd (some refl)
 leading_apart changes (step ∷ steps) others some = refl
 

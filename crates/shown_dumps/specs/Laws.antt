@@ -1,15 +1,15 @@
 -- What a dump says whose body begins with these entries, whatever comes after them.
 use Rattle.std.specs.Prelude.{◌≡◌, ◌<◌, ◌≤◌, ◌++◌, ℕ, false, List, [], ◌∷◌, Option, Some, None}
-use Rattle.event_machine.specs.Cell.{Cell}
 use Rattle.four_state.specs.Vector.{Vector}
-use Rattle.design_model.specs.Design.{In, signal_bits}
-use Rattle.design_model.specs.Shows.{AreRising, BoundDump, IsDumpOf, IsFirst, IsListed, IsShown, IsWindow}
+use Rattle.design_model.specs.Design.{Design as Tree, signal_bits}
+use Rattle.design_model.specs.Run.{Run}
+use Rattle.design_model.specs.Shows.{BoundDump, IsDumpOf, IsFirst, IsListed, IsShown, IsWindow, ShowsUpTo}
 use Rattle.design_model.specs.View.{design_view}
 use Rattle.design_model.specs.declared.design.Design.{Design}
-use Rattle.vcd_reader.specs.Dump.{steps_of, times_of, value_at}
+use Rattle.vcd_reader.specs.Dump.{steps_of, value_at}
 use Rattle.vcd_reader.specs.Times.{Rises, last_time}
 use Rattle.vcd_reader.specs.declared.entry.Entry.{Entry}
-use Rattle.vcd_reader.specs.declared.entry.Entry.TheVariants.{Time, Value}
+use Rattle.vcd_reader.specs.declared.entry.Entry.TheVariants.{Time}
 use Rattle.vcd_reader.specs.declared.vars.Var.{Var}
 use Rattle.entry_laws.specs.Entries.{AreEntries}
 use Rattle.signal_binding.specs.Binding.{IsBindable, codes_of}
@@ -64,3 +64,9 @@ BitsLaw =
     → Rises None (entries ++ Time next ∷ more) → last_time None entries ≡ Some last → last ≤ t → t < next → code_at (codes_of design vars instance) s ≡ Some code
     → value_after entries code ≡ Some value
     → (value.bits ≡ signal_bits (design_view design) ((dump_with (codes_of design vars instance) entries next more).values t) s) × (value.signed ≡ false)
+
+-- a run that shows the dump shows, up to a time before the next one, also the dump that ends there
+abbrev pub FrontLaw : Type 0
+FrontLaw =
+    (d : Tree) (codes : List (Option ℕ)) (entries more : List Entry) (next t : ℕ) (r : Run) → Rises None (entries ++ Time next ∷ more) → t < next
+    → ShowsUpTo d (dump_with codes entries next more) r t → ShowsUpTo d (dump_with codes entries next []) r t

@@ -3,16 +3,15 @@
 //! The dump of a text and a binding of signals to codes give what `design_model` calls a dump of a design (`specs/Shown.antt`). Where
 //! the inputs are bound it is one ([`dump_law`]). A body that is read up to a time fixes what the dump says before this time,
 //! whatever comes later: its times ([`first_time_law`], [`next_time_law`]), and the values of codes and signals
-//! ([`value_law`], [`first_value_law`], [`bits_law`]).
+//! ([`value_law`], [`first_value_law`], [`bits_law`]). A run that shows the whole dump shows what was read of it ([`front_law`]).
 #![tactic(auto)]
 
-ghost use Rattle.std.specs.Prelude.{◌≡◌, ℕ, List};
+ghost use Rattle.std.specs.Prelude.{◌≡◌, ℕ, List, None};
 ghost use Rattle.design_model.specs.Shows.{AreRising};
 ghost use Rattle.vcd_reader.specs.Dump.{steps_of, times_of};
 ghost use Rattle.vcd_reader.specs.Times.{Rises};
 ghost use Rattle.vcd_reader.specs.declared.entry.Entry.{Entry};
-ghost use Rattle.std.specs.Prelude.{None};
-ghost use Rattle.shown_dumps.specs.Laws.{BitsLaw, DumpLaw, FirstTimeLaw, FirstValueLaw, NextTimeLaw, ValueLaw};
+ghost use Rattle.shown_dumps.specs.Laws.{BitsLaw, DumpLaw, FirstTimeLaw, FirstValueLaw, FrontLaw, NextTimeLaw, ValueLaw};
 ghost use Rattle.shown_dumps.specs.Said.{times_in};
 
 /// The times of a dump are those that its body says, and rise.
@@ -49,4 +48,9 @@ pub fn next_time_law()
 /// The bits of a bound signal are those of the last change of its code.
 pub fn bits_law()
     ensures { BitsLaw }
+{}
+
+/// A run that shows a dump shows, up to a time before the next one, also the dump that ends there.
+pub fn front_law()
+    ensures { FrontLaw }
 {}
