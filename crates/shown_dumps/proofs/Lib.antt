@@ -3,3 +3,4 @@ pub mod Values
 pub mod Dumps
 pub mod Bits
 pub mod Fronts
+pub mod Ongoing

@@ -2,3 +2,4 @@ pub mod Said
 pub mod Shown
 pub mod Bound
 pub mod Laws
+pub mod Ongoing

@@ -4,6 +4,7 @@
 //! the inputs are bound it is one ([`dump_law`]). A body that is read up to a time fixes what the dump says before this time,
 //! whatever comes later: its times ([`first_time_law`], [`next_time_law`]), and the values of codes and signals
 //! ([`value_law`], [`first_value_law`], [`bits_law`]). A run that shows the whole dump shows what was read of it ([`front_law`]).
+//! The values that were given last are those of each dump that goes on ([`given_law`]), and the first values stay ([`first_stays_law`]).
 #![tactic(auto)]
 
 ghost use Rattle.std.specs.Prelude.{◌≡◌, ℕ, List, None};
@@ -12,6 +13,7 @@ ghost use Rattle.vcd_reader.specs.Dump.{steps_of, times_of};
 ghost use Rattle.vcd_reader.specs.Times.{Rises};
 ghost use Rattle.vcd_reader.specs.declared.entry.Entry.{Entry};
 ghost use Rattle.shown_dumps.specs.Laws.{BitsLaw, DumpLaw, FirstTimeLaw, FirstValueLaw, FrontLaw, NextTimeLaw, ValueLaw};
+ghost use Rattle.shown_dumps.specs.Ongoing.{FirstStaysLaw, GivenLaw};
 ghost use Rattle.shown_dumps.specs.Said.{times_in};
 
 /// The times of a dump are those that its body says, and rise.
@@ -53,4 +55,14 @@ pub fn bits_law()
 /// A run that shows a dump shows, up to a time before the next one, also the dump that ends there.
 pub fn front_law()
     ensures { FrontLaw }
+{}
+
+/// The values that were given last are those of each dump that goes on, up to the next time.
+pub fn given_law()
+    ensures { GivenLaw }
+{}
+
+/// After the second time the first values stay.
+pub fn first_stays_law()
+    ensures { FirstStaysLaw }
 {}
