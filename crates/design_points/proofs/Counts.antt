@@ -1,0 +1,88 @@
+-- Two lists of the points of a design are equally long.
+use Rattle.std.proofs.Common.{◌≡◌, ◌⊎◌, ℕ, suc, ◌<◌, ◌≤◌, List, [], ◌∷◌, length, get_or, inl, inr, refl, sym, ap, subst, ◌∙◌, arith}
+use Rattle.std.proofs.lemmas.List.{get_or_default}
+use Rattle.cover_points.specs.Faults.{IsPointFault}
+use Rattle.cover_points.specs.Listed.{IsPointList, points_of}
+use Rattle.cover_points.specs.Visits.{no_point}
+use Rattle.cover_points.specs.declared.fault.PointFault.{PointFault}
+use Rattle.cover_points.specs.declared.fault.PointFault.TheVariants as fault
+use Rattle.cover_points.specs.declared.listing.Points.{Points}
+use Rattle.cover_points.proofs.Apart.{points_once}
+use Rattle.cover_points.proofs.Members.{in_contains}
+use Rattle.design_machines.specs.Faults.{IsStateFault}
+use Rattle.design_machines.specs.Machines.{AreMachines}
+use Rattle.design_machines.specs.declared.fault.StateFault.{StateFault}
+use Rattle.design_machines.specs.declared.fault.StateFault.TheVariants as of_machines
+use Rattle.design_machines.specs.declared.machine.Machine.{Machine}
+use Rattle.design_model.specs.Design.{AreDistinct, Design, In}
+use Rattle.design_model.specs.Points.{StateNames}
+use Rattle.design_points.specs.Counted.{HasFewPoints, HasManyPoints}
+
+-- a list without one of its items
+record IsWithout {A : Type 0} (x : A) (ys : List A) : Type 0 where
+  others : List A
+  count : length ys ≡ suc (length others)
+  kept : (y : A) → In y ys → (x ≡ y → ⊥) → In y others
+
+here : {A : Type 0} (x y z : A) (ys : List A) → y ≡ x → (x ≡ z → ⊥) → (y ≡ z) ⊎ In z ys → In z ys
+here x y z ys e apart (inl f) = absurd (apart (sym e ∙ f))
+here x y z ys e apart (inr i) = i
+
+there : {A : Type 0} (y z : A) (ys others : List A) → (In z ys → In z others) → (y ≡ z) ⊎ In z ys → (y ≡ z) ⊎ In z others
+there y z ys others go (inl f) = inl f
+there y z ys others go (inr i) = inr (go i)
+
+without : {A : Type 0} (x : A) (ys : List A) → In x ys → IsWithout x ys
+without x [] i = absurd i
+without x (y ∷ ys) (inl e) = record { others = ys; count = refl; kept = λ z i apart. here x y z ys e apart i }
+without x (y ∷ ys) (inr i) =
+    let w = without x ys i in
+    record { others = y ∷ w.others; count = ap suc w.count; kept = λ z j apart. there y z ys w.others (λ m. w.kept z m apart) j }
+
+-- items that differ are no more than a list that has each of them
+fits : {A : Type 0} (xs ys : List A) → AreDistinct xs → ((x : A) → In x xs → In x ys) → length xs ≤ length ys
+fits [] ys d h = omega arith
+fits (x ∷ xs) ys d h =
+    let w = without x ys (h x (inl refl)) in
+    let less = fits xs w.others d.1 (λ y i. w.kept y (h y (inr i)) (λ e. d.0 (subst (λ z. In z xs) (sym e) i))) in
+    omega (arith, w.count, less)
+
+-- items with one number each differ
+distinct : {A : Type 0} (d : A) (xs : List A) → ((j k : ℕ) → j < length xs → k < length xs → get_or xs j d ≡ get_or xs k d → j ≡ k) → AreDistinct xs
+distinct d [] once = tt
+distinct d (x ∷ xs) once = (
+  λ i.
+      let c = in_contains x xs i in
+      let same : 0 ≡ suc c.0 = once 0 (suc c.0) (omega arith) (omega (arith, c.1)) (sym (get_or_default xs c.0 d x c.1 ∙ c.2)) in
+      absurd (omega (arith, same)),
+  distinct d xs (λ j k l m e. let same : suc j ≡ suc k = once (suc j) (suc k) (omega (arith, l)) (omega (arith, m)) e in omega (arith, same)),
+)
+
+-- a list of the points of a design is not longer than another one
+pub no_longer : (d : Design) (ms : List StateNames) (ps qs : Points) → IsPointList d ms ps → IsPointList d ms qs → length (points_of ps) ≤ length (points_of qs)
+no_longer d ms ps qs a b = fits (points_of ps) (points_of qs) (distinct no_point (points_of ps) (points_once d ms ps a)) (λ x i. (b.members x).1 ((a.members x).0 i))
+
+pub few_or_many : (d : Design) → HasFewPoints d → HasManyPoints d → ⊥
+few_or_many d (ps, a, few) (qs, b, many) = omega (arith, few, many, no_longer d [] qs ps b a)
+
+-- where no machine is named there is none, and no fault of one
+pub no_machines : (d : Design) (xs : List Machine) → AreMachines d [] xs → xs ≡ []
+no_machines d [] are = refl
+no_machines d (x ∷ xs) are = let m = are.each x (inl refl) in absurd m.1
+
+no_state_fault : (d : Design) (f : StateFault) → IsStateFault d [] f → ⊥
+no_state_fault d f is = omega (arith, is.1)
+
+module _ (d : Design) (machines : List StateNames) (f : PointFault) (name : List ℕ) (none : machines ≡ []) (is : IsPointFault d machines f) where
+  pub no_unknown_state : f ≡ fault.NoState name → ⊥
+  no_unknown_state e = no_state_fault d (of_machines.NoState name) (subst (λ ms. IsPointFault d ms (fault.NoState name)) none (subst (IsPointFault d machines) e is))
+
+  pub no_same_state : f ≡ fault.SameState name → ⊥
+  no_same_state e = no_state_fault d (of_machines.SameState name) (subst (λ ms. IsPointFault d ms (fault.SameState name)) none (subst (IsPointFault d machines) e is))
+
+  pub no_state_count : f ≡ fault.TooManyStates name → ⊥
+  no_state_count e = no_state_fault d (of_machines.TooManyStates name) (subst (λ ms. IsPointFault d ms (fault.TooManyStates name)) none (subst (IsPointFault d machines) e is))
+
+-- more points than may be
+pub many_points : (d : Design) (machines : List StateNames) (f : PointFault) → machines ≡ [] → IsPointFault d machines f → f ≡ fault.TooManyPoints → HasManyPoints d
+many_points d machines f none is e = subst (λ ms. IsPointFault d ms fault.TooManyPoints) none (subst (IsPointFault d machines) e is)

@@ -1,0 +1,73 @@
+-- The table that is collected with scored verdicts.
+use Rattle.std.proofs.Common.{ℕ, List, [], None, Ok, Err, false, refl, sym, subst}
+use Rattle.std.specs.List.{All}
+use Rattle.std.specs.Prelude.{IfOk, Result}
+use Rattle.std.proofs.lemmas.List.Elements.{All-nil, All-weaker}
+use Rattle.coverage_db.specs.Table.{IsTable}
+use Rattle.coverage_db.specs.declared.db.Db.{Db}
+use Rattle.cover_points.specs.declared.listing.Points.{Points}
+use Rattle.design_model.specs.Design.{Design}
+use Rattle.design_model.specs.Lawful.{IsLawfulDesign}
+use Rattle.design_model.specs.Shows.{BoundDump, IsWindow}
+use Rattle.design_points.specs.Counted.{AreAllPoints}
+use Rattle.design_points.proofs.Counts.{no_machines}
+use Rattle.event_machine.specs.Habit.{Habit}
+use Rattle.instance_paths.specs.Rooted.{IsRooted}
+use Rattle.mark_laws.specs.Marked.{AreVerdicts}
+use Rattle.point_marks.specs.declared.verdict.Verdict.{Verdict}
+use Rattle.point_marks.specs.declared.verdict.Verdict.TheVariants.{Hit, Missed, Undetermined}
+use Rattle.point_table.specs.Collected.{IsCollected}
+use Rattle.point_table.specs.Verdicts.{AreShown, IsOfDesign}
+use Rattle.replay_model.specs.Step.{Replay}
+use Rattle.table_laws.proofs.Listing.{lists_points}
+use Rattle.table_laws.proofs.Tables.{collected_is}
+use Rattle.table_laws.specs.Written.{IsWritten, IsWrittenMachine, IsWrittenVerdict}
+use Rattle.verdict_laws.proofs.NoStep.{no_reasons, no_sound}
+use Rattle.verdict_laws.proofs.Rows.{reasoned_table, sound_table}
+use Rattle.verdict_laws.proofs.Written.{written}
+use Rattle.score_tables.specs.Scored.{AreScored, HasSmallTimes, IsScoreTable}
+use Rattle.score_tables.proofs.Rows.{head_is}
+
+-- a replay that has reported nothing
+silent : Replay
+silent = record { kept = λ c. None; acted = λ p. false; notes = [] }
+
+pub unmarked : (d : Design) (h : Habit) (dump : BoundDump) (ps : Points) (vs : List Verdict) → ((t : ℕ) → IsWindow dump t → ⊥) → AreVerdicts d ps [] vs → AreScored d h dump ps vs
+unfolding silent
+unmarked d h dump ps vs none verdicts = record {
+  replay = silent;
+  verdicts = verdicts;
+  sound = no_sound d h dump _ silent none refl;
+  reasoned = no_reasons d h dump _ silent none refl;
+}
+
+of_design : (d : Design) (v : Verdict) → IsWrittenVerdict d v → IsOfDesign d v
+of_design d Hit w = tt
+of_design d Missed w = tt
+of_design d (Undetermined y) w = w.0
+
+module _ (d : Design) (h : Habit) (dump : BoundDump) (ps : Points) (vs : List Verdict) (lawful : IsLawfulDesign d) (all : AreAllPoints d ps) (small : HasSmallTimes dump) (scored : AreScored d h dump ps vs) where
+  are_written : All (IsWrittenVerdict d) vs
+  are_written = written d h dump [] ps vs scored.replay lawful all.listed small scored.verdicts scored.reasoned
+
+  pub are_of_design : All (IsOfDesign d) vs
+  are_of_design = All-weaker (IsWrittenVerdict d) (IsOfDesign d) (of_design d) vs are_written
+
+  named : All IsWrittenMachine ps.machines.items
+  named = subst (All IsWrittenMachine) (sym (no_machines d ps.machines.items all.listed.machines)) (All-nil IsWrittenMachine)
+
+  pub score_is : (names : List (List ℕ)) (db : Db) → IsWritten names d → IsRooted d → IsCollected d names ps db → AreShown d vs db.points → IsScoreTable d h dump names db
+  score_is names db is_written rooted is shown =
+      let table : IsTable db = collected_is d names ps vs db lawful is_written ([], all.listed) all.few named are_written is shown in
+      record {
+        table = table;
+        head = head_is d names ps db rooted is table.instances_rise;
+        listed = lists_points d names [] ps db lawful is_written all.listed named is;
+        sound = sound_table d h dump names [] ps vs scored.replay db lawful is_written all.listed named is table shown scored.verdicts scored.sound;
+        reasoned = reasoned_table d h dump names [] ps vs scored.replay db lawful is_written all.listed named is table shown scored.verdicts scored.reasoned;
+      }
+
+-- what the collected table and its verdicts say together
+pub both_say : {T E : Type 0} {P Q R : T → Type 0} (result : Result T E) → ((x : T) → P x → Q x → R x) → IfOk result P → IfOk result Q → IfOk result R
+both_say (Ok x) step p q = step x p q
+both_say (Err e) step p q = tt

@@ -1,0 +1,14 @@
+use Rattle.design_model.specs.View.{design_view}
+use Rattle.score_tables.proofs.Tables.{are_of_design, both_say, score_is}
+use Rattle.score_tables.proofs.table.score_table.Goals as goal
+
+pub collect-requires-clause-things : goal.collect-requires-clause-things
+collect-requires-clause-things c =
+    let (h, dump, small, scored) = c.requires.scored in
+    are_of_design (design_view c.args.design.now) h dump c.args.points.now c.args.marks.now.verdicts c.requires.lawful c.requires.points small scored
+
+pub returns : goal.returns
+returns c = λ h dump small scored.
+    both_say c.collect.result
+    (λ db is shown. score_is (design_view c.args.design.now) h dump c.args.points.now c.args.marks.now.verdicts c.requires.lawful c.requires.points small scored c.args.sources db c.requires.written c.requires.rooted is shown)
+    c.collect.ensures.table c.collect.ensures.verdicts

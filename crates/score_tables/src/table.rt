@@ -1,0 +1,37 @@
+ghost use Rattle.std.specs.Prelude.{IfOk};
+ghost use Rattle.cover_marks.specs.Marks.{AreMarksOf};
+ghost use Rattle.design_model.specs.Lawful.{IsLawfulDesign};
+ghost use Rattle.design_model.specs.Shows.{BoundDump};
+ghost use Rattle.design_model.specs.View.{design_view};
+ghost use Rattle.design_points.specs.Counted.{AreAllPoints};
+ghost use Rattle.event_machine.specs.Habit.{Habit};
+ghost use Rattle.instance_paths.specs.Rooted.{IsRooted};
+ghost use Rattle.table_laws.specs.Written.{IsWritten};
+ghost use Rattle.score_tables.specs.Scored.{AreScored, HasSmallTimes, IsScoreTable};
+
+use cov_host::{Name, NoMemory, Sequence};
+use cover_marks::Marks;
+use cover_points::Points;
+use coverage_db::Db;
+use design_model::Design;
+use point_table::collect;
+use std::alloc::Global;
+
+/// The table of a design, which was read from these sources and has these points, with the verdicts of its marks.
+pub fn score_table(
+    alloc: Global,
+    design: &Design,
+    points: &Points,
+    marks: &Marks,
+    sources: Sequence<Name>,
+) -> Result<Db, NoMemory>
+    requires lawful { IsLawfulDesign (design_view design.now) }
+    requires written { IsWritten sources (design_view design.now) }
+    requires rooted { IsRooted (design_view design.now) }
+    requires points { AreAllPoints (design_view design.now) points.now }
+    requires marks { AreMarksOf points.now marks.now }
+    requires scored { (h : Habit) × (dump : BoundDump) × HasSmallTimes dump × AreScored (design_view design.now) h dump points.now marks.now.verdicts }
+    ensures { (h : Habit) (dump : BoundDump) → HasSmallTimes dump → AreScored (design_view design.now) h dump points.now marks.now.verdicts → IfOk result (IsScoreTable (design_view design.now) h dump sources) }
+{
+    collect(alloc, design, points, marks, sources)
+}

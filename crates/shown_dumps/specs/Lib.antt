@@ -1,0 +1,5 @@
+pub mod Said
+pub mod Shown
+pub mod Bound
+pub mod Laws
+pub mod Ongoing
