@@ -41,6 +41,7 @@ impl StepValues {
         requires coded { HaveCodes (design_view store.old.design.now) codes.now changed.now }
         requires dumped { (new : Values Bit) × AreDumped (design_view store.old.design.now) codes.now values.now.last new }
         ensures design { store.new.design ≡ store.old.design }
+        ensures fits { FitsSignals (design_view store.old.design.now) self.new }
         ensures starts { (st : Closing) → Knows st.design st.start.kept store.old → IsStartOf st moves.now woken.now targets.now changed.now codes.now values.now.last → HasValues st (settle_start st (clocked_run st)) store.new self.new }
     {
         self.open(store, moves);

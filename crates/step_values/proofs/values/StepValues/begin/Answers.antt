@@ -11,6 +11,11 @@ loosen_all-requires-clause-fits c =
     let h = c.requires.known.2 in
     subst (λ e. FitsSignals e c.open.new.self) (sym h.design) (c.open.ensures.fits c.requires.known.0 c.requires.known.1 h)
 
+pub returns-clause-fits : goal.returns-clause-fits
+returns-clause-fits c =
+    let h = c.requires.known.2 in
+    c.loosen_all.ensures.fits _ (subst (λ e. FitsSignals e c.open.new.self) (sym h.design) (c.open.ensures.fits c.requires.known.0 c.requires.known.1 h))
+
 pub returns-clause-starts : goal.returns-clause-starts
 returns-clause-starts c = λ st h start.
     let d = st.design in

@@ -1,0 +1,36 @@
+use early_sets::Wakes;
+use index_sets::{IndexSet, Rows};
+use process_targets::Bits;
+use run_order::RunOrder;
+use step_values::StepValues;
+use step_wakes::SignalChange;
+use value_store::Queue;
+use wake_list::WakeList;
+
+/// What is made of a design and its binding once, and read in each step.
+#[derive(Drop)]
+pub struct StepTables {
+    /// The code of each signal that the dump has.
+    pub codes: Vec<Option<u32>>,
+    /// The signals of each code.
+    pub signals: Rows<u32>,
+    /// The bits that each process may write.
+    pub targets: Rows<Bits>,
+    /// The place of each process in the order in which they run.
+    pub order: RunOrder,
+}
+
+/// What is found in a step.
+#[derive(Drop)]
+pub struct StepRoom {
+    /// The signals whose value has changed.
+    pub changed: IndexSet,
+    /// Their lowest bits before and after.
+    pub changes: Queue<SignalChange>,
+    /// What may move, and the processes that this wakes.
+    pub sets: Wakes,
+    /// Those processes in their order.
+    pub list: WakeList,
+    /// What is known of the signals that may move, before the step and as it was made in it.
+    pub values: StepValues,
+}
