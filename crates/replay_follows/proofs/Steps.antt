@@ -1,0 +1,190 @@
+-- From one closed step to the next.
+use Rattle.std.proofs.Common.{◌≡◌, ℕ, zero, suc, ◌+◌, ◌-◌, ◌<◌, ◌≤◌, List, [], ◌∷◌, Some, None, sym, ap, subst, ◌∙◌, arith}
+use Rattle.std.specs.Prelude.{slice_index_or}
+use Rattle.four_state.specs.Vector.{Vector}
+use Rattle.code_values.specs.Values.{value_of}
+use Rattle.cover_points.specs.Listed.{points_of}
+use Rattle.design_model.specs.Design.{signal_bits}
+use Rattle.design_model.specs.Shows.{BoundDump, IsListed, IsShownOf, IsWindow, IsWindowOf, last_time}
+use Rattle.replay_model.proofs.ReasonedLaws.{reasoned_verdict_law}
+use Rattle.replay_model.proofs.SoundLaws.{contradiction_law, first_contradiction_law, sound_verdict_law}
+use Rattle.replay_model.proofs.StandsLaws.{first_stands_law, step_stands_law}
+use Rattle.replay_model.specs.Step.{Replay}
+use Rattle.replay_steps.proofs.Resting.{rests}
+use Rattle.replay_sets.specs.SetsOf.{sets_of}
+use Rattle.step_changes.specs.Changes.{AreUnsigned, IsDue, none_early}
+use Rattle.step_changes.proofs.Woken.{none_clocked}
+use Rattle.step_values.specs.Dumped.{AreDumped}
+use Rattle.step_values.proofs.Bound.{bound_known}
+use Rattle.wake_laws.specs.Laws.{habit_of}
+use Rattle.replay_follows.specs.Follows.{Follows, Parts, Subject}
+use Rattle.replay_follows.specs.Laws.{ClosedLaw, ContradictedLaw, DueLaw, FirstContradictedLaw, FirstLaw, GivenLaw, NextLaw, RestLaw, VerdictsLaw}
+
+-- ---- the first step
+
+pub starts : FirstLaw
+starts f t x subject first shown sets writers closed unsigned none rest = record {
+  subject = subject;
+  sets = sets;
+  writers = writers;
+  closed = closed;
+  unsigned = unsigned;
+  rest = rest;
+  shown = shown;
+  stands = first_stands_law f.design (habit_of f.habit) f.dump f.run f.tables (points_of f.points) subject.is subject.selects t first shown none;
+}
+
+pub against_first : FirstContradictedLaw
+against_first f t c subject first shown differs r showing =
+    first_contradiction_law f.design (habit_of f.habit) f.dump f.run f.tables (points_of f.points) subject.is t c first shown differs r showing
+
+-- ---- between steps
+
+pub given : GivenLaw
+given f t a x values same follows = record {
+  subject = follows.subject;
+  sets = follows.sets;
+  writers = follows.writers;
+  closed = subst (λ vs. AreDumped f.design f.codes vs (f.dump.values t)) (sym same) follows.closed;
+  unsigned = subst AreUnsigned (sym same) follows.unsigned;
+  rest = follows.rest;
+  shown = follows.shown;
+  stands = follows.stands;
+}
+
+-- a time of the window is shown
+shown_of : (ts : List ℕ) (t : ℕ) → IsWindowOf ts t → IsShownOf ts t
+shown_of [] t h = h
+shown_of (u ∷ us) t (after, before) = (omega (arith, after), before)
+
+-- over times that are not listed the values stay
+same_values : (dump : BoundDump) (stays : (t : ℕ) → (IsListed dump (suc t) → ⊥) → dump.values (suc t) ≡ dump.values t) (t n : ℕ) → ((u : ℕ) → t < u → u ≤ t + n → IsListed dump u → ⊥) → dump.values t ≡ dump.values (t + n)
+same_values dump stays t zero gap = let none : t ≡ t + zero = omega arith in ap dump.values none
+same_values dump stays t (suc n) gap =
+    let before = same_values dump stays t n (λ u l m. gap u l (omega (arith, m))) in
+    let one = stays (t + n) (gap (suc (t + n)) (omega arith) (omega arith)) in
+    let next : suc (t + n) ≡ t + suc n = omega arith in
+    before ∙ sym one ∙ ap dump.values next
+
+pub stays : RestLaw
+stays f t zero a x gap follows = let none : t ≡ t + zero = omega arith in subst (λ u. Follows f u a x) none follows
+stays f t (suc n) a x gap follows =
+    let s = follows.subject in
+    let last = gap (t + suc n) (omega arith) (omega arith) in
+    record {
+      subject = s;
+      sets = follows.sets;
+      writers = follows.writers;
+      closed = subst (λ v. AreDumped f.design f.codes x.values.closed v) (same_values f.dump s.is.fits.stays t (suc n) (λ u l m. (gap u l m).1)) follows.closed;
+      unsigned = follows.unsigned;
+      rest = follows.rest;
+      shown = shown_of f.dump.times (t + suc n) last.0;
+      stands = rests f.design (habit_of f.habit) f.dump f.run f.tables (points_of f.points) s.is s.selects t (suc n) a gap follows.stands;
+    }
+
+-- what is after a time that is shown and not after one of the window is of the window
+between : (ts : List ℕ) (t u time : ℕ) → IsShownOf ts t → IsWindowOf ts time → t < u → u ≤ time → IsWindowOf ts u
+between [] t u time shown window after within = shown
+between (w ∷ ws) t u time shown window after within = (omega (arith, shown.0, after), omega (arith, window.1, within))
+
+pub nexts : NextLaw
+nexts f t time a x later window gap follows =
+    let n : ℕ = time - suc t in
+    let end : time ≡ suc (t + n) = omega (arith, later) in (
+      t + n,
+      end,
+      stays f t n a x (λ u after within. (between f.dump.times t u time follows.shown window after (omega (arith, within, end)), gap u after (omega (arith, within, end)))) follows,
+    )
+
+-- ---- a step
+
+pub due : DueLaw
+due f t a x follows given =
+    let s = follows.subject in
+    let back : t ≡ suc t - 1 = omega arith in
+    let changes : IsDue f.design f.dump (suc t) f.flags f.codes x.values x.sets = record {
+      lawful = s.is.lawful;
+      unclocked = none_clocked f.design f.dump.bound f.tables s.is.tabled s.unclocked;
+      tables = follows.sets;
+      writers = follows.writers;
+      round = given.round;
+      bound = s.bound;
+      flagged = s.flagged;
+      signals = s.is.fits.signals;
+      old = subst (λ u. AreDumped f.design f.codes x.values.closed (f.dump.values u)) back follows.closed;
+      new = given.last;
+      unsigned_old = follows.unsigned;
+      unsigned_new = given.unsigned;
+    } in
+    record {
+      changes = changes;
+      tabled = s.is.tabled;
+      unclocked = s.unclocked;
+      ranked = s.ranked;
+      rest = follows.rest;
+      known = bound_known f.design (habit_of f.habit) f.dump f.tables t a s.is.fits.signals follows.shown follows.stands.known;
+    }
+
+pub closes : ClosedLaw
+closes f t a x y follows given window listed sets of writers none values rest =
+    let s = follows.subject in
+    record {
+      subject = s;
+      sets = of;
+      writers = writers;
+      closed = subst (λ vs. AreDumped f.design f.codes vs (f.dump.values (suc t))) (sym values) given.last;
+      unsigned = subst AreUnsigned (sym values) given.unsigned;
+      rest = rest;
+      shown = shown_of f.dump.times (suc t) window;
+      stands = step_stands_law (habit_of f.habit) f.design f.dump f.run f.tables (points_of f.points) s.is s.selects t (sets_of y.sets none_early) a window listed sets none follows.stands;
+    }
+
+pub against : ContradictedLaw
+against f t a x sets c follows window are differs r showing =
+    let s = follows.subject in
+    contradiction_law (habit_of f.habit) f.design f.dump f.run f.tables (points_of f.points) s.is t (sets_of sets none_early) a c window are follows.stands.sound differs r showing
+
+-- ---- the end of the dump
+
+-- so many times are after a time that is shown and before the last one
+pub record AreLeft (ts : List ℕ) (t n : ℕ) : Type 0 where
+  pub window : (u : ℕ) → t < u → u ≤ t + n → IsWindowOf ts u
+  pub last : (u : ℕ) → IsShownOf ts u → u ≤ t + n
+
+left : (ts : List ℕ) (t : ℕ) → IsShownOf ts t → (n : ℕ) × AreLeft ts t n
+left [] t shown = absurd shown
+left (u ∷ us) t shown = (
+  last_time u us - suc t,
+  record {
+    window = λ w after within. (omega (arith, shown.0, after), omega (arith, shown.1, within));
+    last = λ w before. omega (arith, shown.1, before.1);
+  },
+)
+
+pub ends : VerdictsLaw
+ends f t a x last follows =
+    let rest = left f.dump.times t follows.shown in
+    let n = rest.0 in
+    let end = stays f t n a x (λ u after within. (rest.1.window u after within, last u after (rest.1.window u after within))) follows in
+    let before : (u : ℕ) → IsWindow f.dump u → u ≤ t + n = λ u window. rest.1.last u (shown_of f.dump.times u window) in
+    record {
+      marks = follows.rest.points;
+      verdicts = follows.rest.marks;
+      sound = sound_verdict_law f.design (habit_of f.habit) f.dump (points_of f.points) (t + n) a before end.shown end.stands.sound;
+      reasoned = reasoned_verdict_law f.design (habit_of f.habit) f.dump (points_of f.points) (t + n) a before end.shown end.stands.sound end.stands.reasoned;
+      forced = λ u s bits forced. end.stands.forced u s bits (rest.1.last u forced.is_shown) forced;
+    }
+
+-- ---- what is refused
+
+pub other_value : (f : Subject) (t : ℕ) (a : Replay) (x : Parts) (s code : ℕ) (v : Vector) → slice_index_or f.codes s None ≡ Some code → value_of x.values.closed code ≡ Some v
+    → (v.bits ≡ signal_bits f.design (f.dump.values t) s → ⊥) → Follows f t a x → ⊥
+other_value f t a x s code v coded is other follows =
+    let w = follows.closed s code coded in
+    let same : v ≡ w.0 = (let e = sym is ∙ w.1 in cc) in
+    other (ap (λ (u : Vector). u.bits) same ∙ w.2)
+
+pub one_time : (f : Subject) (t u : ℕ) (a : Replay) (x : Parts) → f.dump.times ≡ u ∷ [] → Follows f t a x → ⊥
+one_time f t u a x single follows =
+    let shown : IsShownOf (u ∷ []) t = subst (λ ts. IsShownOf ts t) single follows.shown in
+    omega (arith, shown.0, shown.1)

@@ -1,0 +1,5 @@
+use Rattle.replay_follows.proofs.Steps.{against}
+use Rattle.replay_follows.proofs.contradicted_law.Goals as goal
+
+pub returns : goal.returns
+returns c f t a x sets cell follows window are differs r showing = against f t a x sets cell follows window are differs r showing

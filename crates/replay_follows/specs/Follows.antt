@@ -1,0 +1,70 @@
+-- A replay has followed a dump up to a time.
+use Rattle.std.specs.Prelude.{◌≡◌, ◌++◌, ℕ, Bool, List, [], length, Option}
+use Rattle.bit_changes.specs.declared.toggles.Toggles.{Toggles}
+use Rattle.body_replay.specs.Runs.{Runs}
+use Rattle.body_store.specs.declared.store.Store.{Store}
+use Rattle.code_values.specs.Values.{Values}
+use Rattle.cover_marks.specs.declared.marks.Marks.{Marks}
+use Rattle.cover_points.specs.Listed.{IsPointList, points_of}
+use Rattle.cover_points.specs.Visits.{AreApart, AreOnce}
+use Rattle.cover_points.specs.declared.listing.Points.{Points}
+use Rattle.design_model.specs.Design.{Design}
+use Rattle.design_model.specs.Shows.{BoundDump, IsShown}
+use Rattle.early_sets.specs.WakeState.{WakeState}
+use Rattle.early_sets.specs.declared.habit.Habit.{Habit}
+use Rattle.model_laws.specs.Own.{HasKnownSelects}
+use Rattle.replay_model.specs.Laws.{IsReplayOf}
+use Rattle.replay_model.specs.Stands.{Stands}
+use Rattle.replay_model.specs.Step.{Replay}
+use Rattle.replay_model.specs.Tables.{Tables}
+use Rattle.run_order.specs.Ranked.{AreRanksOf}
+use Rattle.step_changes.specs.Changes.{AreUnsigned}
+use Rattle.step_parts.specs.AtStep.{AtRest}
+use Rattle.step_values.specs.Dumped.{AreDumped}
+use Rattle.step_values.specs.Loose.{has_code}
+use Rattle.step_wakes.specs.Step.{IsOfDesign, flag_at}
+use Rattle.wake_laws.specs.Laws.{HasNoWriters, habit_of}
+
+-- what stays of a replay from its first step to its last
+pub record Subject : Type 0 where
+  pub design : Design
+  pub habit : Habit
+  pub dump : BoundDump
+  pub run : Runs
+  pub tables : Tables
+  pub points : Points
+  pub flags : List Bool  -- for each signal whether the dump has it
+  pub codes : List (Option ℕ)  -- the code of each signal
+  pub ranks : List (Option ℕ)  -- the place of each process in the order
+
+-- it is of a lawful design without Clocked processes and state machines, and the codes and the places are those of its dump and tables
+pub record IsSubject (f : Subject) : Type 0 where
+  pub is : IsReplayOf f.design (habit_of f.habit) f.dump f.run f.tables (points_of f.points)
+  pub selects : HasKnownSelects f.design
+  pub unclocked : f.tables.clocked ≡ []
+  pub listed : IsPointList f.design [] f.points
+  pub apart : AreApart f.points
+  pub once : AreOnce f.points
+  pub bound : (s : ℕ) → f.dump.bound s ≡ has_code f.codes s
+  pub flagged : (s : ℕ) → flag_at f.flags s ≡ has_code f.codes s
+  pub ranked : AreRanksOf (f.tables.order ++ f.tables.last) (length f.design.processes) f.ranks
+
+-- the parts of the code after the step that was closed last
+pub record Parts : Type 0 where
+  pub sets : WakeState
+  pub values : Values
+  pub store : Store
+  pub acted : List Bool  -- which Combs have surely acted
+  pub marks : Marks
+  pub seen : List Toggles  -- what is marked already
+
+-- these have followed the dump up to this time, at which the replay is this
+pub record Follows (f : Subject) (t : ℕ) (a : Replay) (x : Parts) : Type 0 where
+  pub subject : IsSubject f
+  pub sets : IsOfDesign f.design f.flags x.sets
+  pub writers : HasNoWriters x.sets
+  pub closed : AreDumped f.design f.codes x.values.closed (f.dump.values t)
+  pub unsigned : AreUnsigned x.values.closed
+  pub rest : AtRest f.design f.points a x.store x.acted x.marks x.seen
+  pub shown : IsShown f.dump t
+  pub stands : Stands f.design (habit_of f.habit) f.dump f.tables (points_of f.points) t a

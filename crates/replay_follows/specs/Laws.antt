@@ -1,0 +1,127 @@
+-- From one closed step to the next.
+use Rattle.std.specs.Prelude.{◌≡◌, ◌<◌, ◌≤◌, ◌+◌, ℕ, suc, true, false, List}
+use Rattle.event_machine.specs.Cell.{Cell}
+use Rattle.four_state.specs.declared.bit.Bit.{Bit}
+use Rattle.code_values.specs.Values.{Values}
+use Rattle.cover_marks.specs.Marks.{AreMarksOf}
+use Rattle.cover_points.specs.Listed.{points_of}
+use Rattle.design_model.specs.Clear.{IsForced}
+use Rattle.design_model.specs.Design.{signal_bits}
+use Rattle.design_model.specs.Shows.{BoundDump, IsContradicted, IsFirst, IsListed, IsShown, IsWindow}
+use Rattle.early_sets.specs.WakeState.{WakeState}
+use Rattle.mark_laws.specs.Marked.{AreVerdicts}
+use Rattle.replay_model.specs.Laws.{AreReasonedVerdicts, AreSoundVerdicts}
+use Rattle.replay_model.specs.Sets.{AreFirstSets}
+use Rattle.replay_model.specs.Start.{contradicts_first, started}
+use Rattle.replay_model.specs.Step.{Closing, Replay, closed, contradicts}
+use Rattle.replay_sets.specs.SetsOf.{sets_of}
+use Rattle.step_changes.specs.Changes.{AreUnsigned, none_early}
+use Rattle.step_parts.specs.AtStep.{AtRest}
+use Rattle.step_parts.specs.Due.{Due, IsDueStep, step_of}
+use Rattle.step_values.specs.Dumped.{AreDumped}
+use Rattle.step_wakes.specs.Step.{IsOfDesign}
+use Rattle.wake_laws.specs.Laws.{HasNoWriters, habit_of}
+use Rattle.replay_follows.specs.Follows.{Follows, IsSubject, Parts, Subject}
+
+-- the replay after the first step, at this time
+abbrev pub first_replay : Subject → ℕ → Replay
+first_replay f t = started f.design f.dump.bound f.run f.tables (f.dump.values t)
+
+-- the step of the replay after this time
+abbrev pub due_at : Subject → ℕ → Replay → Parts → Due
+due_at f t a x =
+    record {
+      design = f.design;
+      habit = f.habit;
+      dump = f.dump;
+      run = f.run;
+      tables = f.tables;
+      points = f.points;
+      time = t;
+      replay = a;
+      flags = f.flags;
+      acted = x.acted;
+      marks = x.marks;
+      seen = x.seen;
+    }
+
+-- this step by these sets
+abbrev pub step_at : Subject → ℕ → Replay → Parts → WakeState → Closing
+step_at f t a x sets = step_of (due_at f t a x) sets
+
+-- the replay after it
+abbrev pub next_replay : Subject → ℕ → Replay → Parts → WakeState → Replay
+next_replay f t a x sets = closed (step_at f t a x sets) (points_of f.points)
+
+-- the values that are given last are those of the dump at this time, and its step is judged by the first round
+pub record AreGiven (f : Subject) (x : Parts) (t : ℕ) : Type 0 where
+  pub round : f.dump.round t ≡ 0
+  pub last : AreDumped f.design f.codes x.values.last (f.dump.values t)
+  pub unsigned : AreUnsigned x.values.last
+
+-- no run shows the dump up to this time
+abbrev pub IsRefused : Subject → ℕ → Type 0
+IsRefused f t = IsContradicted f.design (habit_of f.habit) f.dump t
+
+-- Where nothing contradicts the first step, the replay has followed the dump up to its first time.
+abbrev pub FirstLaw : Type 0
+FirstLaw =
+    (f : Subject) (t : ℕ) (x : Parts) → IsSubject f → IsFirst f.dump t → IsShown f.dump t → IsOfDesign f.design f.flags x.sets → HasNoWriters x.sets
+    → AreDumped f.design f.codes x.values.closed (f.dump.values t) → AreUnsigned x.values.closed
+    → ((c : Cell) → contradicts_first f.design f.dump.bound f.run f.tables (f.dump.values t) c ≡ false)
+    → AtRest f.design f.points (first_replay f t) x.store x.acted x.marks x.seen
+    → Follows f t (first_replay f t) x
+
+-- where some bit contradicts it, no run shows the dump up to its first time
+abbrev pub FirstContradictedLaw : Type 0
+FirstContradictedLaw =
+    (f : Subject) (t : ℕ) (c : Cell) → IsSubject f → IsFirst f.dump t → IsShown f.dump t → contradicts_first f.design f.dump.bound f.run f.tables (f.dump.values t) c ≡ true → IsRefused f t
+
+-- values that are given to codes change nothing of what was followed
+abbrev pub GivenLaw : Type 0
+GivenLaw = (f : Subject) (t : ℕ) (a : Replay) (x : Parts) (values : Values) → values.closed ≡ x.values.closed → Follows f t a x → Follows f t a (record x { values = values })
+
+-- over times that the dump does not list it has followed it too
+abbrev pub RestLaw : Type 0
+RestLaw = (f : Subject) (t n : ℕ) (a : Replay) (x : Parts) → ((u : ℕ) → t < u → u ≤ t + n → IsWindow f.dump u × (IsListed f.dump u → ⊥)) → Follows f t a x → Follows f (t + n) a x
+
+-- and so up to the time before one of the window, where the dump lists none between
+abbrev pub NextLaw : Type 0
+NextLaw =
+    (f : Subject) (t time : ℕ) (a : Replay) (x : Parts) → t < time → IsWindow f.dump time → ((u : ℕ) → t < u → u < time → IsListed f.dump u → ⊥) → Follows f t a x
+    → (before : ℕ) × (time ≡ suc before) × Follows f before a x
+
+-- once the dump's values at the time after it are given, the next step is due
+abbrev pub DueLaw : Type 0
+DueLaw = (f : Subject) (t : ℕ) (a : Replay) (x : Parts) → Follows f t a x → AreGiven f x (suc t) → IsDueStep (due_at f t a x) f.codes f.ranks x.sets x.values x.store
+
+-- after a step that nothing contradicts the replay has followed the dump up to its end
+abbrev pub ClosedLaw : Type 0
+ClosedLaw =
+    (f : Subject) (t : ℕ) (a : Replay) (x y : Parts) → Follows f t a x → AreGiven f x (suc t) → IsWindow f.dump (suc t) → IsListed f.dump (suc t)
+    → AreFirstSets f.design (habit_of f.habit) f.dump (suc t) (sets_of y.sets none_early) → IsOfDesign f.design f.flags y.sets → HasNoWriters y.sets
+    → ((c : Cell) → contradicts (step_at f t a x y.sets) c ≡ false) → y.values.closed ≡ x.values.last
+    → AtRest f.design f.points (next_replay f t a x y.sets) y.store y.acted y.marks y.seen
+    → Follows f (suc t) (next_replay f t a x y.sets) y
+
+-- where some bit contradicts a step, no run shows the dump up to its end
+abbrev pub ContradictedLaw : Type 0
+ContradictedLaw =
+    (f : Subject) (t : ℕ) (a : Replay) (x : Parts) (sets : WakeState) (c : Cell) → Follows f t a x → IsWindow f.dump (suc t)
+    → AreFirstSets f.design (habit_of f.habit) f.dump (suc t) (sets_of sets none_early) → contradicts (step_at f t a x sets) c ≡ true → IsRefused f (suc t)
+
+-- the dump lists no time of its window after this one
+abbrev pub IsLastStep : BoundDump → ℕ → Type 0
+IsLastStep dump t = (u : ℕ) → t < u → IsWindow dump u → IsListed dump u → ⊥
+
+-- the marks have the verdicts of the replay, which hold in each run that shows the dump, and no forced value differs from the dump's
+pub record HasVerdicts (f : Subject) (a : Replay) (x : Parts) : Type 0 where
+  pub marks : AreMarksOf f.points x.marks
+  pub verdicts : AreVerdicts f.design f.points a.notes x.marks.verdicts
+  pub sound : AreSoundVerdicts f.design (habit_of f.habit) f.dump (points_of f.points) a
+  pub reasoned : AreReasonedVerdicts f.design (habit_of f.habit) f.dump (points_of f.points) a
+  pub forced : (t s : ℕ) (bits : List Bit) → IsForced f.design (habit_of f.habit) f.dump t s bits → signal_bits f.design (f.dump.values t) s ≡ bits
+
+-- once the last step of the dump is closed, so it is
+abbrev pub VerdictsLaw : Type 0
+VerdictsLaw = (f : Subject) (t : ℕ) (a : Replay) (x : Parts) → IsLastStep f.dump t → Follows f t a x → HasVerdicts f a x
