@@ -31,7 +31,7 @@ starts f t x subject first shown sets writers closed unsigned none rest = record
   unsigned = unsigned;
   rest = rest;
   shown = shown;
-  stands = first_stands_law f.design (habit_of f.habit) f.dump f.run f.tables (points_of f.points) subject.is subject.selects t first shown none;
+  stands = first_stands_law f.design (habit_of f.habit) f.dump f.run f.tables (points_of f.points) subject.is subject.wakes t first shown none;
 }
 
 pub against_first : FirstContradictedLaw
@@ -79,7 +79,7 @@ stays f t (suc n) a x gap follows =
       unsigned = follows.unsigned;
       rest = follows.rest;
       shown = shown_of f.dump.times (t + suc n) last.0;
-      stands = rests f.design (habit_of f.habit) f.dump f.run f.tables (points_of f.points) s.is s.selects t (suc n) a gap follows.stands;
+      stands = rests f.design (habit_of f.habit) f.dump f.run f.tables (points_of f.points) s.is s.wakes t (suc n) a gap follows.stands;
     }
 
 -- what is after a time that is shown and not after one of the window is of the window
@@ -136,7 +136,7 @@ closes f t a x y follows given window listed sets of writers none values rest =
       unsigned = subst AreUnsigned (sym values) given.unsigned;
       rest = rest;
       shown = shown_of f.dump.times (suc t) window;
-      stands = step_stands_law (habit_of f.habit) f.design f.dump f.run f.tables (points_of f.points) s.is s.selects t (sets_of y.sets none_early) a window listed sets none follows.stands;
+      stands = step_stands_law (habit_of f.habit) f.design f.dump f.run f.tables (points_of f.points) s.is s.wakes t (sets_of y.sets none_early) a window listed sets none follows.stands;
     }
 
 pub against : ContradictedLaw

@@ -12,7 +12,7 @@ use Rattle.design_model.specs.Design.{Design}
 use Rattle.design_model.specs.Shows.{BoundDump, IsShown}
 use Rattle.early_sets.specs.WakeState.{WakeState}
 use Rattle.early_sets.specs.declared.habit.Habit.{Habit}
-use Rattle.model_laws.specs.Own.{HasKnownSelects}
+use Rattle.model_laws.specs.Own.{HasOwnWakes}
 use Rattle.replay_model.specs.Laws.{IsReplayOf}
 use Rattle.replay_model.specs.Stands.{Stands}
 use Rattle.replay_model.specs.Step.{Replay}
@@ -40,7 +40,7 @@ pub record Subject : Type 0 where
 -- it is of a lawful design without Clocked processes and state machines, and the codes and the places are those of its dump and tables
 pub record IsSubject (f : Subject) : Type 0 where
   pub is : IsReplayOf f.design (habit_of f.habit) f.dump f.run f.tables (points_of f.points)
-  pub selects : HasKnownSelects f.design
+  pub wakes : HasOwnWakes f.design
   pub unclocked : f.tables.clocked ≡ []
   pub listed : IsPointList f.design [] f.points
   pub apart : AreApart f.points
