@@ -1,2 +1,3 @@
 pub mod AtStep
 pub mod Laws
+pub mod Due

@@ -4,7 +4,8 @@
 //! Between steps the store knows what is kept, and the flags and marks are those of what was reported; within a step the
 //! vectors that are set aside and the sets are those of the step too (`specs/AtStep.antt`). [`start_law`] gives the parts with
 //! which the first process runs. After the last one the masks of what is marked already say no more than the verdicts
-//! still ([`seen_law`]), since the runs only add to what was reported ([`noted_law`]).
+//! still ([`seen_law`]), since the runs only add to what was reported ([`noted_law`]). When a step is due, and what holds once it has
+//! begun, is in `specs/Due.antt`.
 #![tactic(auto)]
 
 ghost use Rattle.step_parts.specs.Laws.{NotedLaw, SeenLaw, StartLaw};

@@ -1,0 +1,70 @@
+-- A closing step that is due, and what holds once it has begun.
+use Rattle.std.specs.Prelude.{◌≡◌, ◌++◌, ℕ, Bool, suc, true, filter, List, [], length, Option}
+use Rattle.event_machine.specs.Cell.{Cell}
+use Rattle.bit_changes.specs.declared.toggles.Toggles.{Toggles}
+use Rattle.body_replay.specs.Runs.{Runs}
+use Rattle.body_store.specs.declared.store.Store.{Store}
+use Rattle.code_values.specs.Values.{Values}
+use Rattle.cover_marks.specs.declared.marks.Marks.{Marks}
+use Rattle.cover_points.specs.declared.listing.Points.{Points}
+use Rattle.design_model.specs.Design.{Design}
+use Rattle.design_model.specs.Shows.{BoundDump}
+use Rattle.dump_check.specs.declared.order.Difference.{Difference}
+use Rattle.early_sets.specs.WakeState.{WakeState}
+use Rattle.early_sets.specs.declared.habit.Habit.{Habit}
+use Rattle.replay_model.specs.Laws.{closing_at}
+use Rattle.replay_model.specs.Sets.{AreFirstSets}
+use Rattle.replay_model.specs.Step.{Closing, Replay, clocked_run, contradicts, is_touched, settle_start}
+use Rattle.replay_model.specs.Tables.{AreTables, Tables}
+use Rattle.replay_sets.specs.SetsOf.{sets_of}
+use Rattle.replay_steps.specs.Settling.{IsDumpStill}
+use Rattle.run_order.specs.Ranked.{AreRanksOf}
+use Rattle.step_changes.specs.Changes.{IsDue, none_early}
+use Rattle.step_values.specs.Laws.{KnowsDump}
+use Rattle.step_values.specs.Vectors.{StepVectors}
+use Rattle.wake_laws.specs.Laws.{habit_of}
+use Rattle.step_parts.specs.AtStep.{AtRest, AtStep}
+
+-- a step of a dump that is to be closed: by these runs of bodies and tables, from what the replay knows at time t to the time after it
+pub record Due : Type 0 where
+  pub design : Design
+  pub habit : Habit
+  pub dump : BoundDump
+  pub run : Runs
+  pub tables : Tables
+  pub points : Points
+  pub time : ℕ
+  pub replay : Replay
+  pub flags : List Bool  -- for each signal whether the dump has it
+  pub acted : List Bool  -- which Combs have surely acted
+  pub marks : Marks
+  pub seen : List Toggles  -- what is marked already
+
+-- the parts of the code are those of this step: the code of each signal, the place of each process in the order, the sets as they
+-- were, the values of codes and the store
+pub record IsDueStep (due : Due) (codes ranks : List (Option ℕ)) (wakes : WakeState) (values : Values) (store : Store) : Type 0 where
+  pub changes : IsDue due.design due.dump (suc due.time) due.flags codes values wakes
+  pub tabled : AreTables due.design due.dump.bound due.tables
+  pub unclocked : due.tables.clocked ≡ []
+  pub ranked : AreRanksOf (due.tables.order ++ due.tables.last) (length due.design.processes) ranks
+  pub rest : AtRest due.design due.points due.replay store due.acted due.marks due.seen
+  pub known : KnowsDump due.design due.dump.bound due.replay.kept (due.dump.values due.time)
+
+-- the step with the sets that were found
+abbrev pub step_of : Due → WakeState → Closing
+step_of due wakes = closing_at due.design due.dump due.run due.tables (sets_of wakes none_early) due.time due.replay
+
+-- these sets are those of the step, the processes to run are listed in order, and the store and the vectors are those with which the
+-- first of them runs
+pub record HasBegun (due : Due) (wakes : WakeState) (listed : List ℕ) (vectors : StepVectors) (store : Store) : Type 0 where
+  pub sets : AreFirstSets due.design (habit_of due.habit) due.dump (suc due.time) (sets_of wakes none_early)
+  pub still : IsDumpStill (step_of due wakes)
+  pub list : listed ≡ filter (is_touched (step_of due wakes)) (due.tables.order ++ due.tables.last)
+  pub parts : AtStep (step_of due wakes) due.points (settle_start (step_of due wakes) (clocked_run (step_of due wakes))) store vectors wakes due.acted due.marks
+
+-- these sets are those of the step, and some bit of the signal contradicts it
+pub record IsContradicted (due : Due) (wakes : WakeState) (found : Difference) : Type 0 where
+  pub sets : AreFirstSets due.design (habit_of due.habit) due.dump (suc due.time) (sets_of wakes none_early)
+  pub cell : Cell
+  pub signal : cell.thing ≡ found.signal
+  pub differs : contradicts (step_of due wakes) cell ≡ true
