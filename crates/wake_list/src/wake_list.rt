@@ -58,7 +58,9 @@ impl WakeList {
     pub fn fitting(&self)
         ensures once { AreOnce self.now.pairs }
         ensures few { length self.now.pairs ≤ self.now.count }
-    {}
+    {
+        let _processes = self.links.len();
+    }
 
     /// Whether no process is on the list.
     pub fn is_empty(&self) -> bool
