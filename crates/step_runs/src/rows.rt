@@ -1,10 +1,8 @@
 //! The signals that each process assigns.
 
-ghost use Rattle.std.specs.Prelude.{◌≡◌, ◌++◌, IfOk};
-ghost use Rattle.design_model.specs.Design.{body};
+ghost use Rattle.std.specs.Prelude.{◌≡◌, IfOk, map};
 ghost use Rattle.design_model.specs.View.{design_view, process_view};
-ghost use Rattle.process_names.specs.Assigned.{assigned};
-ghost use Rattle.step_runs.specs.Rows.{AreWrittenRows};
+ghost use Rattle.step_runs.specs.Rows.{AreWrittenRows, written_names};
 
 use cov_host::NoMemory;
 use design_model::{Design, Process};
@@ -16,17 +14,25 @@ use std::alloc::Global;
 pub fn written_rows(alloc: Global, design: &Design) -> Result<Rows<u32>, NoMemory>
     ensures { IfOk result (AreWrittenRows (design_view design.now)) }
 {
+    let lists = written_lists(alloc, design.processes.as_slice())?;
+    Rows::from_lists(alloc, lists.as_slice())
+}
+
+/// The same as lists.
+fn written_lists(alloc: Global, processes: &[Process]) -> Result<Vec<Vec<u32>>, NoMemory>
+    ensures { IfOk result (λ lists. map (λ list. list.items) lists.items ≡ map (λ process. written_names (process_view process)) processes.now) }
+{
     let mut lists = Vec::new(alloc);
-    for process in design.processes.as_slice() {
+    for process in processes {
         let list = written(alloc, process)?;
         lists.push(list)?;
     }
-    Rows::from_lists(alloc, lists.as_slice())
+    Ok(lists)
 }
 
 /// The signals and memories that a process assigns.
 fn written(alloc: Global, process: &Process) -> Result<Vec<u32>, NoMemory>
-    ensures { IfOk result (λ list. list.items ≡ assigned true (body (process_view process.now)) ++ assigned false (body (process_view process.now))) }
+    ensures { IfOk result (λ list. list.items ≡ written_names (process_view process.now)) }
 {
     let mut list = Vec::new(alloc);
     push_assigned(true, process, &mut list)?;
