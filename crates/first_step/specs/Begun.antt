@@ -1,5 +1,5 @@
 -- The first step: the dump's values are put in, and the Assigns run.
-use Rattle.std.specs.Prelude.{◌≡◌, ◌<◌, ◌&&◌, ℕ, Bool, true, if◌then◌else◌, filter, List, length, map, nat_lt, slice_set, Option, Some, None}
+use Rattle.std.specs.Prelude.{◌≡◌, ◌<◌, ◌&&◌, ℕ, Bool, true, if◌then◌else◌, filter, List, length, map, nat_lt, replicate, slice_set, Option, Some, None}
 use Rattle.event_machine.specs.Cell.{Values}
 use Rattle.four_state.specs.Vector.{Vector}
 use Rattle.four_state.specs.declared.bit.Bit.{Bit}
@@ -36,4 +36,4 @@ pub record Puts (codes : List (Option ℕ)) (given : List (Option Vector)) (test
 
 -- no bit of a signal is sure any more
 abbrev pub MakesNothing : ℕ → StepVectors → StepVectors → Type 0
-MakesNothing s v w = (q : Partly) × (w ≡ record v { made = slice_set v.made s q }) × (q.bits ≡ map (λ p. None) (vector_at v.made s).bits)
+MakesNothing s v w = (q : Partly) × (w ≡ record v { made = slice_set v.made s q }) × (q.bits ≡ replicate (length (vector_at v.made s).bits) None)

@@ -48,7 +48,7 @@ fn put_signal(
     requires fits { FitsSignals (design_view store.old.design.now) values.old }
     requires dumped { (new : Values Bit) × AreDumped (design_view store.old.design.now) codes.now dump.now.last new }
     ensures design { store.new.design ≡ store.old.design }
-    ensures puts { Puts codes.now dump.now.last (λ s. has_code codes.now s && s == signal) store.old store.new values.old values.new }
+    ensures puts { Puts codes.now dump.now.last (λ s. has_code codes.now s && signal == s) store.old store.new values.old values.new }
 {
     if is_coded(codes, signal as u32) {
         put_dump(store, &[signal], codes, dump);

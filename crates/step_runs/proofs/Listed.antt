@@ -1,11 +1,12 @@
 -- The runs of the processes of a list, in order, are those of the step.
 use Rattle.std.proofs.Common.{◌≡◌, inl, inr, ℕ, ◌+◌, ◌<◌, Bool, true, false, ◌++◌, List, [], ◌∷◌, length, get_or, Option, Some, None, refl, sym, ap, ap₂, subst, ◌∙◌, arith}
-use Rattle.std.specs.Prelude.{if◌then◌else◌, nat_lt, slice_index_or}
+use Rattle.std.specs.Prelude.{nat_lt, slice_index_or}
 use Rattle.std.specs.List.{filter}
 use Rattle.std.proofs.Math.ListN.{get_or-append}
 use Rattle.std.proofs.lemmas.Bool.{false_from_ne_true}
 use Rattle.std.proofs.lemmas.Bool.Decides.{nat_tests}
 use Rattle.std.proofs.lemmas.List.{get_or_default, length-append}
+use Rattle.std.proofs.lemmas.List.Elements.{filter-append}
 use Rattle.body_store.specs.declared.store.Store.{Store}
 use Rattle.cover_marks.specs.declared.marks.Marks.{Marks}
 use Rattle.cover_points.specs.declared.listing.Points.{Points}
@@ -36,14 +37,6 @@ listed_same st test b [] w same = refl
 listed_same st test b (x ∷ xs) w same =
     ap (λ c. run_listed st test xs (run_settling st c x w)) (same x (inl refl)) ∙ listed_same st test b xs (run_settling st b x w) (λ p i. same p (inr i))
 
-filter_both : (t : ℕ → Bool) (xs ys : List ℕ) → filter t (xs ++ ys) ≡ filter t xs ++ filter t ys
-filter_both t [] ys = refl
-filter_both t (x ∷ xs) ys = go (t x) (filter_both t xs ys)
-  where
-    go : (b : Bool) → filter t (xs ++ ys) ≡ filter t xs ++ filter t ys → (if b then x ∷ filter t (xs ++ ys) else filter t (xs ++ ys)) ≡ (if b then x ∷ filter t xs else filter t xs) ++ filter t ys
-    go true e = ap (λ zs. x ∷ zs) e
-    go false e = e
-
 right_at : (xs ys : List ℕ) (k d : ℕ) → get_or (xs ++ ys) (length xs + k) d ≡ get_or ys k d
 right_at [] ys k d = let start : 0 + k ≡ k = omega arith in ap (λ i. get_or ys i d) start
 right_at (x ∷ xs) ys k d = let next : length (x ∷ xs) + k ≡ length xs + k + 1 = omega arith in ap (λ i. get_or (x ∷ (xs ++ ys)) i d) next ∙ right_at xs ys k d
@@ -72,7 +65,7 @@ module _ (first last : List ℕ) (count : ℕ) (places : List (Option ℕ)) (ran
 listed_run : (st : Closing) (places : List (Option ℕ)) (count ordered : ℕ) (listed : List ℕ) (w : Working) → AreRanksOf (st.tables.order ++ st.tables.last) count places → ordered ≡ length st.tables.order
     → listed ≡ filter (is_touched st) (st.tables.order ++ st.tables.last) → run_listed st (is_ordered places ordered) listed w ≡ run_all_settling st false st.tables.last (run_all_settling st true st.tables.order w)
 listed_run st places count ordered listed w ranked many is =
-    ap₂ (λ n ps. run_listed st (is_ordered places n) ps w) many (is ∙ filter_both (is_touched st) st.tables.order st.tables.last)
+    ap₂ (λ n ps. run_listed st (is_ordered places n) ps w) many (is ∙ filter-append (is_touched st) st.tables.order st.tables.last)
     ∙ listed_both st (is_ordered places (length st.tables.order)) (filter (is_touched st) st.tables.order) (filter (is_touched st) st.tables.last) w
     ∙ listed_same st (is_ordered places (length st.tables.order)) false (filter (is_touched st) st.tables.last) (run_listed st (is_ordered places (length st.tables.order)) (filter (is_touched st) st.tables.order) w)
         (λ p i. is_last st.tables.order st.tables.last count places ranked p (in_filter (is_touched st) p st.tables.last i).0)
