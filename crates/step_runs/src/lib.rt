@@ -11,6 +11,6 @@ mod laws;
 mod rows;
 mod runs;
 
-pub use laws::{rows_law, steps_law};
+pub use laws::{order_example, rows_law, steps_law, written_example};
 pub use rows::written_rows;
 pub use runs::run_all;
