@@ -10,7 +10,7 @@ use Rattle.design_model.specs.Design.{AreDistinct, Design, In, body_at, is_assig
 use Rattle.design_model.specs.Mentions.{blocking_target}
 use Rattle.body_replay.specs.Contract.{quiet}
 use Rattle.body_replay.specs.Runs.{Runs}
-use Rattle.process_order.proofs.Distinct.{contains_in, in_either, in_left, in_right}
+use Rattle.process_order.proofs.Distinct.{contains_in, in_either, in_filter, in_left, in_right}
 use Rattle.replay_model.specs.Start.{Starting, after_first, all_first, first_kept, first_store, run_all_first, run_first}
 use Rattle.replay_model.specs.Tables.{AreTables, Tables}
 use Rattle.replay_model.proofs.Clocked.{at_false, at_true}
@@ -50,6 +50,11 @@ module _ (d : Design) (bound : ℕ → Bool) (run : Runs) (tables : Tables) (new
   pub passed_over : (p : ℕ) (w : Starting) → is_assign (process_at d p) ≡ false → run_first d bound run tables new ordered p w ≡ w
   passed_over p w e = at_false (λ z. z ≡ w) (is_assign (process_at d p)) _ w e refl
 
+-- the Assigns of two lists, one after the other
+pub both_ran : (d : Design) (order last xs ys zs : List ℕ) → xs ≡ [] → ys ≡ xs ++ assigns d order → zs ≡ ys ++ assigns d last → zs ≡ assigns d (order ++ last)
+both_ran d order last xs ys zs none first second =
+    second ∙ ap (λ us. us ++ assigns d last) (first ∙ ap (λ us. us ++ assigns d order) none) ∙ sym (filter-append (λ p. is_assign (process_at d p)) order last)
+
 -- ---- the tables
 
 has_in : (p : ℕ) (ps : List ℕ) → has p ps ≡ true → In p ps
@@ -59,6 +64,9 @@ has_in p (q ∷ ps) h = elim (or_cases (p == q) (has p ps) h) [ inl e ↦ inl (s
 once_of : (ps : List ℕ) → AreDistinct ps → IsOnce ps
 once_of [] h = tt
 once_of (p ∷ ps) h = (false_from_ne_true (has p ps) (λ e. h.0 (has_in p ps e)), once_of ps h.1)
+
+pub all_below : (n : ℕ) (ps : List ℕ) → ((p : ℕ) → In p ps → p < n) → All (λ p. p < n) ps
+all_below n ps below = All-from_get_or (λ p. p < n) ps 0 (λ k l. below (get_or ps k 0) (contains_in (get_or ps k 0) ps (Contains-get_or ps k 0 l)))
 
 right_distinct : (ps qs : List ℕ) → AreDistinct (ps ++ qs) → AreDistinct qs
 right_distinct [] qs h = h
@@ -74,8 +82,16 @@ module _ (d : Design) (bound : ℕ → Bool) (tables : Tables) (tabled : AreTabl
       let few = once_few (tables.order ++ tables.last) (length d.processes) (once_of (tables.order ++ tables.last) (right_distinct tables.clocked (tables.order ++ tables.last) tabled.once)) (λ p h. listed_below p (in_either p tables.order tables.last (has_in p (tables.order ++ tables.last) h))) in
       omega (arith, few, length-append tables.order tables.last)
 
-pub all_below : (n : ℕ) (ps : List ℕ) → ((p : ℕ) → In p ps → p < n) → All (λ p. p < n) ps
-all_below n ps below = All-from_get_or (λ p. p < n) ps 0 (λ k l. below (get_or ps k 0) (contains_in (get_or ps k 0) ps (Contains-get_or ps k 0 l)))
+  -- the processes of both lists, and the Assigns among them, are processes of the design
+  module _ (n : ℕ) (count : length d.processes ≡ n) where
+    pub order_below : All (λ p. p < n) tables.order
+    order_below = all_below n tables.order (λ p i. let l = listed_below p (inl i) in omega (arith, l, count))
+
+    pub last_below : All (λ p. p < n) tables.last
+    last_below = all_below n tables.last (λ p i. let l = listed_below p (inr i) in omega (arith, l, count))
+
+    pub ran_below : All (λ p. p < n) (assigns d (tables.order ++ tables.last))
+    ran_below = all_below n (assigns d (tables.order ++ tables.last)) (λ p i. let l = listed_below p (in_either p tables.order tables.last (in_filter (λ q. is_assign (process_at d q)) p (tables.order ++ tables.last) i).0) in omega (arith, l, count))
 
 -- ---- what is made of a cell
 
@@ -86,10 +102,10 @@ module _ (d : Design) (bound : ℕ → Bool) (run : Runs) (tables : Tables) (new
 
   made_one : (ordered : Bool) (p : ℕ) (ps : List ℕ) (w : Starting) → ((run_first d bound run tables new ordered p w).made c ≡ w.made c) ⊎ IsMadeBy (p ∷ ps)
   made_one ordered p ps w = elim (cases_Bool (is_assign (process_at d p))) [
-    | inr no ↦ inl (ap (λ (z : Starting). z.made c) (passed_over d bound run tables new ordered p w no))
-    | inl yes ↦ elim (cases_Bool (blocking_target d (body_at d p) c)) [
-      | inl writes ↦ inr (p, inl refl, yes, writes)
-      | inr not ↦ inl (at_true (λ (z : Starting). z.made c ≡ w.made c) (is_assign (process_at d p)) (after_first d bound run tables new ordered p (run p (first_store d bound run tables new w.kept) quiet) w) w yes
+    | inr passed ↦ inl (ap (λ (z : Starting). z.made c) (passed_over d bound run tables new ordered p w passed))
+    | inl runs ↦ elim (cases_Bool (blocking_target d (body_at d p) c)) [
+      | inl writes ↦ inr (p, inl refl, runs, writes)
+      | inr not ↦ inl (at_true (λ (z : Starting). z.made c ≡ w.made c) (is_assign (process_at d p)) (after_first d bound run tables new ordered p (run p (first_store d bound run tables new w.kept) quiet) w) w runs
           (at_false (λ z. z ≡ w.made c) (blocking_target d (body_at d p) c) ((run p (first_store d bound run tables new w.kept) quiet).kept c) (w.made c) not refl))
     ]
   ]

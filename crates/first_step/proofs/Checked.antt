@@ -1,7 +1,7 @@
 -- Whether the first step is contradicted, by what was made of the signals that are checked.
-use Rattle.std.proofs.Common.{◌≡◌, ◌⊎◌, inl, inr, ◌∙◌, ℕ, ◌+◌, ◌<◌, Bool, true, false, not, ◌++◌, List, ◌∷◌, length, Option, Some, None, refl, sym, ap, ap₂, subst, arith}
-use Rattle.std.specs.Prelude.{flat_map, nat_lt}
-use Rattle.std.specs.List.{All}
+use Rattle.std.proofs.Common.{◌≡◌, ◌⊎◌, inl, inr, ◌∙◌, ℕ, ◌+◌, ◌<◌, Bool, true, false, not, ◌&&◌, ◌++◌, List, ◌∷◌, length, Option, Some, None, refl, sym, ap, ap₂, subst, arith}
+use Rattle.std.specs.Prelude.{IfNone, IfSome, flat_map, nat_lt}
+use Rattle.std.specs.List.{All, Contains}
 use Rattle.std.proofs.lemmas.Bool.{and_from, and_parts, both_ways, false_from_ne_true, false≢true}
 use Rattle.std.proofs.lemmas.Bool.Decides.{nat_tests}
 use Rattle.std.proofs.lemmas.List.{get_or_default}
@@ -18,7 +18,7 @@ use Rattle.body_store.specs.declared.store.Store.{Store}
 use Rattle.dump_check.specs.Checks.{AgreesAt, IsFirstDifference, last_of_each, made_of, no_value as nothing_made}
 use Rattle.dump_check.specs.declared.order.Difference.{Difference}
 use Rattle.index_sets.specs.Rows.{row_at}
-use Rattle.process_order.proofs.Distinct.{filter_in, in_filter, in_right}
+use Rattle.process_order.proofs.Distinct.{contains_in, filter_in, in_filter, in_right}
 use Rattle.process_targets.specs.Rows.{AreTargetRows}
 use Rattle.process_targets.specs.Targets.{row_has}
 use Rattle.process_targets.specs.declared.bits.Bits.{Bits}
@@ -37,6 +37,24 @@ use Rattle.step_check.proofs.Lists.{all_in, checked_has, flat_in, has_checked, i
 use Rattle.value_store.specs.Signals.{no_value}
 use Rattle.first_step.specs.Begun.{assigns}
 use Rattle.first_step.proofs.Assigns.{IsMadeBy, all_made}
+
+-- ---- what follows of what was found
+
+pub found_map : {A : Type 0} (o : Option A) (P Q : A → Type 0) → ((x : A) → P x → Q x) → IfSome o P → IfSome o Q
+found_map None P Q step h = tt
+found_map (Some x) P Q step h = step x h
+
+pub none_map : {A : Type 0} (o : Option A) (P Q : Type 0) → (P → Q) → IfNone o P → IfNone o Q
+none_map None P Q step h = step h
+none_map (Some x) P Q step h = tt
+
+-- a signal that is checked is one of the design
+pub checked_below : (d : Design) (targets : List (List Bits)) (checks : List (List ℕ)) (codes : List (Option ℕ)) → AreTargetRows d targets → AreCheckRows codes targets checks
+    → ((s : ℕ) → has_code codes s ≡ true → s < length d.signals) → (p s : ℕ) → Contains (row_at checks p) s → s < length d.signals
+checked_below d targets checks codes rows checked below p s has =
+    below s (checked_has d codes (row_at targets p) s (rows.each p).bits.inside (subst (In s) (checked.each p) (contains_in s (row_at checks p) has))).0
+
+-- ---- the check
 
 -- a bit that is allowed does not surely differ
 allowed_same : (o : Option Bit) (b : Bit) → allows_bit o b ≡ true → surely_differ o (Some b) ≡ true → ⊥
@@ -116,4 +134,9 @@ module _ (d : Design) (bound : ℕ → Bool) (tables : Tables) (new : Values Bit
       let bit = differs end.made new (cell s) 0 (signal_at d s).width apart in
       let e = cell s (0 + bit.0) in
       let within : nat_lt (0 + bit.0) (signal_at d s).width ≡ true = let l = bit.1 in grind (arith, nat_tests, l) in
-      (e, refl, and_from (is_dumped d bound e) _ (and_from (bound s) _ is_bound within) (and_from (not (signal_at d s).input) _ (ap not no_input) (differ_of (end.made e) (new e) bit.2)))
+      (
+        e,
+        refl,
+        and_from (is_dumped d bound e) (not (signal_at d s).input && surely_differ (end.made e) (Some (new e))) (and_from (bound s) (nat_lt (0 + bit.0) (signal_at d s).width) is_bound within)
+            (and_from (not (signal_at d s).input) (surely_differ (end.made e) (Some (new e))) (ap not no_input) (differ_of (end.made e) (new e) bit.2)),
+      )

@@ -10,7 +10,7 @@ use Rattle.design_model.specs.Design.{Design, signal_at}
 use Rattle.body_replay.specs.Runs.{runs_of}
 use Rattle.body_store.specs.Made.{nothing}
 use Rattle.body_store.specs.declared.store.Store.{Store}
-use Rattle.replay_model.specs.Start.{Starting, first_kept}
+use Rattle.replay_model.specs.Start.{Starting, all_first, first_kept, run_all_first}
 use Rattle.replay_model.specs.Tables.{Tables}
 use Rattle.store_knowledge.specs.Knows.{Knows}
 use Rattle.step_values.specs.Loose.{has_code}
@@ -37,3 +37,13 @@ module _ (d : Design) (bound : ℕ → Bool) (tables : Tables) (new : Values Bit
     fits = puts.fits d fits;
     made = λ s l b. puts.made d s fits l (all_coded s ∙ b);
   }
+
+  -- and after both runs over the lists of the tables
+  pub ended : (order last : List ℕ) (y₁ y₂ : Store) (w₁ w₂ : StepVectors) → order ≡ tables.order → last ≡ tables.last
+      → ((a : Starting) → AtFirst d bound a y w → AtFirst d bound (run_all_first d bound (runs_of d) tables new true order a) y₁ w₁)
+      → ((a : Starting) → AtFirst d bound a y₁ w₁ → AtFirst d bound (run_all_first d bound (runs_of d) tables new false last a) y₂ w₂)
+      → AtFirst d bound (all_first d bound (runs_of d) tables new) y₂ w₂
+  ended order last y₁ y₂ w₁ w₂ orders lasts one other =
+      subst (λ ps. AtFirst d bound (run_all_first d bound (runs_of d) tables new false ps (run_all_first d bound (runs_of d) tables new true tables.order begun)) y₂ w₂) lasts
+      (other (run_all_first d bound (runs_of d) tables new true tables.order begun)
+      (subst (λ ps. AtFirst d bound (run_all_first d bound (runs_of d) tables new true ps begun) y₁ w₁) orders (one begun starts)))

@@ -1,5 +1,5 @@
 -- The first step: the dump's values are put in, and the Assigns run.
-use Rattle.std.specs.Prelude.{◌≡◌, ◌<◌, ◌&&◌, ℕ, Bool, true, if◌then◌else◌, filter, List, length, map, nat_lt, replicate, slice_set, Option, Some, None}
+use Rattle.std.specs.Prelude.{◌≡◌, ◌<◌, ◌&&◌, ℕ, Bool, true, false, if◌then◌else◌, filter, List, length, map, nat_lt, replicate, slice_set, Option, Some, None}
 use Rattle.event_machine.specs.Cell.{Values}
 use Rattle.four_state.specs.Vector.{Vector}
 use Rattle.four_state.specs.declared.bit.Bit.{Bit}
@@ -18,8 +18,8 @@ abbrev pub assigns : Design → List ℕ → List ℕ
 assigns d ps = filter (λ p. is_assign (process_at d p)) ps
 
 -- this is the first step of a dump with these values of codes: nothing is known yet
-pub record IsFirstOf (d : Design) (bound : ℕ → Bool) (new : Values Bit) (codes : List (Option ℕ)) (given : List (Option Vector)) (x : Store) : Type 0 where
-  pub bound : (s : ℕ) → bound s ≡ has_code codes s
+pub record IsFirstOf (d : Design) (coded : ℕ → Bool) (new : Values Bit) (codes : List (Option ℕ)) (given : List (Option Vector)) (x : Store) : Type 0 where
+  pub bound : (s : ℕ) → coded s ≡ has_code codes s
   pub dumped : AreDumped d codes given new
   pub knows : Knows d nothing x
 

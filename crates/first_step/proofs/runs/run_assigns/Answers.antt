@@ -43,18 +43,24 @@ loop-process-preserved g c =
     let i = c.loop-process.process-index in
     let l = c.loop-process-test.true in
     let inv = c.loop-process.invariant in
+    let p = get_or ps i 0 in
     let after = c.run_assign.ensures in
-    let more = assigns_more m ps i _ l in
+    let more = assigns_more m ps i 0 l in
     record {
       same = after.same;
       known = after.known;
       fits = after.fits;
-      ran = after.ran ∙ ap (λ xs. xs ++ assigns m (_ ∷ [])) inv.ran ∙ append_assoc c.args.ran.now.items (assigns m (take i ps)) (assigns m (_ ∷ [])) ∙ ap (λ xs. c.args.ran.now.items ++ xs) (sym more);
+      ran = after.ran ∙ ap (λ xs. xs ++ assigns m (p ∷ [])) inv.ran ∙ append_assoc c.args.ran.now.items (assigns m (take i ps)) (assigns m (p ∷ [])) ∙ ap (λ xs. c.args.ran.now.items ++ xs) (sym more);
       free = after.free ∙ inv.free;
       room = after.room ∙ inv.room;
       pieces = after.pieces ∙ inv.pieces;
-      steps = let size = ap length more ∙ length-append (assigns m (take i ps)) (assigns m (_ ∷ [])) in let old = inv.steps in let new = after.steps in omega (arith, size, old, new);
+      steps = let size = ap length more ∙ length-append (assigns m (take i ps)) (assigns m (p ∷ [])) in let old = inv.steps in let new = after.steps in omega (arith, size, old, new);
       step = λ d bound tables new w same at.
-          subst (λ z. AtFirst d bound z c.run_assign.new.store c.run_assign.new.values) (sym (runs_more d bound (runs_of d) tables new c.args.is_ordered ps i _ w l))
-          (after.step d bound tables new _ same (inv.step d bound tables new w same at));
+          subst (λ z. AtFirst d bound z c.run_assign.new.store c.run_assign.new.values) (sym (runs_more d bound (runs_of d) tables new c.args.is_ordered ps i 0 w l))
+          (after.step d bound tables new (run_all_first d bound (runs_of d) tables new c.args.is_ordered (take i ps) w) same (inv.step d bound tables new w same at));
     }
+
+pub returns-clause-step : goal.returns-clause-step
+returns-clause-step g c = λ d bound tables new w same at.
+    subst (λ ps. AtFirst d bound (run_all_first d bound (runs_of d) tables new c.args.is_ordered ps w) c.loop-process.store c.loop-process.values) (take_all c.loop-process.process-index c.args.processes.now c.loop-process-test.false)
+    (c.loop-process.invariant.step d bound tables new w same at)
