@@ -122,9 +122,9 @@ module _ (d : Design) (bound : ℕ → Bool) (run : Runs) (tables : Tables) (new
   all_made =
       let start : Starting = record { kept = first_kept d bound run tables new; made = λ b. None } in
       elim (made_by false tables.last (run_all_first d bound run tables new true tables.order start)) [
-      | inr by ↦ inr (by.0, in_right by.0 tables.order tables.last by.1, by.2, by.3)
-      | inl last ↦ elim (made_by true tables.order start) [
-        | inr by ↦ inr (by.0, in_left by.0 tables.order tables.last by.1, by.2, by.3)
-        | inl first ↦ inl (last ∙ first)
-      ]
+        | inr by ↦ inr (by.0, in_right by.0 tables.order tables.last by.1, by.2, by.3)
+        | inl last ↦ elim (made_by true tables.order start) [
+          | inr by ↦ inr (by.0, in_left by.0 tables.order tables.last by.1, by.2, by.3)
+          | inl first ↦ inl (last ∙ first)
+        ]
       ]

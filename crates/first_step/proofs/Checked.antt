@@ -1,5 +1,5 @@
 -- Whether the first step is contradicted, by what was made of the signals that are checked.
-use Rattle.std.proofs.Common.{◌≡◌, ◌⊎◌, inl, inr, ◌∙◌, ℕ, ◌+◌, ◌<◌, Bool, true, false, not, ◌&&◌, ◌++◌, List, ◌∷◌, length, Option, Some, None, refl, sym, ap, ap₂, subst, arith}
+use Rattle.std.proofs.Common.{◌≡◌, inl, inr, ◌∙◌, ℕ, ◌+◌, ◌<◌, Bool, true, false, not, ◌&&◌, ◌++◌, List, ◌∷◌, length, Option, Some, None, refl, sym, ap, ap₂, subst, arith}
 use Rattle.std.specs.Prelude.{IfNone, IfSome, flat_map, nat_lt}
 use Rattle.std.specs.List.{All, Contains}
 use Rattle.std.proofs.lemmas.Bool.{and_from, and_parts, both_ways, false_from_ne_true, false≢true}
@@ -18,7 +18,7 @@ use Rattle.body_store.specs.declared.store.Store.{Store}
 use Rattle.dump_check.specs.Checks.{AgreesAt, IsFirstDifference, last_of_each, made_of, no_value as nothing_made}
 use Rattle.dump_check.specs.declared.order.Difference.{Difference}
 use Rattle.index_sets.specs.Rows.{row_at}
-use Rattle.process_order.proofs.Distinct.{contains_in, filter_in, in_filter, in_right}
+use Rattle.process_order.proofs.Distinct.{contains_in, filter_in, in_right}
 use Rattle.process_targets.specs.Rows.{AreTargetRows}
 use Rattle.process_targets.specs.Targets.{row_has}
 use Rattle.process_targets.specs.declared.bits.Bits.{Bits}
@@ -133,8 +133,7 @@ module _ (d : Design) (bound : ℕ → Bool) (tables : Tables) (new : Values Bit
       let apart : allows_bits (known_bits d end.made s) (signal_bits d new s) ≡ false = ap₂ allows_bits computed told ∙ r.differ in
       let bit = differs end.made new (cell s) 0 (signal_at d s).width apart in
       let e = cell s (0 + bit.0) in
-      let within : nat_lt (0 + bit.0) (signal_at d s).width ≡ true = let l = bit.1 in grind (arith, nat_tests, l) in
-      (
+      let within : nat_lt (0 + bit.0) (signal_at d s).width ≡ true = let l = bit.1 in grind (arith, nat_tests, l) in (
         e,
         refl,
         and_from (is_dumped d bound e) (not (signal_at d s).input && surely_differ (end.made e) (Some (new e))) (and_from (bound s) (nat_lt (0 + bit.0) (signal_at d s).width) is_bound within)

@@ -1,9 +1,9 @@
 -- The dump's values are put in one signal after the other.
-use Rattle.std.proofs.Common.{◌≡◌, ◌∙◌, ℕ, zero, suc, ◌+◌, ◌<◌, ◌==◌, ◌&&◌, ◌||◌, Bool, true, false, if◌then◌else◌, List, [], ◌∷◌, length, map, replicate, Option, Some, None, refl, sym, ap, ap₂, subst, arith, inl, inr}
-use Rattle.std.specs.Prelude.{nat_lt, slice_set}
+use Rattle.std.proofs.Common.{◌≡◌, ◌∙◌, ℕ, zero, suc, ◌+◌, ◌<◌, ◌==◌, ◌&&◌, ◌||◌, Bool, true, false, if◌then◌else◌, List, [], ◌∷◌, length, map, replicate, Option, Some, None, refl, sym, ap, subst, arith, inl, inr}
+use Rattle.std.specs.Prelude.{nat_lt}
 use Rattle.std.specs.List.{range_with_len}
 use Rattle.std.proofs.Math.Path.{fun_ext}
-use Rattle.std.proofs.lemmas.Bool.{and_parts, eq-eqb, eqb-true, false≢true, or_cases}
+use Rattle.std.proofs.lemmas.Bool.{eqb-true, false≢true, or_cases}
 use Rattle.std.proofs.lemmas.Bool.Decides.{nat_tests}
 use Rattle.std.proofs.lemmas.List.{length-replicate}
 use Rattle.event_machine.specs.Cell.{Cell, Values}
@@ -12,7 +12,6 @@ use Rattle.four_state.specs.declared.bit.Bit.{Bit}
 use Rattle.known_state.specs.Partly.{Partly}
 use Rattle.design_model.specs.Design.{Design, cell, signal_at, signal_cells}
 use Rattle.body_replay.specs.Store.{Kept}
-use Rattle.body_calls.specs.Own.{is_in}
 use Rattle.body_store.specs.Made.{nothing}
 use Rattle.body_store.specs.declared.store.Store.{Store}
 use Rattle.store_knowledge.specs.Knows.{Knows}

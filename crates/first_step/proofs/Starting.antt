@@ -1,5 +1,5 @@
 -- The parts of the code with which the first Assign runs.
-use Rattle.std.proofs.Common.{◌≡◌, ◌∙◌, ℕ, ◌<◌, ◌&&◌, Bool, true, false, if◌then◌else◌, List, length, Option, Some, None, refl, sym, ap, subst, arith}
+use Rattle.std.proofs.Common.{◌≡◌, ◌∙◌, ℕ, ◌<◌, ◌&&◌, Bool, true, false, if◌then◌else◌, List, Option, Some, None, refl, sym, ap, subst, arith}
 use Rattle.std.specs.Prelude.{nat_lt}
 use Rattle.std.proofs.Math.Path.{fun_ext}
 use Rattle.std.proofs.lemmas.Bool.Decides.{nat_tests}
@@ -16,7 +16,7 @@ use Rattle.store_knowledge.specs.Knows.{Knows}
 use Rattle.step_values.specs.Loose.{has_code}
 use Rattle.step_values.specs.Vectors.{FitsSignals, StepVectors}
 use Rattle.settling.specs.First.{AtFirst}
-use Rattle.first_step.specs.Begun.{IsFirstOf, Puts, putting_all}
+use Rattle.first_step.specs.Begun.{IsFirstOf, Puts}
 
 module _ (d : Design) (bound : ℕ → Bool) (tables : Tables) (new : Values Bit) (codes : List (Option ℕ)) (given : List (Option Vector)) (x y : Store) (v w : StepVectors) (n : ℕ)
     (first : IsFirstOf d bound new codes given x) (below : (s : ℕ) → has_code codes s ≡ true → s < n) (fits : FitsSignals d v) (puts : Puts codes given (λ s. has_code codes s && nat_lt s n) x y v w) where

@@ -68,13 +68,16 @@ pub fn begin_first<L: Ledger>(
     ensures known { (d : Design) × (k : Kept) × Knows d k store.new }
     ensures fits { FitsSignals (design_view store.new.design.now) values.new }
     ensures ran { ran.new.items ≡ filter (λ p. is_assign (process_at (design_view rows.now.design.now) p)) (tables.now.order.items ++ tables.now.last.items) }
+    ensures few { length ran.new.items ≤ length rows.now.design.now.processes }
     ensures places { ran.new.room ≡ ran.old.room }
     ensures size { check_order.new.size ≡ check_order.old.size }
     ensures room { length scratch.new.saved ≡ length scratch.old.saved }
     ensures pieces { scratch.new.pieces ≡ scratch.old.pieces }
     ensures steps { steps.new ≡ steps.old + length ran.new.items }
-    ensures started { (d : Design) (bound : ℕ → Bool) (new : Values Bit) → IsFirstOf d bound new rows.now.codes.now dump.now.last store.old → Knows d (started d bound (runs_of d) (tables_of tables.now) new).kept store.new }
-    ensures none { IfNone result ((d : Design) (bound : ℕ → Bool) (new : Values Bit) → IsFirstOf d bound new rows.now.codes.now dump.now.last store.old → (c : Cell) → contradicts_first d bound (runs_of d) (tables_of tables.now) new c ≡ false) }
+    ensures started { (d : Design) (bound : ℕ → Bool) (new : Values Bit) → IsFirstOf d bound new rows.now.codes.now dump.now.last store.old
+        → Knows d (started d bound (runs_of d) (tables_of tables.now) new).kept store.new }
+    ensures none { IfNone result ((d : Design) (bound : ℕ → Bool) (new : Values Bit) → IsFirstOf d bound new rows.now.codes.now dump.now.last store.old
+        → (c : Cell) → contradicts_first d bound (runs_of d) (tables_of tables.now) new c ≡ false) }
     ensures some { IfSome result (λ found. (d : Design) (bound : ℕ → Bool) (new : Values Bit) → IsFirstOf d bound new rows.now.codes.now dump.now.last store.old
         → (c : Cell) × (c.thing ≡ found.signal) × (contradicts_first d bound (runs_of d) (tables_of tables.now) new c ≡ true)) }
     ensures first { IfSome result (IsFirstDifference rows.now.codes.now dump.now.last values.new.made (last_of_each (flat_map (row_at checks.now) ran.new.items))) }

@@ -57,7 +57,8 @@ pub(crate) fn run_assigns<L: Ledger>(
     ensures room { length scratch.new.saved ≡ length scratch.old.saved }
     ensures pieces { scratch.new.pieces ≡ scratch.old.pieces }
     ensures steps { steps.new ≡ steps.old + length (assigns (design_view rows.now.design.now) processes.now) }
-    ensures step { (d : Design) (bound : ℕ → Bool) (tables : Tables) (new : Values Bit) (w : Starting) → ((s : ℕ) → bound s ≡ has_code rows.now.codes.now s) → AtFirst d bound w store.old values.old
+    ensures step { (d : Design) (bound : ℕ → Bool) (tables : Tables) (new : Values Bit) (w : Starting) → ((s : ℕ) → bound s ≡ has_code rows.now.codes.now s)
+        → AtFirst d bound w store.old values.old
         → AtFirst d bound (run_all_first d bound (runs_of d) tables new is_ordered processes.now w) store.new values.new }
 {
     for process in processes {
@@ -103,7 +104,8 @@ fn run_assign<L: Ledger>(
     ensures room { length scratch.new.saved ≡ length scratch.old.saved }
     ensures pieces { scratch.new.pieces ≡ scratch.old.pieces }
     ensures steps { steps.new ≡ steps.old + length (assigns (design_view rows.now.design.now) (process ∷ [])) }
-    ensures step { (d : Design) (bound : ℕ → Bool) (tables : Tables) (new : Values Bit) (w : Starting) → ((s : ℕ) → bound s ≡ has_code rows.now.codes.now s) → AtFirst d bound w store.old values.old
+    ensures step { (d : Design) (bound : ℕ → Bool) (tables : Tables) (new : Values Bit) (w : Starting) → ((s : ℕ) → bound s ≡ has_code rows.now.codes.now s)
+        → AtFirst d bound w store.old values.old
         → AtFirst d bound (run_first_of d bound (runs_of d) tables new is_ordered process w) store.new values.new }
 {
     let processes = rows.design.processes.as_slice();

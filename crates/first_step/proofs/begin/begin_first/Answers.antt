@@ -1,7 +1,7 @@
-use Rattle.std.proofs.Common.{◌≡◌, ◌∙◌, ◌<◌, ◌≤◌, ◌+◌, ◌++◌, ℕ, Bool, true, List, length, ap, arith, refl, subst, sym}
+use Rattle.std.proofs.Common.{◌≡◌, ◌∙◌, ◌<◌, ◌++◌, ℕ, Bool, true, List, length, ap, arith, subst, sym}
 use Rattle.std.specs.Prelude.{flat_map}
 use Rattle.std.specs.List.{All}
-use Rattle.std.proofs.lemmas.List.{length-map}
+use Rattle.std.proofs.lemmas.List.{length-append, length-map}
 use Rattle.event_machine.specs.Cell.{Values}
 use Rattle.four_state.specs.declared.bit.Bit.{Bit}
 use Rattle.design_model.specs.Design.{Design}
@@ -69,8 +69,8 @@ check-requires-clause-rows g c =
     let m = c.args.rows.now.design.now in
     let d = design_view m in
     let ran = both_ran d c.args.tables.now.order.items c.args.tables.now.last.items c.clear.new.self.items c.run_assigns.new.ran.items c.run_assigns-2.new.ran.items (ap (λ r. r.items) c.clear.ensures)
-        (c.run_assigns.ensures.ran ∙ ap (λ ps. c.clear.new.self.items ++ assigns d ps) c.as_slice-order.ensures.value)
-        (c.run_assigns-2.ensures.ran ∙ ap (λ ps. c.run_assigns.new.ran.items ++ assigns d ps) c.as_slice-last.ensures.value) in
+    (c.run_assigns.ensures.ran ∙ ap (λ ps. c.clear.new.self.items ++ assigns d ps) c.as_slice-order.ensures.value)
+    (c.run_assigns-2.ensures.ran ∙ ap (λ ps. c.run_assigns.new.ran.items ++ assigns d ps) c.as_slice-last.ensures.value) in
     subst (All (λ p. p < length c.args.checks.now)) (sym (c.as_slice.ensures ∙ ran))
     (ran_below d c.requires.tables.0 (tables_of c.args.tables.now) c.requires.tables.1 (length c.args.checks.now) (sym (c.requires.checks.count ∙ c.requires.rows.targets.count)))
 
@@ -89,6 +89,18 @@ returns-clause-ran g c =
     both_ran d c.args.tables.now.order.items c.args.tables.now.last.items c.clear.new.self.items c.run_assigns.new.ran.items c.run_assigns-2.new.ran.items (ap (λ r. r.items) c.clear.ensures)
     (c.run_assigns.ensures.ran ∙ ap (λ ps. c.clear.new.self.items ++ assigns d ps) c.as_slice-order.ensures.value)
     (c.run_assigns-2.ensures.ran ∙ ap (λ ps. c.run_assigns.new.ran.items ++ assigns d ps) c.as_slice-last.ensures.value)
+
+pub returns-clause-few : goal.returns-clause-few
+returns-clause-few g c =
+    let m = c.args.rows.now.design.now in
+    let d = design_view m in
+    let tables = tables_of c.args.tables.now in
+    let few = few_listed d c.requires.tables.0 tables c.requires.tables.1 in
+    let count = length-map m.processes process_view in
+    let size = length-append tables.order tables.last in
+    let fewer = assigns_few d (tables.order ++ tables.last) in
+    let ran = ap length (returns-clause-ran g c) in
+    omega (arith, few, count, size, fewer, ran)
 
 -- the parts of the code after the runs, where this was the first step
 at_end : (g : Over) (c : goal.After-check g) (d : Design) (bound : ℕ → Bool) (new : Values Bit) → IsFirstOf d bound new c.args.rows.now.codes.now c.args.dump.now.last c.args.store.now

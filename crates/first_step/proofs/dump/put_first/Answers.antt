@@ -1,4 +1,4 @@
-use Rattle.std.proofs.Common.{◌≡◌, ◌∙◌, ◌≤◌, ◌&&◌, ap, arith, length, refl, subst, sym}
+use Rattle.std.proofs.Common.{◌≡◌, ◌∙◌, ◌&&◌, ap, arith, length, refl, subst, sym}
 use Rattle.std.specs.Prelude.{nat_lt}
 use Rattle.design_model.specs.View.{design_view}
 use Rattle.step_values.specs.Loose.{has_code}

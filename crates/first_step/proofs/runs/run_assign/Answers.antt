@@ -1,10 +1,9 @@
-use Rattle.std.proofs.Common.{◌≡◌, ◌∙◌, ◌+◌, ◌++◌, ◌∷◌, [], ap, append-nil, arith, false, length, refl, subst, sym, true}
-use Rattle.design_model.specs.Design.{is_assign, process_at}
-use Rattle.design_model.specs.View.{design_view, process_view}
+use Rattle.std.proofs.Common.{◌∙◌, ◌++◌, ap, append-nil, arith, length, refl, subst, sym}
+use Rattle.design_model.specs.Design.{is_assign}
+use Rattle.design_model.specs.View.{design_view}
 use Rattle.body_replay.specs.Runs.{runs_of}
 use Rattle.settling.specs.First.{AtFirst}
 use Rattle.settling.proofs.Stepping.{found_process}
-use Rattle.first_step.specs.Begun.{assigns}
 use Rattle.first_step.proofs.Assigns.{assigns_none, assigns_one, passed_over}
 use Rattle.first_step.proofs.runs.run_assign.Goals as goal
 

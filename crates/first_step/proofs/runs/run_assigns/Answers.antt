@@ -1,6 +1,5 @@
-use Rattle.std.proofs.Common.{◌≡◌, ◌∙◌, ◌+◌, ◌<◌, ◌≤◌, ◌++◌, ◌∷◌, [], ℕ, ap, append-nil, append_assoc, arith, get_or, length, refl, subst, sym, take}
+use Rattle.std.proofs.Common.{◌∙◌, ◌++◌, ◌∷◌, [], ap, append-nil, append_assoc, arith, get_or, length, refl, subst, sym, take}
 use Rattle.std.proofs.lemmas.List.{length-append, length-take-le, take_all}
-use Rattle.std.proofs.lemmas.List.Elements.{All-get_or}
 use Rattle.design_model.specs.View.{design_view}
 use Rattle.body_replay.specs.Runs.{runs_of}
 use Rattle.replay_model.specs.Start.{run_all_first}
