@@ -8,6 +8,8 @@
 
 mod begin;
 mod dump;
+mod laws;
 mod runs;
 
 pub use begin::begin_first;
+pub use laws::first_example;
