@@ -16,7 +16,7 @@ use Rattle.first_step.proofs.runs.run_assigns.Given as goal
 
 -- the Assigns of those so far have run
 abbrev pub invariant-loop-process : goal.invariant-loop-process
-invariant-loop-process l =
+invariant-loop-process g l =
     let m = l.rows.design.now in
     record {
       same : design_view l.store.design.now ≡ design_view m;
