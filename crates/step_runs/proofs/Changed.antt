@@ -1,14 +1,14 @@
 -- The signals whose code has another value are those of which the dump says something else than what was known.
-use Rattle.std.proofs.Common.{◌≡◌, ◌≢◌, ◌∙◌, ℕ, zero, suc, ◌+◌, ◌-◌, ◌<◌, Bool, true, false, not, ◌&&◌, List, map, Option, Some, None, refl, sym, ap, subst, arith, inl, inr}
+use Rattle.std.proofs.Common.{◌≡◌, ◌∙◌, ℕ, zero, suc, ◌+◌, ◌-◌, ◌<◌, Bool, true, false, not, ◌&&◌, List, map, Option, Some, refl, sym, ap, subst, arith, inl, inr}
 use Rattle.std.specs.Prelude.{nat_lt}
 use Rattle.std.specs.List.{list_any, range_with_len}
-use Rattle.std.proofs.lemmas.Bool.{and_from, and_parts, both_ways, false_from_ne_true, false≢true}
+use Rattle.std.proofs.lemmas.Bool.{and_from, and_parts, both_ways}
 use Rattle.std.proofs.lemmas.Bool.Decides.{nat_tests}
 use Rattle.event_machine.specs.Cell.{Cell, Values as CellValues}
-use Rattle.event_machine.specs.Habit.{Habit}
 use Rattle.four_state.specs.Vector.{same_bit}
 use Rattle.four_state.specs.declared.bit.Bit.{Bit}
-use Rattle.design_model.specs.Design.{Design, In, IsClocked, cell, process_at, signal_at, signal_cells}
+use Rattle.design_model.specs.Design.{Design, In, body_at, cell, process_at, signal_at, signal_cells}
+use Rattle.design_model.specs.Mentions.{blocking_target, body_mentions}
 use Rattle.design_model.specs.Shows.{BoundDump}
 use Rattle.design_model.proofs.Lawful.{same_bit_is, same_bit_self}
 use Rattle.model_laws.proofs.Cells.{in_signal}
@@ -18,10 +18,7 @@ use Rattle.code_values.specs.Values.{Values}
 use Rattle.early_sets.specs.WakeState.{WakeState}
 use Rattle.early_sets.proofs.Membership.{is_in_from, is_in_gives}
 use Rattle.index_sets.specs.Rows.{row_at}
-use Rattle.replay_model.specs.Laws.{closing_at}
-use Rattle.replay_model.specs.Sets.{AreSets, Sets}
-use Rattle.replay_model.specs.Step.{Replay, is_dumped, surely_differ}
-use Rattle.replay_model.specs.Tables.{AreTables, Tables}
+use Rattle.replay_model.specs.Step.{Replay, surely_differ}
 use Rattle.replay_model.proofs.Bits.{any_in, in_any}
 use Rattle.replay_model.proofs.Settling.{level_mentioned}
 use Rattle.replay_steps.proofs.Settling.{targets_move}
@@ -29,6 +26,7 @@ use Rattle.step_changes.specs.Changes.{AreChangedSignals, IsDue}
 use Rattle.step_changes.proofs.Differing.{apart_at, same_at}
 use Rattle.step_changes.proofs.Found.{agree, code_of, coded_by, differ}
 use Rattle.step_values.specs.Laws.{KnowsDump}
+use Rattle.wake_bits.specs.Wakes.{AreWakes}
 use Rattle.step_runs.specs.Laws.{StepsLaw}
 
 -- two bits that are not the same differ
@@ -92,10 +90,14 @@ module _ (d : Design) (dump : BoundDump) (t : ℕ) (a : Replay) (flags : List Bo
       let code = code_of codes s (sym (due.bound s) ∙ parts.0) in
       let e : changes s (cell s at.0) ≡ true = subst (λ b. changes s b ≡ true) at.2 c.2 in
       let apart : not (same_bit (old (cell s at.0)) (new (cell s at.0))) ≡ true = ap (λ o. surely_differ o (Some (new (cell s at.0)))) (sym (was s at.0 parts.0 inside)) ∙ e in
-      let m = (are s).1 (code.0, code.1, λ same.
-          same_bits (old (cell s at.0)) (new (cell s at.0)) apart (
-          let start : 0 + at.0 ≡ at.0 = omega arith in
-          subst (λ i. old (cell s i) ≡ new (cell s i)) start (same_at old new (cell s) 0 (signal_at d s).width (agree d dump (suc t) flags codes values w due s code.0 code.1 same) at.0 inside))) in
+      let m = (are s).1 (
+        code.0,
+        code.1,
+        λ same.
+            same_bits (old (cell s at.0)) (new (cell s at.0)) apart (
+            let start : 0 + at.0 ≡ at.0 = omega arith in
+            subst (λ i. old (cell s i) ≡ new (cell s i)) start (same_at old new (cell s) 0 (signal_at d s).width (agree d dump (suc t) flags codes values w due s code.0 code.1 same) at.0 inside)),
+      ) in
       is_in_from changed s m.0 m.1 m.2
 
   pub changed_is : (s : ℕ) → is_in changed s ≡ (dump.bound s && list_any (changes s) (signal_cells d s))
@@ -104,7 +106,7 @@ module _ (d : Design) (dump : BoundDump) (t : ℕ) (a : Replay) (flags : List Bo
 pub steps_are : StepsLaw
 steps_are d h dump tables sets t a flags codes values w watched wakes changed due tabled are same rows known listed p settles = record {
   runs = refl;
-  wakes = subst (λ xs. Rattle.wake_bits.specs.Wakes.AreWakes d _ _ xs (row_at wakes p)) (sym (same p)) (rows.each p);
+  wakes = subst (λ xs. AreWakes d (blocking_target d (body_at d p)) (λ x. body_mentions x (body_at d p)) xs (row_at wakes p)) (sym (same p)) (rows.each p);
   watched = λ x m. (tabled.watched p x).1 (level_mentioned (process_at d p) x settles m);
   bound = due.bound;
   changed = λ s l. changed_is d dump t a flags codes values w changed due known listed s;

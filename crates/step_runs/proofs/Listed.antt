@@ -1,5 +1,5 @@
 -- The runs of the processes of a list, in order, are those of the step.
-use Rattle.std.proofs.Common.{◌≡◌, inl, inr, ℕ, ◌+◌, ◌<◌, Bool, true, false, ◌++◌, List, [], ◌∷◌, length, get_or, Option, Some, None, refl, sym, ap, ap₂, subst, ◌∙◌, arith}
+use Rattle.std.proofs.Common.{◌≡◌, inl, inr, ℕ, suc, ◌+◌, ◌<◌, Bool, true, false, ◌++◌, List, [], ◌∷◌, length, get_or, Option, Some, None, refl, sym, ap, ap₂, subst, ◌∙◌, arith}
 use Rattle.std.specs.Prelude.{nat_lt, slice_index_or}
 use Rattle.std.specs.List.{filter}
 use Rattle.std.proofs.Math.ListN.{get_or-append}
@@ -9,6 +9,7 @@ use Rattle.std.proofs.lemmas.List.{get_or_default, length-append}
 use Rattle.std.proofs.lemmas.List.Elements.{filter-append}
 use Rattle.body_store.specs.declared.store.Store.{Store}
 use Rattle.cover_marks.specs.declared.marks.Marks.{Marks}
+use Rattle.cover_points.specs.Visits.{AreApart, AreOnce}
 use Rattle.cover_points.specs.declared.listing.Points.{Points}
 use Rattle.design_model.specs.Design.{In}
 use Rattle.early_sets.specs.WakeState.{WakeState}
@@ -39,7 +40,7 @@ listed_same st test b (x ∷ xs) w same =
 
 right_at : (xs ys : List ℕ) (k d : ℕ) → get_or (xs ++ ys) (length xs + k) d ≡ get_or ys k d
 right_at [] ys k d = let start : 0 + k ≡ k = omega arith in ap (λ i. get_or ys i d) start
-right_at (x ∷ xs) ys k d = let next : length (x ∷ xs) + k ≡ length xs + k + 1 = omega arith in ap (λ i. get_or (x ∷ (xs ++ ys)) i d) next ∙ right_at xs ys k d
+right_at (x ∷ xs) ys k d = let next : length (x ∷ xs) + k ≡ suc (length xs + k) = omega arith in ap (λ i. get_or (x ∷ (xs ++ ys)) i d) next ∙ right_at xs ys k d
 
 module _ (first last : List ℕ) (count : ℕ) (places : List (Option ℕ)) (ranked : AreRanksOf (first ++ last) count places) where
   placed : (p k : ℕ) → k < length (first ++ last) → get_or (first ++ last) k 0 ≡ p → slice_index_or places p None ≡ Some k
@@ -68,9 +69,9 @@ listed_run st places count ordered listed w ranked many is =
     ap₂ (λ n ps. run_listed st (is_ordered places n) ps w) many (is ∙ filter-append (is_touched st) st.tables.order st.tables.last)
     ∙ listed_both st (is_ordered places (length st.tables.order)) (filter (is_touched st) st.tables.order) (filter (is_touched st) st.tables.last) w
     ∙ listed_same st (is_ordered places (length st.tables.order)) false (filter (is_touched st) st.tables.last) (run_listed st (is_ordered places (length st.tables.order)) (filter (is_touched st) st.tables.order) w)
-        (λ p i. is_last st.tables.order st.tables.last count places ranked p (in_filter (is_touched st) p st.tables.last i).0)
+    (λ p i. is_last st.tables.order st.tables.last count places ranked p (in_filter (is_touched st) p st.tables.last i).0)
     ∙ ap (run_all_settling st false (filter (is_touched st) st.tables.last)) (listed_same st (is_ordered places (length st.tables.order)) true (filter (is_touched st) st.tables.order) w
-        (λ p i. is_first st.tables.order st.tables.last count places ranked p (in_filter (is_touched st) p st.tables.order i).0))
+    (λ p i. is_first st.tables.order st.tables.last count places ranked p (in_filter (is_touched st) p st.tables.order i).0))
     ∙ sym (filtered st false st.tables.last (run_all_settling st true (filter (is_touched st) st.tables.order) w))
     ∙ ap (run_all_settling st false st.tables.last) (sym (filtered st true st.tables.order w))
 
@@ -93,11 +94,25 @@ module _ (st : Closing) (ps : Points) (places : List (Option ℕ)) (ordered : �
   in_list : (ran rest : List ℕ) (p : ℕ) → ran ++ p ∷ rest ≡ listed → In p listed
   in_list ran rest p is = subst (In p) is (in_right p ran (p ∷ rest) (inl refl))
 
-  pub next_step : (ran rest : List ℕ) (p : ℕ) → ran ++ p ∷ rest ≡ listed → IsStepOf st p wakes codes changed now
+  next_step : (ran rest : List ℕ) (p : ℕ) → ran ++ p ∷ rest ≡ listed → IsStepOf st p wakes codes changed now
   next_step ran rest p is = run.step p (in_list ran rest p is)
 
-  pub next_touched : (ran rest : List ℕ) (p : ℕ) → ran ++ p ∷ rest ≡ listed → is_touched st p ≡ true
+  next_touched : (ran rest : List ℕ) (p : ℕ) → ran ++ p ∷ rest ≡ listed → is_touched st p ≡ true
   next_touched ran rest p is = (in_filter (is_touched st) p (st.tables.order ++ st.tables.last) (subst (In p) run.listed (in_list ran rest p is))).1
+
+  -- one run more
+  pub led_more : (ran : List ℕ) (p : ℕ) (rest : List ℕ) → ran ++ p ∷ rest ≡ listed → (qs : Points) → qs ≡ ps → (kept : Bool) → kept ≡ is_ordered places ordered p
+      → (x y : Store) (v u : StepVectors) (sets : WakeState) (before after : List Bool) (m n : Marks)
+      → ((w : Working) → AreApart qs → AreOnce qs → IsStepOf st p wakes codes changed now → is_touched st p ≡ true → AtStep st qs w x v sets before m → AtStep st qs (run_settling st kept p w) y u sets after n)
+      → HasLed st ps (is_ordered places ordered) (p ∷ rest) x v sets before m → HasLed st ps (is_ordered places ordered) rest y u sets after n
+  led_more ran p rest is qs same kept kept_is x y v u sets before after m n step h = record {
+    working = run_settling st (is_ordered places ordered p) p h.working;
+    at =
+        subst (λ b. AtStep st ps (run_settling st b p h.working) y u sets after n) kept_is
+        (subst (λ os. AtStep st os (run_settling st kept p h.working) y u sets after n) same
+        (step h.working (subst AreApart (sym same) run.apart) (subst AreOnce (sym same) run.once) (next_step ran rest p is) (next_touched ran rest p is) (subst (λ os. AtStep st os h.working x v sets before m) (sym same) h.at)));
+    leads = h.leads;
+  }
 
 -- after the last run
 pub led_end : (st : Closing) (ps : Points) (test : ℕ → Bool) (rest : List ℕ) (x : Store) (v : StepVectors) (sets : WakeState) (flags : List Bool) (m : Marks) → rest ≡ [] → HasLed st ps test rest x v sets flags m → AtStep st ps (all_run st) x v sets flags m

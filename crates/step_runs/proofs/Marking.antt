@@ -1,8 +1,7 @@
 -- The parts of the code after a run whose notes were marked.
-use Rattle.std.proofs.Common.{◌≡◌, ℕ, Bool, true, ◌++◌, List, [], refl, sym, ap, subst, ◌∙◌}
-use Rattle.body_replay.specs.Contract.{Note, Outcome}
+use Rattle.std.proofs.Common.{◌≡◌, ℕ, Bool, true, ◌++◌, List, [], refl, sym, subst}
+use Rattle.body_replay.specs.Contract.{Note}
 use Rattle.body_replay.specs.Runs.{Runs, own_store, runs_of}
-use Rattle.block_runs.specs.Notes.{AddsNotes}
 use Rattle.body_replay.specs.Contract.{Certainty, Store as ModelStore, outcome}
 use Rattle.body_store.specs.declared.store.Store.{Store}
 use Rattle.cover_marks.specs.Marks.{AreMarksOf}
@@ -15,7 +14,7 @@ use Rattle.early_sets.specs.WakeState.{WakeState}
 use Rattle.mark_laws.specs.Marked.{AreVerdicts}
 use Rattle.replay_model.specs.Marks.{Marking, markings_by}
 use Rattle.replay_model.specs.Step.{Closing, Working, certainty, is_touched, plain_store, run_settling, settled_kept}
-use Rattle.run_marks.specs.Reported.{AreNotesOf, HasReported, IsRightStart, RunStart}
+use Rattle.run_marks.specs.Reported.{AreNotesOf, HasReported, RunStart}
 use Rattle.run_marks.proofs.Reports.{none_reported}
 use Rattle.settling.specs.Runs.{AtPoint, outcome_at}
 use Rattle.settling.proofs.Stepping.{touched_is}

@@ -1,5 +1,5 @@
 -- The rows that the processes of a lawful design run with.
-use Rattle.std.proofs.Common.{◌≡◌, ◌∙◌, ℕ, ◌+◌, ◌<◌, Bool, true, false, List, [], length, get_or, map, sym, ap, subst, arith}
+use Rattle.std.proofs.Common.{◌≡◌, ◌∙◌, ℕ, ◌+◌, ◌<◌, Bool, false, List, [], length, get_or, sym, ap, subst, arith}
 use Rattle.std.specs.List.{All}
 use Rattle.std.proofs.Math.ListN.{get_or-map}
 use Rattle.std.proofs.lemmas.List.{length-map}
@@ -12,7 +12,6 @@ use Rattle.replay_model.specs.Tables.{AreTables, Tables}
 use Rattle.wake_bits.specs.Wakes.{AreWakeRows}
 use Rattle.wake_bits.specs.declared.wakes.Wake.{Wake}
 use Rattle.wake_bits.proofs.Mentioned.{level_below}
-use Rattle.settling.specs.Runs.{HasRows}
 use Rattle.step_runs.specs.Laws.{RowsLaw}
 
 -- in place of what a process does not watch

@@ -17,12 +17,12 @@ is_before n (Some place) = nat_lt place n
 abbrev pub is_ordered : List (Option ℕ) → ℕ → ℕ → Bool
 is_ordered places n p = is_before n (slice_index_or places p None)
 
--- these are the processes that run in a step, in order, with points of the design, the places of processes, so many of which are
--- ordered, and for each process that runs the rows, the codes and the signals that have changed
-pub record IsRunOf (st : Closing) (ps : Points) (places : List (Option ℕ)) (ordered : ℕ) (listed : List ℕ) (wake_rows : List (List Wake)) (codes : List (Option ℕ)) (changed : List ℕ) (now : ℕ) : Type 0 where
+-- these processes run in a step, in order; each point is listed once and has a visit of its own, the places are those of the order, of
+-- which so many are ordered, and the rows, the codes and the signals that have changed are those of the step for each process that runs
+pub record IsRunOf (st : Closing) (ps : Points) (places : List (Option ℕ)) (count : ℕ) (running : List ℕ) (wake_rows : List (List Wake)) (codes : List (Option ℕ)) (changed : List ℕ) (now : ℕ) : Type 0 where
   pub apart : AreApart ps
   pub once : AreOnce ps
   pub ranked : AreRanksOf (st.tables.order ++ st.tables.last) (length st.design.processes) places
-  pub ordered : ordered ≡ length st.tables.order
-  pub listed : listed ≡ filter (is_touched st) (st.tables.order ++ st.tables.last)
-  pub step : (p : ℕ) → In p listed → IsStepOf st p wake_rows codes changed now
+  pub ordered : count ≡ length st.tables.order
+  pub listed : running ≡ filter (is_touched st) (st.tables.order ++ st.tables.last)
+  pub step : (p : ℕ) → In p running → IsStepOf st p wake_rows codes changed now

@@ -1,6 +1,6 @@
 //! The processes of a wake list run.
 
-ghost use Rattle.std.specs.Prelude.{◌≡◌, ◌<◌, ◌≤◌, ◌+◌, [], ℕ, length, map};
+ghost use Rattle.std.specs.Prelude.{◌≡◌, ◌<◌, ◌≤◌, ◌+◌, [], ℕ, length, map, true};
 ghost use Rattle.std.specs.List.{All};
 ghost use Rattle.design_model.specs.Design.{Design, IsClocked, process_at};
 ghost use Rattle.design_model.specs.Lawful.{IsLawfulDesign};

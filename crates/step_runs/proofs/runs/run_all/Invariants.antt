@@ -15,7 +15,7 @@ use Rattle.step_runs.proofs.runs.run_all.Given as goal
 
 -- those that ran and those on the list are all, and the runs so far lead to the end of the step by those on the list
 abbrev pub invariant-loop-process : goal.invariant-loop-process
-invariant-loop-process l =
+invariant-loop-process g l =
     record {
       count : l.list.count ≡ l.fn.list.count;
       settles : All (λ (q : ℕ × ℕ). IsClocked (process_at (design_view l.rows.design.now) q.0) → ⊥) l.list.pairs;
@@ -37,4 +37,4 @@ invariant-loop-process l =
     }
 
 abbrev pub decreases-loop-process : goal.decreases-loop-process
-decreases-loop-process l = length l.list.pairs
+decreases-loop-process g l = length l.list.pairs
