@@ -16,7 +16,7 @@ use Rattle.mark_laws.specs.Numbered.{verdict_view}
 use Rattle.point_marks.specs.declared.verdict.Verdict.{Verdict}
 use Rattle.point_marks.specs.declared.verdict.Verdict.TheVariants.{Hit, Missed, Undetermined}
 use Rattle.replay_model.specs.Marks.{IsVerdict, Marking, markings_by}
-use Rattle.run_marks.specs.Reported.{AreNotesOf, HasReported, IsSpotOf}
+use Rattle.run_marks.specs.Reported.{AreNotesOf, HasReported, IsRightStart, IsSpotOf}
 use Rattle.run_marks.specs.Example.{IsReportExample, IsSpotExample, doubt_note, hit_note, new_start, other_note, write_note}
 
 pub spots : IsSpotExample
@@ -43,14 +43,17 @@ module _ (ps : Points) (m : Marks) (one : points_of ps ≡ line_two ∷ []) (mar
   once j k l n e = omega (arith, size, l, n)
 
   -- the verdict of the one point
-  verdicts : (ns : List Marking) (v : Verdict) → m.verdicts ≡ v ∷ [] → IsVerdict flip_flop line_two ns (verdict_view v) → AreVerdicts flip_flop ps ns m.verdicts
-  verdicts ns v e is =
+  verdicts : (ns : List Marking) (v : Verdict) (all : List Verdict) → all ≡ v ∷ [] → IsVerdict flip_flop line_two ns (verdict_view v) → AreVerdicts flip_flop ps ns all
+  verdicts ns v all e is =
       record {
         count = ap length e ∙ sym size;
         each = λ k l.
-            subst (λ i. IsVerdict flip_flop (point_at ps i) ns (verdict_view (get_or m.verdicts i Missed))) (let z : 0 ≡ k = omega (arith, size, l) in z)
-            (subst (λ xs. IsVerdict flip_flop (get_or xs 0 no_point) ns (verdict_view (get_or m.verdicts 0 Missed))) (sym one) (subst (λ vs. IsVerdict flip_flop line_two ns (verdict_view (get_or vs 0 Missed))) (sym e) is));
+            subst (λ i. IsVerdict flip_flop (point_at ps i) ns (verdict_view (get_or all i Missed))) (let z : 0 ≡ k = omega (arith, size, l) in z)
+            (subst (λ xs. IsVerdict flip_flop (get_or xs 0 no_point) ns (verdict_view (get_or all 0 Missed))) (sym one) (subst (λ vs. IsVerdict flip_flop line_two ns (verdict_view (get_or vs 0 Missed))) (sym e) is));
       }
+
+  right : IsRightStart (new_start ps)
+  right = record { apart = apart; once = once; verdicts = verdicts [] Missed (Missed ∷ []) refl tt }
 
   verdict_of : (ns : List Marking) (v : Verdict) → m.verdicts ≡ v ∷ [] → AreVerdicts flip_flop ps ns m.verdicts → IsVerdict flip_flop line_two ns (verdict_view v)
   verdict_of ns v e h =
@@ -58,7 +61,7 @@ module _ (ps : Points) (m : Marks) (one : points_of ps ≡ line_two ∷ []) (mar
       (subst (λ xs. IsVerdict flip_flop (get_or xs 0 no_point) ns (verdict_view (get_or m.verdicts 0 Missed))) one (h.each 0 (omega (arith, size))))
 
   reported : (ns : List Note) (v : Verdict) → m.verdicts ≡ v ∷ [] → IsVerdict flip_flop line_two (markings_by 0 ns) (verdict_view v) → HasReported (new_start ps) ns 0 ps m
-  reported ns v e is = record { apart = apart; once = once; process = refl; points = refl; marks = marks; verdicts = λ own. verdicts (markings_by 0 ns) v e is }
+  reported ns v e is = record { process = refl; points = refl; marks = marks; verdicts = λ begun own. verdicts (markings_by 0 ns) v m.verdicts e is }
 
   of_lines : (n : Note) → IsSpotOf flip_flop 0 n.spot → AreNotesOf flip_flop 0 (n ∷ [])
   of_lines n own = All-cons (λ (x : Note). IsSpotOf flip_flop 0 x.spot) n [] own (All-nil (λ (x : Note). IsSpotOf flip_flop 0 x.spot))
@@ -71,6 +74,6 @@ module _ (ps : Points) (m : Marks) (one : points_of ps ≡ line_two ∷ []) (mar
             ((λ h. elim h [ inl a ↦ absurd (let q : Some _ ≡ None = a.1 in cc) | inr a ↦ absurd a ]), ([], record { key = _; doubt = _ }, [], refl, tt, (refl, refl), refl));
         hit = λ e. reported (doubt_note ∷ hit_note ∷ []) Hit e (inr (inl ((refl, refl), refl)));
         other = λ e. reported (other_note ∷ []) Missed e ((λ key. absurd (let q : Some _ ≡ Some _ = key.0 in cc)), tt);
-        not_hit = λ e h. elim (verdict_of (markings_by 0 (other_note ∷ [])) Hit e (h.verdicts (of_lines other_note tt))) [ inl a ↦ (let q : Some _ ≡ Some _ = a.0.0 in cc) | inr a ↦ a ];
-        not_missed = λ e h. (verdict_of (markings_by 0 (hit_note ∷ [])) Missed e (h.verdicts (of_lines hit_note tt))).0 (refl, refl);
+        not_hit = λ e h. elim (verdict_of (markings_by 0 (other_note ∷ [])) Hit e (h.verdicts right (of_lines other_note tt))) [ inl a ↦ (let q : Some _ ≡ Some _ = a.0.0 in cc) | inr a ↦ a ];
+        not_missed = λ e h. (verdict_of (markings_by 0 (hit_note ∷ [])) Missed e (h.verdicts right (of_lines hit_note tt))).0 (refl, refl);
       }

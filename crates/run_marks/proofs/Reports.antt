@@ -7,7 +7,7 @@ use Rattle.body_replay.specs.Contract.{Note}
 use Rattle.body_replay.specs.Replay.{Spot, line, node, word_read, word_write}
 use Rattle.cover_marks.specs.Marks.{AreMarksOf}
 use Rattle.cover_marks.specs.declared.marks.Marks.{Marks}
-use Rattle.cover_points.specs.Visits.{AreApart, AreOnce, IsVisitOf, point_at, visit_of}
+use Rattle.cover_points.specs.Visits.{IsVisitOf, point_at, visit_of}
 use Rattle.cover_points.specs.declared.listing.Points.{Points}
 use Rattle.cover_points.specs.declared.visit.Visit.{Visit}
 use Rattle.cover_points.specs.declared.visit.Visit.TheVariants.{Line}
@@ -27,7 +27,7 @@ use Rattle.block_runs.specs.Notes.{note_of}
 use Rattle.block_runs.specs.declared.notes.Doubt.{Doubt as RunDoubt}
 use Rattle.term_replay.specs.Noted.{spot_of}
 use Rattle.term_replay.specs.declared.notes.Spot.{Spot as SpotNow}
-use Rattle.run_marks.specs.Reported.{AreNotesOf, HasReported, IsSpotOf, RunStart}
+use Rattle.run_marks.specs.Reported.{AreNotesOf, HasReported, IsRightStart, IsSpotOf, RunStart}
 
 -- a point with the visit of a spot has the spot as a key
 key_of_visit : (d : Design) (x : Point) (p : ℕ) (s : Spot) → visit_of x ≡ Some (visit_at p s) → IsSpotOf d p s → IsKeyOf d x (of_process p s)
@@ -63,9 +63,9 @@ markings_more : (p : ℕ) (ns : List Note) (n : Note) → markings_by p (ns ++ n
 markings_more p [] n = refl
 markings_more p (m ∷ ns) n = ap (λ xs. marking_by p m ∷ xs) (markings_more p ns n)
 
--- what is reported with this note more
+-- where the start is right, what is reported with these notes
 abbrev pub Reports : RunStart → List Note → List Verdict → Type 0
-Reports s ns vs = AreNotesOf s.design s.process ns → AreVerdicts s.design s.points (s.earlier ++ markings_by s.process ns) vs
+Reports s ns vs = IsRightStart s → AreNotesOf s.design s.process ns → AreVerdicts s.design s.points (s.earlier ++ markings_by s.process ns) vs
 
 parts : (P : Note → Type 0) (ns : List Note) (n : Note) → All P (ns ++ n ∷ []) → All P ns × P n
 parts P [] n h = (All-nil P, All-head P n [] h)
@@ -74,22 +74,22 @@ parts P (m ∷ ns) n h =
     (All-cons P m ns (All-head P m (ns ++ n ∷ []) h) r.0, r.1)
 
 module _ (s : RunStart) (ns : List Note) (n : Note) (vs : List Verdict) (h : Reports s ns vs) where
-  longer : (ws : List Verdict) → (AreVerdicts s.design s.points (s.earlier ++ markings_by s.process ns) vs → IsSpotOf s.design s.process n.spot → AreVerdicts s.design s.points ((s.earlier ++ markings_by s.process ns) ++ marking_by s.process n ∷ []) ws) → Reports s (ns ++ n ∷ []) ws
-  longer ws f own =
+  longer : (ws : List Verdict) → (IsRightStart s → AreVerdicts s.design s.points (s.earlier ++ markings_by s.process ns) vs → IsSpotOf s.design s.process n.spot → AreVerdicts s.design s.points ((s.earlier ++ markings_by s.process ns) ++ marking_by s.process n ∷ []) ws) → Reports s (ns ++ n ∷ []) ws
+  longer ws f right own =
       let r = parts (λ (m : Note). IsSpotOf s.design s.process m.spot) ns n own in
       let e : (s.earlier ++ markings_by s.process ns) ++ marking_by s.process n ∷ [] ≡ s.earlier ++ markings_by s.process (ns ++ n ∷ []) = append_assoc s.earlier (markings_by s.process ns) (marking_by s.process n ∷ []) ∙ ap (λ (xs : List Marking). s.earlier ++ xs) (sym (markings_more s.process ns n)) in
-      subst (λ (xs : List Marking). AreVerdicts s.design s.points xs ws) e (f (h r.0) r.1)
+      subst (λ (xs : List Marking). AreVerdicts s.design s.points xs ws) e (f right (h right r.0) r.1)
 
   -- a spot of no point
   pub none_more : ((k : ℕ) → IsVisitOf s.points k (visit_at s.process n.spot) → ⊥) → Reports s (ns ++ n ∷ []) vs
-  none_more none = longer vs (λ v own. other_kept s.design s.points (s.earlier ++ markings_by s.process ns) (marking_by s.process n) vs v (λ k l key. none k (l, visit_of_key s.design (point_at s.points k) s.process n.spot key)))
+  none_more none = longer vs (λ right v own. other_kept s.design s.points (s.earlier ++ markings_by s.process ns) (marking_by s.process n) vs v (λ k l key. none k (l, visit_of_key s.design (point_at s.points k) s.process n.spot key)))
 
-  module _ (apart : AreApart s.points) (once : AreOnce s.points) (k : ℕ) (at : IsVisitOf s.points k (visit_at s.process n.spot)) where
+  module _ (k : ℕ) (at : IsVisitOf s.points k (visit_at s.process n.spot)) where
     pub hit_more : n.doubt ≡ None → Reports s (ns ++ n ∷ []) (set vs k Hit)
-    hit_more hit = longer (set vs k Hit) (λ v own. hit_set s.design s.points (s.earlier ++ markings_by s.process ns) (marking_by s.process n) vs k apart once v at.0 (key_of_visit s.design (point_at s.points k) s.process n.spot at.1 own) hit)
+    hit_more hit = longer (set vs k Hit) (λ right v own. hit_set s.design s.points (s.earlier ++ markings_by s.process ns) (marking_by s.process n) vs k right.apart right.once v at.0 (key_of_visit s.design (point_at s.points k) s.process n.spot at.1 own) hit)
 
     pub doubt_more : (y : Doubt) → doubt_of n.doubt ≡ Some y → Reports s (ns ++ n ∷ []) (set vs k (with_doubt y (verdict_at vs k)))
-    doubt_more y is = longer (set vs k (with_doubt y (verdict_at vs k))) (λ v own. doubt_set s.design s.points (s.earlier ++ markings_by s.process ns) (marking_by s.process n) vs k y apart once v at.0 (key_of_visit s.design (point_at s.points k) s.process n.spot at.1 own) is)
+    doubt_more y is = longer (set vs k (with_doubt y (verdict_at vs k))) (λ right v own. doubt_set s.design s.points (s.earlier ++ markings_by s.process ns) (marking_by s.process n) vs k y right.apart right.once v at.0 (key_of_visit s.design (point_at s.points k) s.process n.spot at.1 own) is)
 
 pub found_at : (ps : Points) (v : Visit) (number : ℕ) (b : Bool) → (IsTrue b ↔ IsVisitOf ps number v) → b ≡ true → (k : ℕ) → Some number ≡ Some k → IsVisitOf ps k v
 found_at ps v number b both holds k e = let same : number ≡ k = cc in subst (λ (i : ℕ). IsVisitOf ps i v) same (both.0 holds)
@@ -99,9 +99,14 @@ pub not_at : (ps : Points) (m : Marks) (v : Visit) (number : ℕ) (b : Bool) →
 not_at ps m v number b both fails find marks k at = let t : b ≡ true = both.1 (subst (λ (i : ℕ). IsVisitOf ps i v) (sym (find ps k marks at)) at) in absurd (true≢false (sym t ∙ fails))
 
 -- what a run begins with
-pub none_reported : (s : RunStart) (m : Marks) → AreApart s.points → AreOnce s.points → AreMarksOf s.points m → AreVerdicts s.design s.points s.earlier m.verdicts → HasReported s [] s.process s.points m
-none_reported s m apart once marks verdicts =
-    record { apart = apart; once = once; process = refl; points = refl; marks = marks; verdicts = λ own. subst (λ (xs : List Marking). AreVerdicts s.design s.points xs m.verdicts) (sym (append-nil s.earlier)) verdicts }
+pub none_reported : (s : RunStart) (m : Marks) → AreMarksOf s.points m → s.before ≡ m.verdicts → HasReported s [] s.process s.points m
+none_reported s m marks is =
+    record {
+      process = refl;
+      points = refl;
+      marks = marks;
+      verdicts = λ right own. subst (λ (xs : List Marking). AreVerdicts s.design s.points xs m.verdicts) (sym (append-nil s.earlier)) (subst (AreVerdicts s.design s.points s.earlier) is right.verdicts);
+    }
 
 module _ (p : ℕ) (ps : Points) (m after : Marks) (spot : SpotNow) (s : RunStart) (ns : List Note) (h : HasReported s ns p ps m) where
   visit_same : (k : ℕ) → IsVisitOf ps k (visit_at p (spot_of spot)) → IsVisitOf s.points k (visit_at s.process (spot_of spot))
@@ -109,30 +114,24 @@ module _ (p : ℕ) (ps : Points) (m after : Marks) (spot : SpotNow) (s : RunStar
 
   pub reports_hit : (k : ℕ) → IsVisitOf ps k (visit_at p (spot_of spot)) → ((qs : Points) → AreMarksOf qs m → AreMarksOf qs after) → after.verdicts ≡ set m.verdicts k Hit → HasReported s (ns ++ note_of spot None ∷ []) p ps after
   reports_hit k at kept is = record {
-    apart = h.apart;
-    once = h.once;
     process = h.process;
     points = h.points;
     marks = kept s.points h.marks;
-    verdicts = subst (Reports s (ns ++ note_of spot None ∷ [])) (sym is) (hit_more s ns (note_of spot None) m.verdicts h.verdicts h.apart h.once k (visit_same k at) refl);
+    verdicts = subst (Reports s (ns ++ note_of spot None ∷ [])) (sym is) (hit_more s ns (note_of spot None) m.verdicts h.verdicts k (visit_same k at) refl);
   }
 
   pub reports_doubt : (k : ℕ) (y : RunDoubt) → IsVisitOf ps k (visit_at p (spot_of spot)) → ((qs : Points) → AreMarksOf qs m → AreMarksOf qs after) → after.verdicts ≡ set m.verdicts k (with_doubt (record { thing = y.thing; time = y.time }) (verdict_at m.verdicts k)) → HasReported s (ns ++ note_of spot (Some y) ∷ []) p ps after
   reports_doubt k y at kept is = record {
-    apart = h.apart;
-    once = h.once;
     process = h.process;
     points = h.points;
     marks = kept s.points h.marks;
-    verdicts = subst (Reports s (ns ++ note_of spot (Some y) ∷ [])) (sym is) (doubt_more s ns (note_of spot (Some y)) m.verdicts h.verdicts h.apart h.once k (visit_same k at) (record { thing = y.thing; time = y.time }) refl);
+    verdicts = subst (Reports s (ns ++ note_of spot (Some y) ∷ [])) (sym is) (doubt_more s ns (note_of spot (Some y)) m.verdicts h.verdicts k (visit_same k at) (record { thing = y.thing; time = y.time }) refl);
   }
 
   pub reports_nothing : (doubt : Option RunDoubt) → (AreMarksOf ps m → (k : ℕ) → IsVisitOf ps k (visit_at p (spot_of spot)) → ⊥) → HasReported s (ns ++ note_of spot doubt ∷ []) p ps m
   reports_nothing doubt none =
       let marks = subst (λ (qs : Points). AreMarksOf qs m) (sym h.points) h.marks in
       record {
-        apart = h.apart;
-        once = h.once;
         process = h.process;
         points = h.points;
         marks = h.marks;

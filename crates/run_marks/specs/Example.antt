@@ -36,7 +36,7 @@ pub record IsSpotExample : Type 0 where
 
 -- nothing was reported of these points before a run of the register
 abbrev pub new_start : Points → RunStart
-new_start ps = record { design = flip_flop; points = ps; earlier = []; process = 0 }
+new_start ps = record { design = flip_flop; points = ps; earlier = []; process = 0; before = Missed ∷ [] }
 
 -- of a list of points that has line 2 alone: a hit stays over a doubt, a hit of another line changes nothing, and a hit is not passed over
 pub record IsReportExample (ps : Points) (m : Marks) : Type 0 where

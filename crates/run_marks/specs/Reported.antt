@@ -13,6 +13,7 @@ use Rattle.design_model.specs.Design.{Design}
 use Rattle.design_model.specs.Points.{IsBlock}
 use Rattle.design_model.specs.declared.point.Point.TheVariants.{Word}
 use Rattle.mark_laws.specs.Marked.{AreVerdicts}
+use Rattle.point_marks.specs.declared.verdict.Verdict.{Verdict}
 use Rattle.replay_model.specs.Marks.{Marking, markings_by}
 
 -- the visit of a word that is written, or read
@@ -20,12 +21,13 @@ abbrev pub word_visit : ℕ → ℕ → Bool → Visit
 word_visit m i true = Write m i
 word_visit m i false = Read m i
 
--- what was reported before a run of this process, of the points of a design
+-- what was reported before a run of this process, of the points of a design, and the verdicts at that time
 pub record RunStart : Type 0 where
   pub design : Design
   pub points : Points
   pub earlier : List Marking
   pub process : ℕ
+  pub before : List Verdict
 
 -- the process is a block of the points of the spot: of a word it reads or writes the memory
 abbrev pub IsSpotOf : Design → ℕ → Spot → Type 0
@@ -38,11 +40,15 @@ IsSpotOf d p (word_write m i) = IsBlock d (Word m i true) p
 abbrev pub AreNotesOf : Design → ℕ → List Note → Type 0
 AreNotesOf d p ns = All (λ (n : Note). IsSpotOf d p n.spot) ns
 
--- each verdict is the one by what was reported before, and then by these notes of the process
-pub record HasReported (s : RunStart) (ns : List Note) (p : ℕ) (ps : Points) (m : Marks) : Type 0 where
+-- each verdict was the one by what was reported before the run, of points that are each listed once and have visits of their own
+pub record IsRightStart (s : RunStart) : Type 0 where
   pub apart : AreApart s.points
   pub once : AreOnce s.points
+  pub verdicts : AreVerdicts s.design s.points s.earlier s.before
+
+-- the marks are of the points still, and each verdict is the one by what was reported before and then by these notes of the process
+pub record HasReported (s : RunStart) (ns : List Note) (p : ℕ) (ps : Points) (m : Marks) : Type 0 where
   pub process : p ≡ s.process
   pub points : ps ≡ s.points
   pub marks : AreMarksOf s.points m
-  pub verdicts : AreNotesOf s.design s.process ns → AreVerdicts s.design s.points (s.earlier ++ markings_by s.process ns) m.verdicts
+  pub verdicts : IsRightStart s → AreNotesOf s.design s.process ns → AreVerdicts s.design s.points (s.earlier ++ markings_by s.process ns) m.verdicts

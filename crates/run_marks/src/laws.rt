@@ -5,18 +5,16 @@ ghost use Rattle.body_replay.specs.Contract.{Certainty, Store, outcome};
 ghost use Rattle.cover_marks.specs.Marks.{AreMarksOf};
 ghost use Rattle.cover_marks.specs.declared.marks.Marks.{Marks};
 ghost use Rattle.cover_points.specs.Listed.{points_of};
-ghost use Rattle.cover_points.specs.Visits.{AreApart, AreOnce};
 ghost use Rattle.cover_points.specs.declared.listing.Points.{Points};
 ghost use Rattle.design_model.specs.Design.{Design, body_at};
 ghost use Rattle.design_model.specs.FlipFlop.{line_two};
 ghost use Rattle.design_model.specs.Lawful.{IsLawfulDesign};
-ghost use Rattle.mark_laws.specs.Marked.{AreVerdicts};
 ghost use Rattle.run_marks.specs.Example.{IsReportExample, IsSpotExample};
 ghost use Rattle.run_marks.specs.Reported.{AreNotesOf, HasReported, RunStart};
 
-/// Where each verdict is the one by what was reported before a run, the marks are those of the run before it notes anything.
+/// The marks with which a run starts are those of the run before it notes anything.
 pub fn start_law()
-    ensures { (s : RunStart) (m : Marks) → AreApart s.points → AreOnce s.points → AreMarksOf s.points m → AreVerdicts s.design s.points s.earlier m.verdicts → HasReported s [] s.process s.points m }
+    ensures { (s : RunStart) (m : Marks) → AreMarksOf s.points m → s.before ≡ m.verdicts → HasReported s [] s.process s.points m }
 {}
 
 /// What a run of a process of a lawful design notes, in any way, is of points of which the process is a block.

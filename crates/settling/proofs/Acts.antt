@@ -12,7 +12,8 @@ use Rattle.index_sets.specs.Rows.{row_at}
 use Rattle.replay_model.specs.Step.{Closing, Working, acts, dump_changes, is_clean_way, is_comb, sees_change}
 use Rattle.wake_bits.specs.Laws.{IsWakeOf}
 use Rattle.wake_bits.specs.declared.wakes.Wake.{Wake}
-use Rattle.settling.specs.Runs.{AreActed, IsStepOf, acts_by, sees_by}
+use Rattle.step_parts.specs.AtStep.{AreActed}
+use Rattle.settling.specs.Runs.{IsStepOf, acts_by, sees_by}
 
 -- two tests that hold together
 same_tests : (a b : Bool) → (a ≡ true → b ≡ true) → (b ≡ true → a ≡ true) → a ≡ b

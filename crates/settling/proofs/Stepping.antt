@@ -28,7 +28,8 @@ use Rattle.step_values.specs.Vectors.{StepVectors, vector_at}
 use Rattle.settled_targets.specs.Returned.{Returns}
 use Rattle.settled_targets.specs.Saved.{AreSaved}
 use Rattle.wake_bits.specs.declared.wakes.Wake.{Wake}
-use Rattle.settling.specs.Runs.{AreActed, AtPoint, IsStepOf, acts_by, outcome_at}
+use Rattle.step_parts.specs.AtStep.{AreActed}
+use Rattle.settling.specs.Runs.{AtPoint, IsStepOf, acts_by, outcome_at}
 use Rattle.settling.specs.Wakes.{HasState}
 use Rattle.settling.proofs.Acts.{comb_test, holds_is}
 use Rattle.settling.proofs.Targets.{kept_is, made_is}

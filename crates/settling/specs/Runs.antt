@@ -1,7 +1,7 @@
 -- What the run of a process takes, beside the definition of a step.
 use Rattle.std.specs.Prelude.{◌≡◌, ◌<◌, ◌&&◌, ◌||◌, ℕ, Bool, true, false, List, length, slice_index_or, Option}
 use Rattle.std.specs.List.{All, list_any}
-use Rattle.design_model.specs.Design.{Design, In, IsClocked, IsComb, body_at, process_at}
+use Rattle.design_model.specs.Design.{Design, In, IsClocked, body_at, process_at}
 use Rattle.design_model.specs.Mentions.{body_assigns, body_mentions}
 use Rattle.body_calls.specs.Own.{is_in}
 use Rattle.body_replay.specs.Contract.{Certainty, Outcome}
@@ -13,6 +13,7 @@ use Rattle.process_targets.specs.Rows.{AreTargetRows}
 use Rattle.process_targets.specs.declared.bits.Bits.{Bits}
 use Rattle.replay_model.specs.Step.{Closing, Working, certainty, dump_changes, is_clean_way, plain_store, settled_kept}
 use Rattle.replay_steps.specs.Settling.{MoveTargets}
+use Rattle.step_parts.specs.AtStep.{AreActed}
 use Rattle.step_values.specs.Loose.{has_code}
 use Rattle.step_values.specs.Vectors.{StepVectors}
 use Rattle.wake_bits.specs.declared.wakes.Wake.{Wake}
@@ -35,10 +36,6 @@ pub record IsStepOf (st : Closing) (p : ℕ) (wake_rows : List (List Wake)) (cod
   pub changed : (s : ℕ) → s < length st.design.signals → is_in changing s ≡ (st.bound s && dump_changes st s)
   pub time : st.time ≡ now
   pub moves : MoveTargets st
-
--- the flags say which Combs have surely acted
-abbrev pub AreActed : Design → List Bool → (ℕ → Bool) → Type 0
-AreActed d flags acted = (p : ℕ) → IsComb (process_at d p) → slice_index_or flags p false ≡ acted p
 
 -- the store, the vectors that are set aside, the sets and the flags are those of the step at this point
 pub record AtPoint (st : Closing) (w : Working) (x : Store) (v : StepVectors) (sets : WakeState) (flags : List Bool) : Type 0 where

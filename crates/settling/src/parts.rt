@@ -10,6 +10,7 @@ use value_store::Queue;
 use wake_bits::Wake;
 
 /// What is made once of a design and the binding of its signals.
+#[derive(Drop)]
 pub struct ProcessRows<'a> {
     pub design: &'a Design,
     /// The bits that each process may write.
@@ -23,6 +24,7 @@ pub struct ProcessRows<'a> {
 }
 
 /// What is found of a step before its processes run.
+#[derive(Drop)]
 pub struct Found<'a> {
     /// What may move.
     pub sets: &'a Wakes,

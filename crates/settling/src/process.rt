@@ -1,7 +1,8 @@
-ghost use Rattle.std.specs.Prelude.{◌≡◌, ◌<◌, ◌≤◌, ◌+◌, [], ℕ, length, true};
+ghost use Rattle.std.specs.Prelude.{◌≡◌, ◌<◌, ◌≤◌, ◌+◌, [], ℕ, List, length, true};
 ghost use Rattle.design_model.specs.Design.{Design, IsClocked, process_at};
 ghost use Rattle.design_model.specs.Lawful.{IsLawfulDesign};
 ghost use Rattle.design_model.specs.View.{design_view};
+ghost use Rattle.body_replay.specs.Contract.{Note};
 ghost use Rattle.body_replay.specs.Store.{Kept};
 ghost use Rattle.block_runs.specs.Notes.{AddsNotes};
 ghost use Rattle.early_sets.specs.WakeState.{state_of};
@@ -57,6 +58,7 @@ pub fn run<N: BlockNotes, L: Ledger>(
     ensures flags { length acted.new ≡ length acted.old }
     ensures step { (st : Closing) (w : Working) → AtPoint st w store.old values.old (state_of found.now.sets.now) acted.old → IsStepOf st process rows.now.wakes.now rows.now.codes.now found.now.changed.now.items found.now.time → is_touched st process ≡ true → AtPoint st (run_settling st is_ordered process w) store.new values.new (state_of found.now.sets.now) acted.new }
     ensures notes { (st : Closing) (w : Working) → AtPoint st w store.old values.old (state_of found.now.sets.now) acted.old → IsStepOf st process rows.now.wakes.now rows.now.codes.now found.now.changed.now.items found.now.time → AddsNotes N.noted notes.old (outcome_at st w process).notes notes.new }
+    ensures took { (ns : List Note) × AddsNotes N.noted notes.old ns notes.new }
     ensures room { length scratch.new.saved ≡ length scratch.old.saved }
     ensures pieces { scratch.new.pieces ≡ scratch.old.pieces }
     ensures steps { steps.new ≡ steps.old + 1 }

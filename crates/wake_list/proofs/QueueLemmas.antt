@@ -54,6 +54,20 @@ module _ (links : List ℕ) (ranks : List (Option ℕ)) (used : List Bool) (queu
   pub waits_not : (p : ℕ) → get_or ranks p None ≡ None → is_waiting p (pairs_from 0 lists) ≡ false
   waits_not p e = not_waiting p lists (λ k l t. let f : None ≡ Some k = sym e ∙ ranked_in p k (omega (arith, length-lists)) t in cc)
 
+  -- what waits has a rank
+  waiting_below : (p : ℕ) → is_waiting p (pairs_from 0 lists) ≡ true → p < length links
+  waiting_below p t = go (get_or ranks p None) refl
+    where
+      go : (o : Option ℕ) → get_or ranks p None ≡ o → p < length links
+      go None e = absurd (true≢false (sym t ∙ waits_not p e))
+      go (Some r) e = omega (arith, some_inside ranks p r e, h.ranks_size)
+
+  -- no more processes wait than there are links
+  pub all_few : length (pairs_from 0 lists) ≤ length links
+  all_few =
+      let names = map (λ (x : ℕ × ℕ). x.0) (pairs_from 0 lists) in
+      omega (arith, once_few names (length links) all_once (λ p t. waiting_below p t), length-map (pairs_from 0 lists) (λ (x : ℕ × ℕ). x.0))
+
   used_at : (r : ℕ) → get_or used r false ≡ ltb 0 (queue_at r).count
   used_at r = ap (λ bs. get_or bs r false) h.used_is ∙ get_or-map (λ (q : Queue). ltb 0 q.count) queues r no_queue
 

@@ -1,4 +1,4 @@
-ghost use Rattle.std.specs.Prelude.{◌≡◌, ◌<◌, ◌≤◌, ◌∷◌, ◌↔◌, [], ℕ, IfOk, IfSome, IsTrue, MatchOption, if◌then◌else◌, not, replicate};
+ghost use Rattle.std.specs.Prelude.{◌≡◌, ◌<◌, ◌≤◌, ◌∷◌, ◌↔◌, [], ℕ, IfOk, IfSome, IsTrue, MatchOption, if◌then◌else◌, length, not, replicate};
 ghost use Rattle.wake_list.specs.Waiting.{AreOnce, Waiting, is_waiting, with_process};
 
 use crate::LeastSet;
@@ -52,6 +52,14 @@ impl WakeList {
             ranks,
             used,
         })
+    }
+
+    /// There are no more processes on the list than there can be, since each is on it once. It does nothing.
+    pub fn fitting(&self)
+        ensures once { AreOnce self.now.pairs }
+        ensures few { length self.now.pairs ≤ self.now.count }
+    {
+        let _processes = self.links.len();
     }
 
     /// Whether no process is on the list.

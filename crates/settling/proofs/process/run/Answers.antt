@@ -115,3 +115,6 @@ returns-clause-notes g c = λ st w point step.
     let h = point.state.values.knows in
     let how_is = c.certainty-how.ensures st w c.args.process point.state (subst (IsWakeRow st c.args.process) (sym c.row-wakes.ensures) step.wakes) step.time in
     subst (λ (o : Outcome). AddsNotes g.N.BlockNotes.noted c.args.notes.now o.notes c.run_saved.new.notes) (sym (outcome_is st w c.args.process (way_of c.certainty-how.result) step.runs how_is)) (c.run_saved.ensures.notes st.design w.kept h)
+
+pub returns-clause-took : goal.returns-clause-took
+returns-clause-took g c = (_, c.run_saved.ensures.notes c.requires.known.0 c.requires.known.1 c.requires.known.2)

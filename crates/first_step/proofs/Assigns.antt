@@ -1,0 +1,130 @@
+-- The Assigns of a list, and what they make.
+use Rattle.std.proofs.Common.{◌≡◌, ◌⊎◌, inl, inr, ◌∙◌, ℕ, ◌+◌, ◌<◌, ◌≤◌, ◌==◌, Bool, true, false, if◌then◌else◌, List, [], ◌∷◌, ◌++◌, length, get_or, take, None, refl, sym, ap, arith}
+use Rattle.std.specs.List.{All}
+use Rattle.std.proofs.lemmas.Bool.{cases_Bool, eqb-true, false_from_ne_true, or_cases, true≢false}
+use Rattle.std.proofs.lemmas.List.{length-append, take_more}
+use Rattle.std.proofs.lemmas.List.Elements.{All-from_get_or, Contains-get_or, filter-append}
+use Rattle.event_machine.specs.Cell.{Cell, Values}
+use Rattle.four_state.specs.declared.bit.Bit.{Bit}
+use Rattle.design_model.specs.Design.{AreDistinct, Design, In, body_at, is_assign, process_at}
+use Rattle.design_model.specs.Mentions.{blocking_target}
+use Rattle.body_replay.specs.Contract.{quiet}
+use Rattle.body_replay.specs.Runs.{Runs}
+use Rattle.process_order.proofs.Distinct.{contains_in, in_either, in_filter, in_left, in_right}
+use Rattle.replay_model.specs.Start.{Starting, after_first, all_first, first_kept, first_store, run_all_first, run_first}
+use Rattle.replay_model.specs.Tables.{AreTables, Tables}
+use Rattle.replay_model.proofs.Clocked.{at_false, at_true}
+use Rattle.wake_list.specs.Members.{IsOnce, has}
+use Rattle.wake_list.proofs.MemberLemmas.{once_few}
+use Rattle.first_step.specs.Begun.{assigns}
+
+-- ---- a list and one more
+
+pub assigns_more : (d : Design) (ps : List ℕ) (i e : ℕ) → i < length ps → assigns d (take (i + 1) ps) ≡ assigns d (take i ps) ++ assigns d (get_or ps i e ∷ [])
+assigns_more d ps i e l = ap (assigns d) (take_more ps i e l) ∙ filter-append (λ p. is_assign (process_at d p)) (take i ps) (get_or ps i e ∷ [])
+
+pub assigns_few : (d : Design) (ps : List ℕ) → length (assigns d ps) ≤ length ps
+assigns_few d [] = omega arith
+assigns_few d (p ∷ ps) = go (is_assign (process_at d p)) (assigns_few d ps)
+  where
+    go : (t : Bool) → length (assigns d ps) ≤ length ps → length (if t then p ∷ assigns d ps else assigns d ps) ≤ length (p ∷ ps)
+    go true l = omega (arith, l)
+    go false l = omega (arith, l)
+
+pub assigns_one : (d : Design) (p : ℕ) → is_assign (process_at d p) ≡ true → assigns d (p ∷ []) ≡ p ∷ []
+assigns_one d p e = ap (λ t. if t then p ∷ [] else []) e
+
+pub assigns_none : (d : Design) (p : ℕ) → is_assign (process_at d p) ≡ false → assigns d (p ∷ []) ≡ []
+assigns_none d p e = ap (λ t. if t then p ∷ [] else []) e
+
+module _ (d : Design) (bound : ℕ → Bool) (run : Runs) (tables : Tables) (new : Values Bit) (ordered : Bool) where
+  runs_push : (ps : List ℕ) (p : ℕ) (w : Starting) → run_all_first d bound run tables new ordered (ps ++ p ∷ []) w ≡ run_first d bound run tables new ordered p (run_all_first d bound run tables new ordered ps w)
+  runs_push [] p w = refl
+  runs_push (q ∷ ps) p w = runs_push ps p (run_first d bound run tables new ordered q w)
+
+  pub runs_more : (ps : List ℕ) (i e : ℕ) (w : Starting) → i < length ps
+      → run_all_first d bound run tables new ordered (take (i + 1) ps) w ≡ run_first d bound run tables new ordered (get_or ps i e) (run_all_first d bound run tables new ordered (take i ps) w)
+  runs_more ps i e w l = ap (λ qs. run_all_first d bound run tables new ordered qs w) (take_more ps i e l) ∙ runs_push (take i ps) (get_or ps i e) w
+
+  -- what is no Assign does not run
+  pub passed_over : (p : ℕ) (w : Starting) → is_assign (process_at d p) ≡ false → run_first d bound run tables new ordered p w ≡ w
+  passed_over p w e = at_false (λ z. z ≡ w) (is_assign (process_at d p)) _ w e refl
+
+-- the Assigns of two lists, one after the other
+pub both_ran : (d : Design) (order last xs ys zs : List ℕ) → xs ≡ [] → ys ≡ xs ++ assigns d order → zs ≡ ys ++ assigns d last → zs ≡ assigns d (order ++ last)
+both_ran d order last xs ys zs none first second =
+    second ∙ ap (λ us. us ++ assigns d last) (first ∙ ap (λ us. us ++ assigns d order) none) ∙ sym (filter-append (λ p. is_assign (process_at d p)) order last)
+
+-- ---- the tables
+
+has_in : (p : ℕ) (ps : List ℕ) → has p ps ≡ true → In p ps
+has_in p [] h = absurd (true≢false (sym h))
+has_in p (q ∷ ps) h = elim (or_cases (p == q) (has p ps) h) [ inl e ↦ inl (sym (eqb-true p q e)) | inr r ↦ inr (has_in p ps r) ]
+
+once_of : (ps : List ℕ) → AreDistinct ps → IsOnce ps
+once_of [] h = tt
+once_of (p ∷ ps) h = (false_from_ne_true (has p ps) (λ e. h.0 (has_in p ps e)), once_of ps h.1)
+
+pub all_below : (n : ℕ) (ps : List ℕ) → ((p : ℕ) → In p ps → p < n) → All (λ p. p < n) ps
+all_below n ps below = All-from_get_or (λ p. p < n) ps 0 (λ k l. below (get_or ps k 0) (contains_in (get_or ps k 0) ps (Contains-get_or ps k 0 l)))
+
+right_distinct : (ps qs : List ℕ) → AreDistinct (ps ++ qs) → AreDistinct qs
+right_distinct [] qs h = h
+right_distinct (p ∷ ps) qs h = right_distinct ps qs h.1
+
+module _ (d : Design) (bound : ℕ → Bool) (tables : Tables) (tabled : AreTables d bound tables) where
+  pub listed_below : (p : ℕ) → In p tables.order ⊎ In p tables.last → p < length d.processes
+  listed_below p i = ((tabled.others p).0 i).0
+
+  -- each process is listed once
+  pub few_listed : length tables.order + length tables.last ≤ length d.processes
+  few_listed =
+      let few = once_few (tables.order ++ tables.last) (length d.processes) (once_of (tables.order ++ tables.last) (right_distinct tables.clocked (tables.order ++ tables.last) tabled.once)) (λ p h. listed_below p (in_either p tables.order tables.last (has_in p (tables.order ++ tables.last) h))) in
+      omega (arith, few, length-append tables.order tables.last)
+
+  -- the processes of both lists, and the Assigns among them, are processes of the design
+  module _ (n : ℕ) (count : length d.processes ≡ n) where
+    pub order_below : All (λ p. p < n) tables.order
+    order_below = all_below n tables.order (λ p i. let l = listed_below p (inl i) in omega (arith, l, count))
+
+    pub last_below : All (λ p. p < n) tables.last
+    last_below = all_below n tables.last (λ p i. let l = listed_below p (inr i) in omega (arith, l, count))
+
+    pub ran_below : All (λ p. p < n) (assigns d (tables.order ++ tables.last))
+    ran_below = all_below n (assigns d (tables.order ++ tables.last)) (λ p i. let l = listed_below p (in_either p tables.order tables.last (in_filter (λ q. is_assign (process_at d q)) p (tables.order ++ tables.last) i).0) in omega (arith, l, count))
+
+-- ---- what is made of a cell
+
+module _ (d : Design) (bound : ℕ → Bool) (run : Runs) (tables : Tables) (new : Values Bit) (c : Cell) where
+  -- some Assign of a list may write the cell
+  abbrev pub IsMadeBy : List ℕ → Type 0
+  IsMadeBy ps = (p : ℕ) × In p ps × (is_assign (process_at d p) ≡ true) × (blocking_target d (body_at d p) c ≡ true)
+
+  made_one : (ordered : Bool) (p : ℕ) (ps : List ℕ) (w : Starting) → ((run_first d bound run tables new ordered p w).made c ≡ w.made c) ⊎ IsMadeBy (p ∷ ps)
+  made_one ordered p ps w = elim (cases_Bool (is_assign (process_at d p))) [
+    | inr passed ↦ inl (ap (λ (z : Starting). z.made c) (passed_over d bound run tables new ordered p w passed))
+    | inl runs ↦ elim (cases_Bool (blocking_target d (body_at d p) c)) [
+      | inl writes ↦ inr (p, inl refl, runs, writes)
+      | inr not ↦ inl (at_true (λ (z : Starting). z.made c ≡ w.made c) (is_assign (process_at d p)) (after_first d bound run tables new ordered p (run p (first_store d bound run tables new w.kept) quiet) w) w runs
+          (at_false (λ z. z ≡ w.made c) (blocking_target d (body_at d p) c) ((run p (first_store d bound run tables new w.kept) quiet).kept c) (w.made c) not refl))
+    ]
+  ]
+
+  made_by : (ordered : Bool) (ps : List ℕ) (w : Starting) → ((run_all_first d bound run tables new ordered ps w).made c ≡ w.made c) ⊎ IsMadeBy ps
+  made_by ordered [] w = inl refl
+  made_by ordered (p ∷ ps) w = elim (made_by ordered ps (run_first d bound run tables new ordered p w)) [
+    | inl same ↦ elim (made_one ordered p ps w) [ inl one ↦ inl (same ∙ one) | inr by ↦ inr by ]
+    | inr by ↦ inr (by.0, inr by.1, by.2, by.3)
+  ]
+
+  -- nothing is made of what no Assign may write
+  pub all_made : ((all_first d bound run tables new).made c ≡ None) ⊎ IsMadeBy (tables.order ++ tables.last)
+  all_made =
+      let start : Starting = record { kept = first_kept d bound run tables new; made = λ b. None } in
+      elim (made_by false tables.last (run_all_first d bound run tables new true tables.order start)) [
+        | inr by ↦ inr (by.0, in_right by.0 tables.order tables.last by.1, by.2, by.3)
+        | inl last ↦ elim (made_by true tables.order start) [
+          | inr by ↦ inr (by.0, in_left by.0 tables.order tables.last by.1, by.2, by.3)
+          | inl first ↦ inl (last ∙ first)
+        ]
+      ]

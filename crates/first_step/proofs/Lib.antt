@@ -1,0 +1,4 @@
+pub mod Putting
+pub mod Starting
+pub mod Assigns
+pub mod Checked

@@ -1,0 +1,32 @@
+use Rattle.std.proofs.Common.{◌≡◌, ℕ, ◌+◌, ◌++◌, Bool, length, take}
+use Rattle.event_machine.specs.Cell.{Values}
+use Rattle.four_state.specs.declared.bit.Bit.{Bit}
+use Rattle.design_model.specs.Design.{Design}
+use Rattle.design_model.specs.View.{design_view}
+use Rattle.body_replay.specs.Runs.{runs_of}
+use Rattle.body_replay.specs.Store.{Kept}
+use Rattle.replay_model.specs.Start.{Starting, run_all_first}
+use Rattle.replay_model.specs.Tables.{Tables}
+use Rattle.settling.specs.First.{AtFirst}
+use Rattle.step_values.specs.Loose.{has_code}
+use Rattle.step_values.specs.Vectors.{FitsSignals}
+use Rattle.store_knowledge.specs.Knows.{Knows}
+use Rattle.first_step.specs.Begun.{assigns}
+use Rattle.first_step.proofs.runs.run_assigns.Given as goal
+
+-- the Assigns of those so far have run
+abbrev pub invariant-loop-process : goal.invariant-loop-process
+invariant-loop-process g l =
+    let m = l.rows.design.now in
+    record {
+      same : design_view l.store.design.now ≡ design_view m;
+      known : (d : Design) × (k : Kept) × Knows d k l.store;
+      fits : FitsSignals (design_view l.store.design.now) l.values;
+      ran : l.ran.items ≡ l.fn.ran.items ++ assigns (design_view m) (take l.process-index l.processes);
+      free : l.ran.room ≡ l.fn.ran.room;
+      room : length l.scratch.saved ≡ length l.fn.scratch.saved;
+      pieces : l.scratch.pieces ≡ l.fn.scratch.pieces;
+      steps : l.steps ≡ l.fn.steps + length (assigns (design_view m) (take l.process-index l.processes));
+      step : (d : Design) (bound : ℕ → Bool) (tables : Tables) (new : Values Bit) (w : Starting) → ((s : ℕ) → bound s ≡ has_code l.rows.codes.now s) → AtFirst d bound w l.fn.store l.fn.values
+          → AtFirst d bound (run_all_first d bound (runs_of d) tables new l.is_ordered (take l.process-index l.processes) w) l.store l.values;
+    }

@@ -1,0 +1,15 @@
+//! The first step of the replay, in a design without Clocked processes and memories.
+//!
+//! [`begin_first`] puts in the dump's values of all signals that it has, runs each continuous assignment once in its order,
+//! without notes, and compares what was made with the dump. The store then knows what the definition of the first step
+//! keeps (`started` of `replay_model`), and a difference is named exactly where one contradicts it (`contradicts_first`). It takes
+//! no memory.
+#![tactic(auto)]
+
+mod begin;
+mod dump;
+mod laws;
+mod runs;
+
+pub use begin::begin_first;
+pub use laws::first_example;

@@ -1,0 +1,5 @@
+pub mod Listed
+pub mod Marking
+pub mod Written
+pub mod Watched
+pub mod Changed

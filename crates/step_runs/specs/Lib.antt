@@ -1,0 +1,4 @@
+pub mod Rows
+pub mod Runs
+pub mod Laws
+pub mod Example

@@ -1,0 +1,28 @@
+-- The runs of a closing step, in the order of a wake list.
+use Rattle.std.specs.Prelude.{◌≡◌, ◌++◌, ℕ, Bool, false, filter, List, length, nat_lt, slice_index_or, Option, Some, None}
+use Rattle.cover_points.specs.Visits.{AreApart, AreOnce}
+use Rattle.cover_points.specs.declared.listing.Points.{Points}
+use Rattle.design_model.specs.Design.{In}
+use Rattle.replay_model.specs.Step.{Closing, is_touched}
+use Rattle.run_order.specs.Ranked.{AreRanksOf}
+use Rattle.wake_bits.specs.declared.wakes.Wake.{Wake}
+use Rattle.settling.specs.Runs.{IsStepOf}
+
+-- a place is below a number
+abbrev pub is_before : ℕ → Option ℕ → Bool
+is_before n None = false
+is_before n (Some place) = nat_lt place n
+
+-- the process has a place that is below a number
+abbrev pub is_ordered : List (Option ℕ) → ℕ → ℕ → Bool
+is_ordered places n p = is_before n (slice_index_or places p None)
+
+-- these processes run in a step, in order; each point is listed once and has a visit of its own, the places are those of the order, of
+-- which so many are ordered, and the rows, the codes and the signals that have changed are those of the step for each process that runs
+pub record IsRunOf (st : Closing) (ps : Points) (places : List (Option ℕ)) (count : ℕ) (running : List ℕ) (wake_rows : List (List Wake)) (codes : List (Option ℕ)) (changed : List ℕ) (now : ℕ) : Type 0 where
+  pub apart : AreApart ps
+  pub once : AreOnce ps
+  pub ranked : AreRanksOf (st.tables.order ++ st.tables.last) (length st.design.processes) places
+  pub ordered : count ≡ length st.tables.order
+  pub listed : running ≡ filter (is_touched st) (st.tables.order ++ st.tables.last)
+  pub step : (p : ℕ) → In p running → IsStepOf st p wake_rows codes changed now
