@@ -1,27 +1,28 @@
 #!/bin/sh
 # Takes steps of six generated designs, of 10, 1,000 and 65,000 registers of a clock that stays beside one register of a
-# clock that rises, and beside one of a clock that is divided from it: `bench/wakes.sh WAKES [STEPS]`. It prints the least
-# nanoseconds a step of ten runs of each, and their ratio to those of the smallest design. It needs awk.
+# clock that rises, and beside one of a clock that is divided from it: `bench/wakes.sh BENCH [STEPS]`. It prints for each of
+# ten runs of each design its kind, its idle registers and the figures of `bench wakes`, and then the least nanoseconds a step
+# of the ten, and their ratio to those of the smallest design. It needs awk.
 set -e
-wakes=$1
+bench=$1
 steps=${2:-20000}
 source=$(mktemp)
 runs=$(mktemp)
 trap 'rm -f "$source" "$runs"' EXIT
 for kind in plain divided; do for idle in 10 1000 65000; do
   awk -v idle="$idle" -v kind="$kind" 'BEGIN {
-    print "module top(input clk, input slow, input d, output reg p);"
+    print "module m(input clk, input slow, input d, output reg p);"
     if (kind == "plain") print "  always @(posedge clk) p <= d;"
     else print "  reg h;\n  always @(posedge clk) h <= ~h;\n  always @(posedge h) p <= d;"
     for (i = 0; i < idle; i++) printf "  reg q%d;\n  always @(posedge slow) q%d <= d;\n", i, i
     print "endmodule"
   }' > "$source"
   for run in 1 2 3 4 5 6 7 8 9 10; do
-    "$wakes" "$source" "$steps" | sed "s/^/$kind $idle idle, /" | tee -a "$runs"
+    "$bench" wakes "$source" "$steps" | sed "s/^/$kind $idle /" | tee -a "$runs"
   done
 done; done
-awk '{
-    for (i = 1; i <= NF; i++) if ($i == "steps") { steps = $(i - 1); time = $(i + 2) / steps }
+awk -v steps="$steps" '{
+    time = $3 / steps
     name = $1 ", " $2
     if (!(name in least)) { order[++count] = name; first[name] = $1 ", 10"; least[name] = time }
     if (time < least[name]) least[name] = time

@@ -2,7 +2,7 @@
 ghost use Rattle.design_model.specs.Lawful.{IsLawfulDesign};
 ghost use Rattle.design_model.specs.View.{design_view};
 
-use crate::{Figures, bodies, points};
+use crate::{Figures, bodies, points, wakes};
 use design_model::Design;
 use lent_designs::{DesignUser, lend_design};
 use std::alloc::Global;
@@ -16,6 +16,8 @@ enum Part {
     Points,
     /// So many runs of its first body, where one in `unknown` inputs is unknown, and none if that is 0.
     Bodies { rounds: u32, unknown: u32 },
+    /// So many steps by the sets of a step.
+    Wakes { steps: u32 },
 }
 
 /// Measures a part of a design that is lent.
@@ -40,6 +42,7 @@ fn part_of(name: &str, second: u32, third: u32) -> Option<Part> {
             rounds: second,
             unknown: third,
         }),
+        "wakes" => Some(Part::Wakes { steps: second }),
         _ => None,
     }
 }
@@ -72,5 +75,6 @@ fn measure_part(rt: &(impl AllocGlobal + Clock), design: &Design, part: Part) ->
         Part::Bodies { rounds, unknown } => {
             bodies::measure(rt.alloc(), design, rounds, unknown as usize)
         }
+        Part::Wakes { steps } => wakes::measure(rt, design, steps),
     }
 }

@@ -9,6 +9,9 @@
 //! - `bench points FILE` lists the points of a design, makes their marks, and finds each point by its visit: the milliseconds
 //!   after each of the three, and the sum of the points' numbers.
 //! - `bench bodies FILE ROUNDS UNKNOWN` runs the body of a design's first process so many times: the sum of the outputs.
+//! - `bench wakes FILE STEPS` takes so many steps in which the first signal of a design, a clock, rises, and with it the first
+//!   signal that may become single, if there is one: the nanoseconds of the steps, how many members and clean blocks they find,
+//!   the milliseconds in which the sets are made, and how many processes the design has.
 //!
 //! A design is that of the module `m` of the file. Nothing is proved of the program except that it is safe and ends.
 //! `bench/README.md` has the scripts that call it, and the figures.
@@ -24,6 +27,7 @@ mod points;
 mod ranking;
 mod tables;
 mod visits;
+mod wakes;
 
 use std::rt::{Clock, Files};
 use std::time::Instant;

@@ -1,117 +1,90 @@
 //! The answers of a step, in words.
 //!
-//! The first line has the names of what may move. Then comes a line for each process that can wake: its number and
+//! First come the names of what may move. Then comes for each process that can wake, after a semicolon, its number and
 //! `not clean`, or its number, its trigger, `in` and the number of the round in which that became single, if it is not the
 //! first one, and the names of what is early for it by both habits.
-use cov_host::NoMemory;
+
+use crate::comparison::Comparison;
+use crate::names::name_of;
 use design_model::Design;
 use early_sets::{Habit, Uncounted, Wakes};
-use std::alloc::Global;
 
-/// The answers of a step.
-pub(crate) fn answers(
-    alloc: Global,
-    design: &Design,
-    wakes: &mut Wakes,
-) -> Result<Vec<u8>, NoMemory> {
-    let mut text = Vec::new(alloc);
-    push_moves(design, wakes, &mut text)?;
+/// Says the answers of a step.
+pub(crate) fn say_answers(design: &Design, wakes: &mut Wakes, said: &mut Comparison) {
+    say_moves(design, wakes, said);
     for process in 0..wakes.processes() {
-        push_process(design, wakes, process, &mut text)?;
+        say_process(design, wakes, process, said);
     }
-    Ok(text)
 }
 
-/// Adds the line of what may move.
-fn push_moves(design: &Design, wakes: &Wakes, text: &mut Vec<u8>) -> Result<(), NoMemory> {
-    text.extend_from_slice(b"moves")?;
+/// Says what may move.
+pub(crate) fn say_moves(design: &Design, wakes: &Wakes, said: &mut Comparison) {
+    said.say(b" moves");
     for thing in 0..wakes.things() {
         if wakes.moves().contains(&thing) {
-            push_name(design, thing, text)?;
+            say_name(design, thing, said);
         }
     }
-    text.push(b'\n')?;
-    Ok(())
 }
 
-/// Adds the line of a process, if it can wake.
-fn push_process(
-    design: &Design,
-    wakes: &mut Wakes,
-    process: usize,
-    text: &mut Vec<u8>,
-) -> Result<(), NoMemory> {
+/// Says the answers for a process, if it can wake.
+fn say_process(design: &Design, wakes: &mut Wakes, process: usize, said: &mut Comparison) {
     let number = u32::try_from(process).unwrap_or(u32::MAX);
     if number as usize >= wakes.processes() || !wakes.can_wake(number) {
-        return Ok(());
+        return;
     }
-    push_number(number, text)?;
+    said.say(b"; ");
+    said.say_number(u128::from(number));
     match wakes.trigger(number) {
         Some(trigger) => {
-            push_name(design, trigger as usize, text)?;
-            push_round(wakes.round(number), text)?;
-            push_early(design, wakes, Habit::Free, number, text)?;
-            push_early(design, wakes, Habit::Late, number, text)?;
+            say_name(design, trigger as usize, said);
+            say_round(wakes.round(number), said);
+            say_early(design, wakes, Habit::Free, number, said);
+            say_early(design, wakes, Habit::Late, number, said);
         }
-        None => text.extend_from_slice(b" not clean")?,
+        None => said.say(b" not clean"),
     }
-    text.push(b'\n')?;
-    Ok(())
 }
 
-/// Adds the number of a round, unless it is the first one.
-fn push_round(round: u32, text: &mut Vec<u8>) -> Result<(), NoMemory> {
+/// Says the number of a round, unless it is the first one.
+fn say_round(round: u32, said: &mut Comparison) {
     if round > 0 {
-        text.extend_from_slice(b" in ")?;
-        push_number(round, text)?;
+        said.say(b" in ");
+        said.say_number(u128::from(round));
     }
-    Ok(())
 }
 
-/// Adds a number.
-fn push_number(number: u32, text: &mut Vec<u8>) -> Result<(), NoMemory> {
-    text.extend_from_slice(itoa::Buffer::new().format(number).as_bytes())?;
-    Ok(())
-}
-
-/// Adds what is early for a process, if it is clean.
-fn push_early(
+/// Says what is early for a process, if it is clean.
+fn say_early(
     design: &Design,
     wakes: &mut Wakes,
     habit: Habit,
     process: u32,
-    text: &mut Vec<u8>,
-) -> Result<(), NoMemory> {
-    let word = match habit {
-        Habit::Free => " free",
-        Habit::Late => " late",
-    };
-    text.extend_from_slice(word.as_bytes())?;
+    said: &mut Comparison,
+) {
+    said.say(match habit {
+        Habit::Free => b" free",
+        Habit::Late => b" late",
+    });
     if process as usize >= wakes.processes() || wakes.trigger(process).is_none() {
-        return Ok(());
+        return;
     }
     wakes.choose(habit, process, &mut Uncounted);
-    push_chosen(design, wakes, text)
+    say_chosen(design, wakes, said);
 }
 
-/// Adds what is early for the block that was chosen last.
-fn push_chosen(design: &Design, wakes: &Wakes, text: &mut Vec<u8>) -> Result<(), NoMemory> {
+/// Says what is early for the block that was chosen last.
+fn say_chosen(design: &Design, wakes: &Wakes, said: &mut Comparison) {
     for thing in 0..wakes.things() {
         let number = u32::try_from(thing).unwrap_or(u32::MAX);
         if (number as usize) < wakes.things() && wakes.early(number) {
-            push_name(design, thing, text)?;
+            say_name(design, thing, said);
         }
     }
-    Ok(())
 }
 
-/// Adds the name of a signal or memory.
-fn push_name(design: &Design, thing: usize, text: &mut Vec<u8>) -> Result<(), NoMemory> {
-    text.push(b' ')?;
-    if let Some(signal) = design.signals.get(thing) {
-        text.extend_from_slice(signal.name.as_slice())?;
-    } else if let Some(memory) = design.memories.get(thing - design.signals.len()) {
-        text.extend_from_slice(memory.name.as_slice())?;
-    }
-    Ok(())
+/// Says the name of a signal or memory.
+fn say_name(design: &Design, thing: usize, said: &mut Comparison) {
+    said.say(b" ");
+    said.say(name_of(design, thing));
 }

@@ -1,118 +1,103 @@
 //! In which order the processes of small designs are run in a step.
 //!
-//! Each expected text is worked out by hand: a first line with the numbers of the processes that wait for edges, a second
-//! one with those in an order in which each comes after the others that drive what it watches, where the dump does not
-//! give that, and a third one with those on a cycle or after one. Processes are numbered as they are written.
-use crate::designs::design_of;
-use cov_host::NoMemory;
+//! Each answer is worked out by hand: first the numbers of the processes that wait for edges, then those in an order in which
+//! each comes after the others that drive what it watches, where the dump does not give that, and last those on a cycle or
+//! after one. Processes are numbered as they are written.
+
+use crate::comparison::Comparison;
+use crate::script::fault_of;
 use design_model::Design;
-use process_order::process_tables;
+use process_order::{ProcessTables, process_tables};
 use std::alloc::Global;
 
-/// Whether the processes of a design are run in this order, where the dump gives the signals with these names.
-fn has_order(alloc: Global, text: &str, given: &[&'static str], expected: &str) -> bool {
-    match design_of(alloc, text) {
-        Some(design) => match order_text(alloc, &design, given) {
-            Ok(found) => found.as_slice() == expected.as_bytes(),
-            Err(_) => false,
-        },
-        None => false,
-    }
-}
-
-/// The three lists of a design, a line each.
-fn order_text(alloc: Global, design: &Design, given: &[&'static str]) -> Result<Vec<u8>, NoMemory> {
-    let mut text = Vec::new(alloc);
+/// Says the three lists of a design.
+pub(crate) fn say_order(
+    alloc: Global,
+    design: &Design,
+    bound: &[bool],
+    said: &mut Comparison,
+) -> bool {
     if design.processes.len() > 100 {
-        return Ok(text);
+        return false;
     }
-    let bound = flags(alloc, design, given)?;
-    let tables = process_tables(alloc, design, bound.as_slice())?;
-    push_line(b"clocked", tables.clocked.as_slice(), &mut text)?;
-    push_line(b"order", tables.order.as_slice(), &mut text)?;
-    push_line(b"last", tables.last.as_slice(), &mut text)?;
-    Ok(text)
-}
-
-/// Adds a word and the numbers after it.
-fn push_line(word: &[u8], numbers: &[u32], text: &mut Vec<u8>) -> Result<(), NoMemory> {
-    text.extend_from_slice(word)?;
-    for number in numbers {
-        text.push(b' ')?;
-        text.extend_from_slice(itoa::Buffer::new().format(*number).as_bytes())?;
-    }
-    text.push(b'\n')?;
-    Ok(())
-}
-
-/// For each signal whether it has one of these names.
-fn flags(alloc: Global, design: &Design, names: &[&'static str]) -> Result<Vec<bool>, NoMemory> {
-    let mut flags = Vec::new(alloc);
-    for signal in design.signals.as_slice() {
-        flags.push(is_one_of(signal.name.as_slice(), names))?;
-    }
-    Ok(flags)
-}
-
-/// Whether the name is one of these.
-fn is_one_of(name: &[u8], names: &[&'static str]) -> bool {
-    for other in names {
-        if name == other.as_bytes() {
-            return true;
+    match process_tables(alloc, design, bound) {
+        Ok(tables) => {
+            say_lists(&tables, said);
+            true
         }
+        Err(_) => false,
     }
-    false
 }
 
-/// z needs y, y needs x: the assignments are run from the last one to the first.
-#[test]
-fn a_chain_written_backwards(rt: HostRuntime) {
-    let text =
-        "module m(input a, output z); wire x; wire y; assign z = y; assign y = x; assign x = a; endmodule\n";
-    assert!(rt; has_order(rt.alloc(), text, &["a"], "clocked\norder 2 1 0\nlast\n"));
+/// Says the three lists.
+fn say_lists(tables: &ProcessTables, said: &mut Comparison) {
+    say_list(b" clocked", tables.clocked.as_slice(), said);
+    say_list(b"; order", tables.order.as_slice(), said);
+    say_list(b"; last", tables.last.as_slice(), said);
 }
 
-/// Each of p and q needs the other, unless the dump gives q: then only q needs p.
-#[test]
-fn a_cycle(rt: HostRuntime) {
-    let text = "module m(output p, output q); assign p = q; assign q = p; endmodule\n";
-    assert!(rt; has_order(rt.alloc(), text, &[], "clocked\norder\nlast 0 1\n"));
-    assert!(rt; has_order(rt.alloc(), text, &["q"], "clocked\norder 0 1\nlast\n"));
+/// Says a word and the numbers after it.
+fn say_list(word: &[u8], numbers: &[u32], said: &mut Comparison) {
+    said.say(word);
+    for number in numbers {
+        said.say(b" ");
+        said.say_number(u128::from(*number));
+    }
 }
 
-/// c and s are on a cycle, and t comes after it. r is written at an edge, so t need not wait for it.
-#[test]
-fn after_a_cycle(rt: HostRuntime) {
-    let text =
-        "module m(input clk, input d, output reg r, output s, output t);\n  wire c;\n  assign c = s;\n  assign s = c | d;\n  assign t = r & s;\n  always @(posedge clk) r <= d;\nendmodule\n";
-    assert!(rt;
-        has_order(
-            rt.alloc(),
-            text,
-            &["clk", "d"],
-            "clocked 3\norder\nlast 0 1 2\n"
-        )
-    );
-}
+const ORDERS: &str = "
+====
+module m(input a, output z);
+  wire x;
+  wire y;
+  assign z = y;
+  assign y = x;
+  assign x = a;
+endmodule
+----
+# z needs y, y needs x: the assignments are run from the last one to the first.
+order z=?? x=?? y=??: clocked; order 2 1 0; last
+====
+module m(output p, output q);
+  assign p = q;
+  assign q = p;
+endmodule
+----
+# Each of p and q needs the other, unless the dump gives q: then only q needs p.
+order p=?? q=??: clocked; order; last 0 1
+order p=??: clocked; order 0 1; last
+====
+module m(input clk, input d, output reg r, output s, output t);
+  wire c;
+  assign c = s;
+  assign s = c | d;
+  assign t = r & s;
+  always @(posedge clk) r <= d;
+endmodule
+----
+# c and s are on a cycle, and t comes after it. r is written at an edge, so t need not wait for it.
+order r=?? s=?? t=?? c=??: clocked 3; order; last 0 1 2
+====
+module m(input a, output reg y);
+  always @* y = a & y;
+endmodule
+----
+# A combinational block that watches what it drives itself does not wait for itself.
+order y=??: clocked; order 0; last
+====
+module m(input clk, input a, input b, output z, output reg q);
+  reg y;
+  assign z = ~y;
+  always @(posedge clk) q <= z;
+  always @* y = a & b;
+endmodule
+----
+# A combinational block drives y, which the assignment before it watches; the register watches nothing.
+order z=?? q=?? y=??: clocked 1; order 2 0; last
+";
 
-/// A combinational block that watches what it drives itself does not wait for itself.
 #[test]
-fn its_own_target(rt: HostRuntime) {
-    let text = "module m(input a, output reg y); always @* y = a & y; endmodule\n";
-    assert!(rt; has_order(rt.alloc(), text, &["a"], "clocked\norder 0\nlast\n"));
-}
-
-/// A combinational block drives y, which the assignment before it watches; the register watches nothing.
-#[test]
-fn a_block_before_an_assignment(rt: HostRuntime) {
-    let text =
-        "module m(input clk, input a, input b, output z, output reg q);\n  reg y;\n  assign z = ~y;\n  always @(posedge clk) q <= z;\n  always @* y = a & b;\nendmodule\n";
-    assert!(rt;
-        has_order(
-            rt.alloc(),
-            text,
-            &["clk", "a", "b"],
-            "clocked 1\norder 2 0\nlast\n"
-        )
-    );
+fn orders_of_processes(rt: HostRuntime) {
+    let (part, line) = fault_of(rt.alloc(), ORDERS).unwrap_or((0, 0));
+    assert!(rt; part == 0, "part {part}, line {line}");
 }

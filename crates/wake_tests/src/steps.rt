@@ -3,31 +3,43 @@
 ghost use Rattle.std.specs.Prelude.{◌<◌, IfSome};
 ghost use Rattle.early_sets.specs.WakeState.{state_of};
 
-use cov_host::NoMemory;
+use crate::names::signal_named;
 use design_model::Design;
 use early_sets::{Uncounted, Wakes};
 use four_state::Bit;
-use std::alloc::Global;
 
-/// A signal that changes, by name, with its lowest bit before and after.
-pub(crate) type Change = (&'static str, Bit, Bit);
-
-/// Tells the changes of a step and finds what may move, and says whether each change is that of an input that the dump
-/// gives or of a signal that may become single.
-pub(crate) fn take_step(design: &Design, wakes: &mut Wakes, changes: &[Change]) -> bool {
+/// Takes a step, and says whether each word is the change of an input that the dump gives or of a signal that may become
+/// single, or names a signal that the dump does not give.
+pub(crate) fn take_step(design: &Design, wakes: &mut Wakes, words: &str) -> bool {
     wakes.clear(&mut Uncounted);
-    for (name, old, new) in changes {
-        match noted_named(design, wakes, name) {
-            Some(signal) => wakes.note(signal, *old, *new),
-            None => return false,
+    for word in words.split_whitespace() {
+        if !note(design, wakes, word) {
+            return false;
         }
     }
     wakes.settle(&mut Uncounted);
     true
 }
 
+/// Notes the change that a word says, if it says one that is to be noted.
+fn note(design: &Design, wakes: &mut Wakes, word: &str) -> bool {
+    let Some((name, bits)) = word.split_once('=') else {
+        return false;
+    };
+    let Some((old, new)) = change_of(bits.as_bytes()) else {
+        return bits == "??";
+    };
+    match noted_signal(design, wakes, name.as_bytes()) {
+        Some(signal) => {
+            wakes.note(signal, old, new);
+            true
+        }
+        None => false,
+    }
+}
+
 /// The signal with this name, if its changes are to be noted.
-fn noted_named(design: &Design, wakes: &Wakes, name: &str) -> Option<u32>
+fn noted_signal(design: &Design, wakes: &Wakes, name: &[u8]) -> Option<u32>
     ensures { IfSome result (λ signal. signal < (state_of wakes.now).tables.things) }
 {
     let signal = signal_named(design, name)?;
@@ -38,25 +50,20 @@ fn noted_named(design: &Design, wakes: &Wakes, name: &str) -> Option<u32>
     }
 }
 
-/// The signal with this name.
-fn signal_named(design: &Design, name: &str) -> Option<u32> {
-    for (place, signal) in design.signals.as_slice().iter().enumerate() {
-        if signal.name.as_slice() == name.as_bytes() {
-            return u32::try_from(place).ok();
-        }
+/// The lowest bits before and after a change.
+fn change_of(bits: &[u8]) -> Option<(Bit, Bit)> {
+    match bits {
+        [old, new] => Some((bit_of(*old)?, bit_of(*new)?)),
+        _ => None,
     }
-    None
 }
 
-/// A flag for each signal: whether the dump gives it, where it gives all but the one with this name.
-pub(crate) fn all_except(
-    alloc: Global,
-    design: &Design,
-    missing: &str,
-) -> Result<Vec<bool>, NoMemory> {
-    let mut bound = Vec::new(alloc);
-    for signal in design.signals.as_slice() {
-        bound.push(signal.name.as_slice() != missing.as_bytes())?;
+/// The bit with this digit.
+fn bit_of(digit: u8) -> Option<Bit> {
+    match digit {
+        b'0' => Some(Bit::Zero),
+        b'1' => Some(Bit::One),
+        b'x' => Some(Bit::X),
+        _ => None,
     }
-    Ok(bound)
 }

@@ -6,13 +6,13 @@ ghost use Rattle.early_sets.specs.Settled.{HasSettled};
 ghost use Rattle.early_sets.specs.WakeState.{state_of};
 ghost use Rattle.step_wakes.specs.Step.{note_turns};
 
-use crate::designs::design_of;
-use crate::steps::all_except;
+use crate::answers::say_moves;
+use crate::comparison::Comparison;
+use crate::script::fault_of;
+use design_model::Design;
 use early_sets::{TurnCount, Wakes};
-use std::alloc::Global;
-use std::marker::Brand;
 use std::sync::ledger::{Blank, Ledger};
-use step_wakes::{SignalChange, find, wakes_of};
+use step_wakes::{SignalChange, find};
 
 /// Takes a step and counts each turn: there are no more than the members of the sets have.
 fn counted<L: Ledger>(wakes: &mut Wakes, changes: &[SignalChange], blank: Blank) -> TurnCount<L>
@@ -27,34 +27,41 @@ fn counted<L: Ledger>(wakes: &mut Wakes, changes: &[SignalChange], blank: Blank)
     count
 }
 
-/// Takes a step in which no input that the dump gives changes, with its turns counted: whether only these may move and wake.
-fn has_moves<L: Ledger>(wakes: &mut Wakes, moves: &[usize], woken: &[usize], blank: Blank) -> bool
+/// Takes a step in which no signal that the dump gives changes, with its turns counted, and says what may move and the
+/// processes that can wake.
+pub(crate) fn say_counted<L: Ledger>(
+    design: &Design,
+    wakes: &mut Wakes,
+    said: &mut Comparison,
+    blank: Blank,
+)
     requires name { blank.name ≡ L.name }
     requires parts { blank.parts ≡ L.parts }
     requires some { 0 < blank.parts }
 {
     let _ = counted::<L>(wakes, &[], blank);
-    wakes.moves() == moves && wakes.woken() == woken
+    say_moves(design, wakes, said);
+    said.say(b"; wakes");
+    for process in wakes.woken() {
+        said.say(b" ");
+        said.say_number(*process as u128);
+    }
 }
 
-/// The dump does not give the clock of one register, beside a register of another clock, so that the first clock may change
-/// in each step: it and the first register alone may move.
-fn moves_alone(alloc: Global) -> bool {
-    let text =
-        "module m(input clk, input slow, input d, output reg q, output reg r);\n  always @(posedge clk) q <= d;\n  always @(posedge slow) r <= d;\nendmodule\n";
-    let Some(design) = design_of(alloc, text) else {
-        return false;
-    };
-    let Ok(bound) = all_except(alloc, &design, "clk") else {
-        return false;
-    };
-    let Ok(mut wakes) = wakes_of(alloc, &design, bound.as_slice()) else {
-        return false;
-    };
-    has_moves::<Brand>(&mut wakes, &[0, 3], &[0], Blank::new(1))
-}
+const TURNS: &str = "
+====
+module m(input clk, input slow, input d, output reg q, output reg r);
+  always @(posedge clk) q <= d;
+  always @(posedge slow) r <= d;
+endmodule
+----
+# The dump does not give the clock of one register, beside a register of another clock, so that the first clock may change in
+# each step: it and the first register alone may move.
+turns clk=??: moves clk q; wakes 0
+";
 
 #[test]
 fn turns_of_a_step(rt: HostRuntime) {
-    assert!(rt; moves_alone(rt.alloc()));
+    let (part, line) = fault_of(rt.alloc(), TURNS).unwrap_or((0, 0));
+    assert!(rt; part == 0, "part {part}, line {line}");
 }
