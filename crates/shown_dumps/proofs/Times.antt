@@ -80,7 +80,7 @@ tail_rises [] back up = up
 tail_rises (x ∷ front) back up = tail_rises front back (rest_rises x (front ++ back) up)
 
 -- no time is between neighbours
-none_between : (front : List ℕ) (p t : ℕ) (back : List ℕ) → AreRising (front ++ p ∷ t ∷ back) → (u : ℕ) → p < u → u < t → In u (front ++ p ∷ t ∷ back) → ⊥
+pub none_between : (front : List ℕ) (p t : ℕ) (back : List ℕ) → AreRising (front ++ p ∷ t ∷ back) → (u : ℕ) → p < u → u < t → In u (front ++ p ∷ t ∷ back) → ⊥
 none_between [] p t back up u after before (inl e) = omega (arith, after, e)
 none_between [] p t back up u after before (inr (inl e)) = omega (arith, before, e)
 none_between [] p t back up u after before (inr (inr h)) = omega (arith, before, later t back u up.1 h)

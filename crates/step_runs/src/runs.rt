@@ -63,6 +63,7 @@ pub fn run_all<L: Ledger>(
     ensures count { list.new.count ≡ list.old.count }
     ensures empty { list.new.pairs ≡ [] }
     ensures ran { ran.new.items ≡ map (λ q. q.0) list.old.pairs }
+    ensures within { All (λ p. p < length rows.now.design.now.processes) ran.new.items }
     ensures places { ran.new.room ≡ ran.old.room }
     ensures same { design_view store.new.design.now ≡ design_view rows.now.design.now }
     ensures known { (d : Design) × (k : Kept) × Knows d k store.new }

@@ -1,4 +1,4 @@
-ghost use Rattle.std.specs.Prelude.{◌≡◌, [], ℕ, Bool, List, IfNone, IfSome, Some, map};
+ghost use Rattle.std.specs.Prelude.{◌≡◌, [], ℕ, Bool, List, IfNone, IfSome, Some, map, ◌<◌, length};
 ghost use Rattle.event_machine.specs.Cell.{Values};
 ghost use Rattle.four_state.specs.declared.bit.Bit.{Bit};
 ghost use Rattle.design_model.specs.Design.{Design};
@@ -13,6 +13,7 @@ ghost use Rattle.step_wakes.specs.Step.{IsOfDesign};
 ghost use Rattle.store_knowledge.specs.Knows.{Knows};
 ghost use Rattle.step_start.specs.Fits.{FitsStep};
 
+use crate::values::begin_values;
 use crate::{StepRoom, StepTables};
 use body_store::Store;
 use code_values::CodeValues;
@@ -36,6 +37,7 @@ pub fn begin_step(
     requires dumped { (new : Values Bit) × AreDumped (design_view store.old.design.now) tables.now.codes.items values.now.last new }
     ensures fits { FitsStep (design_view store.old.design.now) tables.now room.new values.now }
     ensures design { store.new.design ≡ store.old.design }
+    ensures known { (d : Design) × (k : Kept) × Knows d k store.new }
     ensures inputs { (d : Design) (flags : List Bool) → IsOfDesign d flags (state_of room.old.sets) → IsOfDesign d flags (state_of room.new.sets) }
     ensures writers { (state_of room.new.sets).writers ≡ (state_of room.old.sets).writers }
     ensures changed { AreChangedSignals tables.now.codes.items values.now room.new.changed.items }
@@ -45,6 +47,7 @@ pub fn begin_step(
         → IsContradicted due (state_of room.new.sets) found) }
     ensures least { IfSome result (λ found. (due : Due) → IsDueStep due tables.now.codes.items tables.now.order (state_of room.old.sets) values.now store.old
         → IsLeastMoved (step_of due (state_of room.new.sets)) room.new.changed.items (Some found)) }
+    ensures named { IfSome result (λ found. found.signal < length store.old.design.now.signals) }
     ensures kept { IfSome result (λ found. (store.new ≡ store.old) × (room.new.list.pairs ≡ [])) }
 {
     let codes = tables.codes.as_slice();
@@ -62,7 +65,8 @@ pub fn begin_step(
     }
     let woken = room.sets.woken();
     tables.order.fill(woken, &mut room.list);
-    room.values.begin(
+    begin_values(
+        &mut room.values,
         store,
         room.sets.moves(),
         woken,

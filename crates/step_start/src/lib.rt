@@ -8,6 +8,7 @@
 
 mod begin;
 mod room;
+mod values;
 
 pub use begin::begin_step;
 pub use room::{StepRoom, StepTables};

@@ -1,7 +1,7 @@
-use Rattle.std.proofs.Common.{◌≡◌, ◌∙◌, ◌+◌, ◌++◌, ◌∷◌, [], ℕ, ap, append_assoc, arith, length, map, refl, subst, sym}
+use Rattle.std.proofs.Common.{◌≡◌, ◌∙◌, ◌+◌, ◌<◌, ◌++◌, ◌∷◌, [], ℕ, ap, append_assoc, arith, length, map, refl, subst, sym}
 use Rattle.std.specs.List.{All}
 use Rattle.std.proofs.lemmas.List.{length-append}
-use Rattle.std.proofs.lemmas.List.Elements.{All-head, All-tail}
+use Rattle.std.proofs.lemmas.List.Elements.{All-head, All-push, All-tail}
 use Rattle.design_model.specs.Design.{IsClocked, process_at}
 use Rattle.design_model.specs.View.{design_view}
 use Rattle.early_sets.specs.WakeState.{state_of}
@@ -16,6 +16,7 @@ loop-process-init g c =
       count = refl;
       settles = c.requires.settles;
       ran = ap (λ r. r.items ++ map (λ (q : ℕ × ℕ). q.0) c.args.list.now.pairs) empty;
+      within = subst (All (λ (p : ℕ). p < length c.args.rows.now.design.now.processes)) (sym (ap (λ r. r.items) empty)) (λ k d l. absurd (omega (arith, l)));
       places = ap (λ r. r.room) empty;
       few = let none = ap (λ r. length r.items) empty in let few = c.fitting.ensures.few in let count = c.requires.count in omega (arith, none, few, count);
       same = c.requires.same;
@@ -52,6 +53,12 @@ loop-process-preserved g c =
       count = c.take.ensures.count ∙ old.count;
       settles = All-tail (λ (q : ℕ × ℕ). IsClocked (process_at m q.0) → ⊥) (p, next.0) c.take.new.self.pairs (subst (All (λ (q : ℕ × ℕ). IsClocked (process_at m q.0) → ⊥)) next.1 old.settles);
       ran = ap (λ ps. ps ++ rest) pushed ∙ append_assoc c.loop-process.ran.items (p ∷ []) rest ∙ all;
+      within =
+          let below = c.in-Some.ensures.below in
+          let count = old.count in
+          let many = c.requires.count in
+          let inside : p < length c.args.rows.now.design.now.processes = omega (arith, below, count, many) in
+          subst (All (λ (q : ℕ). q < length c.args.rows.now.design.now.processes)) (sym pushed) (All-push (λ (q : ℕ). q < length c.args.rows.now.design.now.processes) c.loop-process.ran.items p old.within inside);
       places = ap (λ r. r.room) c.push.ensures ∙ old.places;
       few = let few = old.few in let more = ap length pushed in let size = length-append c.loop-process.ran.items (p ∷ []) in let less = ap length next.1 in omega (arith, few, more, size, less);
       same = after.same;

@@ -1,4 +1,4 @@
-use Rattle.std.proofs.Common.{◌≡◌, ℕ, ◌+◌, ◌≤◌, ◌++◌, length, map}
+use Rattle.std.proofs.Common.{◌≡◌, ℕ, ◌+◌, ◌<◌, ◌≤◌, ◌++◌, length, map}
 use Rattle.std.specs.List.{All}
 use Rattle.body_replay.specs.Store.{Kept}
 use Rattle.cover_marks.specs.Marks.{AreMarksOf}
@@ -20,6 +20,7 @@ invariant-loop-process g l =
       count : l.list.count ≡ l.fn.list.count;
       settles : All (λ (q : ℕ × ℕ). IsClocked (process_at (design_view l.rows.design.now) q.0) → ⊥) l.list.pairs;
       ran : l.ran.items ++ map (λ (q : ℕ × ℕ). q.0) l.list.pairs ≡ map (λ (q : ℕ × ℕ). q.0) l.fn.list.pairs;
+      within : All (λ (p : ℕ). p < length l.rows.design.now.processes) l.ran.items;
       places : l.ran.room ≡ l.fn.ran.room;
       few : length l.ran.items + length l.list.pairs ≤ length l.rows.design.now.processes;
       same : design_view l.store.design.now ≡ design_view l.rows.design.now;

@@ -12,6 +12,8 @@ use Rattle.step_values.specs.Loose.{HaveRows, has_code}
 use Rattle.still_check.specs.Stays.{IsLeastMoved}
 use Rattle.step_start.proofs.Joined.{begun, contradicted, least}
 use Rattle.step_start.proofs.Members.{have_codes, have_rows}
+use Rattle.step_start.proofs.Named.{named}
+use Rattle.store_knowledge.specs.Knows.{Knows}
 use Rattle.step_start.proofs.begin.begin_step.Goals as goal
 
 -- ---- what the calls ask
@@ -51,23 +53,23 @@ fill-requires-clause-count c = c.requires.fits.ranked.size ∙ sym c.requires.fi
 pub fill-requires-clause-ranked : goal.fill-requires-clause-ranked
 fill-requires-clause-ranked c = (c.requires.fits.order, subst (λ n. AreRanksOf c.requires.fits.order n c.args.tables.now.order) (sym c.requires.fits.list) c.requires.fits.ranked)
 
-pub begin-requires-clause-few : goal.begin-requires-clause-few
-begin-requires-clause-few c = (premises _ c.requires.fits.lawful).few_signals
+pub begin_values-requires-clause-few : goal.begin_values-requires-clause-few
+begin_values-requires-clause-few c = (premises _ c.requires.fits.lawful).few_signals
 
-pub begin-requires-clause-rows : goal.begin-requires-clause-rows
-begin-requires-clause-rows c =
+pub begin_values-requires-clause-rows : goal.begin_values-requires-clause-rows
+begin_values-requires-clause-rows c =
     let d = design_view c.args.store.now.design.now in
     let targets = c.args.tables.now.targets in
     subst (HaveRows d targets) (sym c.woken-woken.ensures.value) (have_rows d targets (state_of c.find_moves.new.sets) c.requires.fits.targets (ap (λ t. t.processes) c.find_moves.ensures.tables ∙ c.requires.fits.processes) c.find_moves.ensures.moves)
 
-pub begin-requires-clause-coded : goal.begin-requires-clause-coded
-begin-requires-clause-coded c =
+pub begin_values-requires-clause-coded : goal.begin_values-requires-clause-coded
+begin_values-requires-clause-coded c =
     let d = design_view c.args.store.now.design.now in
     let codes = c.as_slice-codes.result.now in
     subst (HaveCodes d codes) (sym c.as_slice-changed.ensures) (have_codes d codes c.args.values.now c.find_moves.new.changed.items (λ s coded. c.requires.fits.coded s (subst (λ cs. has_code cs s ≡ true) c.as_slice-codes.ensures.value coded)) c.find_moves.ensures.changed)
 
-pub begin-requires-clause-dumped : goal.begin-requires-clause-dumped
-begin-requires-clause-dumped c =
+pub begin_values-requires-clause-dumped : goal.begin_values-requires-clause-dumped
+begin_values-requires-clause-dumped c =
     let d = design_view c.args.store.now.design.now in
     (c.requires.dumped.0, subst (λ codes. AreDumped d codes c.args.values.now.last c.requires.dumped.0) (sym c.as_slice-codes.ensures.value) c.requires.dumped.1)
 
@@ -119,6 +121,19 @@ returns-clause-begun c = λ due is.
     let count = c.requires.fits.list ∙ ap (λ (d : Design). length d.processes) design in
     let targets : AreTargetRows due.design rows = subst (λ d. AreTargetRows d rows) design c.requires.fits.targets in
     begun due codes ranks before (state_of c.find_moves.new.sets) values store here changed are c.find_moves.ensures.moves c.find_moves.ensures.tables c.find_moves.ensures.sets
-    c.moves.result.now c.woken-woken.result.now rows (map (λ q. q.0) c.fill.new.list.pairs) c.begin.new.self c.begin.new.store
+    c.moves.result.now c.woken-woken.result.now rows (map (λ q. q.0) c.fill.new.list.pairs) c.begin_values.new.values c.begin_values.new.store
     c.in_default.ensures c.moves.ensures.value c.woken-woken.ensures.value targets
-    (λ order ranked. c.fill.ensures.pairs order (subst (λ n. AreRanksOf order n ranks) (sym count) ranked)) c.begin.ensures.starts
+    (λ order ranked. c.fill.ensures.pairs order (subst (λ n. AreRanksOf order n ranks) (sym count) ranked)) c.begin_values.ensures.starts
+
+pub returns-in-Some-clause-named : goal.returns-in-Some-clause-named
+returns-in-Some-clause-named c =
+    let codes = c.as_slice-codes.result.now in
+    let values = c.args.values.now in
+    let store = c.args.store.now in
+    let d = design_view store.design.now in
+    let changed = c.as_slice-changed.result.now in
+    let h = c.requires.known.2 in
+    let are : AreChangedSignals codes values changed = subst (AreChangedSignals codes values) (sym c.as_slice-changed.ensures) c.find_moves.ensures.changed in
+    named d c.requires.known.1 store (state_of c.find_moves.new.sets) codes values changed c.requires.dumped.0 c.in-Some.found (subst (λ e. Knows e c.requires.known.1 store) (sym h.design) h)
+    (subst (λ cs. AreDumped d cs values.last c.requires.dumped.0) (sym c.as_slice-codes.ensures.value) c.requires.dumped.1) are
+    (λ s coded. c.requires.fits.coded s (subst (λ cs. has_code cs s ≡ true) c.as_slice-codes.ensures.value coded)) c.in-Some.ensures

@@ -1,0 +1,184 @@
+-- A closing step of each dump that was followed up to it.
+use Rattle.std.proofs.Common.{◌≡◌, ◌∙◌, ℕ, suc, ◌+◌, Bool, true, false, ◌++◌, List, flat_map, length, Option, Some, None, sym, ap, subst}
+use Rattle.std.specs.Prelude.{slice_index_or}
+use Rattle.event_machine.specs.Cell.{Cell}
+use Rattle.four_state.specs.Vector.{Vector}
+use Rattle.body_replay.specs.Runs.{runs_of}
+use Rattle.body_store.specs.declared.store.Store.{Store}
+use Rattle.code_values.specs.Values.{value_of}
+use Rattle.cover_marks.specs.Marks.{AreMarksOf}
+use Rattle.cover_marks.specs.declared.marks.Marks.{Marks}
+use Rattle.design_model.specs.Design.{AreDistinct, In, IsClocked, process_at, signal_bits}
+use Rattle.design_model.specs.Shows.{BoundDump}
+use Rattle.dump_check.specs.Checks.{IsFirstDifference, last_of_each}
+use Rattle.dump_check.specs.declared.order.Difference.{Difference}
+use Rattle.early_sets.specs.WakeState.{WakeState}
+use Rattle.early_sets.specs.declared.habit.Habit.{Habit}
+use Rattle.index_sets.specs.Rows.{row_at}
+use Rattle.mark_laws.specs.Marked.{AreVerdicts}
+use Rattle.process_order.proofs.Distinct.{contains_in, filter_in, in_filter}
+use Rattle.process_targets.specs.Rows.{AreTargetRows}
+use Rattle.process_targets.specs.declared.bits.Bits.{Bits}
+use Rattle.replay_follows.specs.Follows.{Follows, Parts, Subject}
+use Rattle.replay_follows.specs.Laws.{due_at, next_replay}
+use Rattle.replay_follows.proofs.Steps.{against, closes, due}
+use Rattle.replay_model.proofs.Bits.{any_in}
+use Rattle.replay_model.specs.Sets.{AreFirstSets}
+use Rattle.replay_model.specs.Step.{Closing, Replay, all_run, contradicts, is_touched}
+use Rattle.replay_sets.specs.SetsOf.{sets_of}
+use Rattle.replay_steps.proofs.Settling.{targets_move}
+use Rattle.step_changes.specs.Changes.{AreChangedSignals, none_early}
+use Rattle.step_check.specs.Checks.{AreCheckRows}
+use Rattle.step_check.specs.Laws.{HasRun}
+use Rattle.step_check.proofs.Checked.{differ_law}
+use Rattle.step_check.proofs.Moved.{moves_are}
+use Rattle.step_marks.specs.Marked.{IsOver, IsSeenAfter}
+use Rattle.step_marks.proofs.Closed as marking
+use Rattle.step_parts.specs.AtStep.{AtStep}
+use Rattle.step_parts.specs.Due.{HasBegun, IsContradicted, IsDueStep, step_of}
+use Rattle.step_parts.proofs.Noted.{noted, seen_more}
+use Rattle.step_runs.specs.Runs.{IsRunOf}
+use Rattle.step_runs.proofs.Changed.{steps_are}
+use Rattle.step_start.proofs.Members.{all_of}
+use Rattle.step_values.specs.Dumped.{AreDumped}
+use Rattle.step_values.specs.Vectors.{StepVectors}
+use Rattle.step_wakes.specs.Step.{IsOfDesign}
+use Rattle.still_check.specs.Stays.{IsLeastMoved}
+use Rattle.toggle_laws.specs.Turns.{MarksInTurn}
+use Rattle.wake_bits.specs.Wakes.{AreWakeRows}
+use Rattle.wake_bits.specs.declared.wakes.Wake.{Wake}
+use Rattle.wake_laws.specs.Laws.{HasNoWriters, habit_of}
+use Rattle.body_calls.specs.Own.{is_in}
+use Rattle.replay_core.specs.Closing.{IsDueAt}
+use Rattle.replay_core.specs.Codes.{flags_of}
+use Rattle.replay_core.specs.Faults.{IsRefuted}
+use Rattle.replay_core.specs.Made.{Made, subject_of}
+use Rattle.replay_core.specs.Steps.{CountsSensitive, IsSensitive}
+use Rattle.replay_core.proofs.Orders.{distinct_filter, order_distinct}
+
+-- what a difference says of the dump at its time
+pub dumped_is : (d : Rattle.design_model.specs.Design.Design) (codes : List (Option ℕ)) (last : List (Option Vector)) (new : Cell → Rattle.four_state.specs.declared.bit.Bit.Bit) (s code : ℕ) (v : Vector)
+    → AreDumped d codes last new → slice_index_or codes s None ≡ Some code → value_of last code ≡ Some v → v.bits ≡ signal_bits d new s
+dumped_is d codes last new s code v dumped coded is =
+    let w = dumped s code coded in
+    let same : v ≡ w.0 = (let e = sym is ∙ w.1 in cc) in
+    ap (λ (u : Vector). u.bits) same ∙ w.2
+
+module _ (m : Made) (h : Habit) (dump : BoundDump) (t : ℕ) (a : Replay) (x : Parts) (at : IsDueAt (subject_of m h dump) t a x) where
+  abbrev f : Subject
+  f = subject_of m h dump
+
+  abbrev step : WakeState → Closing
+  step wakes = step_of (due_at f t a x) wakes
+
+  pub due_step : IsDueStep (due_at f t a x) m.codes m.ranks x.sets x.values x.store
+  due_step = due f t a x at.follows at.given
+
+  settles : (p : ℕ) → IsClocked (process_at m.design p) → ⊥
+  settles = due_step.changes.unclocked
+
+  -- a step that something contradicts refutes the dump
+  refuted : (wakes : WakeState) (c : Cell) (found : Difference) → AreFirstSets m.design (habit_of h) dump (suc t) (sets_of wakes none_early) → contradicts (step wakes) c ≡ true
+      → found.dumped.bits ≡ signal_bits m.design (dump.values (suc t)) found.signal → Rattle.known_state.specs.Partly.allows_bits found.computed.bits found.dumped.bits ≡ false
+      → IsRefuted m.design (habit_of h) dump (suc t) found.signal found.dumped found.computed.bits
+  refuted wakes c found sets differs dumped differ = record {
+    contradicted = against f t a x wakes c at.follows at.window sets differs;
+    says = dumped;
+    differ = differ;
+  }
+
+  pub begun_refuted : (wakes : WakeState) (changed : List ℕ) (found : Difference) → IsContradicted (due_at f t a x) wakes found → IsLeastMoved (step wakes) changed (Some found)
+      → IsRefuted m.design (habit_of h) dump (suc t) found.signal found.dumped found.computed.bits
+  begun_refuted wakes changed found is least = refuted wakes is.cell found is.sets is.differs least.1.dumped least.1.differ
+
+  module _ (wakes : WakeState) (listed : List ℕ) (v : StepVectors) (store : Store) (begun : HasBegun (due_at f t a x) wakes listed v store) where
+    -- the runs of the list are those of the step
+    pub run_is : (n : ℕ) (watched : List (List ℕ)) (rows : List (List Wake)) (changed : List ℕ) → n ≡ length m.tables.order → ((p : ℕ) → m.tables.watched p ≡ row_at watched p)
+        → AreWakeRows m.design watched rows → AreChangedSignals m.codes x.values changed → IsRunOf (step wakes) m.points m.ranks n listed rows m.codes changed (suc t)
+    run_is n watched rows changed many same are found = record {
+      apart = at.follows.subject.apart;
+      once = at.follows.subject.once;
+      ranked = at.follows.subject.ranked;
+      ordered = many;
+      listed = begun.list;
+      step = λ p i. steps_are m.design (habit_of h) dump m.tables (sets_of wakes none_early) t a (flags_of m.codes) m.codes x.values x.sets watched rows changed due_step.changes due_step.tabled begun.sets.sets same are due_step.known found p (settles p);
+    }
+
+    -- each of them mentions or lists something that may move
+    pub counts : (before after : ℕ) → after ≡ before + length listed → CountsSensitive m.design dump (suc t) before after
+    counts before after is = record {
+      processes = listed;
+      once = subst AreDistinct (sym begun.list) (distinct_filter (is_touched (step wakes)) (m.tables.order ++ m.tables.last) (order_distinct m.design dump.bound m.tables due_step.tabled));
+      sensitive = all_of (IsSensitive m.design dump (suc t)) listed (λ p i. sensitive p (in_filter (is_touched (step wakes)) p (m.tables.order ++ m.tables.last) (subst (In p) begun.list (contains_in p listed i))).1);
+      counted = is;
+    }
+      where
+        sensitive : (p : ℕ) → is_touched (step wakes) p ≡ true → IsSensitive m.design dump (suc t) p
+        sensitive p touched =
+            let y = any_in (sets_of wakes none_early).moves (m.tables.watched p) touched in
+            record {
+              thing = y.0;
+              watched = (due_step.tabled.watched p y.0).0 y.1;
+              moves = (begun.sets.sets.moves y.0).0 y.2;
+            }
+
+    module _ (last : Store) (w : StepVectors) (flags : List Bool) (marks : Marks) (over : AtStep (step wakes) m.points (all_run (step wakes)) last w wakes flags marks) where
+      pub has_run : (ran : List ℕ) (targets : List (List Bits)) (checks : List (List ℕ)) → ran ≡ listed → AreTargetRows m.design targets → AreCheckRows m.codes targets checks
+          → HasRun (step wakes) ran targets checks m.codes x.values.last last w
+      has_run ran targets checks is rows are = record {
+        values = over.values;
+        still = over.still;
+        dump = begun.still;
+        moved = moves_are m.design (habit_of h) dump (runs_of m.design) m.tables (sets_of wakes none_early) t a due_step.changes.lawful due_step.tabled due_step.unclocked begun.sets.sets;
+        drives = targets_move m.design (habit_of h) dump (runs_of m.design) m.tables (sets_of wakes none_early) t a due_step.tabled begun.sets.sets;
+        lawful = due_step.changes.lawful;
+        running = λ p. (
+          λ i. in_filter (is_touched (step wakes)) p (m.tables.order ++ m.tables.last) (subst (In p) (is ∙ begun.list) i),
+          λ i. subst (In p) (sym (is ∙ begun.list)) (filter_in (is_touched (step wakes)) p (m.tables.order ++ m.tables.last) i.0 i.1),
+        );
+        rows = rows;
+        checked = are;
+        bound = due_step.changes.bound;
+        signals = due_step.changes.signals;
+        dumped = at.given.last;
+      }
+
+      -- a difference that was found after the runs refutes the dump
+      pub run_refuted : (ran : List ℕ) (targets : List (List Bits)) (checks : List (List ℕ)) (found : Difference) → HasRun (step wakes) ran targets checks m.codes x.values.last last w
+          → IsFirstDifference m.codes x.values.last w.made (last_of_each (flat_map (row_at checks) ran)) found → IsRefuted m.design (habit_of h) dump (suc t) found.signal found.dumped found.computed.bits
+      run_refuted ran targets checks found run first =
+          let c = differ_law (step wakes) ran targets checks m.codes x.values.last last w found run first in
+          let is = first.differs in
+          refuted wakes c.0 found begun.sets c.2 (dumped_is m.design m.codes x.values.last (dump.values (suc t)) found.signal is.code found.dumped at.given.last is.coded is.dumped) is.differ
+
+      -- the marks after the runs, and the masks before, are those with which the toggles are marked
+      pub is_over : (moving : List ℕ) (end : ℕ) → end ≡ suc t → moving ≡ wakes.moves → AreMarksOf m.points marks → IsOver (step wakes) m.points moving end last w x.seen marks
+      is_over moving end time same of = record {
+        values = over.values;
+        moves = λ s i. over.moves s ∙ subst (λ ys. is_in ys s ≡ true) same i;
+        time = sym time;
+        listed = at.follows.subject.listed;
+        marks = of;
+        seen =
+            let more = noted (step wakes) due_step.unclocked in
+            seen_more m.design m.points x.seen a.notes more.0 x.marks.verdicts marks.verdicts at.follows.rest.marks (subst (λ ns. AreVerdicts m.design m.points ns marks.verdicts) more.1 over.marks) at.follows.rest.seen;
+      }
+
+      -- where nothing was found, and the toggles are marked, the dump is followed up to the end of the step
+      pub followed : (y : Parts) → y.sets ≡ wakes → y.store ≡ last → y.acted ≡ flags → y.values.closed ≡ x.values.last → IsOfDesign m.design (flags_of m.codes) y.sets → HasNoWriters y.sets
+          → ((c : Cell) → contradicts (step wakes) c ≡ false) → MarksInTurn (step wakes) m.points wakes.moves marks.verdicts y.marks.verdicts → IsSeenAfter (step wakes) m.points y.seen y.marks
+          → (b : Replay) × Follows f (suc t) b y
+      followed y sets store acted values of writers none turns seen = (next_replay f t a x y.sets, closes f t a x y at.follows at.given at.window at.listed first of writers nothing values rest)
+        where
+          first : AreFirstSets m.design (habit_of h) dump (suc t) (sets_of y.sets none_early)
+          first = subst (λ ws. AreFirstSets m.design (habit_of h) dump (suc t) (sets_of ws none_early)) (sym sets) begun.sets
+
+          nothing : (c : Cell) → contradicts (step y.sets) c ≡ false
+          nothing = subst (λ ws. (c : Cell) → contradicts (step ws) c ≡ false) (sym sets) none
+
+          rest : Rattle.step_parts.specs.AtStep.AtRest m.design m.points (next_replay f t a x y.sets) y.store y.acted y.marks y.seen
+          rest =
+              subst (λ ws. Rattle.step_parts.specs.AtStep.AtRest m.design m.points (next_replay f t a x ws) y.store y.acted y.marks y.seen) (sym sets)
+              (subst (λ st. Rattle.step_parts.specs.AtStep.AtRest m.design m.points (next_replay f t a x wakes) st y.acted y.marks y.seen) (sym store)
+              (subst (λ fs. Rattle.step_parts.specs.AtStep.AtRest m.design m.points (next_replay f t a x wakes) last fs y.marks y.seen) (sym acted)
+              (marking.closes (step wakes) m.points last w wakes flags marks y.marks y.seen due_step.changes.lawful at.follows.subject.listed at.follows.subject.once over turns seen)))

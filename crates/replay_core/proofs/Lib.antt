@@ -1,0 +1,11 @@
+pub mod Codes
+pub mod Orders
+pub mod Given
+pub mod Untouched
+pub mod Parts
+pub mod Closing
+pub mod Starting
+pub mod Changes
+pub mod Ends
+pub mod Stepping
+pub mod ClosingStep

@@ -1,0 +1,220 @@
+-- The parts of a replay fit its design before and after each call.
+use Rattle.std.proofs.Common.{◌≡◌, ◌∙◌, ℕ, ◌<◌, ◌≤◌, Bool, true, ◌++◌, List, [], length, Option, Some, None, inl, inr, sym, ap, subst, arith}
+use Rattle.std.specs.Prelude.{nat_lt, replicate, slice_index_or}
+use Rattle.std.proofs.lemmas.Bool.{cases_Bool}
+use Rattle.std.proofs.lemmas.Bool.Decides.{nat_tests}
+use Rattle.std.proofs.lemmas.List.{get_or-replicate, get_or_past, length-replicate}
+use Rattle.four_state.specs.Vector.{Vector}
+use Rattle.body_replay.specs.Store.{Kept}
+use Rattle.body_store.specs.declared.store.Store.{Store}
+use Rattle.body_store.specs.Made.{nothing}
+use Rattle.code_values.specs.Values.{Values, no_values, value_of}
+use Rattle.cover_marks.specs.Marks.{AreMarksOf}
+use Rattle.cover_points.specs.declared.listing.Points.{Points}
+use Rattle.design_model.specs.Design.{Design}
+use Rattle.design_model.specs.Lawful.{IsLawfulDesign}
+use Rattle.design_model.specs.View.{design_view}
+use Rattle.early_sets.specs.WakeState.{WakeState, state_of}
+use Rattle.step_changes.specs.Changes.{AreUnsigned}
+use Rattle.dump_check.specs.Checks.{Checks}
+use Rattle.index_sets.specs.Rows.{row_at}
+use Rattle.settling.specs.declared.parts.Scratch.{Scratch}
+use Rattle.step_start.specs.Fits.{FitsStep}
+use Rattle.step_values.specs.Vectors.{FitsSignals, StepVectors as StepValues}
+use Rattle.value_store.specs.Queue.{Queue}
+use Rattle.step_start.specs.declared.room.StepRoom.{StepRoom}
+use Rattle.step_values.specs.Dumped.{AreDumped}
+use Rattle.store_knowledge.specs.Knows.{Knows}
+use Rattle.wake_laws.specs.Laws.{HasNoWriters}
+use Rattle.replay_core.specs.Fits.{AreWideValues, FitsParts, FitsReplay, FitsRoom, FitsState, FitsTables, HaveValues, IsReplayable, IsUntouched}
+use Rattle.replay_core.specs.declared.fault.Phase.TheVariants.{New, Refused, Started}
+use Rattle.replay_core.specs.declared.fault.ReplayFault.{ReplayFault}
+use Rattle.replay_core.specs.declared.room.ReplayRoom.{ReplayRoom}
+use Rattle.replay_core.specs.declared.state.ReplayState.{ReplayState}
+use Rattle.replay_core.specs.declared.tables.ReplayTables.{ReplayTables}
+use Rattle.replay_core.proofs.Codes.{coded_below}
+use Rattle.replay_core.proofs.Given.{cells_given, dumped}
+
+-- only signals of the design have a code
+pub coded : (d : Design) (x : ReplayTables) → FitsTables d x → (s : ℕ) → Rattle.step_values.specs.Loose.has_code x.step.codes.items s ≡ true → s < length d.signals
+coded d x fits s h = let below = coded_below x.step.codes.items s h in let size = fits.codes in omega (arith, below, size)
+
+-- what a step begins with
+pub fits_step : (d : Design) (points : Points) (x : ReplayTables) (r : ReplayRoom) (s : ReplayState) → IsLawfulDesign d → FitsParts d points x r s → FitsStep d x.step r.step s.values
+fits_step d points x r s lawful fits = record {
+  lawful = lawful;
+  signals = fits.tables.signals;
+  rows = fits.state.rows;
+  coded = coded d x fits.tables;
+  targets = fits.tables.rows.targets;
+  order = x.processes.order.items ++ x.processes.last.items;
+  ranked = fits.tables.ranked;
+  changed = fits.room.changed;
+  changes = fits.room.changes;
+  things = let are = fits.room.sets.tables.things_are in omega (arith, are);
+  processes = fits.room.sets.tables.processes_are;
+  list = fits.room.list;
+  values = fits.room.values;
+}
+
+-- the values that were given last are values of the cells of the signals
+pub given_cells : (d : Design) (points : Points) (x : ReplayTables) (s : ReplayState) → FitsState d points x s → HaveValues x.step.codes.items s.values.last → AreDumped d x.step.codes.items s.values.last (cells_given x.step.codes.items s.values.last)
+given_cells d points x s fits have = dumped d x.step.codes.items s.values.last fits.wide have
+
+no_writers : (v w : WakeState) → w.writers ≡ v.writers → HasNoWriters v → HasNoWriters w
+no_writers v w same none x = ap (λ ws. slice_index_or ws x None) same ∙ none x
+
+-- the room after a step has begun
+pub room_begun : (d : Design) (x : ReplayTables) (r : ReplayRoom) (n : StepRoom) (given : Values) → FitsStep d x.step n given → (state_of n.sets).writers ≡ (state_of r.step.sets).writers
+    → ((flags : List Bool) → Rattle.step_wakes.specs.Step.IsOfDesign d flags (state_of r.step.sets) → Rattle.step_wakes.specs.Step.IsOfDesign d flags (state_of n.sets)) → FitsRoom d x r → FitsRoom d x (record r { step = n })
+room_begun d x r n given fits writers inputs room = record {
+  changed = fits.changed;
+  changes = fits.changes;
+  sets = inputs _ room.sets;
+  writers = no_writers (state_of r.step.sets) (state_of n.sets) writers room.writers;
+  list = fits.list;
+  values = fits.values;
+  saved = room.saved;
+  empty = room.empty;
+  pieces = room.pieces;
+  ran = room.ran;
+  checks = room.checks;
+}
+
+-- all three after the first step
+pub first_fits : (d : Design) (points : Points) (x : ReplayTables) (r : ReplayRoom) (s : ReplayState) (v : StepValues) (scratch : Scratch) (ran : Queue ℕ) (checks : Checks) (values : Values) (store : Store) (k : Kept) → FitsParts d points x r s → FitsSignals d v
+    → length scratch.saved ≡ length r.scratch.saved → scratch.pieces ≡ r.scratch.pieces → ran.room ≡ r.ran.room → checks.size ≡ r.checks.size → Knows d k store → values.last ≡ s.values.last
+    → FitsParts d points x (record r { step = record r.step { values = v }; scratch = scratch; ran = ran; checks = checks }) (record s { values = values; store = store })
+first_fits d points x r s v scratch ran checks values store k fits wide saved pieces room size knows last =
+    let state = fits.state in
+    record {
+      tables = fits.tables;
+      room = record {
+        changed = fits.room.changed;
+        changes = fits.room.changes;
+        sets = fits.room.sets;
+        writers = fits.room.writers;
+        list = fits.room.list;
+        values = wide;
+        saved = λ p l. subst (λ n. length (row_at x.step.targets p) ≤ n) (sym saved) (fits.room.saved p l);
+        empty = ap (λ q. q.items) pieces ∙ fits.room.empty;
+        pieces = subst (λ q. 128 ≤ q.room) (sym pieces) fits.room.pieces;
+        ran = subst (λ n. length d.processes ≤ n) (sym room) fits.room.ran;
+        checks = size ∙ fits.room.checks;
+      };
+      state = record {
+        kept = k;
+        known = knows;
+        acted = state.acted;
+        seen = state.seen;
+        noted = state.noted;
+        marks = state.marks;
+        rows = state.rows ∙ sym (ap length last);
+        wide = subst (AreWideValues d x.step.codes.items) (sym last) state.wide;
+        unsigned = subst AreUnsigned (sym last) state.unsigned;
+      };
+    }
+
+-- all three once the processes have run
+pub run_fits : (d : Design) (points : Points) (x : ReplayTables) (r q : ReplayRoom) (s u : ReplayState) (k : Kept) → FitsParts d points x r s → FitsRoom d x q → Knows d k u.store → length u.acted.items ≡ length s.acted.items → length u.seen ≡ length s.seen
+    → u.notes.points.now ≡ s.notes.points.now → AreMarksOf points u.notes.marks → u.values.last ≡ s.values.last → FitsParts d points x q u
+run_fits d points x r q s u k fits room knows acted seen noted marks last =
+    let state = fits.state in
+    record {
+      tables = fits.tables;
+      room = room;
+      state = record {
+        kept = k;
+        known = knows;
+        acted = acted ∙ state.acted;
+        seen = seen ∙ state.seen;
+        noted = noted ∙ state.noted;
+        marks = marks;
+        rows = state.rows ∙ sym (ap length last);
+        wide = subst (AreWideValues d x.step.codes.items) (sym last) state.wide;
+        unsigned = subst AreUnsigned (sym last) state.unsigned;
+      };
+    }
+
+none_given : (count code : ℕ) → value_of (no_values count).last code ≡ None
+none_given count code = elim (cases_Bool (nat_lt code count)) [
+  | inl e ↦ get_or-replicate count code None None (grind (arith, nat_tests, e))
+  | inr e ↦
+      let size = length-replicate {A = Option Vector} count None in
+      let past : count ≤ code = grind (arith, nat_tests, e) in
+      get_or_past (replicate count None) code None (omega (arith, size, past))
+]
+
+-- before the first change no code has a value
+pub no_value : (values : Values) (count code : ℕ) → values ≡ no_values count → value_of values.last code ≡ None
+no_value values count code is = ap (λ (v : Values). value_of v.last code) is ∙ none_given count code
+
+pub count_is : (values : Values) (count : ℕ) → values ≡ no_values count → length values.last ≡ count
+count_is values count is = ap (λ (v : Values). length v.last) is ∙ length-replicate count None
+
+-- a new replay fits
+pub new_ready : (d : Design) (points : Points) (x : ReplayTables) (r : ReplayRoom) (s : ReplayState) (count : ℕ) → IsReplayable d points → FitsTables d x → FitsRoom d x r → r.step.list.pairs ≡ [] → IsUntouched d points s → s.values ≡ no_values count → length x.step.signals ≡ count
+    → length s.acted.items ≡ length d.processes → length s.seen ≡ length d.signals → s.notes.points.now ≡ points → AreMarksOf points s.notes.marks → FitsReplay d s.notes.points.now x r s New
+new_ready d points x r s count replayable tables room none untouched values size acted seen noted marks = subst (λ ps. FitsReplay d ps x r s New) (sym noted) (record {
+  replayable = replayable;
+  parts = record {
+    tables = tables;
+    room = room;
+    state = record {
+      kept = nothing;
+      known = untouched.knows;
+      acted = acted;
+      seen = seen;
+      noted = noted;
+      marks = marks;
+      rows = size ∙ sym (count_is s.values count values);
+      wide = λ y code v coded is. absurd (no_some (sym (no_value s.values count code values) ∙ is));
+      unsigned = λ code v is. absurd (no_some (sym (no_value s.values count code values) ∙ is));
+    };
+  };
+  none = none;
+  untouched = λ new. untouched;
+  begun = λ started. absurd (new_started started);
+  refused = λ fault refused. absurd (new_refused fault refused);
+})
+  where
+    no_some : {v : Vector} → None ≡ Some v → ⊥
+    no_some e = cc
+
+    new_started : New ≡ Started → ⊥
+    new_started e = cc
+
+    new_refused : (fault : ReplayFault) → New ≡ Refused fault → ⊥
+    new_refused fault e = cc
+
+-- all three once a step has begun
+pub begun_fits : (d : Design) (points : Points) (x : ReplayTables) (r : ReplayRoom) (s : ReplayState) (n : StepRoom) (store : Store) (k : Kept) → FitsParts d points x r s → FitsStep d x.step n s.values → (state_of n.sets).writers ≡ (state_of r.step.sets).writers
+    → ((flags : List Bool) → Rattle.step_wakes.specs.Step.IsOfDesign d flags (state_of r.step.sets) → Rattle.step_wakes.specs.Step.IsOfDesign d flags (state_of n.sets)) → Knows d k store → FitsParts d points x (record r { step = n }) (record s { store = store })
+begun_fits d points x r s n store k fits step writers inputs knows =
+    let state = fits.state in
+    record {
+      tables = fits.tables;
+      room = room_begun d x r n s.values step writers inputs fits.room;
+      state = record {
+        kept = k;
+        known = knows;
+        acted = state.acted;
+        seen = state.seen;
+        noted = state.noted;
+        marks = state.marks;
+        rows = state.rows;
+        wide = state.wide;
+        unsigned = state.unsigned;
+      };
+    }
+
+-- so they are after the call that begins it
+pub begin_fits : (d : Design) (points : Points) (x : ReplayTables) (r : ReplayRoom) (s : ReplayState) (n : StepRoom) (store : Store) → FitsParts d points x r s → FitsStep (design_view s.store.design.now) x.step n s.values → store.design ≡ s.store.design
+    → (state_of n.sets).writers ≡ (state_of r.step.sets).writers → ((e : Design) (flags : List Bool) → Rattle.step_wakes.specs.Step.IsOfDesign e flags (state_of r.step.sets) → Rattle.step_wakes.specs.Step.IsOfDesign e flags (state_of n.sets))
+    → (e : Design) × (k : Kept) × Knows e k store → FitsParts d points x (record r { step = n }) (record s { store = store })
+begin_fits d points x r s n store fits step design writers inputs known =
+    let k = known.1 in
+    let h = known.2 in
+    let here = fits.state.known.design in
+    let same : design_view store.design.now ≡ d = ap (λ y. design_view y.now) design ∙ here in
+    begun_fits d points x r s n store k fits (subst (λ e. FitsStep e x.step n s.values) here step) writers (inputs d) (subst (λ e. Knows e k store) (sym h.design ∙ same) h)

@@ -1,0 +1,84 @@
+use Rattle.std.proofs.Common.{◌≡◌, ◌∙◌, length, map, ap, refl, subst, sym, arith}
+use Rattle.std.proofs.lemmas.List.{length-map}
+use Rattle.design_model.specs.Design.{is_assign, process_at}
+use Rattle.design_model.specs.View.{design_view, process_view}
+use Rattle.code_values.specs.Values.{Values}
+use Rattle.dump_check.specs.Checks.{IsDifference}
+use Rattle.first_step.specs.Begun.{IsFirstOf}
+use Rattle.replay_follows.specs.Laws.{first_replay}
+use Rattle.step_values.specs.Dumped.{AreDumped}
+use Rattle.step_values.specs.Vectors.{FitsSignals}
+use Rattle.store_knowledge.specs.Knows.{Knows}
+use Rattle.replay_core.specs.Made.{made_with, subject_of}
+use Rattle.replay_core.proofs.Given.{cells_given}
+use Rattle.replay_core.proofs.Parts.{first_fits, given_cells}
+use Rattle.replay_core.proofs.Starting.{compared_below, few_run, if_found, if_none, is_first, refuted_at, starts_at}
+use Rattle.replay_core.proofs.first.run_first_step.Goals as goal
+
+pub begin_first-found-requires-clause-dumped : goal.begin_first-found-requires-clause-dumped
+begin_first-found-requires-clause-dumped g c =
+    let d = design_view c.args.design.now in
+    let codes = c.args.tables.now.step.codes.items in
+    let last = c.args.state.now.values.last in
+    let rows = c.process_rows-rows in (
+      cells_given codes last,
+      subst (λ e. AreDumped (design_view e) rows.result.codes.now last (cells_given codes last)) (sym rows.ensures.design)
+          (subst (λ cs. AreDumped d cs last (cells_given codes last)) (sym rows.ensures.codes) (given_cells d c.args.state.now.notes.points.now c.args.tables.now c.args.state.now c.requires.fits.state c.requires.given)),
+    )
+
+pub returns-clause-fits : goal.returns-clause-fits
+returns-clause-fits g c =
+    let d = design_view c.args.design.now in
+    let b = c.begin_first-found in
+    let same : design_view b.new.store.design.now ≡ d = b.ensures.same ∙ ap design_view c.process_rows-rows.ensures.design in
+    let h = b.ensures.known.2 in
+    first_fits d c.args.state.now.notes.points.now c.args.tables.now c.args.room.now c.args.state.now b.new.values b.new.scratch b.new.ran b.new.check_order c.close.new.self b.new.store b.ensures.known.1 c.requires.fits
+    (subst (λ e. FitsSignals e b.new.values) same b.ensures.fits) b.ensures.room b.ensures.pieces b.ensures.places b.ensures.size (subst (λ e. Knows e b.ensures.known.1 b.new.store) (sym h.design ∙ same) h) (ap (λ (v : Values). v.last) c.close.ensures)
+
+pub returns-clause-starts : goal.returns-clause-starts
+returns-clause-starts g c =
+    let d = design_view c.args.design.now in
+    let s = c.args.state.now in
+    let points = s.notes.points.now in
+    let x = c.args.tables.now in
+    let b = c.begin_first-found in
+    let fits = c.requires.fits in
+    let codes = c.process_rows-rows.ensures.codes in
+    if_none b.result b.ensures.none (λ none t h dump of first shown given.
+    let is = is_first d points x c.requires.replayable (c.runs_lawful.ensures d c.requires.replayable.lawful) fits.tables h dump t of first shown s c.requires.untouched given in
+    let here = subst (λ cs. IsFirstOf d dump.bound (dump.values t) cs s.values.last s.store) (sym codes) is in (
+      first_replay (subject_of (made_with d points x) h dump) t,
+      starts_at d points x c.requires.replayable (c.runs_lawful.ensures d c.requires.replayable.lawful) fits.tables h dump t of first shown s _ c.requires.untouched fits.state.marks fits.state.unsigned given (ap (λ (v : Values). v.closed) c.close.ensures) refl refl refl fits.room.sets fits.room.writers
+          (b.ensures.started d dump.bound (dump.values t) here) (none d dump.bound (dump.values t) here),
+    ))
+
+pub returns-clause-refutes : goal.returns-clause-refutes
+returns-clause-refutes g c =
+    let d = design_view c.args.design.now in
+    let s = c.args.state.now in
+    let points = s.notes.points.now in
+    let x = c.args.tables.now in
+    let b = c.begin_first-found in
+    let fits = c.requires.fits in
+    let codes = c.process_rows-rows.ensures.codes in
+    if_found b.result b.ensures.some b.ensures.first (λ found some differs t h dump of first shown given.
+    let is = is_first d points x c.requires.replayable (c.runs_lawful.ensures d c.requires.replayable.lawful) fits.tables h dump t of first shown s c.requires.untouched given in
+    let cell = some d dump.bound (dump.values t) (subst (λ cs. IsFirstOf d dump.bound (dump.values t) cs s.values.last s.store) (sym codes) is) in
+    refuted_at d points x c.requires.replayable (c.runs_lawful.ensures d c.requires.replayable.lawful) fits.tables h dump t of first shown cell.0 s.values.last found b.new.values.made given cell.2 (subst (λ cs. IsDifference cs s.values.last b.new.values.made found) codes differs.differs))
+
+pub returns-clause-named : goal.returns-clause-named
+returns-clause-named g c =
+    let b = c.begin_first-found in
+    let last = c.args.state.now.values.last in
+    let codes = c.process_rows-rows.ensures.codes in
+    if_found b.result b.ensures.first b.ensures.first (λ found differs same. compared_below (design_view c.args.design.now) c.args.tables.now last found b.new.values.made c.requires.fits.tables (subst (λ cs. IsDifference cs last b.new.values.made found) codes differs.differs))
+
+pub returns-clause-steps : goal.returns-clause-steps
+returns-clause-steps g c =
+    let D = c.args.design.now in
+    let b = c.begin_first-found in
+    let d = design_view c.process_rows-rows.result.design.now in
+    let few = few_run (design_view D) c.args.tables.now b.new.ran.items (λ p. is_assign (process_at d p)) c.requires.fits.tables b.ensures.ran in
+    let count = b.ensures.steps in
+    let size : length (map process_view D.processes) ≡ length D.processes = length-map D.processes process_view in
+    omega (arith, few, count, size)

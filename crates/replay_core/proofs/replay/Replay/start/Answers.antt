@@ -1,0 +1,100 @@
+use Rattle.std.proofs.Common.{◌≡◌, ◌∙◌, ◌<◌, ℕ, [], false, length, map, IfErr, IfNone, IfSome, Option, Some, ap, refl, subst, sym, arith}
+use Rattle.std.proofs.lemmas.List.{length-map}
+use Rattle.design_model.specs.View.{design_view, process_view}
+use Rattle.replay_follows.specs.Follows.{Follows}
+use Rattle.wake_laws.specs.Laws.{habit_of}
+use Rattle.replay_core.specs.Closing.{RefutesFirst, Starts}
+use Rattle.replay_core.specs.Faults.{IsContradiction, fault_at, phase_after}
+use Rattle.replay_core.specs.Fits.{FitsParts, FitsReplay, HaveValues}
+use Rattle.replay_core.specs.Followed.{HasFollowed}
+use Rattle.replay_core.specs.Made.{IsDumpFor, made_with, parts_with, subject_of}
+use Rattle.replay_core.specs.Parts.{given_of, made_of}
+use Rattle.code_values.specs.Values.{lacks_value}
+use Rattle.dump_check.specs.declared.order.Difference.{Difference}
+use Rattle.replay_core.specs.declared.fault.Phase.TheVariants.{Refused}
+use Rattle.replay_core.specs.declared.fault.ReplayFault.TheVariants.{NoBaseline}
+use Rattle.replay_core.specs.declared.replay.Replay.{Replay}
+use Rattle.replay_core.specs.declared.room.ReplayRoom.{ReplayRoom}
+use Rattle.replay_core.specs.declared.tables.ReplayTables.{ReplayTables}
+use Rattle.replay_core.proofs.Ends.{all_valued, if_err, is_new, named_fault, on_ok, step_ready}
+use Rattle.replay_core.proofs.replay.Replay.start.Goals as goal
+
+-- a contradiction is no signal without a value
+no_missing : {found : Option Difference} {time : ℕ} (s : ℕ) → (one : Difference) × (found ≡ Some one) × (NoBaseline s ≡ fault_at one time) → ⊥
+no_missing s is = apart s is.0 is.2
+  where
+    apart : {n : ℕ} (s : ℕ) (one : Difference) → NoBaseline s ≡ fault_at one n → ⊥
+    apart s one e = cc
+
+pub run_first_step-found-requires : goal.run_first_step-found-requires
+run_first_step-found-requires g c =
+    let x = c.args.self.now in
+    let d = design_view x.design.now in
+    let points = x.state.notes.points.now in
+    let ready = c.requires.ready in
+    let new = is_new x.phase c.requires.once c.in_default.not-Refused in
+    let none = subst (λ cs. (s : ℕ) → s < length cs → lacks_value x.state.values.last cs s ≡ false) c.as_slice-codes.ensures.value c.in_default-first_missing.ensures.none in
+    let have = all_valued x.tables.value.step.codes.items x.state.values.last (subst (λ (t : ReplayTables). (s : ℕ) → s < length t.step.codes.items → lacks_value x.state.values.last t.step.codes.items s ≡ false) c.deref.ensures none) in
+    record {
+      replayable = ready.replayable;
+      fits =
+          subst (λ t. FitsParts d points t c.deref_mut.result.now x.state) (sym c.deref-2.ensures)
+          (subst (λ r. FitsParts d points x.tables.value r x.state) (sym c.deref_mut.ensures.value) ready.parts);
+      none = subst (λ (r : ReplayRoom). r.step.list.pairs ≡ []) (sym c.deref_mut.ensures.value) ready.none;
+      untouched = ready.untouched new;
+      given = subst (λ (t : ReplayTables). HaveValues t.step.codes.items x.state.values.last) (sym c.deref-2.ensures) have;
+    }
+
+pub returns : goal.returns
+returns g c =
+    let x = c.args.self.now in
+    let D = x.design.now in
+    let d = design_view D in
+    let points = x.state.notes.points.now in
+    let tables = x.tables.value in
+    let codes = tables.step.codes.items in
+    let last = x.state.values.last in
+    let ready = c.requires.ready in
+    let run = c.run_first_step-found in
+    let room = run.new.room in
+    let state = run.new.state in
+    let found = run.result in
+    let time = c.args.time in
+    let e = c.end.ensures.phase in
+    let m = made_with d points tables in
+    let same = c.deref-2.ensures in
+    let noted = run.ensures.points in
+    let none = subst (λ cs. (s : ℕ) → s < length cs → lacks_value last cs s ≡ false) c.as_slice-codes.ensures.value c.in_default-first_missing.ensures.none in
+    let have = all_valued codes last (subst (λ (t : ReplayTables). (s : ℕ) → s < length t.step.codes.items → lacks_value last t.step.codes.items s ≡ false) c.deref.ensures none) in
+    let fits : FitsParts d points tables room state = subst (λ t. FitsParts d points t room state) same run.ensures.fits in
+    let valued : HaveValues codes state.values.last = subst (HaveValues codes) (sym run.ensures.values) have in
+    let ended : FitsReplay d state.notes.points.now tables room state (phase_after found time) =
+    subst (λ ps. FitsReplay d ps tables room state (phase_after found time)) (sym noted) (step_ready d points tables room state found time ready.replayable fits run.ensures.none valued run.ensures.named) in
+    let starts = subst (λ t. IfNone found ((n : ℕ) → Starts (made_with d points t) n x.state.values (parts_with room state))) same run.ensures.starts in
+    let refutes = subst (λ t. IfSome found (λ one. (n : ℕ) → RefutesFirst (made_with d points t) n x.state.values one)) same run.ensures.refutes in
+    let after : made_with d state.notes.points.now tables ≡ m = ap (λ ps. made_with d ps tables) noted in
+    let size : length (map process_view D.processes) ≡ length D.processes = length-map D.processes process_view in
+    let steps = run.ensures.steps in
+    record {
+      ready = subst (λ (y : Replay). FitsReplay (design_view y.design.now) y.state.notes.points.now y.tables.value y.room.value y.state y.phase) (sym e) ended;
+      made = ap made_of e ∙ after;
+      values = ap given_of e ∙ run.ensures.values;
+      started = on_ok c.end.result c.end.ensures.ok (λ none. ap (λ (y : Replay). y.phase) e ∙ ap (λ o. phase_after o time) none);
+      followed = on_ok c.end.result c.end.ensures.ok (λ none h dump of first shown given.
+          let b = (subst (λ o. IfNone o ((n : ℕ) → Starts m n x.state.values (parts_with room state))) none starts) time h dump of first shown given in
+          subst (λ (y : Replay). HasFollowed y h dump time) (sym e) (record {
+            dumped = subst (λ n. IsDumpFor n dump) (sym after) of;
+            started = ap (λ o. phase_after o time) none;
+            replay = b.0;
+            follows = subst (λ n. Follows (subject_of n h dump) time b.0 (parts_with room state)) (sym after) b.1;
+          }));
+      refused = if_err c.end.result c.end.ensures.err (λ fault is. ap (λ (y : Replay). y.phase) e ∙ ap (λ o. phase_after o time) is.1 ∙ ap Refused (sym is.2));
+      missing = λ s new is. absurd (no_missing s (subst (λ r. IfErr r (λ fault. (one : Difference) × (found ≡ Some one) × (fault ≡ fault_at one time))) is c.end.ensures.err));
+      contradiction = if_err c.end.result c.end.ensures.err (λ fault is h dump new of first shown given.
+          let refuted = (subst (λ o. IfSome o (λ one. (n : ℕ) → RefutesFirst m n x.state.values one)) is.1 refutes) time h dump of first shown given in
+          subst (λ f. IsContradiction d (habit_of h) dump time f) (sym is.2) (refl, refuted));
+      valued = λ s t dumped computed new is. have;
+      again = λ fault refused. absurd (c.in_default.not-Refused fault refused);
+      named = if_err c.end.result c.end.ensures.err (λ fault is. named_fault found is.0 fault time (length d.signals) run.ensures.named is.1 is.2);
+      steps = omega (arith, steps, size);
+    }

@@ -1,0 +1,33 @@
+use Rattle.std.proofs.Common.{◌≡◌, ◌∙◌, ◌<◌, ap, length, map, subst, sym, arith}
+use Rattle.std.proofs.lemmas.List.{length-map}
+use Rattle.design_model.specs.View.{design_view, process_view}
+use Rattle.dump_check.specs.Checks.{Checks}
+use Rattle.early_sets.specs.WakeState.{state_of}
+use Rattle.step_wakes.specs.Step.{IsOfDesign}
+use Rattle.replay_core.specs.Fits.{FitsRoom}
+use Rattle.replay_core.proofs.room.make_room.Goals as goal
+
+pub returns-clause-fits : goal.returns-clause-fits
+returns-clause-fits c =
+    let D = c.args.design.now in
+    let d = design_view D in
+    let x = c.args.tables.now in
+    let step = c.in_ok-step.ensures in
+    let scratch = c.in_ok-scratch.ensures in
+    let size : length (map process_view D.processes) ≡ length D.processes = length-map D.processes process_view in
+    let places = c.len.ensures in
+    let made = ap (λ q. q.room) c.in_ok-ran.ensures in
+    let all = step.changes in
+    subst (FitsRoom d x) (sym c.in_ok-new.ensures.ok) (record {
+      changed = step.changed;
+      changes = omega (arith, all);
+      sets = subst (λ bound. IsOfDesign d bound (state_of c.in_ok-step.step.sets)) c.requires.bound step.sets;
+      writers = step.writers;
+      list = step.list ∙ sym size;
+      values = step.values;
+      saved = λ p l. let inside : p < length D.processes = omega (arith, l, size) in scratch.saved p inside;
+      empty = scratch.empty;
+      pieces = scratch.pieces;
+      ran = omega (arith, size, places, made);
+      checks = ap (λ (k : Checks). k.size) c.in_ok-checks.ensures ∙ c.len-2.ensures;
+    })

@@ -1,0 +1,38 @@
+use Rattle.std.proofs.Common.{◌≡◌, ◌∙◌, ◌++◌, ap, length, map, refl, subst, sym}
+use Rattle.std.proofs.lemmas.List.{length-map}
+use Rattle.design_model.specs.View.{design_view, process_view}
+use Rattle.process_order.specs.Needs.{is_bound}
+use Rattle.process_order.specs.Tables.{tables_of}
+use Rattle.replay_model.specs.Tables.{AreTables}
+use Rattle.run_order.specs.Ranked.{AreRanksOf}
+use Rattle.step_changes.specs.Changes.{AreSignalsOf}
+use Rattle.step_check.specs.Checks.{AreCheckRows}
+use Rattle.step_values.specs.Loose.{has_code}
+use Rattle.replay_core.specs.Fits.{FitsTables}
+use Rattle.replay_core.proofs.Codes.{bound_is}
+use Rattle.replay_core.proofs.tables.make_tables.Goals as goal
+
+pub step_tables-requires-clause-tabled : goal.step_tables-requires-clause-tabled
+step_tables-requires-clause-tabled c =
+    subst (λ bound. AreTables (design_view c.args.design.now) bound (tables_of c.in_ok-processes.processes)) (ap is_bound c.requires.bound ∙ bound_is c.args.codes.items) c.in_ok-processes.ensures.tables
+
+pub returns-clause-fits : goal.returns-clause-fits
+returns-clause-fits c =
+    let D = c.args.design.now in
+    let d = design_view D in
+    let codes = c.args.codes.items in
+    let processes = c.in_ok-processes.processes in
+    let order = tables_of processes in
+    let step = c.in_ok-step.step in
+    let is = c.in_ok-step.ensures in
+    let size : length (map process_view D.processes) ≡ length D.processes = length-map D.processes process_view in
+    let tabled = subst (λ bound. AreTables d bound order) (ap is_bound c.requires.bound ∙ bound_is codes) c.in_ok-processes.ensures.tables in
+    subst (FitsTables d) (sym c.in_ok-new.ensures.ok) (record {
+      codes = ap length is.codes ∙ c.requires.codes;
+      signals = subst (λ cs. AreSignalsOf cs step.signals) (sym is.codes) is.signals;
+      tabled = subst (λ cs. AreTables d (has_code cs) order) (sym is.codes) tabled;
+      ranked = subst (λ n. AreRanksOf (processes.order.items ++ processes.last.items) n step.order) (sym size) is.ranked;
+      rows = c.rows_law.ensures d (has_code codes) order processes.watched step.targets c.in_ok-written.written c.in_ok-wakes.wakes c.requires.lawful c.requires.memories tabled (λ p. refl) (c.in_ok-processes.ensures.count ∙ sym size) is.targets c.in_ok-written.ensures c.in_ok-wakes.ensures;
+      wakes = c.in_ok-wakes.ensures;
+      checks = subst (λ cs. AreCheckRows cs step.targets c.in_ok-checks.checks) c.as_slice.ensures.value c.in_ok-checks.ensures;
+    })

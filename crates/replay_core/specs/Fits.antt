@@ -1,0 +1,120 @@
+-- The parts of a replay fit its design: what is true of each replay, whatever the dump has given.
+use Rattle.std.specs.Prelude.{◌≡◌, ◌<◌, ◌≤◌, ◌++◌, ℕ, false, List, [], length, slice_index_or, Option, Some, None}
+use Rattle.body_replay.specs.Store.{Kept}
+use Rattle.body_store.specs.Made.{nothing}
+use Rattle.code_values.specs.Values.{lacks_value, value_of}
+use Rattle.cover_marks.specs.Marks.{AreMarksOf}
+use Rattle.cover_points.specs.Listed.{IsPointList}
+use Rattle.cover_points.specs.Visits.{AreApart, AreOnce}
+use Rattle.cover_points.specs.declared.listing.Points.{Points}
+use Rattle.design_model.specs.Design.{Design, IsClocked, process_at, signal_at}
+use Rattle.design_model.specs.Lawful.{IsLawfulDesign}
+use Rattle.early_sets.specs.WakeState.{state_of}
+use Rattle.four_state.specs.Vector.{Vector}
+use Rattle.index_sets.specs.Rows.{row_at}
+use Rattle.mark_laws.specs.Marked.{AreVerdicts}
+use Rattle.model_laws.specs.Own.{HasOwnWakes}
+use Rattle.process_order.specs.Tables.{tables_of}
+use Rattle.replay_model.specs.Tables.{AreTables}
+use Rattle.run_order.specs.Ranked.{AreRanksOf}
+use Rattle.settling.specs.Runs.{HasRows}
+use Rattle.signal_marks.specs.Seen.{AreSeen}
+use Rattle.step_changes.specs.Changes.{AreSignalsOf, AreUnsigned}
+use Rattle.step_check.specs.Checks.{AreCheckRows}
+use Rattle.step_parts.specs.AtStep.{flag_at}
+use Rattle.step_values.specs.Loose.{has_code}
+use Rattle.step_values.specs.Vectors.{FitsSignals}
+use Rattle.step_wakes.specs.Step.{IsOfDesign}
+use Rattle.store_knowledge.specs.Knows.{Knows}
+use Rattle.wake_bits.specs.Wakes.{AreWakeRows}
+use Rattle.wake_laws.specs.Laws.{HasNoWriters}
+use Rattle.replay_core.specs.Codes.{flags_of}
+use Rattle.replay_core.specs.declared.fault.Phase.{Phase}
+use Rattle.replay_core.specs.declared.fault.Phase.TheVariants.{New, Refused, Started}
+use Rattle.replay_core.specs.declared.fault.ReplayFault.{ReplayFault}
+use Rattle.replay_core.specs.declared.fault.ReplayFault.TheVariants.{Contradiction, NoBaseline}
+use Rattle.replay_core.specs.declared.room.ReplayRoom.{ReplayRoom}
+use Rattle.replay_core.specs.declared.state.ReplayState.{ReplayState}
+use Rattle.replay_core.specs.declared.tables.ReplayTables.{ReplayTables}
+
+-- a lawful design whose steps can be replayed, without Clocked processes and memories, and its points
+pub record IsReplayable (d : Design) (points : Points) : Type 0 where
+  pub lawful : IsLawfulDesign d
+  pub own_wakes : HasOwnWakes d
+  pub unclocked : (p : ℕ) → IsClocked (process_at d p) → ⊥
+  pub memories : d.memories ≡ []
+  pub listed : IsPointList d [] points
+  pub apart : AreApart points
+  pub once : AreOnce points
+
+-- the tables are those of the design, with the signals bound that have a code
+pub record FitsTables (d : Design) (x : ReplayTables) : Type 0 where
+  pub codes : length x.step.codes.items ≡ length d.signals
+  pub signals : AreSignalsOf x.step.codes.items x.step.signals
+  pub tabled : AreTables d (has_code x.step.codes.items) (tables_of x.processes)
+  pub ranked : AreRanksOf (x.processes.order.items ++ x.processes.last.items) (length d.processes) x.step.order
+  pub rows : HasRows d x.step.targets x.written x.wakes
+  pub wakes : AreWakeRows d x.processes.watched x.wakes
+  pub checks : AreCheckRows x.step.codes.items x.step.targets x.checks
+
+-- the room is of the size of the design
+pub record FitsRoom (d : Design) (x : ReplayTables) (r : ReplayRoom) : Type 0 where
+  pub changed : r.step.changed.size ≡ length d.signals
+  pub changes : length d.signals ≤ r.step.changes.room
+  pub sets : IsOfDesign d (flags_of x.step.codes.items) (state_of r.step.sets)
+  pub writers : HasNoWriters (state_of r.step.sets)
+  pub list : r.step.list.count ≡ length d.processes
+  pub values : FitsSignals d r.step.values
+  pub saved : (p : ℕ) → p < length d.processes → length (row_at x.step.targets p) ≤ length r.scratch.saved
+  pub empty : r.scratch.pieces.items ≡ []
+  pub pieces : 128 ≤ r.scratch.pieces.room
+  pub ran : length d.processes ≤ r.ran.room
+  pub checks : r.checks.size ≡ length d.signals
+
+-- each value is as wide as the signals that have its code
+abbrev pub AreWideValues : Design → List (Option ℕ) → List (Option Vector) → Type 0
+AreWideValues d codes values =
+    (s code : ℕ) (v : Vector) → slice_index_or codes s None ≡ Some code → value_of values code ≡ Some v → length v.bits ≡ (signal_at d s).width
+
+-- what is kept is of the size of the design, and so are the values that the dump gave, which have no sign
+pub record FitsState (d : Design) (points : Points) (x : ReplayTables) (s : ReplayState) : Type 0 where
+  pub kept : Kept
+  pub known : Knows d kept s.store
+  pub acted : length s.acted.items ≡ length d.processes
+  pub seen : length s.seen ≡ length d.signals
+  pub noted : s.notes.points.now ≡ points
+  pub marks : AreMarksOf points s.notes.marks
+  pub rows : length x.step.signals ≡ length s.values.last
+  pub wide : AreWideValues d x.step.codes.items s.values.last
+  pub unsigned : AreUnsigned s.values.last
+
+-- all three fit
+pub record FitsParts (d : Design) (points : Points) (x : ReplayTables) (r : ReplayRoom) (s : ReplayState) : Type 0 where
+  pub tables : FitsTables d x
+  pub room : FitsRoom d x r
+  pub state : FitsState d points x s
+
+-- nothing is known of a signal, no Comb has acted, and no point is marked
+pub record IsUntouched (d : Design) (points : Points) (s : ReplayState) : Type 0 where
+  pub knows : Knows d nothing s.store
+  pub acted : (p : ℕ) → flag_at s.acted.items p ≡ false
+  pub marks : AreVerdicts d points [] s.notes.marks.verdicts
+  pub seen : AreSeen d points s.seen s.notes.marks.verdicts
+
+-- each signal with a code has a value
+abbrev pub HaveValues : List (Option ℕ) → List (Option Vector) → Type 0
+HaveValues codes values = (s : ℕ) → lacks_value values codes s ≡ false
+
+-- the signal that a fault names
+abbrev pub signal_of : ReplayFault → ℕ
+signal_of (NoBaseline s) = s
+signal_of (Contradiction s t dumped computed) = s
+
+-- the parts of a replay of a design fit it, no process waits, and they are as far as the replay has come
+pub record FitsReplay (d : Design) (points : Points) (x : ReplayTables) (r : ReplayRoom) (s : ReplayState) (phase : Phase) : Type 0 where
+  pub replayable : IsReplayable d points
+  pub parts : FitsParts d points x r s
+  pub none : r.step.list.pairs ≡ []
+  pub untouched : phase ≡ New → IsUntouched d points s
+  pub begun : phase ≡ Started → HaveValues x.step.codes.items s.values.last
+  pub refused : (fault : ReplayFault) → phase ≡ Refused fault → signal_of fault < length d.signals

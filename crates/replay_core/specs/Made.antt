@@ -1,0 +1,68 @@
+-- What a replay is made of, and what it keeps, without the replay itself.
+use Rattle.std.specs.Prelude.{◌≡◌, ℕ, List, Option}
+use Rattle.body_replay.specs.Runs.{runs_of}
+use Rattle.cover_points.specs.declared.listing.Points.{Points}
+use Rattle.design_model.specs.Design.{Design}
+use Rattle.design_model.specs.Shows.{BoundDump, IsDumpOf}
+use Rattle.early_sets.specs.WakeState.{state_of}
+use Rattle.early_sets.specs.declared.habit.Habit.{Habit}
+use Rattle.process_order.specs.Tables.{tables_of}
+use Rattle.replay_follows.specs.Follows.{Parts, Subject}
+use Rattle.replay_model.specs.Tables.{Tables}
+use Rattle.step_values.specs.Loose.{has_code}
+use Rattle.replay_core.specs.Codes.{flags_of}
+use Rattle.replay_core.specs.declared.room.ReplayRoom.{ReplayRoom}
+use Rattle.replay_core.specs.declared.state.ReplayState.{ReplayState}
+use Rattle.replay_core.specs.declared.tables.ReplayTables.{ReplayTables}
+
+-- what a replay is made of
+pub record Made : Type 0 where
+  pub design : Design
+  pub points : Points
+  pub codes : List (Option ℕ)  -- the code of each signal that the dump has
+  pub tables : Tables
+  pub ranks : List (Option ℕ)  -- the place of each process in the order
+
+-- of a design, its points and these tables
+abbrev pub made_with : Design → Points → ReplayTables → Made
+made_with d points x =
+    record {
+      design = d;
+      points = points;
+      codes = x.step.codes.items;
+      tables = tables_of x.processes;
+      ranks = x.step.order;
+    }
+
+-- what stays of a replay under a dump and a habit
+abbrev pub subject_of : Made → Habit → BoundDump → Subject
+subject_of m h dump =
+    record {
+      design = m.design;
+      habit = h;
+      dump = dump;
+      run = runs_of m.design;
+      tables = m.tables;
+      points = m.points;
+      flags = flags_of m.codes;
+      codes = m.codes;
+      ranks = m.ranks;
+    }
+
+-- what is kept in the room and the state
+abbrev pub parts_with : ReplayRoom → ReplayState → Parts
+parts_with r s =
+    record {
+      sets = state_of r.step.sets;
+      values = s.values;
+      store = s.store;
+      acted = s.acted.items;
+      marks = s.notes.marks;
+      seen = s.seen;
+    }
+
+-- a dump of the design that has the signals with a code, of which each step is judged by the first round
+pub record IsDumpFor (m : Made) (dump : BoundDump) : Type 0 where
+  pub fits : IsDumpOf m.design dump
+  pub bound : (s : ℕ) → dump.bound s ≡ has_code m.codes s
+  pub round : (t : ℕ) → dump.round t ≡ 0

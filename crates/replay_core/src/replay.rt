@@ -1,0 +1,249 @@
+ghost use Rattle.std.specs.Prelude.{◌≡◌, ◌≤◌, ◌+◌, ◌↔◌, ◌<◌, [], ℕ, Err, IfErr, IfOk, IsFalse, None, OnOk, Some, false, length, slice_index_or, slice_set};
+ghost use Rattle.code_values.specs.Values.{IsFirstMissing, value_of};
+ghost use Rattle.cover_marks.specs.Marks.{AreMarksOf};
+ghost use Rattle.cover_points.specs.Listed.{points_of};
+ghost use Rattle.cover_points.specs.Visits.{ArePlaced};
+ghost use Rattle.cover_points.specs.declared.listing.Points.{Points as ThePoints};
+ghost use Rattle.design_model.specs.Design.{signal_at};
+ghost use Rattle.design_model.specs.Shows.{BoundDump, IsFirst, IsShown};
+ghost use Rattle.design_model.specs.View.{design_view};
+ghost use Rattle.dump_check.specs.declared.order.Difference.{Difference as Found};
+ghost use Rattle.early_sets.specs.declared.habit.Habit.{Habit};
+ghost use Rattle.four_state.specs.Vector.{Vector};
+ghost use Rattle.known_state.specs.Partly.{Partly};
+ghost use Rattle.mark_laws.specs.Marked.{AreVerdicts};
+ghost use Rattle.replay_follows.specs.Laws.{IsLastStep};
+ghost use Rattle.wake_laws.specs.Laws.{habit_of};
+ghost use Rattle.replay_core.specs.Faults.{IsContradiction, fault_at, phase_after};
+ghost use Rattle.replay_core.specs.Fits.{HaveValues, IsReplayable, signal_of};
+ghost use Rattle.replay_core.specs.Made.{IsDumpFor};
+ghost use Rattle.replay_core.specs.Steps.{CountsSensitive};
+ghost use Rattle.replay_core.specs.declared.fault.ReplayFault.{ReplayFault as TheFault};
+ghost use Rattle.replay_core.specs.declared.fault.ReplayFault.TheVariants as fault_is;
+ghost use Rattle.replay_core.specs.declared.fault.Phase.TheVariants as phase;
+
+use crate::ReplayFault;
+use crate::fault::Phase;
+use crate::first::run_first_step;
+use crate::room::{ReplayRoom, make_room};
+use crate::rows::{bound_flags, past_codes};
+use crate::state::{ReplayState, make_state};
+use crate::step::run_step;
+use crate::tables::{ReplayTables, make_tables};
+use cov_host::NoMemory;
+use cover_marks::Marks;
+use cover_points::{MOST_POINTS, Points};
+use design_model::Design;
+use dump_check::Difference;
+use four_state::Four;
+use std::alloc::Global;
+use std::sync::ledger::Ledger;
+use step_counts::Steps;
+
+/// The replay of a dump.
+///
+/// What is promised of it is said of each dump that it has followed up to a time (`specs/Followed.antt`): of one whose steps up to
+/// that time it has closed, each at its time and with its values. There may be several, as long as the dump is not read to its end.
+#[derive(Drop)]
+pub struct Replay<'a> {
+    design: &'a Design,
+    tables: Box<ReplayTables>,
+    room: Box<ReplayRoom>,
+    state: ReplayState<'a>,
+    phase: Phase,
+}
+
+impl<'a> Replay<'a> {
+    ghost use Rattle.replay_core.specs.Followed.{AreFinal, AreGivenAt, HasFollowed, IsNextStep};
+    ghost use Rattle.replay_core.specs.Parts.{HasRefused, IsNew, IsReady, IsStarted, given_of, made_of, without_sign};
+
+    /// The replay of the dumps of a design, of which these are the points, and of which this is the code of each signal that the dump
+    /// has. Nothing is known of any signal, no step is closed and no point is marked. All memory that is ever needed is taken
+    /// here, in the time of the design's text.
+    pub fn new(
+        alloc: Global,
+        design: &'a Design,
+        points: &'a Points,
+        codes: Vec<Option<u32>>,
+    ) -> Result<Self, NoMemory>
+        requires replayable { IsReplayable (design_view design.now) points.now }
+        requires placed { ArePlaced points.now }
+        requires few { length (points_of points.now) ≤ MOST_POINTS }
+        requires codes { length codes.items ≡ length design.now.signals }
+        ensures ready { IfOk result IsReady }
+        ensures new { IfOk result IsNew }
+        ensures design { IfOk result (λ replay. (made_of replay).design ≡ design_view design.now) }
+        ensures points { IfOk result (λ replay. (made_of replay).points ≡ points.now) }
+        ensures codes { IfOk result (λ replay. (made_of replay).codes ≡ codes.items) }
+        ensures within { IfOk result (λ replay. (s code : ℕ) → slice_index_or codes.items s None ≡ Some code → code < length (given_of replay)) }
+        ensures values { IfOk result (λ replay. (code : ℕ) → value_of (given_of replay) code ≡ None) }
+    {
+        let bound = bound_flags(alloc, codes.as_slice())?;
+        let count = past_codes(codes.as_slice());
+        let tables = make_tables(alloc, design, codes, bound.as_slice(), count)?;
+        let room = make_room(alloc, design, &tables, bound.as_slice())?;
+        let state = make_state(alloc, design, points, count)?;
+        Ok(Replay {
+            design,
+            tables,
+            room,
+            state,
+            phase: Phase::New,
+        })
+    }
+
+    /// The dump gives this value to a code, as wide as the signals that have the code. Its sign is taken off. A code that no signal
+    /// has may change nothing. It takes constant time and no memory.
+    pub fn change(&mut self, code: u32, value: &Four)
+        requires ready { IsReady self.old }
+        requires width { (s : ℕ) → slice_index_or (made_of self.old).codes s None ≡ Some code → length value.now.bits ≡ (signal_at (made_of self.old).design s).width }
+        ensures ready { IsReady self.new }
+        ensures made { made_of self.new ≡ made_of self.old }
+        ensures phase { self.new.phase ≡ self.old.phase }
+        ensures values { given_of self.new ≡ slice_set (given_of self.old) code (Some (without_sign value.now)) }
+        ensures followed { (h : Habit) (dump : BoundDump) (t : ℕ) → HasFollowed self.old h dump t → HasFollowed self.new h dump t }
+    {
+        self.state.values.set(code, unsigned(value));
+    }
+
+    /// Whether the first step was closed, or a step was refused.
+    pub fn has_started(&self) -> bool
+        ensures { IsFalse result ↔ IsNew self.now }
+    {
+        match self.phase {
+            Phase::New => false,
+            Phase::Started | Phase::Refused(_) => true,
+        }
+    }
+
+    /// Closes the first step, at the first time of the dump. Where a signal with a code has no value, the fault is that; else it is
+    /// that an Assign makes something else of a signal than what the dump says. After a fault the same fault is the result of each
+    /// call, and the marks stay. It takes time for the design, and no memory; each Assign runs once.
+    pub fn start<L: Ledger>(&mut self, time: u64, steps: &mut Steps<L>) -> Result<(), ReplayFault>
+        requires ready { IsReady self.old }
+        requires once { IsStarted self.old → ⊥ }
+        ensures ready { IsReady self.new }
+        ensures made { made_of self.new ≡ made_of self.old }
+        ensures values { given_of self.new ≡ given_of self.old }
+
+        ensures started { OnOk result (IsStarted self.new) }
+        ensures followed { OnOk result ((h : Habit) (dump : BoundDump) → IsDumpFor (made_of self.old) dump → IsFirst dump time → IsShown dump time → AreGivenAt self.old dump time → HasFollowed self.new h dump time) }
+
+        ensures refused { IfErr result (HasRefused self.new) }
+        ensures missing { (s : ℕ) → IsNew self.old → result ≡ Err (fault_is.NoBaseline s) → IsFirstMissing (given_of self.old) (made_of self.old).codes s }
+        ensures contradiction { IfErr result (λ fault. (h : Habit) (dump : BoundDump) → IsNew self.old → IsDumpFor (made_of self.old) dump → IsFirst dump time → IsShown dump time → AreGivenAt self.old dump time
+            → IsContradiction (made_of self.old).design (habit_of h) dump time fault) }
+        ensures valued { (s t : ℕ) (dumped : Vector) (computed : Partly) → IsNew self.old → result ≡ Err (fault_is.Contradiction s t dumped computed) → HaveValues (made_of self.old).codes (given_of self.old) }
+        ensures again { (fault : TheFault) → HasRefused self.old fault → (result ≡ Err fault) × (self.new ≡ self.old) }
+        ensures named { IfErr result (λ fault. signal_of fault < length (made_of self.old).design.signals) }
+
+        ensures steps { steps.new ≤ steps.old + length (made_of self.old).design.processes }
+    {
+        if let Phase::Refused(fault) = self.phase {
+            return Err(fault);
+        }
+        let codes = self.tables.step.codes.as_slice();
+        if let Some(signal) = self.state.values.first_missing(codes) {
+            let signal = signal as u32;
+            return self.refuse(ReplayFault::NoBaseline { signal });
+        }
+        let found = run_first_step(
+            self.design,
+            &self.tables,
+            &mut self.room,
+            &mut self.state,
+            steps,
+        );
+        self.end(found, time)
+    }
+
+    /// Closes a later step, which ends at this time. The fault is that a process makes something else of a signal than what the dump
+    /// says, or that a signal has changed which nothing moves. After a fault the same fault is the result of each call, and the
+    /// marks stay. It takes no memory, and time for what changes and may move in the step; each process that mentions or lists what
+    /// may move runs once.
+    pub fn close_step<L: Ledger>(
+        &mut self,
+        time: u64,
+        steps: &mut Steps<L>,
+    ) -> Result<(), ReplayFault>
+        requires ready { IsReady self.old }
+        requires started { IsNew self.old → ⊥ }
+        ensures ready { IsReady self.new }
+        ensures made { made_of self.new ≡ made_of self.old }
+        ensures values { given_of self.new ≡ given_of self.old }
+
+        ensures started { OnOk result (IsStarted self.new) }
+        ensures followed { OnOk result ((h : Habit) (dump : BoundDump) (t : ℕ) → HasFollowed self.old h dump t → IsNextStep dump t time → AreGivenAt self.old dump time → HasFollowed self.new h dump time) }
+
+        ensures refused { IfErr result (HasRefused self.new) }
+        ensures contradiction { IfErr result (λ fault. (h : Habit) (dump : BoundDump) (t : ℕ) → HasFollowed self.old h dump t → IsNextStep dump t time → AreGivenAt self.old dump time
+            → IsContradiction (made_of self.old).design (habit_of h) dump time fault) }
+        ensures again { (fault : TheFault) → HasRefused self.old fault → (result ≡ Err fault) × (self.new ≡ self.old) }
+        ensures named { IfErr result (λ fault. signal_of fault < length (made_of self.old).design.signals) }
+
+        ensures steps { (h : Habit) (dump : BoundDump) (t : ℕ) → HasFollowed self.old h dump t → IsNextStep dump t time → AreGivenAt self.old dump time
+            → CountsSensitive (made_of self.old).design dump time steps.old steps.new }
+    {
+        if let Phase::Refused(fault) = self.phase {
+            return Err(fault);
+        }
+        let found = run_step(
+            self.design,
+            &self.tables,
+            &mut self.room,
+            &mut self.state,
+            time,
+            steps,
+        );
+        self.end(found, time)
+    }
+
+    /// The marks of the points. Where no step of the dump's window is left, they are its verdicts.
+    pub fn finish(self) -> Marks
+        requires ready { IsReady self }
+        ensures points { AreMarksOf (made_of self.entry).points result }
+        ensures followed { (h : Habit) (dump : BoundDump) (t : ℕ) → HasFollowed self.entry h dump t → IsLastStep dump t → AreFinal (made_of self.entry) h dump result }
+        ensures new { IsNew self.entry → AreVerdicts (made_of self.entry).design (made_of self.entry).points [] result.verdicts }
+    {
+        let state = self.state;
+        let notes = state.notes;
+        notes.marks
+    }
+
+    /// Ends a step: it is refused where there is a difference.
+    fn end(&mut self, found: Option<Difference>, time: u64) -> Result<(), ReplayFault>
+        ensures phase { self.new ≡ record self.old { phase = phase_after found time } }
+        ensures ok { OnOk result (found ≡ None) }
+        ensures err { IfErr result (λ fault. (different : Found) × (found ≡ Some different) × (fault ≡ fault_at different time)) }
+    {
+        match found {
+            Some(found) => self.refuse(ReplayFault::Contradiction {
+                signal: found.signal,
+                time,
+                dumped: found.dumped,
+                computed: found.computed,
+            }),
+            None => {
+                self.phase = Phase::Started;
+                Ok(())
+            }
+        }
+    }
+
+    /// Refuses a step, and all that come later.
+    fn refuse(&mut self, fault: ReplayFault) -> Result<(), ReplayFault>
+        ensures phase { self.new ≡ record self.old { phase = phase.Refused fault } }
+        ensures result { result ≡ Err fault }
+    {
+        let kept = fault;
+        self.phase = Phase::Refused(kept);
+        Err(fault)
+    }
+}
+
+/// The same bits without a sign.
+fn unsigned(value: &Four) -> Four
+    ensures { result ≡ record { bits = value.now.bits; signed = false } }
+{
+    value.extend(value.width(), false)
+}

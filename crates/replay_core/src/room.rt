@@ -1,0 +1,106 @@
+//! The room of a step, which is used in each step anew.
+
+ghost use Rattle.std.specs.Prelude.{◌≡◌, ◌<◌, ◌≤◌, [], ℕ, IfOk, length};
+ghost use Rattle.design_model.specs.Lawful.{IsLawfulDesign};
+ghost use Rattle.design_model.specs.View.{design_view};
+ghost use Rattle.early_sets.specs.WakeState.{state_of};
+ghost use Rattle.index_sets.specs.Rows.{row_at};
+ghost use Rattle.step_values.specs.Vectors.{FitsSignals};
+ghost use Rattle.step_wakes.specs.Step.{IsOfDesign};
+ghost use Rattle.wake_laws.specs.Laws.{HasNoWriters};
+ghost use Rattle.replay_core.specs.Codes.{flags_of};
+ghost use Rattle.replay_core.specs.Fits.{FitsRoom, FitsTables};
+
+use crate::tables::ReplayTables;
+use cov_host::NoMemory;
+use design_model::Design;
+use dump_check::CheckOrder;
+use index_sets::IndexSet;
+use settled_targets::SavedValues;
+use settling::Scratch;
+use std::alloc::Global;
+use step_start::StepRoom;
+use step_values::StepValues;
+use step_wakes::wakes_of;
+use value_store::Queue;
+use wake_list::WakeList;
+
+/// The parts of an assignment are at most as many as the bits of its target.
+const MOST_PIECES: usize = 128;
+
+/// What is found in a step.
+#[derive(Drop)]
+pub(crate) struct ReplayRoom {
+    /// What the step begins with.
+    pub(crate) step: StepRoom,
+    /// What the run of a process uses.
+    pub(crate) scratch: Scratch,
+    /// The processes that ran, in order.
+    pub(crate) ran: Queue<usize>,
+    /// The signals that are compared with the dump.
+    pub(crate) checks: CheckOrder,
+}
+
+/// The room for the steps of a design with these tables. `bound` says for each signal whether the dump has it.
+pub(crate) fn make_room(
+    alloc: Global,
+    design: &Design,
+    tables: &ReplayTables,
+    bound: &[bool],
+) -> Result<Box<ReplayRoom>, NoMemory>
+    requires lawful { IsLawfulDesign (design_view design.now) }
+    requires tables { FitsTables (design_view design.now) tables.now }
+    requires bound { bound.now ≡ flags_of tables.now.step.codes.items }
+    ensures fits { IfOk result (λ room. FitsRoom (design_view design.now) tables.now room.value) }
+    ensures none { IfOk result (λ room. room.value.step.list.pairs ≡ []) }
+{
+    let step = step_room(alloc, design, bound)?;
+    let scratch = scratch_room(alloc, design, tables)?;
+    let ran = Queue::new(alloc, design.processes.len())?;
+    let checks = CheckOrder::new(alloc, design.signals.len() as u32)?;
+    let room = ReplayRoom {
+        step,
+        scratch,
+        ran,
+        checks,
+    };
+    Ok(Box::new(alloc, room)?)
+}
+
+/// The room for what a step begins with.
+fn step_room(alloc: Global, design: &Design, bound: &[bool]) -> Result<StepRoom, NoMemory>
+    requires { IsLawfulDesign (design_view design.now) }
+    ensures changed { IfOk result (λ step. step.changed.size ≡ length design.now.signals) }
+    ensures changes { IfOk result (λ step. step.changes.room ≡ length design.now.signals) }
+    ensures sets { IfOk result (λ step. IsOfDesign (design_view design.now) bound.now (state_of step.sets)) }
+    ensures writers { IfOk result (λ step. HasNoWriters (state_of step.sets)) }
+    ensures list { IfOk result (λ step. step.list.count ≡ length design.now.processes) }
+    ensures none { IfOk result (λ step. step.list.pairs ≡ []) }
+    ensures values { IfOk result (λ step. FitsSignals (design_view design.now) step.values) }
+{
+    let signals = design.signals.len();
+    let changed = IndexSet::new(alloc, signals)?;
+    let changes = Queue::new(alloc, signals)?;
+    let sets = wakes_of(alloc, design, bound)?;
+    let list = WakeList::new(alloc, design.processes.len() as u32)?;
+    let values = StepValues::new(alloc, design)?;
+    Ok(StepRoom {
+        changed,
+        changes,
+        sets,
+        list,
+        values,
+    })
+}
+
+/// The room for the run of a process.
+fn scratch_room(alloc: Global, design: &Design, tables: &ReplayTables) -> Result<Scratch, NoMemory>
+    requires { FitsTables (design_view design.now) tables.now }
+    ensures saved { IfOk result (λ scratch. (p : ℕ) → p < length design.now.processes → length (row_at tables.now.step.targets p) ≤ length scratch.saved) }
+    ensures empty { IfOk result (λ scratch. scratch.pieces.items ≡ []) }
+    ensures pieces { IfOk result (λ scratch. 128 ≤ scratch.pieces.room) }
+{
+    let saved = SavedValues::new(alloc, &tables.step.targets, design.processes.len())?;
+    let pieces = Queue::new(alloc, MOST_PIECES)?;
+    Ok(Scratch { saved, pieces })
+}

@@ -1,0 +1,134 @@
+//! A closing step.
+
+ghost use Rattle.std.specs.Prelude.{◌≡◌, ◌<◌, [], IfNone, IfSome, flat_map, length};
+ghost use Rattle.std.specs.List.{All};
+ghost use Rattle.body_replay.specs.Store.{Kept};
+ghost use Rattle.cover_marks.specs.Marks.{AreMarksOf};
+ghost use Rattle.cover_points.specs.Listed.{IsPointList};
+ghost use Rattle.design_model.specs.Design.{Design as TheDesign};
+ghost use Rattle.design_model.specs.Lawful.{IsLawfulDesign};
+ghost use Rattle.design_model.specs.View.{design_view};
+ghost use Rattle.dump_check.specs.Checks.{AgreesAt, IsFirstDifference, last_of_each};
+ghost use Rattle.index_sets.specs.Rows.{row_at};
+ghost use Rattle.replay_model.specs.Step.{Closing};
+ghost use Rattle.step_marks.specs.Marked.{IsOver, IsSeenAfter};
+ghost use Rattle.step_values.specs.Vectors.{FitsSignals};
+ghost use Rattle.store_knowledge.specs.Knows.{Knows};
+ghost use Rattle.toggle_laws.specs.Turns.{MarksInTurn};
+ghost use Rattle.replay_core.specs.Closing.{Closes, Counts, Refutes};
+ghost use Rattle.replay_core.specs.Fits.{FitsParts, HaveValues, IsReplayable};
+ghost use Rattle.replay_core.specs.Made.{made_with, parts_with};
+
+use crate::room::ReplayRoom;
+use crate::runs::run_woken;
+use crate::state::ReplayState;
+use crate::tables::ReplayTables;
+use body_store::Store;
+use design_model::Design;
+use dump_check::Difference;
+use run_marks::MarkNotes;
+use signal_marks::SignalMarks;
+use std::sync::ledger::Ledger;
+use step_check::check;
+use step_counts::Steps;
+use step_marks::mark_moved;
+use step_start::begin_step;
+use step_values::StepValues;
+
+/// Closes the step that ends at this time, where each signal with a code has a value. The result is the signal that contradicts it,
+/// if there is one.
+pub(crate) fn run_step<L: Ledger>(
+    design: &Design,
+    tables: &ReplayTables,
+    room: &mut ReplayRoom,
+    state: &mut ReplayState,
+    time: u64,
+    steps: &mut Steps<L>,
+) -> Option<Difference>
+    requires replayable { IsReplayable (design_view design.now) state.old.notes.points.now }
+    requires fits { FitsParts (design_view design.now) state.old.notes.points.now tables.now room.old state.old }
+    requires none { room.old.step.list.pairs ≡ [] }
+    requires given { HaveValues tables.now.step.codes.items state.old.values.last }
+    ensures fits { FitsParts (design_view design.now) state.old.notes.points.now tables.now room.new state.new }
+    ensures none { room.new.step.list.pairs ≡ [] }
+    ensures points { state.new.notes.points.now ≡ state.old.notes.points.now }
+    ensures values { state.new.values.last ≡ state.old.values.last }
+    ensures closes { IfNone result (Closes (made_with (design_view design.now) state.old.notes.points.now tables.now) time (parts_with room.old state.old) (parts_with room.new state.new)) }
+    ensures refutes { IfSome result (Refutes (made_with (design_view design.now) state.old.notes.points.now tables.now) time (parts_with room.old state.old)) }
+    ensures counts { Counts (made_with (design_view design.now) state.old.notes.points.now tables.now) time (parts_with room.old state.old) steps.old steps.new }
+    ensures named { IfSome result (λ found. found.signal < length design.now.signals) }
+{
+    if let Some(found) = begin_step(
+        &tables.step,
+        &state.values,
+        &mut room.step,
+        &mut state.store,
+    ) {
+        return Some(found);
+    }
+    run_woken(design, tables, room, state, time, steps);
+    if let Some(found) = check_step(tables, room, state) {
+        return Some(found);
+    }
+    mark_step(
+        room.step.sets.moves(),
+        design,
+        &room.step.values,
+        &state.store,
+        time,
+        &mut state.seen,
+        &mut state.notes,
+    );
+    state.values.close();
+    None
+}
+
+/// The first signal of which the processes that ran made something else than what the dump says.
+fn check_step(
+    tables: &ReplayTables,
+    room: &mut ReplayRoom,
+    state: &ReplayState,
+) -> Option<Difference>
+    requires fits { FitsParts (design_view state.now.store.design.now) state.now.notes.points.now tables.now room.old state.now }
+    requires ran { All (λ p. p < length state.now.store.design.now.processes) room.old.ran.items }
+    requires given { HaveValues tables.now.step.codes.items state.now.values.last }
+    ensures room { room.new ≡ record room.old { checks = room.new.checks } }
+    ensures size { room.new.checks.size ≡ room.old.checks.size }
+    ensures some { IfSome result (IsFirstDifference tables.now.step.codes.items state.now.values.last room.old.step.values.made (last_of_each (flat_map (row_at tables.now.checks) room.old.ran.items))) }
+    ensures none { IfNone result (All (AgreesAt tables.now.step.codes.items state.now.values.last room.old.step.values.made) (last_of_each (flat_map (row_at tables.now.checks) room.old.ran.items))) }
+{
+    check(
+        room.ran.as_slice(),
+        &tables.checks,
+        tables.step.codes.as_slice(),
+        &state.values,
+        &room.step.values,
+        &mut room.checks,
+    )
+}
+
+/// Marks the toggles of what may move, over the step that ends at this time.
+fn mark_step(
+    moves: &[usize],
+    design: &Design,
+    values: &StepValues,
+    store: &Store,
+    time: u64,
+    seen: &mut SignalMarks,
+    notes: &mut MarkNotes,
+)
+    requires lawful { IsLawfulDesign (design_view design.now) }
+    requires same { design_view store.now.design.now ≡ design_view design.now }
+    requires known { (d : TheDesign) × (k : Kept) × Knows d k store.now }
+    requires fits { FitsSignals (design_view design.now) values.now }
+    requires count { length seen.old ≡ length design.now.signals }
+    requires listed { IsPointList (design_view design.now) [] notes.old.points.now }
+    requires marks { AreMarksOf notes.old.points.now notes.old.marks }
+    ensures count { length seen.new ≡ length seen.old }
+    ensures points { notes.new.points.now ≡ notes.old.points.now }
+    ensures marks { AreMarksOf notes.old.points.now notes.new.marks }
+    ensures toggles { (st : Closing) → IsOver st notes.old.points.now moves.now time store.now values.now seen.old notes.old.marks → MarksInTurn st notes.old.points.now moves.now notes.old.marks.verdicts notes.new.marks.verdicts }
+    ensures seen { (st : Closing) → IsOver st notes.old.points.now moves.now time store.now values.now seen.old notes.old.marks → IsSeenAfter st notes.old.points.now seen.new notes.new.marks }
+{
+    mark_moved(moves, design, values, store, time, seen, &mut notes.marks);
+}

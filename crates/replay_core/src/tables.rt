@@ -1,0 +1,121 @@
+//! What is made of a design and the codes of its signals once.
+
+ghost use Rattle.std.specs.Prelude.{◌≡◌, ◌<◌, ◌++◌, [], ℕ, Bool, IfOk, None, Some, length, slice_index_or};
+ghost use Rattle.design_model.specs.Lawful.{IsLawfulDesign};
+ghost use Rattle.design_model.specs.View.{design_view};
+ghost use Rattle.process_order.specs.Tables.{tables_of};
+ghost use Rattle.process_targets.specs.Rows.{AreTargetRows};
+ghost use Rattle.replay_model.specs.Tables.{AreTables};
+ghost use Rattle.run_order.specs.Ranked.{AreRanksOf};
+ghost use Rattle.step_changes.specs.Changes.{AreSignalsOf};
+ghost use Rattle.step_values.specs.Loose.{has_code};
+ghost use Rattle.replay_core.specs.Codes.{flags_of};
+ghost use Rattle.replay_core.specs.Fits.{FitsTables};
+
+use crate::rows::{code_lists, joined};
+use cov_host::NoMemory;
+use design_model::Design;
+use design_wakes::transpose;
+use index_sets::Rows;
+use process_order::{ProcessTables, process_tables};
+use process_targets::target_rows;
+use run_order::RunOrder;
+use std::alloc::Global;
+use step_check::check_rows;
+use step_runs::{rows_law, written_rows};
+use step_start::StepTables;
+use wake_bits::{Wake, wake_rows};
+
+/// What is read in each step.
+#[derive(Drop)]
+pub(crate) struct ReplayTables {
+    /// What the step begins with.
+    pub(crate) step: StepTables,
+    /// The order in which the processes are run.
+    pub(crate) processes: ProcessTables,
+    /// The signals that each process assigns.
+    pub(crate) written: Rows<u32>,
+    /// What each process watches, with the bits that wake it.
+    pub(crate) wakes: Rows<Wake>,
+    /// The signals with a code of which each process may write a bit.
+    pub(crate) checks: Rows<u32>,
+}
+
+/// The tables of a design without memories, of which each signal has this code. The codes are below `count`, and `bound` says for
+/// each signal whether it has one. It takes the time of the design's text.
+pub(crate) fn make_tables(
+    alloc: Global,
+    design: &Design,
+    codes: Vec<Option<u32>>,
+    bound: &[bool],
+    count: usize,
+) -> Result<Box<ReplayTables>, NoMemory>
+    requires lawful { IsLawfulDesign (design_view design.now) }
+    requires memories { (design_view design.now).memories ≡ [] }
+    requires codes { length codes.items ≡ length design.now.signals }
+    requires bound { bound.now ≡ flags_of codes.items }
+    requires within { (s code : ℕ) → slice_index_or codes.items s None ≡ Some code → code < count }
+    ensures fits { IfOk result (λ tables. FitsTables (design_view design.now) tables.value) }
+    ensures codes { IfOk result (λ tables. tables.value.step.codes.items ≡ codes.items) }
+    ensures count { IfOk result (λ tables. length tables.value.step.signals ≡ count) }
+{
+    let processes = process_tables(alloc, design, bound)?;
+    let step = step_tables(alloc, design, codes, &processes, count)?;
+    let written = written_rows(alloc, design)?;
+    let wakes = wake_rows(alloc, design, &processes.watched, &step.targets)?;
+    let checks = check_rows(
+        alloc,
+        design.processes.len(),
+        &step.targets,
+        step.codes.as_slice(),
+    )?;
+    rows_law();
+    let tables = ReplayTables {
+        step,
+        processes,
+        written,
+        wakes,
+        checks,
+    };
+    Ok(Box::new(alloc, tables)?)
+}
+
+/// What the steps begin with.
+fn step_tables(
+    alloc: Global,
+    design: &Design,
+    codes: Vec<Option<u32>>,
+    processes: &ProcessTables,
+    count: usize,
+) -> Result<StepTables, NoMemory>
+    requires lawful { IsLawfulDesign (design_view design.now) }
+    requires codes { length codes.items ≡ length design.now.signals }
+    requires within { (s code : ℕ) → slice_index_or codes.items s None ≡ Some code → code < count }
+    requires tabled { AreTables (design_view design.now) (has_code codes.items) (tables_of processes.now) }
+    ensures codes { IfOk result (λ step. step.codes.items ≡ codes.items) }
+    ensures signals { IfOk result (λ step. AreSignalsOf codes.items step.signals) }
+    ensures count { IfOk result (λ step. length step.signals ≡ count) }
+    ensures targets { IfOk result (λ step. AreTargetRows (design_view design.now) step.targets) }
+    ensures ranked { IfOk result (λ step. AreRanksOf (processes.now.order.items ++ processes.now.last.items) (length design.now.processes) step.order) }
+{
+    let lists = code_lists(alloc, codes.as_slice())?;
+    let signals = transpose(alloc, lists.as_slice(), count)?;
+    let targets = target_rows(alloc, design)?;
+    let order = order_of(alloc, design, processes)?;
+    Ok(StepTables {
+        codes,
+        signals,
+        targets,
+        order,
+    })
+}
+
+/// The place of each process in the order in which they run.
+fn order_of(alloc: Global, design: &Design, processes: &ProcessTables) -> Result<RunOrder, NoMemory>
+    requires lawful { IsLawfulDesign (design_view design.now) }
+    requires tabled { (bound : ℕ → Bool) × AreTables (design_view design.now) bound (tables_of processes.now) }
+    ensures { IfOk result (AreRanksOf (processes.now.order.items ++ processes.now.last.items) (length design.now.processes)) }
+{
+    let all = joined(alloc, processes.order.as_slice(), processes.last.as_slice())?;
+    RunOrder::new(alloc, design.processes.len() as u32, all.as_slice())
+}

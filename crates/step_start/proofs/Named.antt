@@ -1,0 +1,41 @@
+-- A signal that has moved though it may not is one of the design.
+use Rattle.std.proofs.Common.{◌≡◌, ℕ, ◌<◌, Bool, true, false, List, [], length, Option, Some, refl}
+use Rattle.event_machine.specs.Cell.{Values as CellValues}
+use Rattle.four_state.specs.declared.bit.Bit.{Bit}
+use Rattle.body_replay.specs.Runs.{runs_of}
+use Rattle.body_replay.specs.Store.{Kept}
+use Rattle.body_store.specs.declared.store.Store.{Store}
+use Rattle.code_values.specs.Values.{Values}
+use Rattle.design_model.specs.Design.{Design}
+use Rattle.dump_check.specs.declared.order.Difference.{Difference}
+use Rattle.early_sets.specs.WakeState.{WakeState}
+use Rattle.process_order.proofs.Distinct.{in_contains}
+use Rattle.replay_model.specs.Step.{Closing}
+use Rattle.replay_sets.specs.SetsOf.{sets_of}
+use Rattle.step_changes.specs.Changes.{AreChangedSignals, none_early}
+use Rattle.step_changes.proofs.Found.{coded_by}
+use Rattle.step_values.specs.Dumped.{AreDumped}
+use Rattle.step_values.specs.Loose.{has_code}
+use Rattle.still_check.specs.Stays.{IsAtStart, IsLeastMoved}
+use Rattle.store_knowledge.specs.Knows.{Knows}
+
+-- some step with these parts
+abbrev some_step : Design → Kept → WakeState → CellValues Bit → Closing
+some_step d k w new =
+    record {
+      design = d;
+      bound = λ s. true;
+      run = runs_of d;
+      tables = record { watched = λ p. []; clocked = []; order = []; last = [] };
+      sets = sets_of w none_early;
+      time = 0;
+      new = new;
+      start = record { kept = k; acted = λ p. false; notes = [] };
+    }
+
+pub named : (d : Design) (k : Kept) (store : Store) (w : WakeState) (codes : List (Option ℕ)) (values : Values) (changed : List ℕ) (new : CellValues Bit) (found : Difference) → Knows d k store → AreDumped d codes values.last new → AreChangedSignals codes values changed
+    → ((s : ℕ) → has_code codes s ≡ true → s < length d.signals) → ((st : Closing) → IsAtStart st store w codes values.last → IsLeastMoved st changed (Some found)) → found.signal < length d.signals
+named d k store w codes values changed new found knows dumped are below least =
+    let m = least (some_step d k w new) (record { knows = knows; moves = λ s. refl; dumped = dumped }) in
+    let r = (are found.signal).0 (in_contains found.signal changed m.0) in
+    below found.signal (coded_by codes found.signal r.0 r.1)
