@@ -1,0 +1,206 @@
+-- A step that is closed: the replay has followed each dump that goes on up to it, or no run shows what was read.
+use Rattle.std.proofs.Common.{◌≡◌, ◌↔◌, ℕ, ◌<◌, Bool, true, false, is_some, List, [], ◌∷◌, ◌++◌, length, Option, None, Some, Ok, Err, refl, sym, ap, subst, ◌∙◌, inl, inr, arith}
+use Rattle.std.specs.Prelude.{IfErr, IsErrAnd, IsFalse, OnOk, Result}
+use Rattle.std.proofs.lemmas.Bool.{false≢true}
+use Rattle.four_state.specs.Vector.{Vector}
+use Rattle.known_state.specs.Partly.{Partly}
+use Rattle.cover_points.specs.declared.listing.Points.{Points}
+use Rattle.design_model.specs.Shows.{BoundDump, IsFirst, IsShown}
+use Rattle.design_model.specs.declared.design.Design.{Design}
+use Rattle.event_machine.specs.Habit.{Free as free}
+use Rattle.vcd_reader.specs.Times.{Rises, last_time}
+use Rattle.vcd_reader.specs.declared.entry.Entry.{Entry}
+use Rattle.vcd_reader.specs.declared.entry.Entry.TheVariants.{Time}
+use Rattle.vcd_reader.specs.declared.vars.Var.{Var}
+use Rattle.code_values.specs.Values.{IsFirstMissing}
+use Rattle.entry_laws.specs.Entries.{AreEntries}
+use Rattle.replay_core.specs.Faults.{IsContradiction, IsRefuted}
+use Rattle.replay_core.specs.Fits.{HaveValues, signal_of}
+use Rattle.replay_core.specs.Followed.{AreGivenAt, IsNextStep}
+use Rattle.replay_core.specs.Made.{IsDumpFor}
+use Rattle.replay_core.specs.Parts.{IsNew, IsReady, IsStarted, given_of, made_of}
+use Rattle.replay_core.specs.declared.fault.Phase.{Phase}
+use Rattle.replay_core.specs.declared.fault.Phase.TheVariants.{New, Started}
+use Rattle.replay_core.specs.declared.fault.ReplayFault.{ReplayFault}
+use Rattle.replay_core.specs.declared.fault.ReplayFault.TheVariants as fault
+use Rattle.replay_core.specs.declared.replay.Replay.{Replay}
+use Rattle.signal_binding.specs.Binding.{codes_of}
+use Rattle.shown_dumps.specs.Laws.{dump_with}
+use Rattle.shown_dumps.specs.Said.{EndsIn, times_in}
+use Rattle.shown_dumps.specs.Shown.{code_at}
+use Rattle.shown_dumps.proofs.Times.{first_time, next_time}
+use Rattle.shown_dumps.proofs.Values.{rises_front}
+use Rattle.dump_replay.specs.Faults.{IsContradicted, IsReplayFault}
+use Rattle.dump_replay.specs.Followed.{Follows, HasFollowed, IsReplayOf}
+use Rattle.dump_replay.specs.declared.replay.DumpReplay.{DumpReplay}
+use Rattle.dump_replay.proofs.Facts.{given_at, no_baseline, of_dump}
+use Rattle.dump_replay.proofs.More.{last_cases}
+
+-- no step is closed yet, or the first one is
+new_or_started : (p : Phase) → p ≡ New → p ≡ Started → ⊥
+new_or_started p new started = let no_phase : New ≡ Started = sym new ∙ started in cc
+
+-- a time that is said next is later
+later_next : (entries more : List Entry) (last next : ℕ) → Rises None (entries ++ Time next ∷ more) → last_time None entries ≡ Some last → last < next
+later_next entries more last next rises is_last = (subst (λ o. Rises o (Time next ∷ more)) is_last (rises_front None entries (Time next ∷ more) rises).1).0
+
+module _ (x : DumpReplay) (design : Design) (points : Points) (vars : List Var) (instance : List ℕ) (entries more : List Entry) (last next : ℕ)
+    (are : AreEntries vars entries) (rises : Rises None (entries ++ Time next ∷ more)) (is_last : last_time None entries ≡ Some last) (f : HasFollowed x design points vars instance entries) where
+  abbrev codes : List (Option ℕ)
+  codes = codes_of design vars instance
+
+  abbrev the_dump : BoundDump
+  the_dump = dump_with codes entries next more
+
+  -- it is a dump that the replay can follow
+  pub dump_for : IsDumpFor (made_of x.replay) the_dump
+  dump_for = record {
+    fits = of_dump design vars instance entries more next rises (made_of x.replay).design f.of.design_is f.of.bindable;
+    bound = λ s. ap (λ cs. is_some (code_at cs s)) (sym f.of.codes);
+    round = λ t. refl;
+  }
+
+  -- with the values that were given last at the last time
+  pub given_there : HaveValues (made_of x.replay).codes (given_of x.replay) → AreGivenAt x.replay the_dump last
+  given_there have =
+      given_at design vars instance entries more next rises (made_of x.replay).design (made_of x.replay).codes (given_of x.replay) last f.of.design_is f.of.codes (later_next entries more last next rises is_last) are is_last f.taken.given have
+
+  -- where no step is closed, it is the first time
+  pub only_time : IsNew x.replay → times_in entries ≡ last ∷ []
+  only_time new =
+      elim (last_cases entries last is_last) [
+        | inl one ↦ one
+        | inr (before, ends) ↦ absurd (new_or_started x.replay.phase new (f.taken.follows before last ends (Time next ∷ more) rises).started)
+      ]
+
+  pub is_first : IsNew x.replay → IsFirst the_dump last × IsShown the_dump last
+  is_first new = first_time codes entries more next rises last (only_time new)
+
+  -- else there is a time before it, up to which the replay has followed the dump
+  pub earlier_time : (IsNew x.replay → ⊥) → (before : ℕ) × EndsIn (times_in entries) before last
+  earlier_time begun =
+      elim (last_cases entries last is_last) [
+        | inl one ↦ absurd (begun (f.taken.new (omega (arith, ap length one))))
+        | inr ends ↦ ends
+      ]
+
+  pub followed_before : (begun : IsNew x.replay → ⊥) → Follows x.replay the_dump (earlier_time begun).0
+  followed_before begun = f.taken.follows (earlier_time begun).0 last (earlier_time begun).1 (Time next ∷ more) rises
+
+  pub next_step : (begun : IsNew x.replay → ⊥) → IsNextStep the_dump (earlier_time begun).0 last
+  next_step begun =
+      let n = next_time codes entries more next rises (earlier_time begun).0 last (earlier_time begun).1 in
+      record { later = n.rises; listed = n.listed; window = n.in_window; between = n.none }
+
+  -- then each bound signal has a value
+  pub have_values : (IsNew x.replay → ⊥) → HaveValues (made_of x.replay).codes (given_of x.replay)
+  have_values begun = f.of.ready.begun (followed_before begun).started
+
+-- ---- the answers of the two calls
+
+module _ (x : DumpReplay) (y : Replay) (time : ℕ) where
+  -- the first step was closed
+  pub first_closed : IsNew x.replay → IsReady y → IsStarted y → made_of y ≡ made_of x.replay → given_of y ≡ given_of x.replay
+      → ((dump : BoundDump) → IsDumpFor (made_of x.replay) dump → IsFirst dump time → IsShown dump time → AreGivenAt x.replay dump time → Follows y dump time)
+      → (design : Design) (points : Points) (vars : List Var) (instance : List ℕ) (entries more : List Entry) (next : ℕ) → AreEntries vars entries → Rises None (entries ++ Time next ∷ more) → last_time None entries ≡ Some time
+      → HasFollowed x design points vars instance entries → Follows y (dump_with (codes_of design vars instance) entries next more) time
+  first_closed new ready started made given closed design points vars instance entries more next are rises is_last f =
+      let own : HaveValues (made_of y).codes (given_of y) = ready.begun started in
+      let have : HaveValues (made_of x.replay).codes (given_of x.replay) = subst (λ m. HaveValues m.codes (given_of x.replay)) made (subst (λ g. HaveValues (made_of y).codes g) given own) in
+      let first = is_first x design points vars instance entries more time next are rises is_last f new in
+      closed (dump_with (codes_of design vars instance) entries next more) (dump_for x design points vars instance entries more time next are rises is_last f) first.0 first.1 (given_there x design points vars instance entries more time next are rises is_last f have)
+
+  -- a later step was closed
+  pub later_closed : (IsNew x.replay → ⊥)
+      → ((dump : BoundDump) (t : ℕ) → Follows x.replay dump t → IsNextStep dump t time → AreGivenAt x.replay dump time → Follows y dump time)
+      → (design : Design) (points : Points) (vars : List Var) (instance : List ℕ) (entries more : List Entry) (next : ℕ) → AreEntries vars entries → Rises None (entries ++ Time next ∷ more) → last_time None entries ≡ Some time
+      → HasFollowed x design points vars instance entries → Follows y (dump_with (codes_of design vars instance) entries next more) time
+  later_closed begun closed design points vars instance entries more next are rises is_last f =
+      closed (dump_with (codes_of design vars instance) entries next more) (earlier_time x design points vars instance entries more time next are rises is_last f begun).0
+      (followed_before x design points vars instance entries more time next are rises is_last f begun) (next_step x design points vars instance entries more time next are rises is_last f begun)
+      (given_there x design points vars instance entries more time next are rises is_last f (have_values x design points vars instance entries more time next are rises is_last f begun))
+
+-- what a contradiction of the dump of the entries says of them
+refuted_entries : (x : DumpReplay) (design : Design) (points : Points) (vars : List Var) (instance : List ℕ) (entries : List Entry) (time next s end : ℕ) (dumped : Vector) (computed : Partly) → last_time None entries ≡ Some time
+    → IsReplayOf x design points vars instance → s < length (made_of x.replay).design.signals → (end ≡ time) × IsRefuted (made_of x.replay).design free (dump_with (codes_of design vars instance) entries next []) time s dumped computed.bits
+    → IsContradicted design vars instance (entries ++ Time next ∷ []) s end dumped computed.bits
+refuted_entries x design points vars instance entries time next s end dumped computed is_last of listed (same, is) =
+    subst (λ t. IsContradicted design vars instance (entries ++ Time next ∷ []) s t dumped computed.bits) (sym same) (record {
+      bindable = of.bindable;
+      ends = record { front = entries; next = next; are = refl; last = is_last };
+      listed = subst (λ d. s < length d.signals) of.design_is listed;
+      refuted = subst (λ d. IsRefuted d free (dump_with (codes_of design vars instance) entries next []) time s dumped computed.bits) of.design_is is;
+    })
+
+module _ {T : Type 0} (x : DumpReplay) (result : Result T ReplayFault) (time : ℕ) where
+  -- the first step was refused
+  pub first_refused : IsNew x.replay → ((s : ℕ) → IsNew x.replay → result ≡ Err (fault.NoBaseline s) → IsFirstMissing (given_of x.replay) (made_of x.replay).codes s)
+      → ((s t : ℕ) (dumped : Vector) (computed : Partly) → IsNew x.replay → result ≡ Err (fault.Contradiction s t dumped computed) → HaveValues (made_of x.replay).codes (given_of x.replay))
+      → IfErr result (λ f. (dump : BoundDump) → IsNew x.replay → IsDumpFor (made_of x.replay) dump → IsFirst dump time → IsShown dump time → AreGivenAt x.replay dump time → IsContradiction (made_of x.replay).design free dump time f)
+      → IfErr result (λ f. signal_of f < length (made_of x.replay).design.signals)
+      → IfErr result (λ g. (design : Design) (points : Points) (vars : List Var) (instance : List ℕ) (entries : List Entry) (next : ℕ) → AreEntries vars entries → Rises None (entries ++ Time next ∷ []) → last_time None entries ≡ Some time
+      → HasFollowed x design points vars instance entries → IsReplayFault design vars instance (entries ++ Time next ∷ []) g)
+  first_refused new missing valued contradiction named = go result refl contradiction named
+    where
+      go : (r : Result T ReplayFault) → result ≡ r → IfErr r (λ f. (dump : BoundDump) → IsNew x.replay → IsDumpFor (made_of x.replay) dump → IsFirst dump time → IsShown dump time → AreGivenAt x.replay dump time → IsContradiction (made_of x.replay).design free dump time f)
+          → IfErr r (λ f. signal_of f < length (made_of x.replay).design.signals)
+          → IfErr r (λ g. (design : Design) (points : Points) (vars : List Var) (instance : List ℕ) (entries : List Entry) (next : ℕ) → AreEntries vars entries → Rises None (entries ++ Time next ∷ []) → last_time None entries ≡ Some time
+          → HasFollowed x design points vars instance entries → IsReplayFault design vars instance (entries ++ Time next ∷ []) g)
+      go (Ok value) is c n = tt
+      go (Err (fault.NoBaseline s)) is c n = λ design points vars instance entries next are rises is_last f.
+          no_baseline design vars instance entries time next (made_of x.replay).codes (given_of x.replay) s f.of.codes f.of.bindable (only_time x design points vars instance entries [] time next are rises is_last f new) f.taken.given (missing s new is)
+      go (Err (fault.Contradiction s end dumped computed)) is c n = λ design points vars instance entries next are rises is_last f.
+          let first = is_first x design points vars instance entries [] time next are rises is_last f new in
+          refuted_entries x design points vars instance entries time next s end dumped computed is_last f.of n
+          (c (dump_with (codes_of design vars instance) entries next []) new (dump_for x design points vars instance entries [] time next are rises is_last f) first.0 first.1
+          (given_there x design points vars instance entries [] time next are rises is_last f (valued s end dumped computed new is)))
+
+  -- a later step was refused
+  pub later_refused : (IsNew x.replay → ⊥)
+      → IfErr result (λ f. (dump : BoundDump) (t : ℕ) → Follows x.replay dump t → IsNextStep dump t time → AreGivenAt x.replay dump time → IsContradiction (made_of x.replay).design free dump time f)
+      → IfErr result (λ f. signal_of f < length (made_of x.replay).design.signals)
+      → IfErr result (λ g. (design : Design) (points : Points) (vars : List Var) (instance : List ℕ) (entries : List Entry) (next : ℕ) → AreEntries vars entries → Rises None (entries ++ Time next ∷ []) → last_time None entries ≡ Some time
+      → HasFollowed x design points vars instance entries → IsReplayFault design vars instance (entries ++ Time next ∷ []) g)
+  later_refused begun contradiction named = go result contradiction named
+    where
+      go : (r : Result T ReplayFault) → IfErr r (λ f. (dump : BoundDump) (t : ℕ) → Follows x.replay dump t → IsNextStep dump t time → AreGivenAt x.replay dump time → IsContradiction (made_of x.replay).design free dump time f)
+          → IfErr r (λ f. signal_of f < length (made_of x.replay).design.signals)
+          → IfErr r (λ g. (design : Design) (points : Points) (vars : List Var) (instance : List ℕ) (entries : List Entry) (next : ℕ) → AreEntries vars entries → Rises None (entries ++ Time next ∷ []) → last_time None entries ≡ Some time
+          → HasFollowed x design points vars instance entries → IsReplayFault design vars instance (entries ++ Time next ∷ []) g)
+      go (Ok value) c n = tt
+      go (Err (fault.NoBaseline s)) c n = λ design points vars instance entries next are rises is_last f.
+          absurd (c (dump_with (codes_of design vars instance) entries next []) (earlier_time x design points vars instance entries [] time next are rises is_last f begun).0
+          (followed_before x design points vars instance entries [] time next are rises is_last f begun) (next_step x design points vars instance entries [] time next are rises is_last f begun)
+          (given_there x design points vars instance entries [] time next are rises is_last f (have_values x design points vars instance entries [] time next are rises is_last f begun)))
+      go (Err (fault.Contradiction s end dumped computed)) c n = λ design points vars instance entries next are rises is_last f.
+          refuted_entries x design points vars instance entries time next s end dumped computed is_last f.of n
+          (c (dump_with (codes_of design vars instance) entries next []) (earlier_time x design points vars instance entries [] time next are rises is_last f begun).0
+          (followed_before x design points vars instance entries [] time next are rises is_last f begun) (next_step x design points vars instance entries [] time next are rises is_last f begun)
+          (given_there x design points vars instance entries [] time next are rises is_last f (have_values x design points vars instance entries [] time next are rises is_last f begun)))
+
+-- ---- what a result says once it is known
+
+pub ok_map : {T : Type 0} (r : Result T ReplayFault) (A B : Type 0) → (A → B) → OnOk r A → OnOk r B
+ok_map (Ok value) A B step a = step a
+ok_map (Err fault) A B step a = tt
+
+pub ok_both : {T : Type 0} (r : Result T ReplayFault) (A B C : Type 0) → (A → B → C) → OnOk r A → OnOk r B → OnOk r C
+ok_both (Ok value) A B C step a b = step a b
+ok_both (Err fault) A B C step a b = tt
+
+pub has_begun : (x : Replay) (started : Bool) → IsFalse started ↔ IsNew x → started ≡ true → IsNew x → ⊥
+has_begun x started is true_is new = false≢true (sym (is.1 new) ∙ true_is)
+
+pub map_fault : {T : Type 0} (r : Result T ReplayFault) (A B : ReplayFault → Type 0) → ((fault : ReplayFault) → A fault → B fault) → IfErr r A → IfErr r B
+map_fault (Ok value) A B step a = tt
+map_fault (Err fault) A B step a = step fault a
+
+pub is_new : (x : Replay) (started : Bool) → IsFalse started ↔ IsNew x → started ≡ false → IsNew x
+is_new x started is false_is = is.0 false_is
+
+pub not_started : (x : Replay) (started : Bool) → IsFalse started ↔ IsNew x → started ≡ false → IsStarted x → ⊥
+not_started x started is false_is begun = new_or_started x.phase (is.0 false_is) begun
+
+pub fault_is : {T : Type 0} (r : Result T ReplayFault) (A B : ReplayFault → Type 0) → ((fault : ReplayFault) → A fault → B fault) → IsErrAnd r A → IfErr r B
+fault_is (Ok value) A B step a = tt
+fault_is (Err fault) A B step a = step fault a

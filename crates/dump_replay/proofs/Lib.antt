@@ -1,0 +1,7 @@
+pub mod More
+pub mod Taken
+pub mod Facts
+pub mod Ends
+pub mod Following
+pub mod Closing
+pub mod Finishing

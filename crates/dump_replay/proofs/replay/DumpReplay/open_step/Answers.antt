@@ -1,0 +1,13 @@
+use Rattle.std.proofs.Common.{Some, refl}
+use Rattle.dump_replay.proofs.Following.{first_opened}
+use Rattle.dump_replay.proofs.replay.DumpReplay.open_step.Goals as goal
+
+pub returns-in-Some-clause-followed : goal.returns-in-Some-clause-followed
+returns-in-Some-clause-followed c = c.open_later.ensures.followed
+
+pub returns-in-Some-clause-fault : goal.returns-in-Some-clause-fault
+returns-in-Some-clause-fault c = c.open_later.ensures.fault
+
+pub returns-in-None-clause-followed : goal.returns-in-None-clause-followed
+returns-in-None-clause-followed c design points vars instance entries are rises f =
+    first_opened c.args.self.now record { replay = c.args.self.now.replay; wanted = c.args.self.now.wanted; last = Some c.args.time } c.args.time c.in-None.is refl refl refl design points vars instance entries f

@@ -1,0 +1,175 @@
+ghost use Rattle.std.specs.Prelude.{◌≡◌, ◌++◌, ◌∷◌, ◌<◌, ◌≤◌, [], ℕ, List, None, Some, All, IfErr, IfOk, OnOk, length};
+ghost use Rattle.cover_points.specs.Listed.{points_of};
+ghost use Rattle.cover_points.specs.Visits.{ArePlaced};
+ghost use Rattle.cover_points.specs.declared.listing.Points.{Points as ThePoints};
+ghost use Rattle.design_model.specs.Design.{signal_at};
+ghost use Rattle.design_model.specs.View.{design_view};
+ghost use Rattle.design_model.specs.declared.design.Design.{Design as TheDesign};
+ghost use Rattle.entry_laws.specs.Entries.{AreEntries};
+ghost use Rattle.event_machine.specs.Habit.{Free};
+ghost use Rattle.replay_core.specs.Fits.{IsReplayable};
+ghost use Rattle.replay_core.specs.Parts.{IsReady, IsStarted, given_of, made_of};
+ghost use Rattle.shown_dumps.specs.Laws.{dump_with};
+ghost use Rattle.shown_dumps.specs.Shown.{code_at, dump_of};
+ghost use Rattle.signal_binding.specs.Binding.{IsBindFault, codes_of};
+ghost use Rattle.vcd_reader.specs.Dump.{steps_of};
+ghost use Rattle.vcd_reader.specs.Times.{Rises, last_time};
+ghost use Rattle.vcd_reader.specs.Wanted.{IsUnwanted};
+ghost use Rattle.vcd_reader.specs.declared.entry.Entry.{Entry};
+ghost use Rattle.vcd_reader.specs.declared.entry.Entry.TheVariants as entry;
+ghost use Rattle.vcd_reader.specs.declared.vars.Var.{Var as TheVar};
+ghost use Rattle.dump_replay.specs.Faults.{IsReplayFault};
+
+use bound_codes::{coded_flags, signal_codes};
+use cover_marks::Marks;
+use cover_points::{MOST_POINTS, Points};
+use design_model::Design;
+use four_state::Four;
+use replay_core::{Replay, ReplayFault};
+use signal_binding::{BindFault, bind};
+use std::alloc::Global;
+use std::marker::Brand;
+use std::sync::ledger::{Blank, Ledger};
+use step_counts::Steps;
+use vcd_reader::Vars;
+
+/// The replay of a dump while the dump is read.
+///
+/// It is made when the header ends. What is promised of it is said of each dump that begins with the entries that it was given
+/// (`specs/Followed.antt`). Only `new` takes memory.
+#[derive(Drop)]
+pub struct DumpReplay<'a> {
+    replay: Replay<'a>,
+    /// By code, whether a signal has it.
+    wanted: Vec<bool>,
+    /// The last time, of which the step is not closed.
+    last: Option<u64>,
+}
+
+impl<'a> DumpReplay<'a> {
+    ghost use Rattle.dump_replay.specs.Followed.{AreFinalMarks, Follows, HasFollowed};
+
+    /// Binds the signals of a design with these points, of which the instance is the top, to the variables of a dump.
+    pub fn new(
+        alloc: Global,
+        design: &'a Design,
+        points: &'a Points,
+        vars: &Vars,
+        instance: &str,
+    ) -> Result<Self, BindFault>
+        requires replayable { IsReplayable (design_view design.now) points.now }
+        requires placed { ArePlaced points.now }
+        requires few { length (points_of points.now) ≤ MOST_POINTS }
+        ensures ready { IfOk result (λ x. IsReady x.replay) }
+        ensures followed { IfOk result (λ x. HasFollowed x design.now points.now vars.now instance.now []) }
+        ensures fault { IfErr result (IsBindFault design.now vars.now instance.now) }
+    {
+        let binding = bind(alloc, design, vars, instance)?;
+        let codes = signal_codes(alloc, &binding, design.signals.len() as u32)?;
+        let wanted = coded_flags(alloc, codes.as_slice())?;
+        let replay = Replay::new(alloc, design, points, codes)?;
+        Ok(DumpReplay {
+            replay,
+            wanted,
+            last: None,
+        })
+    }
+
+    /// By code, whether its changes are wanted. They are those of the codes that signals have, and to pass over any others
+    /// changes nothing.
+    pub fn wanted(&self) -> &[bool]
+        ensures { (design : TheDesign) (points : ThePoints) (vars : List TheVar) (instance : List ℕ) (entries passed : List Entry)
+            → HasFollowed self.now design points vars instance entries → All (IsUnwanted result.now) passed → HasFollowed self.now design points vars instance (entries ++ passed) }
+    {
+        self.wanted.as_slice()
+    }
+
+    /// Takes a change of a code to a value as wide as the signals that have the code.
+    pub fn change(&mut self, code: u32, value: &Four)
+        requires ready { IsReady self.old.replay }
+        requires width { (s : ℕ) → code_at (made_of self.old.replay).codes s ≡ Some code → length value.now.bits ≡ (signal_at (made_of self.old.replay).design s).width }
+        ensures ready { IsReady self.new.replay }
+        ensures made { made_of self.new.replay ≡ made_of self.old.replay }
+        ensures followed { (design : TheDesign) (points : ThePoints) (vars : List TheVar) (instance : List ℕ) (entries : List Entry)
+            → HasFollowed self.old design points vars instance entries → HasFollowed self.new design points vars instance (entries ++ entry.Value code value.now ∷ []) }
+    {
+        self.replay.change(code, value);
+    }
+
+    /// Takes a time that is greater than the one before, and closes the step of the one before. After a fault the same fault is
+    /// the result of each call.
+    pub fn open_step(&mut self, time: u64) -> Result<(), ReplayFault>
+        requires ready { IsReady self.old.replay }
+        ensures ready { IsReady self.new.replay }
+        ensures made { made_of self.new.replay ≡ made_of self.old.replay }
+        ensures followed { OnOk result ((design : TheDesign) (points : ThePoints) (vars : List TheVar) (instance : List ℕ) (entries : List Entry)
+            → AreEntries vars entries → Rises None (entries ++ entry.Time time ∷ []) → HasFollowed self.old design points vars instance entries
+            → HasFollowed self.new design points vars instance (entries ++ entry.Time time ∷ [])) }
+        ensures fault { IfErr result (λ fault. (design : TheDesign) (points : ThePoints) (vars : List TheVar) (instance : List ℕ) (entries : List Entry)
+            → AreEntries vars entries → Rises None (entries ++ entry.Time time ∷ []) → HasFollowed self.old design points vars instance entries
+            → IsReplayFault design vars instance (entries ++ entry.Time time ∷ []) fault) }
+    {
+        match self.last {
+            Some(last) => self.open_later(last, time),
+            None => {
+                self.last = Some(time);
+                Ok(())
+            }
+        }
+    }
+
+    /// Takes a time after this one, of which the step is closed.
+    fn open_later(&mut self, last: u64, time: u64) -> Result<(), ReplayFault>
+        requires ready { IsReady self.old.replay }
+        requires last { self.old.last ≡ Some last }
+        ensures ready { IsReady self.new.replay }
+        ensures made { made_of self.new.replay ≡ made_of self.old.replay }
+        ensures followed { OnOk result ((design : TheDesign) (points : ThePoints) (vars : List TheVar) (instance : List ℕ) (entries : List Entry)
+            → AreEntries vars entries → Rises None (entries ++ entry.Time time ∷ []) → HasFollowed self.old design points vars instance entries
+            → HasFollowed self.new design points vars instance (entries ++ entry.Time time ∷ [])) }
+        ensures fault { IfErr result (λ fault. (design : TheDesign) (points : ThePoints) (vars : List TheVar) (instance : List ℕ) (entries : List Entry)
+            → AreEntries vars entries → Rises None (entries ++ entry.Time time ∷ []) → HasFollowed self.old design points vars instance entries
+            → IsReplayFault design vars instance (entries ++ entry.Time time ∷ []) fault) }
+    {
+        self.close::<Brand>(last, Blank::new(1))?;
+        self.last = Some(time);
+        Ok(())
+    }
+
+    /// The marks of the points at the end of the dump. The step of the last time is not closed.
+    pub fn finish(self) -> Marks
+        requires ready { IsReady self.replay }
+        ensures { (design : TheDesign) (points : ThePoints) (vars : List TheVar) (instance : List ℕ) (entries : List Entry) → Rises None entries
+            → HasFollowed self.entry design points vars instance entries
+            → AreFinalMarks (design_view design) Free (dump_of (codes_of design vars instance) (steps_of entries)) points result }
+    {
+        self.replay.finish()
+    }
+
+    /// Closes the step of this time, whose runs nobody counts.
+    fn close<L: Ledger>(&mut self, time: u64, blank: Blank) -> Result<(), ReplayFault>
+        requires ready { IsReady self.old.replay }
+        requires name { blank.name ≡ L.name }
+        requires parts { blank.parts ≡ L.parts }
+        requires some { 0 < blank.parts }
+        ensures ready { IsReady self.new.replay }
+        ensures made { made_of self.new.replay ≡ made_of self.old.replay }
+        ensures given { given_of self.new.replay ≡ given_of self.old.replay }
+        ensures wanted { self.new.wanted ≡ self.old.wanted }
+        ensures last { self.new.last ≡ self.old.last }
+        ensures started { OnOk result (IsStarted self.new.replay) }
+        ensures followed { OnOk result ((design : TheDesign) (points : ThePoints) (vars : List TheVar) (instance : List ℕ) (entries more : List Entry) (next : ℕ)
+            → AreEntries vars entries → Rises None (entries ++ entry.Time next ∷ more) → last_time None entries ≡ Some time → HasFollowed self.old design points vars instance entries
+            → Follows self.new.replay (dump_with (codes_of design vars instance) entries next more) time) }
+        ensures fault { IfErr result (λ fault. (design : TheDesign) (points : ThePoints) (vars : List TheVar) (instance : List ℕ) (entries : List Entry) (next : ℕ)
+            → AreEntries vars entries → Rises None (entries ++ entry.Time next ∷ []) → last_time None entries ≡ Some time → HasFollowed self.old design points vars instance entries
+            → IsReplayFault design vars instance (entries ++ entry.Time next ∷ []) fault) }
+    {
+        let mut steps = Steps::<L>::new(blank);
+        if self.replay.has_started() {
+            self.replay.close_step(time, &mut steps)
+        } else {
+            self.replay.start(time, &mut steps)
+        }
+    }
+}
