@@ -13,7 +13,6 @@ use Rattle.command_line.specs.declared.command.Command.TheVariants.{Score, Merge
 use Rattle.command_line.specs.ValueForm.{is_file_name as is_file_word}
 use Rattle.command_line.proofs.ScoreForms.{score_forms}
 use Rattle.coverage_db.specs.Table.{is_file_name}
-use Rattle.input_toggles.specs.Scored.{AreSources}
 use Rattle.verilog_lexer.specs.Defines.{DefineText}
 use Rattle.verilog_lexer.specs.Piece.{is_file_name as is_include_name}
 use Rattle.verilog_lexer.specs.Sources.{SourceText}
@@ -95,17 +94,21 @@ some_of : (names : List (List ℕ)) → names ≢ [] → 1 ≤ length names
 some_of [] some = absurd (some refl)
 some_of (name ∷ names) some = omega arith
 
--- the sources of a command have names that a database can have
-pub good_names : (score : ScoreValues) (before : Outside) (sources : List SourceText) → HaveForms score → HasSources (sources_in score) before sources → AreSources (names_of sources)
+-- names that a database can have, of one source at least
+pub record AreGoodNames (names : List (List ℕ)) : Type 0 where
+  pub named : All (λ name. IsTrue (is_file_name name)) names
+  pub some : 1 ≤ length names
+
+-- the sources of a command have such names
+pub good_names : (score : ScoreValues) (before : Outside) (sources : List SourceText) → HaveForms score → HasSources (sources_in score) before sources → AreGoodNames (names_of sources)
 good_names score before sources forms gathered =
     let names = root_names before score.sources gathered.roots gathered.are_roots in
     let words = All-weaker (λ name. IsTrue (is_file_word name)) IsNamed file_name_of_word score.sources forms.sources in
     let longer = grow_longer before score.folder (sources_in score).defines gathered.roots sources gathered.grow in
     let some : 1 ≤ length (names_of gathered.roots) = subst (λ ns. 1 ≤ length ns) (sym names) (some_of score.sources forms.some) in
     record {
-      names = grow_named before score.folder (sources_in score).defines gathered.roots sources gathered.grow (subst (All IsNamed) (sym names) words);
-      at_least = rw (length-map sources (λ source. source.name)) (omega (arith, longer, rw (length-map gathered.roots (λ source. source.name)) at some));
-      at_most = rw (length-map sources (λ source. source.name)) gathered.within.count;
+      named = grow_named before score.folder (sources_in score).defines gathered.roots sources gathered.grow (subst (All IsNamed) (sym names) words);
+      some = rw (length-map sources (λ source. source.name)) (omega (arith, longer, rw (length-map gathered.roots (λ source. source.name)) at some));
     }
 
 -- the values of a command have their forms
