@@ -2,20 +2,20 @@
 #                     writes the tracefile
 # make try            shows the example with a program that is not proved, in a minute or two
 # make test           the gate: proves every crate, tries the wrong bodies, runs the tests, the program and the example cases
-# make cases          builds the program and runs the example cases of the stage that is reached
+# make cases          builds the program and runs the example cases of the stage that is reached; so does make rows
 # make built-cases    runs the same cases, and the limit of points, with the program that the gate has built
 # make wrong-bodies   tries the wrong bodies of all crates, also those that the gate passes over; CRATES='NAME ..' of some
 # make install        puts the program into $(PREFIX)/bin, and its man page and documents into $(PREFIX)/share
 
 PREFIX ?= /usr/local
 PROGRAM = crates/covered/out/covered
-STAGE = hierarchy
+STAGE = combs
 # parts of later stages that are already there: dumps, bindings, merge and report
-AHEAD = merge-report pieces assigns
+AHEAD = merge-report pieces
 PADS = examples/pads
 DOCUMENTS = USER_GUIDE.md LANGUAGE.md FORMATS.md
 
-.PHONY: build example try test cases built-cases wrong-bodies install
+.PHONY: build example try test cases rows built-cases wrong-bodies install
 
 build:
 	@bash .ci/build
@@ -35,7 +35,7 @@ try:
 test:
 	bash .ci/run
 
-cases: build built-cases
+cases rows: build built-cases
 
 built-cases:
 	python3 cases/run.py $(PROGRAM) --stage $(STAGE) $(AHEAD:%=--ahead %)

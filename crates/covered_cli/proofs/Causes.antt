@@ -15,14 +15,14 @@ use Rattle.database_commands.specs.Reporting.{IsReportFault, KeepsUnlessNamed, P
 use Rattle.database_commands.specs.Tracing.{IsLcovFault}
 use Rattle.database_commands.specs.declared.fault.CommandFault.{CommandFault}
 use Rattle.database_commands.specs.declared.fault.CommandFault.TheVariants as database_fault
-use Rattle.covered_cli.specs.Covered.{IsNoCommand, IsSomeCommand, KeepsUnnamed, PrintsReport, output_in}
+use Rattle.covered_cli.specs.Covered.{HasContradiction, IsNoCommand, IsSomeCommand, KeepsUnnamed, PrintsReport, output_in}
 use Rattle.covered_cli.specs.Databases.{database_status}
 use Rattle.covered_cli.specs.Fault.{IsDatabaseFault, Stands, StandsIn, StandsInDatabases, StandsInWork, output_of, status_of}
 use Rattle.source_design.specs.declared.fault.SourceFault.{SourceFault}
 use Rattle.source_design.specs.declared.fault.SourceFault.TheVariants as source_fault
 use Rattle.covered_cli.specs.SourceMessage.{source_status}
 use Rattle.covered_cli.specs.declared.fault.Fault.{Fault}
-use Rattle.covered_cli.specs.declared.fault.Fault.TheVariants.{Usage, Source, TooManyPoints, Dump, Files as FilesFault, Memory, Databases}
+use Rattle.covered_cli.specs.declared.fault.Fault.TheVariants.{Usage, Source, TooManyPoints, Dump, Contradiction, Files as FilesFault, Memory, Databases}
 use Rattle.covered_cli.specs.declared.status.Status.TheVariants as status
 use Rattle.whole_files.proofs.EffectLemmas.{Told-map}
 
@@ -40,6 +40,7 @@ stands_as_score words values before after is (Usage usage) stands = absurd stand
 stands_as_score words values before after is (Source f) stands = (values, is, stands)
 stands_as_score words values before after is TooManyPoints stands = (values, is, stands)
 stands_as_score words values before after is (Dump refusal) stands = (values, is, stands)
+stands_as_score words values before after is (Contradiction found) stands = (values, is, stands)
 stands_as_score words values before after is (FilesFault call file) stands = (values, is, stands)
 stands_as_score words values before after is Memory stands = (values, is, stands)
 stands_as_score words values before after is (Databases f) stands = absurd stands
@@ -49,6 +50,7 @@ stands_as_merge words values before after is (Usage usage) stands = absurd stand
 stands_as_merge words values before after is (Source f) stands = absurd stands
 stands_as_merge words values before after is TooManyPoints stands = absurd stands
 stands_as_merge words values before after is (Dump refusal) stands = absurd stands
+stands_as_merge words values before after is (Contradiction found) stands = absurd stands
 stands_as_merge words values before after is (FilesFault call file) stands = absurd stands
 stands_as_merge words values before after is Memory stands = absurd stands
 stands_as_merge words values before after is (Databases f) stands = inl (values, is, stands)
@@ -58,6 +60,7 @@ stands_as_report words values before after is (Usage usage) stands = absurd stan
 stands_as_report words values before after is (Source f) stands = absurd stands
 stands_as_report words values before after is TooManyPoints stands = absurd stands
 stands_as_report words values before after is (Dump refusal) stands = absurd stands
+stands_as_report words values before after is (Contradiction found) stands = absurd stands
 stands_as_report words values before after is (FilesFault call file) stands = absurd stands
 stands_as_report words values before after is Memory stands = absurd stands
 stands_as_report words values before after is (Databases f) stands = inr (inl (values, is, stands))
@@ -67,6 +70,7 @@ stands_as_lcov words values before after is (Usage usage) stands = absurd stands
 stands_as_lcov words values before after is (Source f) stands = absurd stands
 stands_as_lcov words values before after is TooManyPoints stands = absurd stands
 stands_as_lcov words values before after is (Dump refusal) stands = absurd stands
+stands_as_lcov words values before after is (Contradiction found) stands = absurd stands
 stands_as_lcov words values before after is (FilesFault call file) stands = absurd stands
 stands_as_lcov words values before after is Memory stands = absurd stands
 stands_as_lcov words values before after is (Databases f) stands = inr (inr (values, is, stands))
@@ -145,6 +149,32 @@ usage_exactly words before after (Usage usage) stands = (λ same. (usage, stands
 usage_exactly words before after (Source f) stands = (λ same. absurd (source_no_usage f same), λ none. absurd (command_or_fault words (score stands.0, stands.1) none))
 usage_exactly words before after TooManyPoints stands = (λ same. cc, λ none. absurd (command_or_fault words (score stands.0, stands.1) none))
 usage_exactly words before after (Dump refusal) stands = (λ same. cc, λ none. absurd (command_or_fault words (score stands.0, stands.1) none))
+usage_exactly words before after (Contradiction found) stands = (λ same. cc, λ none. absurd (command_or_fault words (score stands.0, stands.1) none))
 usage_exactly words before after (FilesFault call file) stands = (λ same. cc, λ none. absurd (command_or_fault words (score stands.0, stands.1) none))
 usage_exactly words before after Memory stands = (λ same. cc, λ none. absurd (command_or_fault words (score stands.0, stands.1) none))
 usage_exactly words before after (Databases f) stands = (λ same. absurd (no_usage f same), λ none. absurd (command_or_fault words (databases_are_command words before after f stands) none))
+
+source_no_contradiction : (f : SourceFault) → source_status f ≡ status.Contradiction → ⊥
+source_no_contradiction source_fault.NoMemory same = cc
+source_no_contradiction (source_fault.File call file) same = cc
+source_no_contradiction (source_fault.Included call path) same = cc
+source_no_contradiction (source_fault.Refused refusal) same = cc
+source_no_contradiction source_fault.NotYet same = cc
+
+no_contradiction : (f : CommandFault) → database_status f ≡ status.Contradiction → ⊥
+no_contradiction (database_fault.Files call file) same = cc
+no_contradiction database_fault.Print same = cc
+no_contradiction database_fault.Memory same = cc
+no_contradiction (database_fault.NoDatabase file kind line) same = cc
+no_contradiction (database_fault.DesignsDiffer file line first other) same = cc
+
+-- a fault ends with the status of a contradiction only where no run of the design shows the dump
+pub contradiction_cause : (words : List (List ℕ)) (before after : Outside) (fault : Fault) → Stands words before after fault → status_of fault ≡ status.Contradiction → HasContradiction words before
+contradiction_cause words before after (Usage usage) stands same = absurd (cc)
+contradiction_cause words before after (Source f) stands same = absurd (source_no_contradiction f same)
+contradiction_cause words before after TooManyPoints stands same = absurd (cc)
+contradiction_cause words before after (Dump refusal) stands same = absurd (cc)
+contradiction_cause words before after (Contradiction found) stands same = (stands.0, stands.1, found, stands.2)
+contradiction_cause words before after (FilesFault call file) stands same = absurd (cc)
+contradiction_cause words before after Memory stands same = absurd (cc)
+contradiction_cause words before after (Databases f) stands same = absurd (no_contradiction f same)

@@ -1,88 +1,50 @@
 -- Where both files are told and no call of the host failed, the texts decide how a command ends.
-use Rattle.std.proofs.Common.{◌≡◌, inl, inr, ℕ, ◌<◌, ◌≤◌, is_some, List, ◌++◌, length, Option, None, Some, refl, sym, ap, subst, ◌∙◌}
+use Rattle.std.proofs.Common.{◌≡◌, inl, inr, ℕ, is_some, List, Option, None, Some, refl, sym, ap, subst, ◌∙◌}
 use Rattle.std.proofs.lemmas.Bool.{false≢true}
-use Rattle.std.specs.Prelude.{IfSome, IsSome, IsSomeAnd, MatchOption, slice_index_or}
-use Rattle.std.specs.List.{list_any}
+use Rattle.std.specs.Prelude.{IfSome, IsSome, IsSomeAnd, MatchOption}
 use Rattle.command_line.proofs.OneCommand.{one_command, one_of_all}
 use Rattle.command_line.specs.Command.{AreWordsOf, CommandValues, score as of_score, merge as of_merge, report as of_report, lcov as of_lcov}
 use Rattle.command_line.specs.CommandWords.{IsScore, ScoreValues}
 use Rattle.cov_host.specs.Outside.{Files, Outside, IsCounted}
-use Rattle.design_model.specs.Design.{no_signal}
+use Rattle.design_model.specs.Run.{Run}
 use Rattle.design_model.specs.View.{design_view}
 use Rattle.design_model.specs.declared.design.Design.{Design}
-use Rattle.input_tables.proofs.Counts.{few_or_many}
-use Rattle.input_tables.specs.Counted.{HasManyPoints}
-use Rattle.input_toggles.specs.Binding.{AreBound, code_of, stands_in}
-use Rattle.input_toggles.specs.Scored.{IsBound, first_value}
-use Rattle.vcd_reader.proofs.FaultLaws.{dump_excludes, fault_excludes}
-use Rattle.vcd_reader.proofs.Growing.{dump_goes_on}
+use Rattle.design_points.proofs.Counts.{few_or_many}
+use Rattle.design_points.specs.Counted.{HasManyPoints}
+use Rattle.dump_score.proofs.BindingFirst.{replay_binds}
+use Rattle.event_machine.specs.Habit.{Free}
+use Rattle.shown_dumps.specs.Bound.{IsBound}
+use Rattle.shown_dumps.specs.Shown.{bound_dump}
+use Rattle.signal_binding.specs.Binding.{IsBindable}
 use Rattle.vcd_reader.proofs.OneHeader.{one_header}
-use Rattle.vcd_reader.specs.Dump.{Dump, GoesOn, IsDump, SaysBody, steps_of}
+use Rattle.vcd_reader.specs.Dump.{Dump, IsDump, SaysBody}
 use Rattle.vcd_reader.specs.Reading.{Body}
-use Rattle.vcd_reader.specs.declared.fault.DumpFault.TheVariants.{At}
-use Rattle.input_toggles.proofs.FirstSteps.{first_stays}
+use Rattle.verdict_laws.specs.Sound.{IsShownBy}
+use Rattle.verilog_lexer.specs.Sources.{SourceText}
 use Rattle.whole_files.specs.Effects.{CountsUp, IsMissing}
 use Rattle.whole_files.proofs.EffectLemmas.{IsCounted-later}
 use Rattle.whole_files.specs.declared.call.Call.{Call}
 use Rattle.whole_files.specs.declared.call.Call.TheVariants.{OpenRead, Read, OpenWrite, Write, CloseWrite}
-use Rattle.covered_cli.proofs.Causes.{command_or_fault, score_or_databases}
-use Rattle.covered_cli.specs.Complete.{EndsWith, HasBadDump, HasBadSource, HasText, HasUnboundDump, HaveTexts, IsCommandWith, IsGoodScore, IsOfBinding, IsTooLarge, NoFaults, RefusesBinding, RefusesPoints}
-use Rattle.covered_cli.specs.Effects.{WarnsLine}
-use Rattle.covered_cli.specs.Fault.{IsRefused, NamesFile, Stands, line_of, status_of}
 use Rattle.source_design.proofs.Told.{IsOfSources, design_or_fault, files_read, one_design, one_sources}
 use Rattle.source_design.specs.Accepted.{StandFor}
 use Rattle.source_design.specs.Reading.{HasSources, IsSourceFault}
 use Rattle.source_design.specs.declared.fault.SourceFault.{SourceFault}
 use Rattle.source_design.specs.declared.fault.SourceFault.TheVariants as source_fault
-use Rattle.verilog_lexer.specs.Sources.{SourceText}
+use Rattle.covered_cli.proofs.Causes.{command_or_fault, score_or_databases}
+use Rattle.covered_cli.proofs.GoodDumps.{not_contradicted, not_refused, same_bindable, same_bound, same_shown}
+use Rattle.covered_cli.specs.Complete.{EndsWith, HasBadDump, HasBadSource, HasText, HasUnboundDump, HaveTexts, IsCommandWith, IsGoodScore, IsOfBinding, IsTooLarge, NoFaults, RefusesBinding, RefusesDump, RefusesPoints}
+use Rattle.covered_cli.specs.Effects.{WarnsLine}
+use Rattle.covered_cli.specs.Fault.{IsRefused, NamesFile, Stands, line_of, status_of}
 use Rattle.covered_cli.specs.ScoreSources.{sources_in}
-use Rattle.covered_cli.specs.Scoring.{HasDesign, HasNoScore, HasSomeDesign, HasTooManyPoints, IsDone, IsDoneBy, IsDoneIn, IsDumpRefusal, IsRefusedDump}
+use Rattle.covered_cli.specs.Scoring.{HasDesign, HasNoScore, HasSomeDesign, HasTooManyPoints, IsContradictedDump, IsContradictedText, IsDone, IsDoneBy, IsDoneIn, IsDumpRefusal, IsRefusedDump}
 use Rattle.covered_cli.specs.SourceMessage.{source_status}
+use Rattle.covered_cli.specs.declared.contradiction.Contradiction.{Contradiction}
 use Rattle.covered_cli.specs.declared.dump_refusal.DumpRefusal.{DumpRefusal}
 use Rattle.covered_cli.specs.declared.dump_refusal.DumpRefusal.TheVariants as refusal
 use Rattle.covered_cli.specs.declared.fault.Fault.{Fault}
 use Rattle.covered_cli.specs.declared.fault.Fault.TheVariants as fault
 use Rattle.covered_cli.specs.declared.status.Status.{Status}
-use Rattle.covered_cli.specs.declared.status.Status.TheVariants.{Done, Dump as dump_status, Source as source_status_of}
-
-some_or_none : {A : Type 0} (o : Option A) → IsSome o → o ≡ None → ⊥
-some_or_none o some none = false≢true (sym (ap is_some none) ∙ some)
-
-first_of : (o : Option ℕ) (code : ℕ) (P : ℕ → Type 0) → IfSome o P → o ≡ Some code → P code
-first_of None code P h e = absurd (cc)
-first_of (Some x) code P h e = let same : x ≡ code = cc in subst P same h
-
--- a dump of which the design is bound is not refused
-module _ (design : Design) (dump : Dump) (top instance text : List ℕ) (is : IsDump text dump) (bound : IsBound design dump instance) where
-  goes_on : (b : Body) → SaysBody text b → GoesOn b is.b
-  goes_on b says = dump_goes_on text b is.b says is.ends
-
-  same_vars : (b : Body) → SaysBody text b → dump.vars ≡ b.vars
-  same_vars b says = is.vars ∙ (goes_on b says).vars
-
-  has_variable : (b : Body) → SaysBody text b → (signal : ℕ) → signal < length design.signals → IsSome (code_of design b.vars instance (slice_index_or design.signals signal no_signal))
-  has_variable b says signal listed = subst (λ vars. IsSome (code_of design vars instance (slice_index_or design.signals signal no_signal))) (same_vars b says) (bound.variables signal no_signal listed)
-
-  not_refused : (r : DumpRefusal) → IsDumpRefusal design top instance text r → ⊥
-  not_refused (refusal.At kind byte) (inl found, binds) = fault_excludes text (At kind byte) found is.ends.means is.ends.word is.ends.stands
-  not_refused (refusal.At kind byte) (inr ends, binds) = dump_excludes text is.b (At kind byte) is.ends ends
-  not_refused (refusal.NoInstance path) refused =
-      let b = refused.1.0 in
-      false≢true (sym (ap (list_any (stands_in instance)) (same_vars b refused.1.1) ∙ refused.1.2) ∙ bound.instance_is)
-  not_refused (refusal.InputNotDumped outer name) refused =
-      let signal = refused.1.0 in
-      let some = refused.1.2 in
-      some_or_none _ (has_variable some.0 some.1 signal some.2.listed) some.2.none
-  not_refused (refusal.NoBaseline outer name) refused =
-      let signal = refused.1.0 in
-      let some = refused.1.2 in
-      let lacks = some.2 in
-      let further = goes_on some.0 some.1 in
-      let stays = first_stays some.0.items further.more lacks.second in
-      let steps : dump.steps ≡ steps_of (some.0.items ++ further.more) = is.steps ∙ ap steps_of further.items in
-      let code = subst (λ vars. code_of design vars instance (slice_index_or design.signals signal no_signal) ≡ Some lacks.code) (sym (same_vars some.0 some.1)) lacks.bound in
-      let value = first_of _ lacks.code (λ code. IsSome (first_value dump.steps code)) (bound.first_values (subst (λ ss. 2 ≤ length ss) (sym steps) stays.0) signal no_signal lacks.listed) code in
-      some_or_none _ value (ap (λ ss. first_value ss lacks.code) steps ∙ stays.1 lacks.code ∙ lacks.none)
+use Rattle.covered_cli.specs.declared.status.Status.TheVariants.{Done, Contradiction as contradiction_status, Dump as dump_status, Memory as memory_status, Source as source_status_of}
 
 -- a told file has one text
 one_text_at : (files : Option Files) (name a b : List ℕ) → IsSomeAnd files (λ files. files name ≡ Some a) → IfSome files (λ files. files name ≡ Some b) → a ≡ b
@@ -108,14 +70,14 @@ refused_call score before after text is CloseWrite file named counted = counted
 
 -- the sources of a command that are told
 module _ (score : ScoreValues) (before : Outside) (sources : List SourceText) (told : IsSome before.files) (gathered : HasSources (sources_in score) before sources) where
-  -- the design that other words find is that of the sources
-  one_found : (design : Design) → StandFor sources (sources_in score).defines score.top design → (others : List SourceText) (other : Design) → HasSources (sources_in score) before others → StandFor others (sources_in score).defines score.top other → design ≡ other
+  -- the design that other words find is that of the sources, as it is seen
+  one_found : (design : Design) → StandFor sources (sources_in score).defines score.top design → (others : List SourceText) (other : Design) → HasSources (sources_in score) before others → StandFor others (sources_in score).defines score.top other → design_view design ≡ design_view other
   one_found design stands others other found stand =
       one_design sources (sources_in score).defines score.top design other stands
       (subst (λ ss. StandFor ss (sources_in score).defines score.top other) (sym (one_sources (sources_in score) before sources told gathered others found)) stand)
 
   -- the design that a relation finds is that of the sources
-  same_design : (design : Design) → StandFor sources (sources_in score).defines score.top design → (others : List SourceText) (other : Design) → HasDesign score before others other → design ≡ other
+  same_design : (design : Design) → StandFor sources (sources_in score).defines score.top design → (others : List SourceText) (other : Design) → HasDesign score before others other → design_view design ≡ design_view other
   same_design design stands others other has = one_found design stands others other has.gathered has.stands
 
   -- sources that stand for no design have none
@@ -130,6 +92,9 @@ module _ (score : ScoreValues) (before : Outside) (sources : List SourceText) (t
   no_design : ((design : Design) → StandFor sources (sources_in score).defines score.top design → ⊥) → (r : DumpRefusal) → IsRefusedDump score before r → ⊥
   no_design none r refused = no_some_design none (refused.sources, refused.design, refused.has_design)
 
+  no_shown_design : ((design : Design) → StandFor sources (sources_in score).defines score.top design → ⊥) → (x : Contradiction) → IsContradictedDump score before x → ⊥
+  no_shown_design none x refuted = no_some_design none (refuted.sources, refuted.design, refuted.has_design)
+
 module _ (score : ScoreValues) (before : Outside) (design : Design) (text : List ℕ) (texts : HaveTexts score before design text) where
   told : IsSome before.files
   told = is_told before.files score.dump text texts.dump_is
@@ -138,42 +103,55 @@ module _ (score : ScoreValues) (before : Outside) (design : Design) (text : List
   not_too_many : HasTooManyPoints score before → ⊥
   not_too_many many =
       let same = one_found score before texts.sources told texts.has_design.gathered design texts.has_design.stands many.sources many.design many.gathered many.stands in
-      few_or_many (design_view design) texts.has_design.few (subst (λ d. HasManyPoints (design_view d)) (sym same) many.many)
+      few_or_many (design_view design) texts.has_design.few (subst HasManyPoints (sym same) many.many)
 
   -- the dump that a relation finds is the one that is told
   same_text : (other : List ℕ) → IfSome before.files (λ files. files score.dump ≡ Some other) → text ≡ other
   same_text other is = one_text_at before.files score.dump text other texts.dump_is is
 
-  design_found : (others : List SourceText) (other : Design) → HasDesign score before others other → design ≡ other
+  design_found : (others : List SourceText) (other : Design) → HasDesign score before others other → design_view design ≡ design_view other
   design_found others other has = same_design score before texts.sources told texts.has_design.gathered design texts.has_design.stands others other has
 
   -- what has a score is not refused
   dump_stands : (dump : Dump) → IsDump text dump → IsBound design dump score.instance → (r : DumpRefusal) → IsRefusedDump score before r → ⊥
   dump_stands dump is_dump bound r refused =
-      not_refused refused.design dump score.top score.instance refused.text (subst (λ text. IsDump text dump) (same_text refused.text refused.is) is_dump)
-      (subst (λ design. IsBound design dump score.instance) (design_found refused.sources refused.design refused.has_design) bound)
-      r refused.refused
+      not_refused refused.design dump score.instance refused.text (subst (λ text. IsDump text dump) (same_text refused.text refused.is) is_dump)
+      (same_bound design refused.design dump score.instance (design_found refused.sources refused.design refused.has_design) bound)
+      r refused.holds
+
+  -- where a run shows the dump it is not contradicted
+  dump_shown : (dump : Dump) → IsDump text dump → (run : Run) → IsShownBy (design_view design) Free (bound_dump design dump score.instance) run → (x : Contradiction) → IsContradictedDump score before x → ⊥
+  dump_shown dump is_dump run shown x refuted =
+      not_contradicted refuted.design dump score.instance refuted.text (subst (λ text. IsDump text dump) (same_text refuted.text refuted.is) is_dump) run
+      (same_shown design refuted.design dump score.instance (design_found refuted.sources refuted.design refuted.has_design) run shown) x refuted.holds
 
   -- where the header is read and binds nothing, the refusal is one of the binding
-  of_binding : (b : Body) → SaysBody text b → (AreBound design b.vars score.instance design.signals → ⊥) → (r : DumpRefusal) → IsRefusedDump score before r → IsOfBinding r
-  of_binding b says unbound r refused =
-      go r (subst (λ d. IsDumpRefusal d score.top score.instance text r) (sym (design_found refused.sources refused.design refused.has_design)) (subst (λ t. IsDumpRefusal refused.design score.top score.instance t r) (sym (same_text refused.text refused.is)) refused.refused))
-    where
-      not_bound : (other : Body) → SaysBody text other → AreBound design other.vars score.instance design.signals → ⊥
-      not_bound other said bound = unbound (subst (λ vars. AreBound design vars score.instance design.signals) (sym (one_header text other b said says)) bound)
+  module _ (b : Body) (says : SaysBody text b) (unbound : IsBindable design b.vars score.instance → ⊥) where
+    not_bound : (others : List SourceText) (other : Design) (body : Body) → HasDesign score before others other → SaysBody text body → IsBindable other body.vars score.instance → ⊥
+    not_bound others other body has said bound =
+        unbound (subst (λ vars. IsBindable design vars score.instance) (sym (one_header text body b said says)) (same_bindable other design body.vars score.instance (sym (design_found others other has)) bound))
 
-      go : (r : DumpRefusal) → IsDumpRefusal design score.top score.instance text r → IsOfBinding r
-      go (refusal.At kind byte) (first, inl none) = none b says
-      go (refusal.At kind byte) (first, inr binds) = not_bound binds.0 binds.1 binds.2
-      go (refusal.NoInstance path) is = tt
-      go (refusal.InputNotDumped outer name) is = tt
-      go (refusal.NoBaseline outer name) is = let some = is.1.2 in not_bound some.0 some.1 some.2.are_bound
+    of_binding : (r : DumpRefusal) → IsRefusedDump score before r → IsOfBinding r
+    of_binding r refused = go r (subst (λ t. IsDumpRefusal refused.design score.instance t r) (sym (same_text refused.text refused.is)) refused.holds)
+      where
+        go : (r : DumpRefusal) → IsDumpRefusal refused.design score.instance text r → IsOfBinding r
+        go (refusal.At kind byte) (first, inl none) = none b says
+        go (refusal.At kind byte) (first, inr binds) = not_bound refused.sources refused.design binds.0 refused.has_design binds.1 binds.2
+        go (refusal.NoInstance path) is = tt
+        go (refusal.InputNotDumped path) is = tt
+        go (refusal.NoBaseline path) is = let some = is.2 in not_bound refused.sources refused.design some.0 refused.has_design some.1 some.2.bindable
+
+    -- and it is not contradicted
+    none_contradicted : (x : Contradiction) → IsContradictedDump score before x → ⊥
+    none_contradicted x refuted =
+        let some = (subst (λ t. IsContradictedText refuted.design score.instance t x) (sym (same_text refuted.text refuted.is)) refuted.holds).2 in
+        not_bound refuted.sources refuted.design some.0 refuted.has_design some.1 some.2.bindable
 
   -- a design that has no score is not done
   dump_done : (after : Outside) → HasNoScore design score.instance text → IsDoneIn score before after → ⊥
   dump_done after none done =
       none done.scores.dump (subst (λ text. IsDump text done.scores.dump) (sym (same_text done.dump done.dump_is)) done.scores.is_dump)
-      (subst (λ design. IsBound design done.scores.dump score.instance) (sym (design_found done.sources done.design done.has_design)) done.scores.scores.bound)
+      (same_bound done.design design done.scores.dump score.instance (sym (design_found done.sources done.design done.has_design)) done.scores.scores.accepted.bound)
 
 -- a design of too many points has no score
 module _ (score : ScoreValues) (before : Outside) (large : IsTooLarge score before) where
@@ -181,21 +159,30 @@ module _ (score : ScoreValues) (before : Outside) (large : IsTooLarge score befo
   too_large others other has =
       let p = large.points in
       let same = same_design score before p.sources large.told p.gathered p.design p.stands others other has in
-      few_or_many (design_view other) has.few (subst (λ d. HasManyPoints (design_view d)) same p.many)
+      few_or_many (design_view other) has.few (subst HasManyPoints same p.many)
 
--- how a fault ends that is no fault of the host, where it is known how one of the sources, of points, of a dump and of a file ends
-module _ (words : List (List ℕ)) (score : ScoreValues) (is_score : IsScore words score) (before middle after : Outside) where
-  ends_with : (expected : Status) → ((f : SourceFault) → IsSourceFault (sources_in score) before middle f → EndsWith expected (source_status f)) → (HasTooManyPoints score before → EndsWith expected source_status_of) → ((r : DumpRefusal) → IsRefusedDump score before r → EndsWith expected (status_of (fault.Dump r)))
-      → ((call : Call) (file : List ℕ) → NamesFile score call file → IsRefused call file before middle → HasSomeDesign score before → ⊥) → (f : Fault) → Stands words before middle f → EndsWith expected (status_of f)
-  ends_with expected of_source of_points of_dump of_file (fault.Usage usage) stands = absurd (command_or_fault words (of_score score, is_score) (usage, stands))
-  ends_with expected of_source of_points of_dump of_file (fault.Source f) stands = of_source f (subst (λ score. IsSourceFault (sources_in score) before middle f) (one_command words stands.0 score stands.1 is_score) stands.2)
-  ends_with expected of_source of_points of_dump of_file fault.TooManyPoints stands = of_points (subst (λ score. HasTooManyPoints score before) (one_command words stands.0 score stands.1 is_score) stands.2)
-  ends_with expected of_source of_points of_dump of_file (fault.Dump r) stands = of_dump r (subst (λ score. IsRefusedDump score before r) (one_command words stands.0 score stands.1 is_score) stands.2)
-  ends_with expected of_source of_points of_dump of_file (fault.Files call file) stands =
+-- how the faults of a score end
+record End (score : ScoreValues) (before middle : Outside) (Ends : Status → Type 0) : Type 0 where
+  of_source : (f : SourceFault) → IsSourceFault (sources_in score) before middle f → Ends (source_status f)
+  of_points : HasTooManyPoints score before → Ends source_status_of
+  of_dump : (r : DumpRefusal) → IsRefusedDump score before r → Ends dump_status
+  of_contradiction : (x : Contradiction) → IsContradictedDump score before x → Ends contradiction_status
+  of_file : (call : Call) (file : List ℕ) → NamesFile score call file → IsRefused call file before middle → HasSomeDesign score before → ⊥
+  of_memory : Ends memory_status
+
+-- so ends each fault of a command that is a score
+module _ (words : List (List ℕ)) (score : ScoreValues) (is_score : IsScore words score) (before middle : Outside) (Ends : Status → Type 0) (end : End score before middle Ends) where
+  ends_with : (f : Fault) → Stands words before middle f → Ends (status_of f)
+  ends_with (fault.Usage usage) stands = absurd (command_or_fault words (of_score score, is_score) (usage, stands))
+  ends_with (fault.Source f) stands = end.of_source f (subst (λ score. IsSourceFault (sources_in score) before middle f) (one_command words stands.0 score stands.1 is_score) stands.2)
+  ends_with fault.TooManyPoints stands = end.of_points (subst (λ score. HasTooManyPoints score before) (one_command words stands.0 score stands.1 is_score) stands.2)
+  ends_with (fault.Dump r) stands = end.of_dump r (subst (λ score. IsRefusedDump score before r) (one_command words stands.0 score stands.1 is_score) stands.2)
+  ends_with (fault.Contradiction x) stands = end.of_contradiction x (subst (λ score. IsContradictedDump score before x) (one_command words stands.0 score stands.1 is_score) stands.2)
+  ends_with (fault.Files call file) stands =
       let same = one_command words stands.0 score stands.1 is_score in
-      absurd (of_file call file.now (subst (λ score. NamesFile score call file.now) same stands.2.0) stands.2.1 (subst (λ score. HasSomeDesign score before) same stands.2.2))
-  ends_with expected of_source of_points of_dump of_file fault.Memory stands = inr refl
-  ends_with expected of_source of_points of_dump of_file (fault.Databases f) stands = absurd (score_or_databases words score before middle f is_score stands)
+      absurd (end.of_file call file.now (subst (λ score. NamesFile score call file.now) same stands.2.0) stands.2.1 (subst (λ score. HasSomeDesign score before) same stands.2.2))
+  ends_with fault.Memory stands = end.of_memory
+  ends_with (fault.Databases f) stands = absurd (score_or_databases words score before middle f is_score stands)
 
 -- a dump that does not bind the design is a bad one
 unbound_is_bad : (score : ScoreValues) (before : Outside) → HasUnboundDump score before → HasBadDump score before
@@ -205,15 +192,8 @@ unbound_is_bad score before u = record {
   texts = u.texts;
   refused = λ dump is bound.
       let same : dump.vars ≡ u.b.vars = is.vars ∙ one_header u.text u.b is.b u.says (inr is.ends) in
-      u.refused (subst (λ vars. AreBound u.design vars score.instance u.design.signals) same (record { instance_is = bound.instance_is; variables = bound.variables }));
+      u.refused (subst (λ vars. IsBindable u.design vars score.instance) same bound.bindable);
 }
-
-source_or_dump : (g : SourceFault) → source_status g ≡ dump_status → ⊥
-source_or_dump source_fault.NoMemory same = cc
-source_or_dump (source_fault.File call file) same = cc
-source_or_dump (source_fault.Included call path) same = cc
-source_or_dump (source_fault.Refused refusal) same = cc
-source_or_dump source_fault.NotYet same = cc
 
 bad_command : (words : List (List ℕ)) (before : Outside) → IsCommandWith HasUnboundDump words before → IsCommandWith HasBadDump words before
 bad_command words before u = (u.0, u.1, unbound_is_bad u.0 before u.2)
@@ -223,23 +203,36 @@ module _ (words : List (List ℕ)) (before middle after : Outside) (first : Coun
   none_yet counted = none (IsCounted-later before.faults middle.faults after.faults first.faults second.faults counted)
 
   -- where the sources have a design, their fault is want of memory
-  design_ends : (score : ScoreValues) (design : Design) (text : List ℕ) → HaveTexts score before design text → (expected : Status) → (g : SourceFault) → IsSourceFault (sources_in score) before middle g → EndsWith expected (source_status g)
-  design_ends score design text texts expected g is =
-      inr (ap source_status (design_or_fault (sources_in score) before texts.sources (told score before design text texts) texts.has_design.gathered design texts.has_design.stands middle none_yet g is))
+  design_ends : (score : ScoreValues) (design : Design) (text : List ℕ) → HaveTexts score before design text → (Ends : Status → Type 0) → Ends memory_status → (g : SourceFault) → IsSourceFault (sources_in score) before middle g → Ends (source_status g)
+  design_ends score design text texts Ends of_memory g is =
+      subst Ends (sym (ap source_status (design_or_fault (sources_in score) before texts.sources (told score before design text texts) texts.has_design.gathered design texts.has_design.stands middle none_yet g is))) of_memory
 
   file_counted : (score : ScoreValues) (text : List ℕ) → HasText before score.dump text → (call : Call) (file : List ℕ) → NamesFile score call file → IsRefused call file before middle → HasSomeDesign score before → ⊥
   file_counted score text is call file named refused has = none_yet (refused_call score before middle text is call file named refused)
 
   pub good_ends : IsCommandWith IsGoodScore words before → EndsWith Done (status_of f)
   good_ends (score, is, good) =
-      ends_with words score is before middle after Done (design_ends score good.design good.text good.texts Done) (λ many. absurd (not_too_many score before good.design good.text good.texts many))
-      (λ r refused. absurd (dump_stands score before good.design good.text good.texts good.dump good.is_dump good.bound r refused))
-      (file_counted score good.text good.texts.dump_is) f stands
+      ends_with words score is before middle (EndsWith Done)
+      (record {
+        of_source = design_ends score good.design good.text good.texts (EndsWith Done) (inr refl);
+        of_points = λ many. absurd (not_too_many score before good.design good.text good.texts many);
+        of_dump = λ r refused. absurd (dump_stands score before good.design good.text good.texts good.dump good.is_dump good.bound r refused);
+        of_contradiction = λ x refuted. absurd (dump_shown score before good.design good.text good.texts good.dump good.is_dump good.run good.shown x refuted);
+        of_file = file_counted score good.text good.texts.dump_is;
+        of_memory = inr refl;
+      }) f stands
 
-  pub bad_dump_ends : IsCommandWith HasBadDump words before → EndsWith dump_status (status_of f)
+  pub bad_dump_ends : IsCommandWith HasBadDump words before → RefusesDump (status_of f)
   bad_dump_ends (score, is, bad) =
-      ends_with words score is before middle after dump_status (design_ends score bad.design bad.text bad.texts dump_status) (λ many. absurd (not_too_many score before bad.design bad.text bad.texts many))
-      (λ r refused. inl refl) (file_counted score bad.text bad.texts.dump_is) f stands
+      ends_with words score is before middle RefusesDump
+      (record {
+        of_source = design_ends score bad.design bad.text bad.texts RefusesDump (inr (inr refl));
+        of_points = λ many. absurd (not_too_many score before bad.design bad.text bad.texts many);
+        of_dump = λ r refused. inl refl;
+        of_contradiction = λ x refuted. inr (inl refl);
+        of_file = file_counted score bad.text bad.texts.dump_is;
+        of_memory = inr (inr refl);
+      }) f stands
 
   bad_ends : (g : SourceFault) → IsOfSources g → EndsWith source_status_of (source_status g)
   bad_ends source_fault.NoMemory is = inr refl
@@ -250,34 +243,38 @@ module _ (words : List (List ℕ)) (before middle after : Outside) (first : Coun
 
   pub bad_source_ends : IsCommandWith HasBadSource words before → EndsWith source_status_of (status_of f)
   bad_source_ends (score, is, bad) =
-      ends_with words score is before middle after source_status_of
-      (λ g stands. bad_ends g (files_read (sources_in score) before bad.sources bad.told bad.gathered middle none_yet g stands)) (λ many. inl refl)
-      (λ r refused. absurd (no_design score before bad.sources bad.told bad.gathered bad.refused r refused))
-      (λ call file named refused has. no_some_design score before bad.sources bad.told bad.gathered bad.refused has) f stands
+      ends_with words score is before middle (EndsWith source_status_of)
+      (record {
+        of_source = λ g stands. bad_ends g (files_read (sources_in score) before bad.sources bad.told bad.gathered middle none_yet g stands);
+        of_points = λ many. inl refl;
+        of_dump = λ r refused. absurd (no_design score before bad.sources bad.told bad.gathered bad.refused r refused);
+        of_contradiction = λ x refuted. absurd (no_shown_design score before bad.sources bad.told bad.gathered bad.refused x refuted);
+        of_file = λ call file named refused has. no_some_design score before bad.sources bad.told bad.gathered bad.refused has;
+        of_memory = inr refl;
+      }) f stands
 
   pub unbound_ends : IsCommandWith HasUnboundDump words before → WarnsLine (line_of f) before after → RefusesBinding words (status_of f) before after
-  unbound_ends unbound warned = go f stands warned (bad_dump_ends (bad_command words before unbound))
+  unbound_ends (score, is, u) warned = go f stands warned
     where
-      score : ScoreValues
-      score = unbound.0
+      memory_alone : (g : SourceFault) → IsSourceFault (sources_in score) before middle g → status_of (fault.Source g) ≡ memory_status
+      memory_alone g is = ap source_status (design_or_fault (sources_in score) before u.texts.sources (told score before u.design u.text u.texts) u.texts.has_design.gathered u.design u.texts.has_design.stands middle none_yet g is)
 
-      u : HasUnboundDump score before
-      u = unbound.2
-
-      go : (f : Fault) → Stands words before middle f → WarnsLine (line_of f) before after → EndsWith dump_status (status_of f) → RefusesBinding words (status_of f) before after
-      go (fault.Dump r) stands warned ends =
-          let refused = subst (λ score. IsRefusedDump score before r) (one_command words stands.0 score stands.1 unbound.1) stands.2 in
-          inl (refl, record { score = score; refusal = r; is_score = unbound.1; refused = refused; of_binding = of_binding score before u.design u.text u.texts u.b u.says u.refused r refused; warned = warned })
-      go fault.TooManyPoints stands warned (inl is) = cc
-      go fault.TooManyPoints stands warned (inr is) = inr is
-      go (fault.Usage usage) stands warned (inl is) = cc
-      go (fault.Usage usage) stands warned (inr is) = inr is
-      go (fault.Source g) stands warned (inl is) = absurd (source_or_dump g is)
-      go (fault.Source g) stands warned (inr is) = inr is
-      go (fault.Files call file) stands warned (inl is) = cc
-      go (fault.Files call file) stands warned (inr is) = inr is
-      go fault.Memory stands warned ends = inr refl
-      go (fault.Databases f) stands warned ends = absurd (score_or_databases words score before middle f unbound.1 stands)
+      go : (f : Fault) → Stands words before middle f → WarnsLine (line_of f) before after → RefusesBinding words (status_of f) before after
+      go (fault.Usage usage) stands warned = absurd (command_or_fault words (of_score score, is) (usage, stands))
+      go (fault.Source g) stands warned = inr (memory_alone g (subst (λ score. IsSourceFault (sources_in score) before middle g) (one_command words stands.0 score stands.1 is) stands.2))
+      go fault.TooManyPoints stands warned =
+          absurd (not_too_many score before u.design u.text u.texts (subst (λ score. HasTooManyPoints score before) (one_command words stands.0 score stands.1 is) stands.2))
+      go (fault.Dump r) stands warned =
+          let refused = subst (λ score. IsRefusedDump score before r) (one_command words stands.0 score stands.1 is) stands.2 in
+          inl (refl, record { score = score; refusal = r; is_score = is; refused = refused; of_binding = of_binding score before u.design u.text u.texts u.b u.says u.refused r refused; warned = warned })
+      go (fault.Contradiction x) stands warned =
+          let refuted = subst (λ score. IsContradictedDump score before x) (one_command words stands.0 score stands.1 is) stands.2 in
+          absurd (none_contradicted score before u.design u.text u.texts u.b u.says u.refused x refuted)
+      go (fault.Files call file) stands warned =
+          let same = one_command words stands.0 score stands.1 is in
+          absurd (file_counted score u.text u.texts.dump_is call file.now (subst (λ score. NamesFile score call file.now) same stands.2.0) stands.2.1 (subst (λ score. HasSomeDesign score before) same stands.2.2))
+      go fault.Memory stands warned = inr refl
+      go (fault.Databases f) stands warned = absurd (score_or_databases words score before middle f is stands)
 
   -- of a design of too many points no other fault stands
   pub points_end : IsCommandWith IsTooLarge words before → WarnsLine (line_of f) before after → RefusesPoints (status_of f) before after
@@ -292,6 +289,9 @@ module _ (words : List (List ℕ)) (before middle after : Outside) (first : Coun
       go (fault.Dump r) stands warned =
           let refused = subst (λ score. IsRefusedDump score before r) (one_command words stands.0 score stands.1 is) stands.2 in
           absurd (too_large score before large refused.sources refused.design refused.has_design)
+      go (fault.Contradiction x) stands warned =
+          let refuted = subst (λ score. IsContradictedDump score before x) (one_command words stands.0 score stands.1 is) stands.2 in
+          absurd (too_large score before large refuted.sources refuted.design refuted.has_design)
       go (fault.Files call file) stands warned =
           let has = subst (λ score. HasSomeDesign score before) (one_command words stands.0 score stands.1 is) stands.2.2 in
           absurd (too_large score before large has.0 has.1 has.2)

@@ -33,7 +33,7 @@ use Rattle.source_design.specs.declared.fault.SourceFault.TheVariants as source_
 use Rattle.covered_cli.specs.ScoreSources.{sources_in}
 use Rattle.covered_cli.specs.SourceMessage.{source_status}
 use Rattle.covered_cli.specs.declared.fault.Fault.{Fault}
-use Rattle.covered_cli.specs.declared.fault.Fault.TheVariants.{Usage, Source, TooManyPoints, Dump, Files as FilesFault, Memory, Databases}
+use Rattle.covered_cli.specs.declared.fault.Fault.TheVariants.{Usage, Source, TooManyPoints, Dump, Contradiction, Files as FilesFault, Memory, Databases}
 use Rattle.covered_cli.specs.declared.status.Status.TheVariants as status
 use Rattle.covered_cli.proofs.Causes.{command_or_fault}
 
@@ -43,6 +43,7 @@ early_status (Usage usage) early = tt
 early_status (Source f) early = tt
 early_status TooManyPoints early = tt
 early_status (Dump refusal) early = tt
+early_status (Contradiction found) early = tt
 early_status (FilesFault call file) early = absurd early
 early_status Memory early = absurd early
 early_status (Databases (database.Files call file)) early = absurd early
@@ -92,6 +93,7 @@ good_databases_end alloc words before middle after first second none (Usage usag
 good_databases_end alloc words before middle after first second none (Source f) stands good = absurd (good_or_score words before stands.0 good stands.1)
 good_databases_end alloc words before middle after first second none TooManyPoints stands good = absurd (good_or_score words before stands.0 good stands.1)
 good_databases_end alloc words before middle after first second none (Dump refusal) stands good = absurd (good_or_score words before stands.0 good stands.1)
+good_databases_end alloc words before middle after first second none (Contradiction found) stands good = absurd (good_or_score words before stands.0 good stands.1)
 good_databases_end alloc words before middle after first second none (FilesFault call file) stands good = absurd (good_or_score words before stands.0 good stands.1)
 good_databases_end alloc words before middle after first second none Memory stands good = inr refl
 good_databases_end alloc words before middle after first second none (Databases f) stands good =
@@ -130,6 +132,7 @@ database_cause words before after (Usage usage) stands is = absurd (cc)
 database_cause words before after (Source f) stands is = absurd (source_no_database f is)
 database_cause words before after TooManyPoints stands is = absurd (cc)
 database_cause words before after (Dump refusal) stands is = absurd (cc)
+database_cause words before after (Contradiction found) stands is = absurd (cc)
 database_cause words before after (FilesFault call file) stands is = absurd (cc)
 database_cause words before after Memory stands is = absurd (cc)
 database_cause words before after (Databases f) stands is = database_fault_cause words before after f stands is
@@ -199,6 +202,7 @@ files_fault_cause words before after (Usage usage) stands is = absurd (cc)
 files_fault_cause words before after (Source f) stands is = source_files_cause words before after stands.0 stands.1 f stands.2 is
 files_fault_cause words before after TooManyPoints stands is = absurd (cc)
 files_fault_cause words before after (Dump refusal) stands is = absurd (cc)
+files_fault_cause words before after (Contradiction found) stands is = absurd (cc)
 files_fault_cause words before after (FilesFault call file) stands is = score_call words before after stands.0 call file.now stands.1 stands.2.0 stands.2.1
 files_fault_cause words before after Memory stands is = absurd (cc)
 files_fault_cause words before after (Databases f) stands is = databases_files_cause words before after f stands is
@@ -291,6 +295,7 @@ module _ (before middle after : Outside) (first : CountsUp before middle) (secon
   stands_later words (Source f) stands = (stands.0, stands.1, source_later (sources_in stands.0) f stands.2)
   stands_later words TooManyPoints stands = stands
   stands_later words (Dump refusal) stands = stands
+  stands_later words (Contradiction found) stands = stands
   stands_later words (FilesFault call file) stands = (stands.0, stands.1, (stands.2.0, refused_later call file.now stands.2.1, stands.2.2))
   stands_later words Memory stands = stands
   stands_later words (Databases f) stands = databases_stand_later words f stands

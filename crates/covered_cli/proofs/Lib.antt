@@ -1,8 +1,10 @@
 pub mod Causes
+pub mod GoodDumps
 pub mod Complete
 pub mod Databases
-pub mod Inputs
-pub mod InputDesigns
+pub mod SourceNames
+pub mod Designs
 pub mod Lines
 pub mod Scoring
+pub mod Refusing
 pub mod WordLists

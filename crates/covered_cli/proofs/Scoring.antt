@@ -7,25 +7,21 @@ use Rattle.command_line.specs.declared.command.Command.{Command}
 use Rattle.cov_host.specs.Outside.{Outside, Files, IsCounted, KeepsFiles, SameFiles, Told, HasFile}
 use Rattle.covered_cli.specs.Covered.{KeepsOthers}
 use Rattle.covered_cli.specs.Fault.{IsDesignFault, IsEarly, IsPointsFault, IsReadingFault, IsScoringFault, IsWritingFault, StandsIn}
-use Rattle.covered_cli.specs.Scoring.{HasDesign, HasSomeDesign, IsDone, IsDoneIn, IsDoneWork, names_of}
+use Rattle.covered_cli.specs.Scoring.{HasDesign, HasDump, HasSomeDesign, IsContradictedText, IsDone, IsDoneIn, IsDoneWork, IsDumpRefusal, names_of}
 use Rattle.covered_cli.specs.declared.fault.Fault.{Fault}
-use Rattle.covered_cli.specs.declared.fault.Fault.TheVariants.{Usage, Source, TooManyPoints, Dump, Files as FilesFault, Memory, Databases}
+use Rattle.covered_cli.specs.declared.fault.Fault.TheVariants.{Usage, Source, TooManyPoints, Dump, Contradiction, Files as FilesFault, Memory, Databases}
 use Rattle.cover_points.specs.declared.listing.Points.{Points}
 use Rattle.design_model.specs.View.{design_view}
 use Rattle.design_model.specs.declared.design.Design.{Design}
-use Rattle.input_tables.specs.Counted.{AreAllPoints}
+use Rattle.design_points.specs.Counted.{AreAllPoints}
 use Rattle.source_design.specs.Accepted.{StandFor}
 use Rattle.source_design.specs.Reading.{HasSources}
 use Rattle.covered_cli.specs.ScoreSources.{sources_in}
 use Rattle.coverage_db.specs.Text.{text_of}
 use Rattle.coverage_db.specs.declared.db.Db.{Db}
+use Rattle.dump_score.specs.Reading.{IsFile}
 use Rattle.dump_score.specs.Scoring.{IsScoreOfFile}
-use Rattle.input_runs.proofs.Listed.{lists_points}
-use Rattle.input_runs.proofs.Reasoned.{reasoned_table}
-use Rattle.input_runs.proofs.Sound.{sound_table}
-use Rattle.input_toggles.proofs.DumpTimes.{times_rise}
-use Rattle.input_toggles.specs.InputDesign.{IsInputDesign}
-use Rattle.input_toggles.specs.Scored.{HasHead}
+use Rattle.score_tables.specs.Head.{HasHead}
 use Rattle.verilog_lexer.specs.Sources.{SourceText}
 use Rattle.whole_files.proofs.EffectLemmas.{IsCounted-earlier, Told-map, Told-trans}
 use Rattle.whole_files.specs.Effects.{CountsUp, IsMissing}
@@ -54,6 +50,7 @@ design_stands score before after (Usage usage) is = absurd is
 design_stands score before after (Source f) is = is
 design_stands score before after TooManyPoints is = absurd is
 design_stands score before after (Dump refusal) is = absurd is
+design_stands score before after (Contradiction found) is = absurd is
 design_stands score before after (FilesFault call file) is = absurd is
 design_stands score before after Memory is = tt
 design_stands score before after (Databases f) is = absurd is
@@ -68,6 +65,7 @@ points_stand score before after sources design gathered stands (Usage usage) is 
 points_stand score before after sources design gathered stands (Source f) is = absurd is
 points_stand score before after sources design gathered stands TooManyPoints is = record { sources = sources; design = design; gathered = gathered; stands = stands; many = is }
 points_stand score before after sources design gathered stands (Dump refusal) is = absurd is
+points_stand score before after sources design gathered stands (Contradiction found) is = absurd is
 points_stand score before after sources design gathered stands (FilesFault call file) is = absurd is
 points_stand score before after sources design gathered stands Memory is = tt
 points_stand score before after sources design gathered stands (Databases f) is = absurd is
@@ -78,6 +76,7 @@ reading_stands score before middle after has kept first second (Usage usage) is 
 reading_stands score before middle after has kept first second (Source f) is = absurd is
 reading_stands score before middle after has kept first second TooManyPoints is = absurd is
 reading_stands score before middle after has kept first second (Dump refusal) is = absurd is
+reading_stands score before middle after has kept first second (Contradiction found) is = absurd is
 reading_stands score before middle after has kept first second (FilesFault OpenRead file) is = (is.0, refused_earlier file.now before middle after kept first second is.1, has)
 reading_stands score before middle after has kept first second (FilesFault Read file) is = (is.0, IsCounted-earlier before.faults middle.faults after.faults first.faults second.faults is.1, has)
 reading_stands score before middle after has kept first second (FilesFault OpenWrite file) is = absurd is
@@ -86,16 +85,21 @@ reading_stands score before middle after has kept first second (FilesFault Close
 reading_stands score before middle after has kept first second Memory is = tt
 reading_stands score before middle after has kept first second (Databases f) is = absurd is
 
--- a fault of the scoring stands
-pub scoring_stands : (score : ScoreValues) (sources : List SourceText) (design : Design) (before middle after : Outside) → HasDesign score before sources design → KeepsFiles before middle → CountsUp before middle → CountsUp middle after → (fault : Fault) → IsScoringFault score design middle after fault → StandsIn score before after fault
-scoring_stands score sources design before middle after has kept first second (Dump refusal) is = record {
+-- what holds of the design and of the dump that was read holds of those of the command
+has_dump : (score : ScoreValues) (sources : List SourceText) (design : Design) (before middle : Outside) (P : Design → List ℕ → Type 0) → HasDesign score before sources design → KeepsFiles before middle → (text : List ℕ) × IsFile middle score.dump text × P design text → HasDump score before P
+has_dump score sources design before middle P has kept is = record {
   sources = sources;
   text = is.0;
   design = design;
   has_design = has;
   is = file_as_before score.dump is.0 before.files middle.files kept is.1;
-  refused = is.2;
+  holds = is.2;
 }
+
+-- a fault of the scoring stands
+pub scoring_stands : (score : ScoreValues) (sources : List SourceText) (design : Design) (before middle after : Outside) → HasDesign score before sources design → KeepsFiles before middle → CountsUp before middle → CountsUp middle after → (fault : Fault) → IsScoringFault score design middle after fault → StandsIn score before after fault
+scoring_stands score sources design before middle after has kept first second (Dump refusal) is = has_dump score sources design before middle (λ d text. IsDumpRefusal d score.instance text refusal) has kept is
+scoring_stands score sources design before middle after has kept first second (Contradiction found) is = has_dump score sources design before middle (λ d text. IsContradictedText d score.instance text found) has kept is
 scoring_stands score sources design before middle after has kept first second (Usage usage) is = reading_stands score before middle after (sources, design, has) kept first second (Usage usage) is
 scoring_stands score sources design before middle after has kept first second TooManyPoints is = absurd is
 scoring_stands score sources design before middle after has kept first second (Source f) is = reading_stands score before middle after (sources, design, has) kept first second (Source f) is
@@ -112,34 +116,31 @@ written_since name text (Some before) (Some middle) None same written = absurd w
 written_since name text (Some before) (Some middle) (Some after) same written = record { named = written.named; others = λ other apart. written.others other apart ∙ same other }
 
 -- what was read, scored and written is what the command asks for
-pub score_is_done : (score : ScoreValues) (sources : List SourceText) (names : List (List ℕ)) (text : List ℕ) (design : Design) (db : Db) (before middle later after : Outside) → HasDesign score before sources design → names ≡ names_of sources → IsInputDesign design → KeepsFiles before middle → KeepsFiles before later
+pub score_is_done : (score : ScoreValues) (sources : List SourceText) (names : List (List ℕ)) (text : List ℕ) (design : Design) (db : Db) (before middle later after : Outside) → HasDesign score before sources design → names ≡ names_of sources → KeepsFiles before middle → KeepsFiles before later
     → IsScoreOfFile score.dump middle design names score.instance db → text ≡ text_of db → Told (HasFile score.output text) later.files after.files → IsDoneIn score before after
-score_is_done score sources names text design db before middle later after has are_names inputs kept same scored is_text written =
-    let rise = times_rise scored.text scored.dump scored.is_dump in
-    record {
-      sources = sources;
-      dump = scored.text;
-      design = design;
-      text = text;
-      has_design = has;
-      dump_is = file_as_before score.dump scored.text before.files middle.files kept scored.is;
-      scores = record {
-        dump = scored.dump;
-        db = db;
-        is_dump = scored.is_dump;
-        scores = record {
-          bound = scored.table.bound;
-          table = scored.table.table;
-          head = subst (λ ns. HasHead design ns db) are_names scored.table.head;
-          listed = lists_points design db inputs scored.table.listed;
-          verdicts = scored.table.verdicts;
-          sound = sound_table design scored.dump score.instance db inputs rise scored.table.verdicts;
-          reasoned = reasoned_table design scored.dump score.instance db scored.table.verdicts;
-        };
-        is_text = is_text;
-      };
-      written = written_since score.output text before.files later.files after.files same written;
-    }
+score_is_done score sources names text design db before middle later after has are_names kept same scored is_text written = record {
+  sources = sources;
+  dump = scored.text;
+  design = design;
+  text = text;
+  has_design = has;
+  dump_is = file_as_before score.dump scored.text before.files middle.files kept scored.is;
+  scores = record {
+    dump = scored.dump;
+    db = db;
+    is_dump = scored.is_dump;
+    scores = record {
+      accepted = record { bound = scored.score.bound; forced = scored.score.forced };
+      table = scored.score.table.table;
+      head = subst (λ ns. HasHead (design_view design) ns db) are_names scored.score.table.head;
+      listed = scored.score.table.listed;
+      sound = scored.score.table.sound;
+      reasoned = scored.score.table.reasoned;
+    };
+    is_text = is_text;
+  };
+  written = written_since score.output text before.files later.files after.files same written;
+}
 
 -- what the command asks for is what the words ask for
 pub command_is_done : (words : List (List ℕ)) (command : Command) (before after : Outside) → IsCommand words command → IsDoneWork command before after → IsDone words before after
@@ -159,6 +160,7 @@ writing_stands score before later after has first second (Usage usage) is = absu
 writing_stands score before later after has first second (Source f) is = absurd is
 writing_stands score before later after has first second TooManyPoints is = absurd is
 writing_stands score before later after has first second (Dump refusal) is = absurd is
+writing_stands score before later after has first second (Contradiction found) is = absurd is
 writing_stands score before later after has first second (FilesFault OpenRead file) is = absurd is
 writing_stands score before later after has first second (FilesFault Read file) is = absurd is
 writing_stands score before later after has first second (FilesFault OpenWrite file) is = (is.0, IsCounted-earlier before.faults later.faults after.faults first.faults second.faults is.1, has)
@@ -173,6 +175,7 @@ writing_is_late name before after (Usage usage) is early = is
 writing_is_late name before after (Source f) is early = is
 writing_is_late name before after TooManyPoints is early = is
 writing_is_late name before after (Dump refusal) is early = is
+writing_is_late name before after (Contradiction found) is early = is
 writing_is_late name before after (FilesFault OpenRead file) is early = is
 writing_is_late name before after (FilesFault Read file) is early = is
 writing_is_late name before after (FilesFault OpenWrite file) is early = early

@@ -3,8 +3,12 @@ use Rattle.std.specs.Prelude.{◌≡◌, ◌⊎◌, ℕ, List, Some, IsSome, IsS
 use Rattle.command_line.specs.CommandWords.{IsScore, ScoreValues}
 use Rattle.cov_host.specs.Outside.{Outside, IsCounted}
 use Rattle.design_model.specs.declared.design.Design.{Design}
-use Rattle.input_toggles.specs.Binding.{AreBound}
-use Rattle.input_toggles.specs.Scored.{IsBound}
+use Rattle.design_model.specs.Run.{Run}
+use Rattle.design_model.specs.View.{design_view}
+use Rattle.event_machine.specs.Habit.{Free}
+use Rattle.shown_dumps.specs.Bound.{IsBound}
+use Rattle.shown_dumps.specs.Shown.{bound_dump}
+use Rattle.signal_binding.specs.Binding.{IsBindable}
 use Rattle.vcd_reader.specs.Dump.{Dump as SpecDump, IsDump, SaysBody}
 use Rattle.vcd_reader.specs.Reading.{Body}
 use Rattle.covered_cli.specs.DumpRefusal.{refusal_line}
@@ -12,13 +16,14 @@ use Rattle.covered_cli.specs.Effects.{WarnsLine}
 use Rattle.covered_cli.specs.Fault.{points_line}
 use Rattle.source_design.specs.Accepted.{StandFor}
 use Rattle.source_design.specs.Reading.{HasSources}
+use Rattle.verdict_laws.specs.Sound.{IsShownBy}
 use Rattle.verilog_lexer.specs.Sources.{SourceText}
 use Rattle.covered_cli.specs.ScoreSources.{sources_in}
 use Rattle.covered_cli.specs.Scoring.{HasDesign, HasNoScore, HasTooManyPoints, IsRefusedDump}
 use Rattle.covered_cli.specs.declared.dump_refusal.DumpRefusal.{DumpRefusal}
 use Rattle.covered_cli.specs.declared.dump_refusal.DumpRefusal.TheVariants as refusal
 use Rattle.covered_cli.specs.declared.status.Status.{Status}
-use Rattle.covered_cli.specs.declared.status.Status.TheVariants.{Dump, Memory, Source}
+use Rattle.covered_cli.specs.declared.status.Status.TheVariants.{Contradiction, Dump, Memory, Source}
 
 -- the files of the host are known, and this one has this text
 abbrev pub HasText : Outside → List ℕ → List ℕ → Type 0
@@ -30,7 +35,7 @@ pub record HaveTexts (score : ScoreValues) (before : Outside) (design : Design) 
   pub has_design : HasDesign score before sources design
   pub dump_is : HasText before score.dump text
 
--- the sources have a design, and the dump has the instance, and each of its inputs with a first value
+-- the sources have a design, the dump has the instance, each input, and a first value of each signal that it has, and some run of the design shows it
 pub record IsGoodScore (score : ScoreValues) (before : Outside) : Type 0 where
   pub text : List ℕ
   pub design : Design
@@ -38,6 +43,8 @@ pub record IsGoodScore (score : ScoreValues) (before : Outside) : Type 0 where
   pub texts : HaveTexts score before design text
   pub is_dump : IsDump text dump
   pub bound : IsBound design dump score.instance
+  pub run : Run
+  pub shown : IsShownBy (design_view design) Free (bound_dump design dump score.instance) run
 
 -- the sources are known, with all that they include, and have no design, whatever the dump is
 pub record HasBadSource (score : ScoreValues) (before : Outside) : Type 0 where
@@ -51,7 +58,7 @@ pub record IsTooLarge (score : ScoreValues) (before : Outside) : Type 0 where
   pub told : IsSome before.files
   pub points : HasTooManyPoints score before
 
--- the sources have a design, and the text of the dump is none that has the instance, and each input with a first value
+-- the sources have a design, and the text of the dump is none that has the instance, each input, and a first value of each signal that it has
 pub record HasBadDump (score : ScoreValues) (before : Outside) : Type 0 where
   pub text : List ℕ
   pub design : Design
@@ -65,12 +72,12 @@ pub record HasUnboundDump (score : ScoreValues) (before : Outside) : Type 0 wher
   pub b : Body
   pub texts : HaveTexts score before design text
   pub says : SaysBody text b
-  pub refused : AreBound design b.vars score.instance design.signals → ⊥
+  pub refused : IsBindable design b.vars score.instance → ⊥
 
 -- the refusal is one of the binding
 abbrev pub IsOfBinding : DumpRefusal → Type 0
 IsOfBinding (refusal.NoInstance path) = Unit {0}
-IsOfBinding (refusal.InputNotDumped outer name) = Unit {0}
+IsOfBinding (refusal.InputNotDumped path) = Unit {0}
 IsOfBinding other = ⊥
 
 -- the words are a command whose dump is refused for its binding, and the line of that was warned
@@ -93,6 +100,10 @@ NoFaults before after = IsCounted before.faults after.faults → ⊥
 -- the status is this one, or memory ran out
 abbrev pub EndsWith : Status → Status → Type 0
 EndsWith expected status = (status ≡ expected) ⊎ (status ≡ Memory)
+
+-- a dump is refused, or no run shows what was read of it, or memory ran out
+abbrev pub RefusesDump : Status → Type 0
+RefusesDump status = (status ≡ Dump) ⊎ ((status ≡ Contradiction) ⊎ (status ≡ Memory))
 
 -- too many points were refused, with the line of that, or memory ran out
 abbrev pub RefusesPoints : Status → Outside → Outside → Type 0

@@ -15,9 +15,12 @@ use Rattle.source_design.specs.Reading.{LacksAt}
 use Rattle.covered_cli.specs.Effects.{WarnsLine}
 use Rattle.covered_cli.specs.Fault.{Stands, line_of, status_of}
 use Rattle.covered_cli.specs.ScoreSources.{sources_in}
+use Rattle.covered_cli.specs.Scoring.{IsContradictedDump}
+use Rattle.covered_cli.specs.declared.contradiction.Contradiction.{Contradiction}
 use Rattle.covered_cli.specs.declared.fault.Fault.{Fault}
 use Rattle.covered_cli.specs.declared.status.Status.{Status}
 use Rattle.covered_cli.specs.declared.status.Status.TheVariants.{Usage, Source, Dump, Database}
+use Rattle.covered_cli.specs.declared.status.Status.TheVariants as status
 
 -- every file but this one is as before
 abbrev pub KeepsOthers : List ℕ → Files → Files → Type 0
@@ -66,6 +69,7 @@ abbrev pub HasEarlyStatus : Status → Type 0
 HasEarlyStatus Usage = Unit {0}
 HasEarlyStatus Source = Unit {0}
 HasEarlyStatus Dump = Unit {0}
+HasEarlyStatus status.Contradiction = Unit {0}
 HasEarlyStatus Database = Unit {0}
 HasEarlyStatus other = ⊥
 
@@ -95,6 +99,10 @@ HasDatabaseCause words before =
     ((values : MergeValues) × (name : List ℕ) × IsMerge words values × Contains (inputs_of values) name × (HasNoTable before name ⊎ AreOfTwoDesigns before values.first name))
     ⊎ ((values : ReportValues) × IsReport words values × HasNoTable before values.file)
     ⊎ ((values : LcovValues) × IsLcov words values × HasNoTable before values.file)
+
+-- the words are a score, and no run of the design of its sources shows its dump
+abbrev pub HasContradiction : List (List ℕ) → Outside → Type 0
+HasContradiction words before = (values : ScoreValues) × IsScore words values × (found : Contradiction) × IsContradictedDump values before found
 
 -- the words merge files that have tables of one design, or report or trace a file that has a table
 abbrev pub HasGoodDatabases : List (List ℕ) → Outside → Type 0

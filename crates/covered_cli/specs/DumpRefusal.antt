@@ -24,5 +24,5 @@ kind_text HeaderTooLong = codes "12 HeaderTooLong"
 abbrev pub refusal_line : DumpRefusal → List ℕ
 refusal_line (At kind byte) = codes "covered: dump: " ++ kind_text kind ++ codes " at byte " ++ decimal byte ++ codes "\n"
 refusal_line (NoInstance path) = codes "covered: dump: bind 1 NoInstance " ++ path.now ++ codes "\n"
-refusal_line (InputNotDumped top name) = codes "covered: dump: bind 2 InputNotDumped " ++ top.now ++ codes "." ++ name ++ codes "\n"
-refusal_line (NoBaseline top name) = codes "covered: dump: bind 3 NoBaseline " ++ top.now ++ codes "." ++ name ++ codes "\n"
+refusal_line (InputNotDumped path) = codes "covered: dump: bind 2 InputNotDumped " ++ path ++ codes "\n"
+refusal_line (NoBaseline path) = codes "covered: dump: bind 3 NoBaseline " ++ path ++ codes "\n"

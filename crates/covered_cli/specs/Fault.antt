@@ -15,14 +15,15 @@ use Rattle.database_commands.specs.declared.fault.CommandFault.{CommandFault}
 use Rattle.design_model.specs.View.{design_view}
 use Rattle.design_model.specs.declared.design.Design.{Design}
 use Rattle.dump_score.specs.Reading.{IsFile}
-use Rattle.input_tables.specs.Counted.{HasManyPoints}
+use Rattle.design_points.specs.Counted.{HasManyPoints}
 use Rattle.whole_files.specs.Call.{call_name}
 use Rattle.whole_files.specs.Effects.{IsMissing}
 use Rattle.whole_files.specs.declared.call.Call.{Call}
 use Rattle.whole_files.specs.declared.call.Call.TheVariants.{OpenRead, Read, OpenWrite, Write, CloseWrite}
+use Rattle.covered_cli.specs.Contradiction.{contradiction_line}
 use Rattle.covered_cli.specs.Databases.{database_line, database_status}
 use Rattle.covered_cli.specs.ScoreSources.{sources_in}
-use Rattle.covered_cli.specs.Scoring.{HasSomeDesign, HasTooManyPoints, IsDumpRefusal, IsRefusedDump}
+use Rattle.covered_cli.specs.Scoring.{HasSomeDesign, HasTooManyPoints, IsContradictedDump, IsContradictedText, IsDumpRefusal, IsRefusedDump}
 use Rattle.covered_cli.specs.SourceMessage.{source_line, source_status}
 use Rattle.covered_cli.specs.DumpRefusal.{refusal_line}
 use Rattle.source_design.specs.Reading.{IsSourceFault}
@@ -37,6 +38,7 @@ status_of (fault.Usage usage) = status.Usage
 status_of (fault.Source f) = source_status f
 status_of fault.TooManyPoints = status.Source
 status_of (fault.Dump refusal) = status.Dump
+status_of (fault.Contradiction x) = status.Contradiction
 status_of (fault.Files call file) = status.Files
 status_of fault.Memory = status.Memory
 status_of (fault.Databases f) = database_status f
@@ -51,6 +53,7 @@ line_of (fault.Usage usage) = codes "covered: usage: " ++ usage_text usage ++ co
 line_of (fault.Source f) = source_line f
 line_of fault.TooManyPoints = points_line
 line_of (fault.Dump refusal) = refusal_line refusal
+line_of (fault.Contradiction x) = contradiction_line x
 line_of (fault.Files call file) = codes "covered: files: " ++ call_name call ++ codes " " ++ file.now ++ codes "\n"
 line_of fault.Memory = codes "covered: memory\n"
 line_of (fault.Databases f) = database_line f
@@ -73,6 +76,7 @@ StandsIn score before after (fault.Usage usage) = ⊥
 StandsIn score before after (fault.Source f) = IsSourceFault (sources_in score) before after f
 StandsIn score before after fault.TooManyPoints = HasTooManyPoints score before
 StandsIn score before after (fault.Dump refusal) = IsRefusedDump score before refusal
+StandsIn score before after (fault.Contradiction x) = IsContradictedDump score before x
 StandsIn score before after (fault.Files call file) = NamesFile score call file.now × IsRefused call file.now before after × HasSomeDesign score before
 StandsIn score before after fault.Memory = Unit {0}
 StandsIn score before after (fault.Databases f) = ⊥
@@ -156,12 +160,14 @@ IsPointsFault design other = ⊥
 
 -- the design was not scored by the command's dump
 abbrev pub IsScoringFault : ScoreValues → Design → Outside → Outside → Fault → Type 0
-IsScoringFault score design before after (fault.Dump refusal) = (text : List ℕ) × IsFile before score.dump text × IsDumpRefusal design score.top score.instance text refusal
+IsScoringFault score design before after (fault.Dump refusal) = (text : List ℕ) × IsFile before score.dump text × IsDumpRefusal design score.instance text refusal
+IsScoringFault score design before after (fault.Contradiction x) = (text : List ℕ) × IsFile before score.dump text × IsContradictedText design score.instance text x
 IsScoringFault score design before after other = IsReadingFault score.dump before after other
 
--- the fault is none of sources, none of a dump and none of a command over databases
+-- the fault is none of sources, none of a dump or its contradiction, and none of a command over databases
 abbrev pub IsPlain : Fault → Type 0
 IsPlain (fault.Source f) = ⊥
 IsPlain (fault.Dump refusal) = ⊥
+IsPlain (fault.Contradiction x) = ⊥
 IsPlain (fault.Databases f) = ⊥
 IsPlain other = Unit {0}

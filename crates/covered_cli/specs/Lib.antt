@@ -1,9 +1,11 @@
 pub mod DumpRefusal
+pub mod Contradiction
 pub mod Complete
 pub mod Covered
 pub mod Effects
 pub mod Databases
 pub mod Scoring
+pub mod Refusing
 pub mod Fault
 pub mod Status
 pub mod ScoreSources

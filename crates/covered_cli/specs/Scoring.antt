@@ -1,5 +1,5 @@
 -- What a `score` command reads and writes, and why it cannot.
-use Rattle.std.specs.Prelude.{◌≡◌, ℕ, false, List, map, slice_index_or, All}
+use Rattle.std.specs.Prelude.{◌≡◌, ℕ, false, List, [], map}
 use Rattle.std.specs.List.{list_any}
 use Rattle.command_line.specs.CommandWords.{ScoreValues}
 use Rattle.command_line.specs.Command.{AreWordsOf, CommandValues, score as of_score, merge as of_merge, report as of_report, lcov as of_lcov, command_values}
@@ -8,26 +8,33 @@ use Rattle.cov_host.specs.Outside.{Outside, HasFile, Told}
 use Rattle.coverage_db.specs.Table.{IsTable}
 use Rattle.coverage_db.specs.Text.{text_of}
 use Rattle.coverage_db.specs.declared.db.Db.{Db}
-use Rattle.design_model.specs.Design.{no_signal}
 use Rattle.database_commands.specs.Merging.{IsMergedIn}
 use Rattle.database_commands.specs.Reporting.{IsReportedIn}
 use Rattle.database_commands.specs.Tracing.{IsTracedIn}
+use Rattle.design_model.specs.Design.{path_of}
 use Rattle.design_model.specs.View.{design_view}
 use Rattle.design_model.specs.declared.design.Design.{Design}
-use Rattle.vcd_reader.specs.Dump.{Dump, IsDump}
-use Rattle.vcd_reader.specs.declared.fault.DumpFault.TheVariants.{At}
+use Rattle.design_points.specs.Counted.{HasFewPoints, HasManyPoints}
+use Rattle.dump_replay.specs.Faults.{IsContradicted}
 use Rattle.dump_score.specs.Faults.{IsDumpFault, SaysSome}
 use Rattle.dump_score.specs.Reading.{IsFile}
-use Rattle.input_runs.specs.Listed.{ListsPoints}
-use Rattle.input_runs.specs.Reasoned.{IsReasoned}
-use Rattle.input_runs.specs.Sound.{IsSound}
-use Rattle.input_tables.specs.Counted.{HasFewPoints, HasManyPoints}
-use Rattle.input_toggles.specs.Binding.{IsNotDumped, stands_in}
-use Rattle.input_toggles.specs.Scored.{HasHead, HasNoBaseline, IsBound, IsScored}
+use Rattle.dump_score.specs.Scoring.{AreForced}
+use Rattle.event_machine.specs.Habit.{Free}
+use Rattle.score_tables.specs.Head.{HasHead}
+use Rattle.shown_dumps.specs.Bound.{HasNoBaseline, IsBound}
+use Rattle.shown_dumps.specs.Shown.{bound_dump}
+use Rattle.signal_binding.specs.Binding.{IsNotDumped}
+use Rattle.signal_binding.specs.Names.{stands_in}
 use Rattle.source_design.specs.Accepted.{StandFor}
 use Rattle.source_design.specs.Reading.{HasSources}
+use Rattle.table_laws.specs.Rows.{ListsPoints}
+use Rattle.vcd_reader.specs.Dump.{Dump, IsDump}
+use Rattle.vcd_reader.specs.declared.fault.DumpFault.TheVariants.{At}
+use Rattle.verdict_laws.specs.Reasoned.{IsReasoned}
+use Rattle.verdict_laws.specs.Sound.{IsSound}
 use Rattle.verilog_lexer.specs.Sources.{SourceText}
 use Rattle.covered_cli.specs.ScoreSources.{sources_in}
+use Rattle.covered_cli.specs.declared.contradiction.Contradiction.{Contradiction}
 use Rattle.covered_cli.specs.declared.dump_refusal.DumpRefusal.{DumpRefusal}
 use Rattle.covered_cli.specs.declared.dump_refusal.DumpRefusal.TheVariants as refusal
 
@@ -53,20 +60,24 @@ HasSomeDesign score before = (sources : List SourceText) × (design : Design) ×
 abbrev pub names_of : List SourceText → List (List ℕ)
 names_of sources = map (λ source. source.name) sources
 
--- the text is no dump that has the instance, and a variable and a first value of each signal
+-- the text is no dump that has the instance, a variable of each input, and a first value of each signal that has a variable
 abbrev pub HasNoScore : Design → List ℕ → List ℕ → Type 0
 HasNoScore design instance text = (dump : Dump) → IsDump text dump → IsBound design dump instance → ⊥
 
--- the table lists each point of the design once, with the verdict of the dump, which holds in every run that shows it,
--- and leaves none undetermined without a reason
-pub record IsScoreOf (design : Design) (dump : Dump) (names : List (List ℕ)) (instance : List ℕ) (db : Db) : Type 0 where
+-- the dump has the instance, a variable of each input, and a first value of each signal that has a variable, and no forced value differs from its own
+pub record IsAccepted (design : Design) (dump : Dump) (instance : List ℕ) : Type 0 where
   pub bound : IsBound design dump instance
+  pub forced : AreForced (design_view design) (bound_dump design dump instance)
+
+-- The table lists each coverage point of the design once. In every run of the design that shows the dump, each point marked hit is hit and each point
+-- marked missed is never hit. Each undetermined point names a signal and a time at which that signal is in doubt for its block.
+pub record IsScoreOf (design : Design) (dump : Dump) (names : List (List ℕ)) (instance : List ℕ) (db : Db) : Type 0 where
+  pub accepted : IsAccepted design dump instance
   pub table : IsTable db
-  pub head : HasHead design names db
-  pub listed : ListsPoints design db
-  pub verdicts : All (IsScored design dump instance) db.points
-  pub sound : IsSound design dump instance db
-  pub reasoned : IsReasoned design dump instance db
+  pub head : HasHead (design_view design) names db
+  pub listed : ListsPoints (design_view design) [] db
+  pub sound : IsSound (design_view design) Free (bound_dump design dump instance) [] db
+  pub reasoned : IsReasoned (design_view design) Free (bound_dump design dump instance) [] db
 
 -- the text is that of a table of the design under the dump of this text
 pub record IsScoreText (design : Design) (names : List (List ℕ)) (dump_text instance text : List ℕ) : Type 0 where
@@ -76,28 +87,38 @@ pub record IsScoreText (design : Design) (names : List (List ℕ)) (dump_text in
   pub scores : IsScoreOf design dump names instance db
   pub is_text : text ≡ text_of db
 
--- the signal with this number has this name
-abbrev pub IsNamed : Design → ℕ → List ℕ → Type 0
-IsNamed design signal name = name ≡ (slice_index_or design.signals signal no_signal).name
-
 -- why the text is refused as the dump of a design: its first fault, which is one of its header or is where the design is
--- bound, an instance that is not there, or a signal of the top module
-abbrev pub IsDumpRefusal : Design → List ℕ → List ℕ → List ℕ → DumpRefusal → Type 0
-IsDumpRefusal design top instance text (refusal.At kind byte) = IsDumpFault design instance text (At kind byte)
-IsDumpRefusal design top instance text (refusal.NoInstance path) = (path.now ≡ instance) × SaysSome text (λ b. list_any (stands_in instance) b.vars ≡ false)
-IsDumpRefusal design top instance text (refusal.InputNotDumped outer name) =
-    (outer.now ≡ top) × ((signal : ℕ) × IsNamed design signal name × SaysSome text (λ b. IsNotDumped design b.vars instance design.signals signal))
-IsDumpRefusal design top instance text (refusal.NoBaseline outer name) =
-    (outer.now ≡ top) × ((signal : ℕ) × IsNamed design signal name × SaysSome text (λ b. HasNoBaseline design b.vars instance design.signals b.items signal))
+-- bound, an instance that is not there, or a signal of this path
+abbrev pub IsDumpRefusal : Design → List ℕ → List ℕ → DumpRefusal → Type 0
+IsDumpRefusal design instance text (refusal.At kind byte) = IsDumpFault design instance text (At kind byte)
+IsDumpRefusal design instance text (refusal.NoInstance path) = (path.now ≡ instance) × SaysSome text (λ b. list_any (stands_in instance) b.vars ≡ false)
+IsDumpRefusal design instance text (refusal.InputNotDumped path) =
+    (s : ℕ) × (path ≡ path_of (design_view design) s) × SaysSome text (λ b. IsNotDumped design b.vars instance s)
+IsDumpRefusal design instance text (refusal.NoBaseline path) =
+    (s : ℕ) × (path ≡ path_of (design_view design) s) × SaysSome text (λ b. HasNoBaseline design b.vars instance b.items s)
 
--- the sources have a design, and the dump is refused for it
-pub record IsRefusedDump (score : ScoreValues) (before : Outside) (refusal : DumpRefusal) : Type 0 where
+-- the text says something, without a fault before it, of which no run of the design shows what it says up to the time; of the signal of this path the
+-- dump then says something else in a sure bit than what the design makes of it
+abbrev pub IsContradictedText : Design → List ℕ → List ℕ → Contradiction → Type 0
+IsContradictedText design instance text x =
+    (s : ℕ) × (x.path ≡ path_of (design_view design) s) × SaysSome text (λ b. IsContradicted design b.vars instance b.items s x.time x.dumped x.computed.bits)
+
+-- the sources have a design, and this holds of it and of the text of the dump
+pub record HasDump (score : ScoreValues) (before : Outside) (P : Design → List ℕ → Type 0) : Type 0 where
   pub sources : List SourceText
   pub text : List ℕ
   pub design : Design
   pub has_design : HasDesign score before sources design
   pub is : IsFile before score.dump text
-  pub refused : IsDumpRefusal design score.top score.instance text refusal
+  pub holds : P design text
+
+-- the sources have a design, and the dump is refused for it
+abbrev pub IsRefusedDump : ScoreValues → Outside → DumpRefusal → Type 0
+IsRefusedDump score before refusal = HasDump score before (λ design text. IsDumpRefusal design score.instance text refusal)
+
+-- the sources have a design, and no run of it shows the dump
+abbrev pub IsContradictedDump : ScoreValues → Outside → Contradiction → Type 0
+IsContradictedDump score before x = HasDump score before (λ design text. IsContradictedText design score.instance text x)
 
 -- the output holds the table of the design of the sources under the dump, and every other file is as before
 pub record IsDoneIn (score : ScoreValues) (before after : Outside) : Type 0 where

@@ -10,16 +10,16 @@ use itoa::Buffer;
 use vcd_reader::DumpKind;
 
 /// Why a dump is refused.
-#[derive(Debug, Drop)]
+#[derive(Drop)]
 pub(crate) enum DumpRefusal<'a> {
     /// The first fault of the dump, and its byte.
     At { kind: DumpKind, byte: u64 },
     /// No variable is in the scope of the path or below it.
     NoInstance { path: &'a str },
-    /// This input of the top module has no variable of its width under any of its names.
-    InputNotDumped { top: &'a str, name: Name },
-    /// There is a second time, and this signal of the top module has no value before it.
-    NoBaseline { top: &'a str, name: Name },
+    /// The input of this path has no variable of its width under any of its names.
+    InputNotDumped { path: Name },
+    /// There is a second time, and the signal of this path, which is bound, has no value before it.
+    NoBaseline { path: Name },
 }
 
 /// Warns of a refused dump by its line.
@@ -32,12 +32,10 @@ pub(crate) fn warn_refusal<H: Host>(host: &mut H, refusal: &DumpRefusal<'_>)
     match refusal {
         DumpRefusal::At { kind, byte } => warn_fault(host, *kind, *byte),
         DumpRefusal::NoInstance { path } => warn_instance(host, path),
-        DumpRefusal::InputNotDumped { top, name } => {
-            warn_signal(host, "2 InputNotDumped ", top, name.as_slice())
+        DumpRefusal::InputNotDumped { path } => {
+            warn_signal(host, "2 InputNotDumped ", path.as_slice())
         }
-        DumpRefusal::NoBaseline { top, name } => {
-            warn_signal(host, "3 NoBaseline ", top, name.as_slice())
-        }
+        DumpRefusal::NoBaseline { path } => warn_signal(host, "3 NoBaseline ", path.as_slice()),
     }
 }
 
@@ -58,9 +56,9 @@ fn warn_instance<H: Host>(host: &mut H, path: &str)
     );
 }
 
-/// Warns of a fault of a signal of the top module.
-fn warn_signal<'a, H: Host>(host: &mut H, fault: &'a str, top: &'a str, name: &'a [u8])
-    ensures line { WarnsLine (codes "covered: dump: bind " ++ fault.now ++ top.now ++ codes "." ++ name.now ++ codes "\n") (H.outside host.old) (H.outside host.new) }
+/// Warns of a fault of a signal.
+fn warn_signal<'a, H: Host>(host: &mut H, fault: &'a str, path: &'a [u8])
+    ensures line { WarnsLine (codes "covered: dump: bind " ++ fault.now ++ path.now ++ codes "\n") (H.outside host.old) (H.outside host.new) }
     ensures printed { (H.outside host.new).printed ≡ (H.outside host.old).printed }
     ensures files { KeepsFiles (H.outside host.old) (H.outside host.new) }
     ensures counts { CountsUp (H.outside host.old) (H.outside host.new) }
@@ -70,9 +68,7 @@ fn warn_signal<'a, H: Host>(host: &mut H, fault: &'a str, top: &'a str, name: &'
         &[
             "covered: dump: bind ".as_bytes(),
             fault.as_bytes(),
-            top.as_bytes(),
-            ".".as_bytes(),
-            name,
+            path,
             "\n".as_bytes(),
         ],
     );

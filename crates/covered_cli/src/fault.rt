@@ -3,6 +3,7 @@ ghost use Rattle.covered_cli.specs.Fault.{status_of};
 ghost use Rattle.covered_cli.specs.declared.fault.Fault.TheVariants.{Memory as memory_fault};
 
 use crate::Status;
+use crate::contradiction::Contradiction;
 use crate::database_message::database_status;
 use crate::dump_refusal::DumpRefusal;
 use crate::source_message::source_status;
@@ -14,7 +15,7 @@ use std::alloc::AllocError;
 use whole_files::Call;
 
 /// Why a command ends with a status above 0.
-#[derive(Debug, Drop)]
+#[derive(Drop)]
 pub(crate) enum Fault<'a> {
     Usage(UsageFault<'a>),
     /// No design was read from the sources.
@@ -23,6 +24,8 @@ pub(crate) enum Fault<'a> {
     TooManyPoints,
     /// The dump is refused.
     Dump(DumpRefusal<'a>),
+    /// No run of the design shows the dump.
+    Contradiction(Contradiction),
     /// A call on the host gave nothing.
     Files { call: Call, file: &'a str },
     Memory,
@@ -40,6 +43,7 @@ impl Fault<'_> {
             Fault::Source(fault) => source_status(fault),
             Fault::TooManyPoints => Status::Source,
             Fault::Dump(_) => Status::Dump,
+            Fault::Contradiction(_) => Status::Contradiction,
             Fault::Files { .. } => Status::Files,
             Fault::Memory => Status::Memory,
             Fault::Databases(fault) => database_status(fault),

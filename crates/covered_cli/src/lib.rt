@@ -1,7 +1,8 @@
 //! The program over a host: [`covered`] reads the words of a command, does the work, and answers with a status.
 //!
 //! The clauses of [`covered`] are what the whole program promises, and `specs/Scoring.antt` has the one of a score: each
-//! coverage point of the design is listed once, and each verdict holds in every run of the design that shows the dump.
+//! coverage point of the design is listed once, each verdict holds in every run of the design that shows the dump, and each
+//! undetermined point has its reason.
 //! Nothing here opens a file by itself: a host does, real (`cov_host::FileHost`) or in memory.
 //!
 //! ```text
@@ -13,6 +14,7 @@
 //! ```
 #![tactic(auto)]
 
+mod contradiction;
 mod database_message;
 mod dump_refusal;
 mod fault;

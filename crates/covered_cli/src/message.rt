@@ -7,6 +7,7 @@ ghost use Rattle.whole_files.specs.Effects.{CountsUp};
 ghost use Rattle.covered_cli.specs.Effects.{WarnsLine};
 ghost use Rattle.covered_cli.specs.Fault.{IsPlain, line_of};
 
+use crate::contradiction::warn_contradiction;
 use crate::database_message::warn_database;
 use crate::dump_refusal::warn_refusal;
 use crate::fault::Fault;
@@ -27,6 +28,7 @@ pub(crate) fn warn_of<H: Host>(host: &mut H, fault: &Fault<'_>)
     match fault {
         Fault::Source(fault) => warn_source(host, fault),
         Fault::Dump(refusal) => warn_refusal(host, refusal),
+        Fault::Contradiction(found) => warn_contradiction(host, found),
         Fault::Databases(fault) => warn_database(host, fault),
         Fault::Usage(_) | Fault::TooManyPoints | Fault::Files { .. } | Fault::Memory => {
             warn_texts(host, &pieces_of(fault))
@@ -34,13 +36,15 @@ pub(crate) fn warn_of<H: Host>(host: &mut H, fault: &Fault<'_>)
     }
 }
 
-/// The pieces of a fault's line in order, except one of sources, of a dump or of a command over databases.
+/// The pieces of a fault's line in order, except one of sources, of a dump or its contradiction, or of a command over databases.
 fn pieces_of<'a>(fault: &Fault<'a>) -> [&'a str; 5]
     ensures { IsPlain fault.now → flat_map (λ piece. piece.now) result ≡ line_of fault.now }
 {
     match fault {
         Fault::Usage(usage) => usage_pieces(usage),
-        Fault::Source(_) | Fault::Dump(_) | Fault::Databases(_) => ["", "", "", "", ""],
+        Fault::Source(_) | Fault::Dump(_) | Fault::Contradiction(_) | Fault::Databases(_) => {
+            ["", "", "", "", ""]
+        }
         Fault::TooManyPoints => ["covered: source: points 3 TooManyPoints\n", "", "", "", ""],
         Fault::Files { call, file } => file_pieces(*call, file),
         Fault::Memory => ["covered: memory\n", "", "", "", ""],

@@ -1,24 +1,27 @@
-ghost use Rattle.std.specs.Prelude.{◌≡◌, ◌<◌, IfErr, IfOk, OnOk, length, slice_index_or};
+ghost use Rattle.std.specs.Prelude.{◌≡◌, ◌<◌, IfErr, IfOk, OnOk, length};
 ghost use Rattle.command_line.specs.CommandWords.{HaveForms, score_values};
 ghost use Rattle.cov_host.specs.Outside.{HasFile, KeepsFiles, KeepsStreams, Outside, Told};
-ghost use Rattle.whole_files.specs.Effects.{CountsUp, OnlyReads};
 ghost use Rattle.coverage_db.specs.Table.{IsTable};
 ghost use Rattle.coverage_db.specs.Text.{text_of};
-ghost use Rattle.design_model.specs.Design.{no_signal};
+ghost use Rattle.design_model.specs.Design.{path_of};
 ghost use Rattle.design_model.specs.Lawful.{IsLawfulDesign};
 ghost use Rattle.design_model.specs.View.{design_view};
+ghost use Rattle.design_points.specs.Counted.{AreAllPoints};
 ghost use Rattle.dump_score.specs.Faults.{IsScoreFault};
 ghost use Rattle.dump_score.specs.Scoring.{IsScoreOfFile};
-ghost use Rattle.input_tables.specs.Counted.{AreAllPoints};
-ghost use Rattle.input_toggles.specs.InputDesign.{IsInputDesign};
-ghost use Rattle.input_toggles.specs.Scored.{AreSources};
+ghost use Rattle.instance_paths.specs.Rooted.{IsRooted};
+ghost use Rattle.replay_core.specs.Fits.{IsReplayable, signal_of};
 ghost use Rattle.source_design.specs.Reading.{IsReadIn};
+ghost use Rattle.table_laws.specs.Written.{IsWritten};
+ghost use Rattle.whole_files.specs.Effects.{CountsUp, OnlyReads};
 ghost use Rattle.covered_cli.specs.Covered.{KeepsOthers};
 ghost use Rattle.covered_cli.specs.Fault.{IsDesignFault, IsPointsFault, StandsIn, IsEarly, IsWritingFault, IsScoringFault};
+ghost use Rattle.covered_cli.specs.Refusing.{IsBindRefusal, IsReplayRefusal, NamesSignal};
 ghost use Rattle.covered_cli.specs.ScoreSources.{sources_in};
 ghost use Rattle.covered_cli.specs.Scoring.{IsDoneIn};
 ghost use Rattle.covered_cli.specs.declared.fault.Fault.TheVariants as fault_row;
 
+use crate::contradiction::Contradiction;
 use crate::dump_refusal::DumpRefusal;
 use crate::fault::Fault;
 use crate::score_words::{defines_of, files_of};
@@ -27,9 +30,10 @@ use cov_host::{Host, Name, NoMemory, Sequence, Text};
 use cover_points::Points;
 use coverage_db::{Db, write_db};
 use design_model::Design;
+use design_points::{ListFault, list_points};
 use dump_score::{ScoreFault, score_dump};
-use input_tables::{ListFault, list_points};
-use input_toggles::{BindFault, NoBaseline};
+use replay_core::ReplayFault;
+use signal_binding::BindFault;
 use source_design::{ReadDesign, SourceWords, read_design};
 use std::alloc::Global;
 use vcd_reader::DumpFault;
@@ -118,10 +122,10 @@ fn db_of<'a, H: Host>(
     sources: Sequence<Name>,
     words: &ScoreWords<'a>,
 ) -> Result<Db, Fault<'a>>
-    requires design { IsInputDesign design.now }
-    requires lawful { IsLawfulDesign (design_view design.now) }
+    requires replayable { IsReplayable (design_view design.now) points.now }
     requires points { AreAllPoints (design_view design.now) points.now }
-    requires sources { AreSources sources }
+    requires written { IsWritten sources (design_view design.now) }
+    requires rooted { IsRooted (design_view design.now) }
     ensures scored { IfOk result (IsScoreOfFile words.now.dump.now (H.outside host.old) design.now sources words.now.instance.now) }
     ensures fault { IfErr result (IsScoringFault (score_values words.now) design.now (H.outside host.old) (H.outside host.new)) }
     ensures effects { OnlyReads (H.outside host.old) (H.outside host.new) }
@@ -147,6 +151,8 @@ fn fault_of<'a>(
     words: &ScoreWords<'a>,
     fault: ScoreFault,
 ) -> Fault<'a>
+    requires lawful { IsLawfulDesign (design_view design.now) }
+    requires fault { (before : Outside) × (after : Outside) × IsScoreFault words.now.dump.now before after design.now words.now.instance.now fault }
     ensures { (before after : Outside) → IsScoreFault words.now.dump.now before after design.now words.now.instance.now fault → IsScoringFault (score_values words.now) design.now before after result }
 {
     match fault {
@@ -159,37 +165,68 @@ fn fault_of<'a>(
         ScoreFault::Dump(DumpFault::At { kind, byte }) => {
             Fault::Dump(DumpRefusal::At { kind, byte })
         }
-        ScoreFault::Bind(BindFault::NoMemory) => Fault::Memory,
-        ScoreFault::Bind(BindFault::NoInstance) => Fault::Dump(DumpRefusal::NoInstance {
-            path: words.instance,
-        }),
-        ScoreFault::Bind(BindFault::InputNotDumped { signal }) => match name_of(
-            alloc, design, signal,
-        ) {
-            Ok(name) => Fault::Dump(DumpRefusal::InputNotDumped {
-                top: words.top,
-                name,
-            }),
+        ScoreFault::Bind(fault) => bind_refusal(alloc, design, words.instance, fault),
+        ScoreFault::Replay(fault) => replay_refusal(alloc, design, fault),
+    }
+}
+
+/// The fault of the program that a fault of the binding is.
+fn bind_refusal<'a>(
+    alloc: Global,
+    design: &Design,
+    instance: &'a str,
+    fault: BindFault,
+) -> Fault<'a>
+    requires lawful { IsLawfulDesign (design_view design.now) }
+    requires signal { NamesSignal (length design.now.signals) fault }
+    ensures { IsBindRefusal (design_view design.now) instance.now fault result }
+{
+    match fault {
+        BindFault::NoMemory => Fault::Memory,
+        BindFault::NoInstance => Fault::Dump(DumpRefusal::NoInstance { path: instance }),
+        BindFault::InputNotDumped { signal } => match path_of(alloc, design, signal) {
+            Ok(path) => Fault::Dump(DumpRefusal::InputNotDumped { path }),
             Err(NoMemory) => Fault::Memory,
         },
-        ScoreFault::Baseline(NoBaseline { signal }) => match name_of(alloc, design, signal) {
-            Ok(name) => Fault::Dump(DumpRefusal::NoBaseline {
-                top: words.top,
-                name,
+    }
+}
+
+/// The fault of the program that a fault of the replay is.
+fn replay_refusal<'a>(alloc: Global, design: &Design, fault: ReplayFault) -> Fault<'a>
+    requires lawful { IsLawfulDesign (design_view design.now) }
+    requires signal { signal_of fault < length design.now.signals }
+    ensures { IsReplayRefusal (design_view design.now) fault result }
+{
+    match fault {
+        ReplayFault::NoBaseline { signal } => match path_of(alloc, design, signal as usize) {
+            Ok(path) => Fault::Dump(DumpRefusal::NoBaseline { path }),
+            Err(NoMemory) => Fault::Memory,
+        },
+        ReplayFault::Contradiction {
+            signal,
+            time,
+            dumped,
+            computed,
+        } => match path_of(alloc, design, signal as usize) {
+            Ok(path) => Fault::Contradiction(Contradiction {
+                path,
+                time,
+                dumped,
+                computed,
             }),
             Err(NoMemory) => Fault::Memory,
         },
     }
 }
 
-/// The name of the signal with this number.
-fn name_of(alloc: Global, design: &Design, signal: usize) -> Result<Name, NoMemory>
-    ensures { IfOk result (λ name. signal < length design.now.signals → name ≡ (slice_index_or design.now.signals signal no_signal).name) }
+/// The path of the signal with this number.
+fn path_of(alloc: Global, design: &Design, signal: usize) -> Result<Name, NoMemory>
+    requires lawful { IsLawfulDesign (design_view design.now) }
+    requires signal { signal < length design.now.signals }
+    ensures { IfOk result (λ path. path ≡ path_of (design_view design.now) signal) }
 {
-    match design.signals.get(signal) {
-        Some(signal) => Ok(Name::from_vec(Vec::from_slice(alloc, signal.name.as_slice())?)),
-        None => Ok(Name::new(alloc)),
-    }
+    // a lawful design has at most 65,536 signals
+    design.path(alloc, signal as u32)
 }
 
 /// The text of a database.

@@ -12,7 +12,7 @@ pub enum Status {
     Source,
     /// The dump has a fault, or it does not fit the design.
     Dump,
-    /// No run of the design shows the dump. A design made of inputs always has one, so no command ends so yet.
+    /// No run of the design shows the dump.
     Contradiction,
     /// A call on the host failed, or a file that is to be read is absent.
     Files,

@@ -104,6 +104,29 @@ const SCORE_M: &[&str] = &[
     "score", "-t", "m", "-i", "tb.dut", "-v", "m.v", "-vcd", "D", "-o", "B",
 ];
 
+/// Scores a module with a continuous assignment.
+const SCORE_INV: &[&str] = &[
+    "score", "-t", "inv", "-i", "tb.dut", "-v", "inv.v", "-vcd", "D", "-o", "B",
+];
+
+const INV: &str =
+    "module inv(input a, input b, output y); assign y = a & b; endmodule\n";
+
+/// A dump of it.
+const INV_DUMP: &str =
+    "$scope module tb $end\n$scope module dut $end\n$var wire 1 ! a $end\n$var wire 1 \" b $end\n$var wire 1 # y $end\n$upscope $end\n$upscope $end\n$enddefinitions $end\n#0\n0!\n1\"\n0#\n#5\n1!\n1#\n#10\n0!\n0#\n";
+
+/// A dump that no run of it shows, and that has another fault after that.
+const INV_REFUTED: &str =
+    "$scope module tb $end\n$scope module dut $end\n$var wire 1 ! a $end\n$var wire 1 \" b $end\n$var wire 1 # y $end\n$upscope $end\n$upscope $end\n$enddefinitions $end\n#0\n0!\n1\"\n0#\n#5\n1!\n#10\n0!\n#9\n";
+
+/// A dump whose output has no value before the second time.
+const INV_LACKING: &str =
+    "$scope module tb $end\n$scope module dut $end\n$var wire 1 ! a $end\n$var wire 1 \" b $end\n$var wire 1 # y $end\n$upscope $end\n$upscope $end\n$enddefinitions $end\n#0\n0!\n1\"\n#5\n1!\n1#\n#10\n0!\n0#\n";
+
+const INV_DATABASE: &str =
+    "covered-db 1\ntop inv\nsource 1 inv.v\ninstance inv inv\npoints 9\nc inv 1 1:1 & 0- = missed\nc inv 1 1:1 & -0 = missed\nc inv 1 1:1 & 11 = hit\nt inv a - 01 = hit\nt inv a - 10 = missed\nt inv b - 01 = missed\nt inv b - 10 = missed\nt inv y - 01 = hit\nt inv y - 10 = missed\nend\n";
+
 /// The tables.
 const TABLES: &[File] = &[("t1.db", FIRST), ("t2.db", SECOND), ("t5.db", OTHER)];
 
@@ -129,7 +152,12 @@ const CASES: &[Case] = &[
     Case { words: SCORE_M, files: &[("m.v", "module m(input a);\n  `NONE\nendmodule\n"), ("D", DUMP)], status: Status::Source, output: NONE, printed: "", warned: "covered: source: lex 6 UnknownMacro NONE at m.v:2:3\n" },
     Case { words: SCORE_M, files: &[("m.v", "module m(input a);\n  assign #1 b = a;\nendmodule\n"), ("D", DUMP)], status: Status::Source, output: NONE, printed: "", warned: "covered: source: parse 4 LeftOut delay at m.v:2:10\n" },
     Case { words: SCORE_M, files: &[("m.v", "module m(input a);\n"), ("D", DUMP)], status: Status::Source, output: NONE, printed: "", warned: "covered: source: parse 2 EarlyEnd\n" },
-    Case { words: SCORE_M, files: &[("m.v", "module m(input a, output b);\nendmodule\n"), ("D", DUMP)], status: Status::Source, output: NONE, printed: "", warned: "covered: source: early 1 NotYet\n" },
+    Case { words: SCORE_M, files: &[("m.v", "module m(input a, output reg b);\n  always @(posedge a) b <= 1;\nendmodule\n"), ("D", DUMP)], status: Status::Source, output: NONE, printed: "", warned: "covered: source: early 1 NotYet\n" },
+    Case { words: SCORE_M, files: &[("m.v", "module m(input a);\n  reg b [0:1];\nendmodule\n"), ("D", DUMP)], status: Status::Source, output: NONE, printed: "", warned: "covered: source: early 1 NotYet\n" },
+    // a continuous assignment
+    Case { words: SCORE_INV, files: &[("inv.v", INV), ("D", INV_DUMP)], status: Status::Done, output: ("B", INV_DATABASE), printed: "", warned: "" },
+    Case { words: SCORE_INV, files: &[("inv.v", INV), ("D", INV_REFUTED)], status: Status::Contradiction, output: NONE, printed: "", warned: "covered: contradiction: inv.y at 5: dumped 0, computed 1\n" },
+    Case { words: SCORE_INV, files: &[("inv.v", INV), ("D", INV_LACKING)], status: Status::Dump, output: NONE, printed: "", warned: "covered: dump: bind 3 NoBaseline inv.y\n" },
     // modules that are refused
     Case { words: SCORE_M, files: &[("m.v", "module m(input a);\n  wire [a:0] b;\nendmodule\n"), ("D", DUMP)], status: Status::Source, output: NONE, printed: "", warned: "covered: source: const 1 NotConstant at m.v:2:9\n" },
     Case { words: SCORE_M, files: &[("m.v", "module m(input a);\n  sub u(a);\nendmodule\n"), ("D", DUMP)], status: Status::Source, output: NONE, printed: "", warned: "covered: source: elab 1 NoModule sub at m.v:2:3\n" },

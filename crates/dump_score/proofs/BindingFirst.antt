@@ -2,39 +2,45 @@
 use Rattle.std.proofs.Common.{◌≡◌, ◌≢◌, ◌∙◌, ℕ, is_some, Option, None, List, refl, sym, ap, subst, inl, inr}
 use Rattle.std.proofs.lemmas.Bool.{false≢true}
 use Rattle.std.specs.Prelude.{IsSome}
-use Rattle.design_model.specs.Design.{no_signal}
 use Rattle.design_model.specs.declared.design.Design.{Design}
-use Rattle.design_model.specs.declared.design.Signal.{Signal}
+use Rattle.dump_replay.specs.Faults.{IsReplayFault}
+use Rattle.replay_core.specs.declared.fault.ReplayFault.{ReplayFault}
+use Rattle.replay_core.specs.declared.fault.ReplayFault.TheVariants.{Contradiction, NoBaseline}
+use Rattle.signal_binding.specs.Binding.{IsBindFault, IsBindable}
+use Rattle.signal_binding.specs.declared.fault.BindFault.{BindFault}
+use Rattle.signal_binding.specs.declared.fault.BindFault.TheVariants as bind_fault
 use Rattle.vcd_reader.proofs.OneHeader.{one_header}
 use Rattle.vcd_reader.specs.Dump.{SaysBody}
 use Rattle.vcd_reader.specs.Reading.{Body}
+use Rattle.vcd_reader.specs.declared.entry.Entry.{Entry}
 use Rattle.vcd_reader.specs.declared.fault.DumpFault.TheVariants as dump_fault
 use Rattle.vcd_reader.specs.declared.fault.DumpKind.{DumpKind}
 use Rattle.vcd_reader.specs.declared.vars.Var.{Var}
-use Rattle.input_toggles.specs.Binding.{AreBound, IsBindFault}
-use Rattle.signal_binding.specs.declared.fault.BindFault.{BindFault}
-use Rattle.signal_binding.specs.declared.fault.BindFault.TheVariants as bind_fault
-use Rattle.input_toggles.specs.declared.fault.NoBaseline.{NoBaseline}
 use Rattle.dump_score.specs.Faults.{IsTextFault}
 use Rattle.dump_score.specs.declared.fault.ScoreFault.TheVariants as score_fault
 
 some_or_none : (o : Option ℕ) → IsSome o → o ≡ None → ⊥
 some_or_none o some none = false≢true (sym (ap is_some none) ∙ some)
 
--- signals that are not bound are not bound
-unbound : (design : Design) (vars : List Var) (instance : List ℕ) (signals : List Signal) (f : BindFault) → f ≢ bind_fault.NoMemory → IsBindFault design vars instance signals f → AreBound design vars instance signals → ⊥
-unbound design vars instance signals bind_fault.NoMemory named is bound = named refl
-unbound design vars instance signals bind_fault.NoInstance named is bound = false≢true (sym is ∙ bound.instance_is)
-unbound design vars instance signals (bind_fault.InputNotDumped signal) named is bound = some_or_none _ (bound.variables signal no_signal is.listed) is.none
+-- a design that is not bound is not bound
+unbound : (design : Design) (vars : List Var) (instance : List ℕ) (f : BindFault) → f ≢ bind_fault.NoMemory → IsBindFault design vars instance f → IsBindable design vars instance → ⊥
+unbound design vars instance bind_fault.NoMemory named is bound = named refl
+unbound design vars instance bind_fault.NoInstance named is bound = false≢true (sym is ∙ bound.instance_is)
+unbound design vars instance (bind_fault.InputNotDumped signal) named is bound = some_or_none _ (bound.inputs signal is.listed is.input) is.none
+
+-- where the replay has a fault the design is bound
+pub replay_binds : (design : Design) (vars : List Var) (instance : List ℕ) (entries : List Entry) (f : ReplayFault) → IsReplayFault design vars instance entries f → IsBindable design vars instance
+replay_binds design vars instance entries (NoBaseline s) is = is.bindable
+replay_binds design vars instance entries (Contradiction s time dumped computed) is = is.bindable
 
 module _ (design : Design) (instance text : List ℕ) (f : BindFault) (named : f ≢ bind_fault.NoMemory) (is : IsTextFault design instance text (score_fault.Bind f)) where
-  not_bound : (b : Body) → SaysBody text b → AreBound design b.vars instance design.signals → ⊥
+  not_bound : (b : Body) → SaysBody text b → IsBindable design b.vars instance → ⊥
   not_bound b says bound =
-      unbound design b.vars instance design.signals f named (subst (λ vars. IsBindFault design vars instance design.signals f) (sym (one_header text is.0 b is.1 says)) is.2) bound
+      unbound design b.vars instance f named (subst (λ vars. IsBindFault design vars instance f) (sym (one_header text is.0 b is.1 says)) is.2) bound
 
   pub no_fault : (kind : DumpKind) (byte : ℕ) → IsTextFault design instance text (score_fault.Dump (dump_fault.At kind byte)) → ⊥
   no_fault kind byte (first, inl none) = none is.0 is.1
   no_fault kind byte (first, inr binds) = not_bound binds.0 binds.1 binds.2
 
-  pub no_first_value : (signal : NoBaseline) → IsTextFault design instance text (score_fault.Baseline signal) → ⊥
-  no_first_value signal says = not_bound says.0 says.1 says.2.are_bound
+  pub no_replay : (r : ReplayFault) → IsTextFault design instance text (score_fault.Replay r) → ⊥
+  no_replay r says = not_bound says.0 says.1 (replay_binds design says.0.vars instance says.0.items r says.2)

@@ -80,7 +80,7 @@ call_fault_earlier name before middle after (fault.Refused CloseWrite) first sec
 call_fault_earlier name before middle after fault.NoMemory first second is = absurd is
 call_fault_earlier name before middle after (fault.Dump f) first second is = absurd is
 call_fault_earlier name before middle after (fault.Bind f) first second is = absurd is
-call_fault_earlier name before middle after (fault.Baseline f) first second is = absurd is
+call_fault_earlier name before middle after (fault.Replay f) first second is = absurd is
 
 -- so it is where a header was read, and a body
 pub header_call_fault : (name : List ℕ) (before middle after : Outside) (f : ScoreFault) → CountsUp before middle → CountsUp middle after → IsPieceFault middle after f → IsHeaderFault name before after f
@@ -88,14 +88,14 @@ header_call_fault name before middle after (fault.Refused call) first second is 
 header_call_fault name before middle after fault.NoMemory first second is = tt
 header_call_fault name before middle after (fault.Dump f) first second is = absurd is
 header_call_fault name before middle after (fault.Bind f) first second is = absurd is
-header_call_fault name before middle after (fault.Baseline f) first second is = absurd is
+header_call_fault name before middle after (fault.Replay f) first second is = absurd is
 
 pub body_call_fault : (name : List ℕ) (before middle after : Outside) (design : Design) (instance : List ℕ) (f : ScoreFault) → CountsUp before middle → CountsUp middle after → IsPieceFault middle after f → IsScoreFault name before after design instance f
 body_call_fault name before middle after design instance (fault.Refused call) first second is = call_fault_earlier name before middle after (fault.Refused call) first second is
 body_call_fault name before middle after design instance fault.NoMemory first second is = tt
 body_call_fault name before middle after design instance (fault.Dump f) first second is = absurd is
 body_call_fault name before middle after design instance (fault.Bind f) first second is = absurd is
-body_call_fault name before middle after design instance (fault.Baseline f) first second is = absurd is
+body_call_fault name before middle after design instance (fault.Replay f) first second is = absurd is
 
 -- what refuses a header refuses the dump
 of_header : (design : Design) (instance text : List ℕ) (f : DumpFault) → IsFaultOfHeader text f → IsDumpFault design instance text f
@@ -107,14 +107,14 @@ header_refuses name before after design instance (fault.Refused call) is = is
 header_refuses name before after design instance fault.NoMemory is = tt
 header_refuses name before after design instance (fault.Dump f) is = (is.0, is.1, of_header design instance is.0 f is.2)
 header_refuses name before after design instance (fault.Bind f) is = absurd is
-header_refuses name before after design instance (fault.Baseline f) is = absurd is
+header_refuses name before after design instance (fault.Replay f) is = absurd is
 
 pub call_refuses : (name : List ℕ) (before after : Outside) (design : Design) (instance : List ℕ) (f : ScoreFault) → IsCallFault name before after f → IsScoreFault name before after design instance f
 call_refuses name before after design instance (fault.Refused call) is = is
 call_refuses name before after design instance fault.NoMemory is = tt
 call_refuses name before after design instance (fault.Dump f) is = absurd is
 call_refuses name before after design instance (fault.Bind f) is = absurd is
-call_refuses name before after design instance (fault.Baseline f) is = absurd is
+call_refuses name before after design instance (fault.Replay f) is = absurd is
 
 some_piece : (piece : List ℕ) → 0 < length piece → piece ≢ []
 some_piece [] some = absurd (omega (arith, some))

@@ -3,13 +3,9 @@ use Rattle.std.proofs.Common.{◌≡◌, ◌⊎◌, ℕ, zero, suc, ◌+◌, ◌
 use Rattle.std.proofs.lemmas.List.{length-append, length-take, take_all}
 use Rattle.cov_host.specs.Outside.{Outside}
 use Rattle.design_model.specs.declared.design.Design.{Design}
-use Rattle.coverage_db.specs.declared.db.Db.{Db}
-use Rattle.vcd_reader.proofs.RisingTimes.{times_rise}
 use Rattle.vcd_reader.proofs.OneHeader.{none_stays}
 use Rattle.vcd_reader.proofs.TextLemmas.{fault_stays}
-use Rattle.input_toggles.proofs.BoundLemmas.{are_bound}
-use Rattle.input_toggles.proofs.DumpTimes.{steps_rise}
-use Rattle.vcd_reader.specs.Dump.{BeginsAs, SaysBody, steps_of}
+use Rattle.vcd_reader.specs.Dump.{BeginsAs, SaysBody}
 use Rattle.vcd_reader.specs.Pieces.{BodyHasEnded, BodyHasRead, BodyIs, HasRead, Splits, body_at_end, header_at_end}
 use Rattle.vcd_reader.specs.Reading.{Body}
 use Rattle.vcd_reader.specs.Standing.{IsFaultOf}
@@ -19,17 +15,18 @@ use Rattle.vcd_reader.specs.declared.fault.DumpFault.{DumpFault}
 use Rattle.vcd_reader.specs.declared.fault.DumpFault.TheVariants as dump_fault
 use Rattle.vcd_reader.specs.declared.header.Header.{Header}
 use Rattle.vcd_reader.specs.declared.vars.Var.{Var}
-use Rattle.input_toggles.specs.Binding.{AreBound, IsBindFault}
-use Rattle.input_toggles.specs.Scores.{Scores}
-use Rattle.input_tables.specs.Marked.{IsScoreBy}
-use Rattle.input_toggles.specs.declared.scorer.Scorer.{Scorer}
+use Rattle.cover_points.specs.declared.listing.Points.{Points}
+use Rattle.dump_replay.specs.Followed.{HasFollowed}
+use Rattle.dump_replay.specs.declared.replay.DumpReplay.{DumpReplay}
+use Rattle.signal_binding.specs.Binding.{IsBindFault, IsBindable}
 use Rattle.whole_files.specs.Effects.{OnlyReads}
 use Rattle.dump_score.specs.Faults.{Binds, IsDumpFault, IsEndFault, IsFaultOfHeader, IsFileFault, IsFoundFault, IsScoreFault}
 use Rattle.dump_score.specs.Reading.{HasReadFile, IsFile}
-use Rattle.dump_score.specs.Scoring.{CanEnd, HasOpened, HasScored, IsScoreOfFile, IsOpen, IsReading, IsScoring, behind}
+use Rattle.dump_score.specs.Scoring.{CanEnd, HasOpened, IsOpen, IsScoring, IsScoringSome, behind}
 use Rattle.dump_score.specs.declared.fault.ScoreFault.{ScoreFault}
 use Rattle.dump_score.specs.declared.fault.ScoreFault.TheVariants as fault
 use Rattle.dump_score.specs.declared.header.Opened.{Opened}
+use Rattle.dump_score.specs.declared.header.Span.{Span}
 use Rattle.dump_score.proofs.FileLemmas.{file_of}
 use Rattle.dump_score.proofs.Stepping.{all_of}
 
@@ -114,25 +111,25 @@ named_end : (design : Design) (instance text : List ℕ) (f : DumpFault) → End
 named_end design instance text dump_fault.NoMemory is binds = tt
 named_end design instance text (dump_fault.At kind byte) is binds = (inr is, inr binds)
 
--- a design that is scored is bound, whatever comes behind
-scoring_binds : (body : BodyRow) (scorer : Scorer) (design : Design) (vars : List Var) (instance text rest : List ℕ) → IsScoring body scorer design vars instance text → Binds design instance (text ++ rest)
-scoring_binds body scorer design vars instance text rest is = (
+-- a design that is scored is bound, whatever comes after
+scoring_binds : (body : BodyRow) (replay : DumpReplay) (design : Design) (points : Points) (vars : List Var) (instance text rest : List ℕ) → IsScoring body replay design points vars instance text → Binds design instance (text ++ rest)
+scoring_binds body replay design points vars instance text rest is = (
   is.b,
   inl (record { front = text; rest = rest; word = is.stands.stands.word; split = refl; stands = is.stands.stands.stands }),
-  subst (λ vs. AreBound design vs instance design.signals) (sym is.vars_are) (are_bound scorer design vars instance is.b.items is.scores),
+  subst (λ vs. IsBindable design vs instance) (sym is.vars_are) is.followed.of.bindable,
 )
 
-pub scoring_binds_on : (body : BodyRow) (scorer : Scorer) (design : Design) (vars : List Var) (instance text piece rest : List ℕ) → IsScoring body scorer design vars instance text → Binds design instance ((text ++ piece) ++ rest)
-scoring_binds_on body scorer design vars instance text piece rest is = subst (Binds design instance) (sym (append_assoc text piece rest)) (scoring_binds body scorer design vars instance text (piece ++ rest) is)
+pub scoring_binds_on : (body : BodyRow) (replay : DumpReplay) (design : Design) (points : Points) (vars : List Var) (instance text piece rest : List ℕ) → IsScoring body replay design points vars instance text → Binds design instance ((text ++ piece) ++ rest)
+scoring_binds_on body replay design points vars instance text piece rest is = subst (Binds design instance) (sym (append_assoc text piece rest)) (scoring_binds body replay design points vars instance text (piece ++ rest) is)
 
-pub can_end_binds : (body : BodyRow) (scorer : Scorer) (design : Design) (vars : List Var) (instance text : List ℕ) → CanEnd body scorer design vars instance text → Binds design instance text
-can_end_binds body scorer design vars instance text can = (
+pub can_end_binds : (body : BodyRow) (replay : DumpReplay) (design : Design) (points : Points) (vars : List Var) (instance text : List ℕ) → CanEnd body replay design points vars instance text → Binds design instance text
+can_end_binds body replay design points vars instance text can = (
   can.b,
   elim can.stands [
     | inl read ↦ inl (record { front = text; rest = []; word = read.stands.word; split = sym (append-nil text); stands = read.stands.stands })
     | inr ended ↦ inr ended.ended.ends
   ],
-  subst (λ vs. AreBound design vs instance design.signals) (sym can.vars_are) (are_bound scorer design vars instance can.b.items can.scores),
+  subst (λ vs. IsBindable design vs instance) (sym can.vars_are) can.followed.of.bindable,
 )
 
 -- a fault that was found stands in the whole file
@@ -140,7 +137,7 @@ pub found_in_file : (name : List ℕ) (before after now : Outside) (design : Des
 found_in_file name before after now design instance text (fault.Dump f) file binds is =
     let whole = file_of name text before now file in
     (text ++ whole.0, whole.1, named_fault design instance (text ++ whole.0) f (fault_stays text whole.0 f is) (binds whole.0))
-found_in_file name before after now design instance text (fault.Baseline f) file binds is =
+found_in_file name before after now design instance text (fault.Replay f) file binds is =
     let whole = file_of name text before now file in
     (text ++ whole.0, whole.1, (is.0, inl (begins_more text whole.0 is.0 is.1), is.2))
 found_in_file name before after now design instance text fault.NoMemory file binds is = absurd is
@@ -150,7 +147,7 @@ found_in_file name before after now design instance text (fault.Bind f) file bin
 -- so does one at its end
 pub end_in_file : (name : List ℕ) (before after : Outside) (design : Design) (instance text : List ℕ) (f : ScoreFault) → IsFile before name text → Binds design instance text → IsEndFault design instance text f → IsScoreFault name before after design instance f
 end_in_file name before after design instance text (fault.Dump f) file binds is = (text, file, named_end design instance text f is binds)
-end_in_file name before after design instance text (fault.Baseline f) file binds is = (text, file, (is.0, inr is.1, is.2))
+end_in_file name before after design instance text (fault.Replay f) file binds is = (text, file, (is.0, inr is.1, is.2))
 end_in_file name before after design instance text fault.NoMemory file binds is = absurd is
 end_in_file name before after design instance text (fault.Refused call) file binds is = absurd is
 end_in_file name before after design instance text (fault.Bind f) file binds is = absurd is
@@ -168,11 +165,11 @@ is_none zero none = refl
 is_none (suc n) none = absurd (none (omega arith))
 
 -- a fault of the binding stands in the whole file
-pub bind_in_file : (name : List ℕ) (before after now : Outside) (design : Design) (instance piece : List ℕ) (opened : Opened) (f : _) → HasOpened name before now piece opened → IsBindFault design opened.vars instance design.signals f → IsScoreFault name before after design instance (fault.Bind f)
+pub bind_in_file : (name : List ℕ) (before after now : Outside) (design : Design) (instance piece : List ℕ) (opened : Opened) (f : _) → HasOpened name before now piece opened → IsBindFault design opened.vars instance f → IsScoreFault name before after design instance (fault.Bind f)
 bind_in_file name before after now design instance piece opened f o is = go (body_at_end opened.body) refl o.splits.stands
   where
-    bound : IsBindFault design o.splits.b.vars instance design.signals f
-    bound = subst (λ vars. IsBindFault design vars instance design.signals f) o.splits.vars_are is
+    bound : IsBindFault design o.splits.b.vars instance f
+    bound = subst (λ vars. IsBindFault design vars instance f) o.splits.vars_are is
 
     go : (ends : Bool) → body_at_end opened.body ≡ ends → BodyIs ends opened.body o.front o.splits.b → IsFileFault name before design instance (fault.Bind f)
     go false e stands =
@@ -184,59 +181,48 @@ bind_in_file name before after now design instance piece opened f o is = go (bod
         let none = is_none opened.span.count (λ some. false_is_true (body_at_end opened.body) (o.goes_on some) e) in
         (o.front, o.ended none, (o.splits.b, inr stands.ended.ends, bound))
 
--- where the input goes on the body does
-pub opened_reading : (name : List ℕ) (before now : Outside) (piece : List ℕ) (opened : Opened) → HasOpened name before now piece opened → 0 < opened.span.count → IsReading opened.body
-opened_reading name before now piece opened o some = (o.front, o.splits.b, subst (λ ends. BodyIs ends opened.body o.front o.splits.b) (o.goes_on some) o.splits.stands)
-
 either_ends : (ends : Bool) (body : BodyRow) (text : List ℕ) (b : Body) → BodyIs ends body text b → BodyHasRead body text b ⊎ BodyHasEnded body text b
 either_ends false body text b stands = inl stands
 either_ends true body text b stands = inr stands
 
 -- the design was bound
-pub opened_bound : (name : List ℕ) (before now : Outside) (piece : List ℕ) (opened : Opened) (scorer : Scorer) (design : Design) (instance : List ℕ) → HasOpened name before now piece opened → Scores scorer design opened.vars instance [] → IsOpen name before now piece opened.span opened.body scorer design opened.vars instance
-opened_bound name before now piece opened scorer design instance o scores =
-    let said = subst (λ entries. Scores scorer design opened.vars instance entries) (sym o.splits.none) scores in
+pub opened_bound : (name : List ℕ) (before now : Outside) (piece : List ℕ) (opened : Opened) (replay : DumpReplay) (design : Design) (points : Points) (instance : List ℕ) → HasOpened name before now piece opened → HasFollowed replay design points opened.vars instance [] → IsOpen name before now piece opened.span opened.body replay design points opened.vars instance
+opened_bound name before now piece opened replay design points instance o followed =
+    let said = subst (λ entries. HasFollowed replay design points opened.vars instance entries) (sym o.splits.none) followed in
     record {
       front = o.front;
       file = o.file;
       at_is = o.at_is;
-      goes_on = λ some. record { b = o.splits.b; stands = subst (λ ends. BodyIs ends opened.body o.front o.splits.b) (o.goes_on some) o.splits.stands; vars_are = sym o.splits.vars_are; scores = said };
-      ended = λ none. (o.ended none, record { b = o.splits.b; stands = either_ends (body_at_end opened.body) opened.body o.front o.splits.b o.splits.stands; vars_are = sym o.splits.vars_are; scores = said });
+      goes_on = λ some. record { b = o.splits.b; stands = subst (λ ends. BodyIs ends opened.body o.front o.splits.b) (o.goes_on some) o.splits.stands; vars_are = sym o.splits.vars_are; followed = said };
+      ended = λ none. (o.ended none, record { b = o.splits.b; stands = either_ends (body_at_end opened.body) opened.body o.front o.splits.b o.splits.stands; vars_are = sym o.splits.vars_are; followed = said });
     }
 
+-- so the body goes on where some of the piece is left
+pub open_scoring : (name : List ℕ) (before now : Outside) (piece : List ℕ) (span : Span) (body : BodyRow) (replay : DumpReplay) (design : Design) (points : Points) (vars : List Var) (instance : List ℕ) → IsOpen name before now piece span body replay design points vars instance → 0 < span.count → IsScoringSome body replay
+open_scoring name before now piece span body replay design points vars instance o some = (design, points, vars, instance, o.front, o.goes_on some)
+
 -- what the loop over the pieces of a body keeps
-pub record ReadsBody (start_body body : BodyRow) (start_scorer scorer : Scorer) (start_at at : ℕ) (start now : Outside) : Type 0 where
-  pub reads : IsReading body
+pub record ReadsBody (start_body body : BodyRow) (start_replay replay : DumpReplay) (start_at at : ℕ) (start now : Outside) : Type 0 where
+  pub reads : IsScoringSome body replay
   pub reading : now.reading ≡ true
   pub effects : OnlyReads start now
-  pub scores : (name : List ℕ) (before : Outside) (design : Design) (vars : List Var) (instance text : List ℕ) → HasReadFile name before start text → start_at ≡ length text → IsScoring start_body start_scorer design vars instance text
-      → (more : List ℕ) × HasReadFile name before now more × (at ≡ length more) × IsScoring body scorer design vars instance more
+  pub scores : (name : List ℕ) (before : Outside) (design : Design) (points : Points) (vars : List Var) (instance text : List ℕ) → HasReadFile name before start text → start_at ≡ length text → IsScoring start_body start_replay design points vars instance text
+      → (more : List ℕ) × HasReadFile name before now more × (at ≡ length more) × IsScoring body replay design points vars instance more
 
-pub can_end : (body : BodyRow) (scorer : Scorer) (design : Design) (vars : List Var) (instance text : List ℕ) → IsScoring body scorer design vars instance text → CanEnd body scorer design vars instance text
-can_end body scorer design vars instance text is = record { b = is.b; stands = inl is.stands; vars_are = is.vars_are; scores = is.scores }
+pub can_end : (body : BodyRow) (replay : DumpReplay) (design : Design) (points : Points) (vars : List Var) (instance text : List ℕ) → IsScoring body replay design points vars instance text → CanEnd body replay design points vars instance text
+can_end body replay design points vars instance text is = record { b = is.b; stands = inl is.stands; vars_are = is.vars_are; followed = is.followed }
 
 -- a dump that was read is not too long
-pub not_too_long : (body : BodyRow) (scorer : Scorer) (design : Design) (vars : List Var) (instance text : List ℕ) → IsScoring body scorer design vars instance text → length text ≤ 1099511627776
-not_too_long body scorer design vars instance text is = is.stands.stands.stands.within
+pub not_too_long : (body : BodyRow) (replay : DumpReplay) (design : Design) (points : Points) (vars : List Var) (instance text : List ℕ) → IsScoring body replay design points vars instance text → length text ≤ 1099511627776
+not_too_long body replay design points vars instance text is = is.stands.stands.stands.within
 
 pub more_length : (text piece : List ℕ) (at count : ℕ) → at ≡ length text → count ≤ length piece → at + count ≡ length (text ++ take count piece)
 more_length text piece at count e within = omega (arith, e, length-append text (take count piece), count_is count piece within)
 
 -- a piece that was used up
-pub whole_piece : (body : BodyRow) (scorer : Scorer) (design : Design) (vars : List Var) (instance text piece : List ℕ) (used : ℕ) → length piece ≤ used → IsScoring body scorer design vars instance (text ++ take used piece) → IsScoring body scorer design vars instance (text ++ piece)
-whole_piece body scorer design vars instance text piece used all is = subst (λ t. IsScoring body scorer design vars instance (text ++ t)) (take_all used piece all) is
+pub whole_piece : (body : BodyRow) (replay : DumpReplay) (design : Design) (points : Points) (vars : List Var) (instance text piece : List ℕ) (used : ℕ) → length piece ≤ used → IsScoring body replay design points vars instance (text ++ take used piece) → IsScoring body replay design points vars instance (text ++ piece)
+whole_piece body replay design points vars instance text piece used all is = subst (λ t. IsScoring body replay design points vars instance (text ++ t)) (take_all used piece all) is
 
 pub positive : (n : ℕ) → (n ≡ 0 → ⊥) → 0 < n
 positive zero none = absurd (none refl)
 positive (suc n) none = omega arith
-
--- the table of a design that was scored by a whole file
-pub scored_file : (name : List ℕ) (before : Outside) (design : Design) (sources : List (List ℕ)) (instance text : List ℕ) (vars : List Var) (scorer : Scorer) (db : Db) → IsFile before name text → HasScored scorer design vars instance text → IsScoreBy scorer design sources db → IsScoreOfFile name before design sources instance db
-scored_file name before design sources instance text vars scorer db file scored by =
-    record {
-      text = text;
-      dump = record { vars = vars; steps = steps_of scored.b.items };
-      is = file;
-      is_dump = record { b = scored.b; ends = scored.ends; vars = sym scored.vars_are; steps = refl };
-      table = by vars instance scored.b.items scored.scores (steps_rise scored.b.items (times_rise text scored.b scored.ends));
-    }

@@ -1,5 +1,5 @@
--- One step of a body, and what the scorer stands for behind it.
-use Rattle.std.proofs.Common.{◌≡◌, ℕ, Bool, ◌+◌, ◌<◌, ◌≤◌, List, [], ◌∷◌, ◌++◌, length, take, drop, None, refl, sym, ap, subst, ◌∙◌, append_assoc, append-nil, arith, take-append-drop}
+-- One step of a body, and what the replay was given after it.
+use Rattle.std.proofs.Common.{◌≡◌, ℕ, Bool, ◌+◌, ◌<◌, ◌≤◌, List, [], ◌∷◌, ◌++◌, length, take, drop, None, refl, sym, ap, subst, ◌∙◌, append_assoc, append-nil, arith, take-append-drop, inr}
 use Rattle.std.proofs.Math.Seq.{take-add, take-length}
 use Rattle.design_model.specs.declared.design.Design.{Design}
 use Rattle.vcd_reader.proofs.RisingTimes.{times_rise, times_rise_so_far}
@@ -22,12 +22,15 @@ use Rattle.vcd_reader.specs.declared.item.Saying.TheVariants as saying
 use Rattle.vcd_reader.specs.declared.item.Item.{Item}
 use Rattle.vcd_reader.specs.declared.item.Item.TheVariants as item
 use Rattle.vcd_reader.specs.declared.vars.Var.{Var}
-use Rattle.input_toggles.specs.Scored.{HasNoBaseline}
-use Rattle.input_toggles.specs.Scores.{Scores}
-use Rattle.input_toggles.specs.declared.scorer.Scorer.{Scorer}
-use Rattle.dump_score.specs.Faults.{IsEndFault, IsFoundFault, IsSayingFault}
-use Rattle.dump_score.specs.Scoring.{HasScored, IsReading, IsScoring, entries_of}
-use Rattle.dump_score.specs.declared.fault.ScoreFault.{ScoreFault}
+use Rattle.cover_points.specs.declared.listing.Points.{Points}
+use Rattle.dump_replay.specs.Faults.{IsReplayFault}
+use Rattle.dump_replay.specs.Followed.{HasFollowed}
+use Rattle.dump_replay.specs.declared.replay.DumpReplay.{DumpReplay}
+use Rattle.entry_laws.proofs.Texts.{body_entries, entries_so_far}
+use Rattle.entry_laws.specs.Entries.{AreEntries}
+use Rattle.replay_core.specs.declared.fault.ReplayFault.{ReplayFault}
+use Rattle.dump_score.specs.Faults.{IsEndFault, IsFoundFault}
+use Rattle.dump_score.specs.Scoring.{CanSay, HasScored, IsReading, IsScoring, IsScoringSome, entries_of}
 use Rattle.dump_score.specs.declared.fault.ScoreFault.TheVariants as fault
 
 -- what a step over a piece that is not empty leaves
@@ -73,32 +76,34 @@ abbrev pub Steps : List Bool → Item → ℕ → BodyRow → BodyRow → List �
 Steps wanted says used body new piece = (text : List ℕ) (b : Body) → BodyHasRead body text b → Passed wanted b (StepsTo says used new text piece)
 
 -- what is not wanted changes nothing
-abbrev pub PassesOver : List Bool → Scorer → Type 0
-PassesOver wanted scorer = (design : Design) (vars : List Var) (instance : List ℕ) (entries passed : List Entry) → Scores scorer design vars instance entries → All (IsUnwanted wanted) passed → Scores scorer design vars instance (entries ++ passed)
+abbrev pub PassesOver : List Bool → DumpReplay → Type 0
+PassesOver wanted replay =
+    (design : Design) (points : Points) (vars : List Var) (instance : List ℕ) (entries passed : List Entry) → HasFollowed replay design points vars instance entries → All (IsUnwanted wanted) passed
+    → HasFollowed replay design points vars instance (entries ++ passed)
 
-abbrev pub Says : Item → Scorer → Scorer → Type 0
-Says says scorer told = (design : Design) (vars : List Var) (instance : List ℕ) (entries : List Entry) → Rises None (entries ++ entries_of says) → Scores scorer design vars instance entries → Scores told design vars instance (entries ++ entries_of says)
+-- what is said is given to the replay
+abbrev pub Says : Item → DumpReplay → DumpReplay → Type 0
+Says says replay told =
+    (design : Design) (points : Points) (vars : List Var) (instance : List ℕ) (entries : List Entry) → AreEntries vars (entries ++ entries_of says) → Rises None (entries ++ entries_of says)
+    → HasFollowed replay design points vars instance entries → HasFollowed told design points vars instance (entries ++ entries_of says)
+
+-- or the fault is one of what is said
+abbrev pub Faults : Item → DumpReplay → ReplayFault → Type 0
+Faults says replay f =
+    (design : Design) (points : Points) (vars : List Var) (instance : List ℕ) (entries : List Entry) → AreEntries vars (entries ++ entries_of says) → Rises None (entries ++ entries_of says)
+    → HasFollowed replay design points vars instance entries → IsReplayFault design vars instance (entries ++ entries_of says) f
 
 rises_read : (body : BodyRow) (text : List ℕ) (b : Body) → BodyHasRead body text b → Rises None b.items
 rises_read body text b read = times_rise_so_far text read.stands.word b read.stands.stands
+
+fit_read : (body : BodyRow) (text : List ℕ) (b : Body) → BodyHasRead body text b → AreEntries b.vars b.items
+fit_read body text b read = entries_so_far text read.stands.word b read.stands.stands
 
 pub reading_step : (wanted : List Bool) (says : Item) (used : ℕ) (body new : BodyRow) (piece : List ℕ) → 0 < length piece → Steps wanted says used body new piece → IsReading body → IsReading new × (1 ≤ used) × (used ≤ length piece)
 reading_step wanted says used body new piece some steps (text, b, read) =
     let p = steps text b read in
     let s = stepped says used new text piece (saying_more b p.passed) some p.then in
     ((text ++ take used piece, s.next, s.read), s.at_least, s.at_most)
-
-pub scored_step : (wanted : List Bool) (says : Item) (used : ℕ) (body new : BodyRow) (scorer told : Scorer) (piece : List ℕ) (design : Design) (vars : List Var) (instance text : List ℕ) → 0 < length piece → Steps wanted says used body new piece → PassesOver wanted scorer → Says says scorer told → IsScoring body scorer design vars instance text → IsScoring new told design vars instance (text ++ take used piece)
-scored_step wanted says used body new scorer told piece design vars instance text some steps passes tells is =
-    let p = steps text is.b is.stands in
-    let s = stepped says used new text piece (saying_more is.b p.passed) some p.then in
-    let rises = subst (Rises None) s.items (rises_read new (text ++ take used piece) s.next s.read) in
-    record {
-      b = s.next;
-      stands = s.read;
-      vars_are = s.vars ∙ is.vars_are;
-      scores = subst (λ entries. Scores told design vars instance entries) (sym s.items) (tells design vars instance (is.b.items ++ p.passed) rises (passes design vars instance is.b.items p.passed is.scores p.unwanted));
-    }
 
 -- the text of a part of a piece, and then of what is left of it
 pub further : (text piece : List ℕ) (used more : ℕ) → (text ++ take used piece) ++ take more (drop used piece) ≡ text ++ take (used + more) piece
@@ -111,34 +116,70 @@ pub found_at : (text piece : List ℕ) (f : DumpFault) → 0 < length piece → 
 found_at text [] f some is = absurd (omega (arith, some))
 found_at text (byte ∷ piece) f some is = is
 
-no_baseline_at : (design : Design) (vars : List Var) (instance : List ℕ) (signal : ℕ) (b : Body) (entries : List Entry) → b.vars ≡ vars → b.items ≡ entries → HasNoBaseline design vars instance design.signals entries signal → HasNoBaseline design b.vars instance design.signals b.items signal
-no_baseline_at design vars instance signal b entries e f h =
-    subst (λ vs. HasNoBaseline design vs instance design.signals b.items signal) (sym e) (subst (λ es. HasNoBaseline design vars instance design.signals es signal) (sym f) h)
+fault_at : (design : Design) (vars : List Var) (instance : List ℕ) (f : ReplayFault) (b : Body) (entries : List Entry) → b.vars ≡ vars → b.items ≡ entries → IsReplayFault design vars instance entries f → IsReplayFault design b.vars instance b.items f
+fault_at design vars instance f b entries e g h =
+    subst (λ vs. IsReplayFault design vs instance b.items f) (sym e) (subst (λ es. IsReplayFault design vars instance es f) (sym g) h)
 
--- what the scorer finds stands in what was read
-pub saying_found : (design : Design) (vars : List Var) (instance text rest : List ℕ) (body : BodyRow) (b : Body) (entries : List Entry) (f : ScoreFault) → b.vars ≡ vars → b.items ≡ entries → BodyHasRead body text b → IsSayingFault vars instance design entries f → IsFoundFault design instance (text ++ rest) f
-saying_found design vars instance text rest body b entries (fault.Baseline f) e g read h =
-    (b, record { front = text; rest = rest; word = read.stands.word; split = refl; stands = read.stands.stands }, no_baseline_at design vars instance f.signal b entries e g h)
-saying_found design vars instance text rest body b entries fault.NoMemory e g read h = absurd h
-saying_found design vars instance text rest body b entries (fault.Refused call) e g read h = absurd h
-saying_found design vars instance text rest body b entries (fault.Dump f) e g read h = absurd h
-saying_found design vars instance text rest body b entries (fault.Bind f) e g read h = absurd h
+-- what the replay finds is a fault of what was read
+pub saying_found : (design : Design) (vars : List Var) (instance text rest : List ℕ) (body : BodyRow) (b : Body) (entries : List Entry) (f : ReplayFault) → b.vars ≡ vars → b.items ≡ entries → BodyHasRead body text b → IsReplayFault design vars instance entries f → IsFoundFault design instance (text ++ rest) (fault.Replay f)
+saying_found design vars instance text rest body b entries f e g read h =
+    (b, record { front = text; rest = rest; word = read.stands.word; split = refl; stands = read.stands.stands }, fault_at design vars instance f b entries e g h)
 
-pub saying_ends : (design : Design) (vars : List Var) (instance text : List ℕ) (b : Body) (entries : List Entry) (f : ScoreFault) → b.vars ≡ vars → b.items ≡ entries → EndsAs text b → IsSayingFault vars instance design entries f → IsEndFault design instance text f
-saying_ends design vars instance text b entries (fault.Baseline f) e g ends h = (b, ends, no_baseline_at design vars instance f.signal b entries e g h)
-saying_ends design vars instance text b entries fault.NoMemory e g ends h = absurd h
-saying_ends design vars instance text b entries (fault.Refused call) e g ends h = absurd h
-saying_ends design vars instance text b entries (fault.Dump f) e g ends h = absurd h
-saying_ends design vars instance text b entries (fault.Bind f) e g ends h = absurd h
+pub saying_ends : (design : Design) (vars : List Var) (instance text : List ℕ) (b : Body) (entries : List Entry) (f : ReplayFault) → b.vars ≡ vars → b.items ≡ entries → EndsAs text b → IsReplayFault design vars instance entries f → IsEndFault design instance text (fault.Replay f)
+saying_ends design vars instance text b entries f e g ends h = (b, ends, fault_at design vars instance f b entries e g h)
 
-pub step_found : (wanted : List Bool) (says : Item) (used : ℕ) (body new : BodyRow) (scorer : Scorer) (piece : List ℕ) (design : Design) (vars : List Var) (instance text : List ℕ) (f : ScoreFault) → 0 < length piece → Steps wanted says used body new piece → PassesOver wanted scorer
-    → ((design : Design) (vars : List Var) (instance : List ℕ) (entries : List Entry) → Scores scorer design vars instance entries → IsSayingFault vars instance design (entries ++ entries_of says) f)
-    → IsScoring body scorer design vars instance text → IsFoundFault design instance (text ++ piece) f
-step_found wanted says used body new scorer piece design vars instance text f some steps passes faults is =
-    let p = steps text is.b is.stands in
-    let s = stepped says used new text piece (saying_more is.b p.passed) some p.then in
-    subst (λ t. IsFoundFault design instance t f) (all_of text piece used)
-    (saying_found design vars instance (text ++ take used piece) (drop used piece) new s.next ((is.b.items ++ p.passed) ++ entries_of says) f (s.vars ∙ is.vars_are) s.items s.read (faults design vars instance (is.b.items ++ p.passed) (passes design vars instance is.b.items p.passed is.scores p.unwanted)))
+-- a step from what was read so far
+module _ (wanted : List Bool) (says : Item) (used : ℕ) (body new : BodyRow) (replay : DumpReplay) (piece : List ℕ) (some : 0 < length piece) (steps : Steps wanted says used body new piece) (passes : PassesOver wanted replay)
+    (design : Design) (points : Points) (vars : List Var) (instance text : List ℕ) (is : IsScoring body replay design points vars instance text) where
+  passing : Passed wanted is.b (StepsTo says used new text piece)
+  passing = steps text is.b is.stands
+
+  after_step : Stepped says used new text piece (saying_more is.b passing.passed)
+  after_step = stepped says used new text piece (saying_more is.b passing.passed) some passing.then
+
+  -- what was said before the step
+  abbrev said : List Entry
+  said = is.b.items ++ passing.passed
+
+  said_followed : HasFollowed replay design points vars instance said
+  said_followed = passes design points vars instance is.b.items passing.passed is.followed passing.unwanted
+
+  said_rises : Rises None (said ++ entries_of says)
+  said_rises = subst (Rises None) after_step.items (rises_read new (text ++ take used piece) after_step.next after_step.read)
+
+  said_fits : AreEntries vars (said ++ entries_of says)
+  said_fits =
+      subst (λ es. AreEntries vars es) after_step.items
+      (subst (λ vs. AreEntries vs after_step.next.items) (after_step.vars ∙ is.vars_are) (fit_read new (text ++ take used piece) after_step.next after_step.read))
+
+  step_can_say : CanSay replay says
+  step_can_say = (design, points, vars, instance, said, said_followed, said_fits)
+
+  pub scored_step : (told : DumpReplay) → Says says replay told → IsScoring new told design points vars instance (text ++ take used piece)
+  scored_step told tells = record {
+    b = after_step.next;
+    stands = after_step.read;
+    vars_are = after_step.vars ∙ is.vars_are;
+    followed = subst (λ entries. HasFollowed told design points vars instance entries) (sym after_step.items) (tells design points vars instance said said_fits said_rises said_followed);
+  }
+
+  pub step_found : (f : ReplayFault) → Faults says replay f → IsFoundFault design instance (text ++ piece) (fault.Replay f)
+  step_found f faults =
+      subst (λ t. IsFoundFault design instance t (fault.Replay f)) (all_of text piece used)
+      (saying_found design vars instance (text ++ take used piece) (drop used piece) new after_step.next (said ++ entries_of says) f (after_step.vars ∙ is.vars_are) after_step.items after_step.read (faults design points vars instance said said_fits said_rises said_followed))
+
+-- the replay can be given what the step says
+pub can_say : (wanted : List Bool) (says : Item) (used : ℕ) (body new : BodyRow) (replay : DumpReplay) (piece : List ℕ) → 0 < length piece → Steps wanted says used body new piece → PassesOver wanted replay → IsScoringSome body replay → CanSay replay says
+can_say wanted says used body new replay piece some steps passes (design, points, vars, instance, text, is) = step_can_say wanted says used body new replay piece some steps passes design points vars instance text is
+
+-- and some text was read then
+pub scoring_some : (wanted : List Bool) (says : Item) (used : ℕ) (body new : BodyRow) (replay told : DumpReplay) (piece : List ℕ) → 0 < length piece → Steps wanted says used body new piece → PassesOver wanted replay → Says says replay told → IsScoringSome body replay → IsScoringSome new told
+scoring_some wanted says used body new replay told piece some steps passes tells (design, points, vars, instance, text, is) =
+    (design, points, vars, instance, text ++ take used piece, scored_step wanted says used body new replay piece some steps passes design points vars instance text is told tells)
+
+-- a body of which some text was read goes on
+pub some_reading : (body : BodyRow) (replay : DumpReplay) → IsScoringSome body replay → IsReading body
+some_reading body replay (design, points, vars, instance, text, is) = (text, is.b, is.stands)
 
 -- ---- the end
 
@@ -163,36 +204,42 @@ end_heard wanted says value used body text b is h =
 pub ended_again : (text : List ℕ) (b : Body) → EndsAs text b → EndStepped item.End text b
 ended_again text b ends = record { next = b; ends = ends; items = sym (append-nil b.items); vars = refl }
 
-pub scored_end : (says : Item) (scorer told : Scorer) (design : Design) (vars : List Var) (instance text : List ℕ) (b : Body) → EndStepped says text b → Says says scorer told → b.vars ≡ vars → Scores scorer design vars instance b.items → HasScored told design vars instance text
-scored_end says scorer told design vars instance text b s tells vars_are scores =
-    let rises = subst (Rises None) s.items (times_rise text s.next s.ends) in
-    record {
-      b = s.next;
-      ends = s.ends;
-      vars_are = s.vars ∙ vars_are;
-      scores = subst (λ entries. Scores told design vars instance entries) (sym s.items) (tells design vars instance b.items rises scores);
-    }
+-- the end of what was read so far
+module _ (says : Item) (replay : DumpReplay) (design : Design) (points : Points) (vars : List Var) (instance text : List ℕ) (b : Body) (s : EndStepped says text b) (vars_are : b.vars ≡ vars) (followed : HasFollowed replay design points vars instance b.items) where
+  end_rises : Rises None (b.items ++ entries_of says)
+  end_rises = subst (Rises None) s.items (times_rise text s.next s.ends)
 
-pub end_fault : (says : Item) (scorer : Scorer) (design : Design) (vars : List Var) (instance text : List ℕ) (b : Body) (f : ScoreFault) → EndStepped says text b
-    → ((design : Design) (vars : List Var) (instance : List ℕ) (entries : List Entry) → Scores scorer design vars instance entries → IsSayingFault vars instance design (entries ++ entries_of says) f)
-    → b.vars ≡ vars → Scores scorer design vars instance b.items → IsEndFault design instance text f
-end_fault says scorer design vars instance text b f s faults vars_are scores =
-    saying_ends design vars instance text s.next (b.items ++ entries_of says) f (s.vars ∙ vars_are) s.items s.ends (faults design vars instance b.items scores)
+  end_fits : AreEntries vars (b.items ++ entries_of says)
+  end_fits = subst (λ es. AreEntries vars es) s.items (subst (λ vs. AreEntries vs s.next.items) (s.vars ∙ vars_are) (body_entries text s.next (inr s.ends)))
+
+  pub end_can_say : CanSay replay says
+  end_can_say = (design, points, vars, instance, b.items, followed, end_fits)
+
+  pub scored_end : (told : DumpReplay) → Says says replay told → HasScored told design points vars instance text
+  scored_end told tells = record {
+    b = s.next;
+    ends = s.ends;
+    vars_are = s.vars ∙ vars_are;
+    followed = subst (λ entries. HasFollowed told design points vars instance entries) (sym s.items) (tells design points vars instance b.items end_fits end_rises followed);
+  }
+
+  pub end_fault : (f : ReplayFault) → Faults says replay f → IsEndFault design instance text (fault.Replay f)
+  end_fault f faults = saying_ends design vars instance text s.next (b.items ++ entries_of says) f (s.vars ∙ vars_are) s.items s.ends (faults design points vars instance b.items end_fits end_rises followed)
 
 -- ---- a part of a piece
 
 pub found_in_piece : (text piece : List ℕ) (used : ℕ) (f : DumpFault) → 0 < length (drop used piece) → IsFaultAt (text ++ take used piece) (drop used piece) f → HasFault (text ++ piece) f
 found_in_piece text piece used f some is = subst (λ t. HasFault t f) (all_of text piece used) (found_at (text ++ take used piece) (drop used piece) f some is)
 
-pub say_found_in_piece : (wanted : List Bool) (says : Item) (step used : ℕ) (body new : BodyRow) (scorer : Scorer) (piece : List ℕ) (design : Design) (vars : List Var) (instance text : List ℕ) (f : ScoreFault) → 0 < length (drop used piece) → Steps wanted says step body new (drop used piece) → PassesOver wanted scorer
-    → ((design : Design) (vars : List Var) (instance : List ℕ) (entries : List Entry) → Scores scorer design vars instance entries → IsSayingFault vars instance design (entries ++ entries_of says) f)
-    → IsScoring body scorer design vars instance (text ++ take used piece) → IsFoundFault design instance (text ++ piece) f
-say_found_in_piece wanted says step used body new scorer piece design vars instance text f some steps passes faults is =
-    subst (λ t. IsFoundFault design instance t f) (all_of text piece used) (step_found wanted says step body new scorer (drop used piece) design vars instance (text ++ take used piece) f some steps passes faults is)
+pub say_found_in_piece : (wanted : List Bool) (says : Item) (step used : ℕ) (body new : BodyRow) (replay : DumpReplay) (piece : List ℕ) (design : Design) (points : Points) (vars : List Var) (instance text : List ℕ) (f : ReplayFault) → 0 < length (drop used piece) → Steps wanted says step body new (drop used piece) → PassesOver wanted replay
+    → Faults says replay f → IsScoring body replay design points vars instance (text ++ take used piece) → IsFoundFault design instance (text ++ piece) (fault.Replay f)
+say_found_in_piece wanted says step used body new replay piece design points vars instance text f some steps passes faults is =
+    subst (λ t. IsFoundFault design instance t (fault.Replay f)) (all_of text piece used) (step_found wanted says step body new replay (drop used piece) some steps passes design points vars instance (text ++ take used piece) is f faults)
 
-pub scored_further : (wanted : List Bool) (says : Item) (step used : ℕ) (body new : BodyRow) (scorer told : Scorer) (piece : List ℕ) (design : Design) (vars : List Var) (instance text : List ℕ) → 0 < length (drop used piece) → Steps wanted says step body new (drop used piece) → PassesOver wanted scorer → Says says scorer told → IsScoring body scorer design vars instance (text ++ take used piece) → IsScoring new told design vars instance (text ++ take (used + step) piece)
-scored_further wanted says step used body new scorer told piece design vars instance text some steps passes tells is =
-    subst (λ t. IsScoring new told design vars instance t) (further text piece used step) (scored_step wanted says step body new scorer told (drop used piece) design vars instance (text ++ take used piece) some steps passes tells is)
+pub scored_further : (wanted : List Bool) (says : Item) (step used : ℕ) (body new : BodyRow) (replay told : DumpReplay) (piece : List ℕ) (design : Design) (points : Points) (vars : List Var) (instance text : List ℕ) → 0 < length (drop used piece) → Steps wanted says step body new (drop used piece) → PassesOver wanted replay
+    → Says says replay told → IsScoring body replay design points vars instance (text ++ take used piece) → IsScoring new told design points vars instance (text ++ take (used + step) piece)
+scored_further wanted says step used body new replay told piece design points vars instance text some steps passes tells is =
+    subst (λ t. IsScoring new told design points vars instance t) (further text piece used step) (scored_step wanted says step body new replay (drop used piece) some steps passes design points vars instance (text ++ take used piece) is told tells)
 
 pub OnOk-map : {T E P Q : Type 0} (result : Result T E) → (P → Q) → OnOk result P → OnOk result Q
 OnOk-map (Ok value) step holds = step holds

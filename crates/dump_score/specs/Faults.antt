@@ -2,15 +2,13 @@
 use Rattle.std.specs.Prelude.{◌⊎◌, ℕ, List}
 use Rattle.cov_host.specs.Outside.{Outside}
 use Rattle.design_model.specs.declared.design.Design.{Design}
+use Rattle.dump_replay.specs.Faults.{IsReplayFault}
+use Rattle.signal_binding.specs.Binding.{IsBindFault, IsBindable}
 use Rattle.vcd_reader.specs.Dump.{BeginsAs, HasNoBody, SaysBody}
 use Rattle.vcd_reader.specs.Reading.{Body}
 use Rattle.vcd_reader.specs.Text.{EndsAs, EndsWithFault, HasFault}
-use Rattle.vcd_reader.specs.declared.entry.Entry.{Entry}
 use Rattle.vcd_reader.specs.declared.fault.DumpFault.{DumpFault}
 use Rattle.vcd_reader.specs.declared.fault.DumpFault.TheVariants as dump_fault
-use Rattle.vcd_reader.specs.declared.vars.Var.{Var}
-use Rattle.input_toggles.specs.Binding.{AreBound, IsBindFault}
-use Rattle.input_toggles.specs.Scored.{HasNoBaseline}
 use Rattle.dump_score.specs.Reading.{IsCallFault, IsFile}
 use Rattle.dump_score.specs.declared.fault.ScoreFault.{ScoreFault}
 use Rattle.dump_score.specs.declared.fault.ScoreFault.TheVariants as fault
@@ -19,9 +17,9 @@ use Rattle.dump_score.specs.declared.fault.ScoreFault.TheVariants as fault
 abbrev pub SaysSome : List ℕ → (Body → Type 0) → Type 0
 SaysSome text P = (b : Body) × SaysBody text b × P b
 
--- the header of the text is read, and the design, of which the instance is the top, is bound to its variables
+-- the header of the text is read, and each input of the design, of which the instance is the top, is bound to its variables
 abbrev pub Binds : Design → List ℕ → List ℕ → Type 0
-Binds design instance text = SaysSome text (λ b. AreBound design b.vars instance design.signals)
+Binds design instance text = SaysSome text (λ b. IsBindable design b.vars instance)
 
 -- the fault is the first one of the text, or that of its end
 abbrev pub IsFirstFault : List ℕ → DumpFault → Type 0
@@ -37,13 +35,14 @@ abbrev pub IsDumpFault : Design → List ℕ → List ℕ → DumpFault → Type
 IsDumpFault design instance text dump_fault.NoMemory = Unit {0}
 IsDumpFault design instance text (dump_fault.At kind byte) = IsFirstFault text (dump_fault.At kind byte) × (HasNoBody text ⊎ Binds design instance text)
 
--- the text of the dump of the design has the fault, of which the instance is the top
+-- the text of the dump of the design has the fault, of which the instance is the top; a fault of the replay is one of what the text says
+-- up to a time, whatever comes after it
 abbrev pub IsTextFault : Design → List ℕ → List ℕ → ScoreFault → Type 0
 IsTextFault design instance text fault.NoMemory = Unit {0}
 IsTextFault design instance text (fault.Refused call) = ⊥
 IsTextFault design instance text (fault.Dump f) = IsDumpFault design instance text f
-IsTextFault design instance text (fault.Bind f) = SaysSome text (λ b. IsBindFault design b.vars instance design.signals f)
-IsTextFault design instance text (fault.Baseline f) = SaysSome text (λ b. HasNoBaseline design b.vars instance design.signals b.items f.signal)
+IsTextFault design instance text (fault.Bind f) = SaysSome text (λ b. IsBindFault design b.vars instance f)
+IsTextFault design instance text (fault.Replay f) = SaysSome text (λ b. IsReplayFault design b.vars instance b.items f)
 
 -- the text of the file has the fault
 abbrev pub IsFileFault : List ℕ → Outside → Design → List ℕ → ScoreFault → Type 0
@@ -58,19 +57,14 @@ IsScoreFault name before after design instance other = IsFileFault name before d
 -- what was read has the fault, whatever comes after it
 abbrev pub IsFoundFault : Design → List ℕ → List ℕ → ScoreFault → Type 0
 IsFoundFault design instance text (fault.Dump f) = HasFault text f
-IsFoundFault design instance text (fault.Baseline f) = (b : Body) × BeginsAs text b × HasNoBaseline design b.vars instance design.signals b.items f.signal
+IsFoundFault design instance text (fault.Replay f) = (b : Body) × BeginsAs text b × IsReplayFault design b.vars instance b.items f
 IsFoundFault design instance text other = ⊥
 
 -- the end of the text has the fault
 abbrev pub IsEndFault : Design → List ℕ → List ℕ → ScoreFault → Type 0
 IsEndFault design instance text (fault.Dump f) = EndsWithFault text f
-IsEndFault design instance text (fault.Baseline f) = (b : Body) × EndsAs text b × HasNoBaseline design b.vars instance design.signals b.items f.signal
+IsEndFault design instance text (fault.Replay f) = (b : Body) × EndsAs text b × IsReplayFault design b.vars instance b.items f
 IsEndFault design instance text other = ⊥
-
--- these entries have the fault
-abbrev pub IsSayingFault : List Var → List ℕ → Design → List Entry → ScoreFault → Type 0
-IsSayingFault vars instance design entries (fault.Baseline f) = HasNoBaseline design vars instance design.signals entries f.signal
-IsSayingFault vars instance design entries other = ⊥
 
 -- why no header was read from a file
 abbrev pub IsHeaderFault : List ℕ → Outside → Outside → ScoreFault → Type 0

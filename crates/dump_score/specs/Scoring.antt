@@ -1,8 +1,21 @@
 -- What is read of a dump and scored.
 use Rattle.std.specs.Prelude.{◌≡◌, ◌⊎◌, ◌<◌, ◌≤◌, ℕ, false, List, [], ◌∷◌, ◌++◌, length, slice_range}
 use Rattle.cov_host.specs.Outside.{Outside}
+use Rattle.cover_points.specs.declared.listing.Points.{Points}
 use Rattle.coverage_db.specs.declared.db.Db.{Db}
+use Rattle.design_model.specs.Clear.{IsForced}
+use Rattle.design_model.specs.Design.{Design as Tree, signal_bits}
+use Rattle.design_model.specs.Shows.{BoundDump}
+use Rattle.design_model.specs.View.{design_view}
 use Rattle.design_model.specs.declared.design.Design.{Design}
+use Rattle.dump_replay.specs.Followed.{HasFollowed}
+use Rattle.dump_replay.specs.declared.replay.DumpReplay.{DumpReplay}
+use Rattle.entry_laws.specs.Entries.{AreEntries}
+use Rattle.event_machine.specs.Habit.{Free}
+use Rattle.four_state.specs.declared.bit.Bit.{Bit}
+use Rattle.score_tables.specs.Scored.{IsScoreTable}
+use Rattle.shown_dumps.specs.Bound.{IsBound}
+use Rattle.shown_dumps.specs.Shown.{bound_dump}
 use Rattle.vcd_reader.specs.Dump.{Dump, IsDump}
 use Rattle.vcd_reader.specs.Pieces.{BodyHasEnded, BodyHasRead, Splits, body_at_end}
 use Rattle.vcd_reader.specs.Reading.{Body}
@@ -13,9 +26,6 @@ use Rattle.vcd_reader.specs.declared.entry.Entry.TheVariants as entry
 use Rattle.vcd_reader.specs.declared.item.Item.{Item}
 use Rattle.vcd_reader.specs.declared.item.Item.TheVariants as item
 use Rattle.vcd_reader.specs.declared.vars.Var.{Var}
-use Rattle.input_toggles.specs.Scored.{IsToggleTable}
-use Rattle.input_toggles.specs.Scores.{Scores}
-use Rattle.input_toggles.specs.declared.scorer.Scorer.{Scorer}
 use Rattle.dump_score.specs.Reading.{HasReadFile, IsFile}
 use Rattle.dump_score.specs.declared.header.Opened.{Opened}
 use Rattle.dump_score.specs.declared.header.Span.{Span}
@@ -27,34 +37,50 @@ entries_of (item.Value code value) = entry.Value code value ∷ []
 entries_of item.More = []
 entries_of item.End = []
 
+-- the replay was given entries of a dump, and this is what the dump says next
+abbrev pub CanSay : DumpReplay → Item → Type 0
+CanSay replay says =
+    (design : Design) × (points : Points) × (vars : List Var) × (instance : List ℕ) × (entries : List Entry)
+    × HasFollowed replay design points vars instance entries × AreEntries vars (entries ++ entries_of says)
+
 -- the body goes on
 abbrev pub IsReading : BodyRow → Type 0
 IsReading body = (text : List ℕ) × (b : Body) × BodyHasRead body text b
 
--- the text was read, and the design was scored by what it says
-pub record IsScoring (body : BodyRow) (scorer : Scorer) (design : Design) (vars : List Var) (instance text : List ℕ) : Type 0 where
+-- the text was read, and the replay was given what it says
+pub record IsScoring (body : BodyRow) (replay : DumpReplay) (design : Design) (points : Points) (vars : List Var) (instance text : List ℕ) : Type 0 where
   pub b : Body
   pub stands : BodyHasRead body text b
   pub vars_are : b.vars ≡ vars
-  pub scores : Scores scorer design vars instance b.items
+  pub followed : HasFollowed replay design points vars instance b.items
+
+-- some text was read so
+abbrev pub IsScoringSome : BodyRow → DumpReplay → Type 0
+IsScoringSome body replay =
+    (design : Design) × (points : Points) × (vars : List Var) × (instance : List ℕ) × (text : List ℕ) × IsScoring body replay design points vars instance text
 
 -- the same for a text that may have ended
-pub record CanEnd (body : BodyRow) (scorer : Scorer) (design : Design) (vars : List Var) (instance text : List ℕ) : Type 0 where
+pub record CanEnd (body : BodyRow) (replay : DumpReplay) (design : Design) (points : Points) (vars : List Var) (instance text : List ℕ) : Type 0 where
   pub b : Body
   pub stands : BodyHasRead body text b ⊎ BodyHasEnded body text b
   pub vars_are : b.vars ≡ vars
-  pub scores : Scores scorer design vars instance b.items
+  pub followed : HasFollowed replay design points vars instance b.items
 
--- the text is a dump, and the design was scored by it
-pub record HasScored (scorer : Scorer) (design : Design) (vars : List Var) (instance text : List ℕ) : Type 0 where
+-- some text was read so
+abbrev pub CanEndSome : BodyRow → DumpReplay → Type 0
+CanEndSome body replay =
+    (design : Design) × (points : Points) × (vars : List Var) × (instance : List ℕ) × (text : List ℕ) × CanEnd body replay design points vars instance text
+
+-- the text is a dump, and the replay was given what it says
+pub record HasScored (replay : DumpReplay) (design : Design) (points : Points) (vars : List Var) (instance text : List ℕ) : Type 0 where
   pub b : Body
   pub ends : EndsAs text b
   pub vars_are : b.vars ≡ vars
-  pub scores : Scores scorer design vars instance b.items
+  pub followed : HasFollowed replay design points vars instance b.items
 
--- the whole file was read, and the design was scored by what it says, without its last word
-abbrev pub ScoresOn : List ℕ → Outside → BodyRow → Scorer → Design → List Var → List ℕ → Type 0
-ScoresOn name before body scorer design vars instance = (text : List ℕ) × IsFile before name text × CanEnd body scorer design vars instance text
+-- the whole file was read, and the replay was given what it says, without its last word
+abbrev pub ScoresOn : List ℕ → Outside → BodyRow → DumpReplay → Design → Points → List Var → List ℕ → Type 0
+ScoresOn name before body replay design points vars instance = (text : List ℕ) × IsFile before name text × CanEnd body replay design points vars instance text
 
 -- the bytes of a piece that were read and are after the header
 abbrev pub behind : Span → List ℕ → List ℕ
@@ -72,17 +98,27 @@ pub record HasOpened (name : List ℕ) (before now : Outside) (piece : List ℕ)
   pub ended : opened.span.count ≡ 0 → IsFile before name front
 
 -- the same once the design was bound
-pub record IsOpen (name : List ℕ) (before now : Outside) (piece : List ℕ) (span : Span) (body : BodyRow) (scorer : Scorer) (design : Design) (vars : List Var) (instance : List ℕ) : Type 0 where
+pub record IsOpen (name : List ℕ) (before now : Outside) (piece : List ℕ) (span : Span) (body : BodyRow) (replay : DumpReplay) (design : Design) (points : Points) (vars : List Var) (instance : List ℕ) : Type 0 where
   pub front : List ℕ
   pub file : HasReadFile name before now (front ++ behind span piece)
   pub at_is : span.at ≡ length (front ++ behind span piece)
-  pub goes_on : 0 < span.count → IsScoring body scorer design vars instance front
-  pub ended : span.count ≡ 0 → IsFile before name front × CanEnd body scorer design vars instance front
+  pub goes_on : 0 < span.count → IsScoring body replay design points vars instance front
+  pub ended : span.count ≡ 0 → IsFile before name front × CanEnd body replay design points vars instance front
 
--- the table is that of the design under the dump in the file
+-- at no listed time before the last a bound signal has a forced value other than the dump's
+abbrev pub AreForced : Tree → BoundDump → Type 0
+AreForced d dump = (t s : ℕ) (bits : List Bit) → IsForced d Free dump t s bits → signal_bits d (dump.values t) s ≡ bits
+
+-- the design is bound to the dump, no forced value differs from the dump's, and the table is that of the design under the dump
+pub record IsScoreUnder (design : Design) (dump : Dump) (sources : List (List ℕ)) (instance : List ℕ) (db : Db) : Type 0 where
+  pub bound : IsBound design dump instance
+  pub forced : AreForced (design_view design) (bound_dump design dump instance)
+  pub table : IsScoreTable (design_view design) Free (bound_dump design dump instance) sources db
+
+-- so it is under the dump in the file
 pub record IsScoreOfFile (name : List ℕ) (before : Outside) (design : Design) (sources : List (List ℕ)) (instance : List ℕ) (db : Db) : Type 0 where
   pub text : List ℕ
   pub dump : Dump
   pub is : IsFile before name text
   pub is_dump : IsDump text dump
-  pub table : IsToggleTable design dump sources instance db
+  pub score : IsScoreUnder design dump sources instance db

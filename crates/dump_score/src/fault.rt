@@ -2,29 +2,25 @@ ghost use Rattle.std.specs.Prelude.{◌≡◌};
 ghost use Rattle.dump_score.specs.declared.fault.ScoreFault.TheVariants as score_fault;
 
 use cov_host::NoMemory;
-use input_toggles::{BindFault, NoBaseline};
+use replay_core::ReplayFault;
+use signal_binding::BindFault;
 use std::alloc::AllocError;
-use thiserror::Error;
 use vcd_reader::DumpFault;
 use whole_files::Call;
 
 /// Why a dump was not scored.
-#[derive(Clone, Copy, Debug, PartialEq, Eq, Error)]
+#[derive(Clone, Copy)]
 pub enum ScoreFault {
-    #[error("memory ran out")]
     NoMemory,
     /// The call on the host gave nothing.
-    #[error("{0:?} gave nothing")]
     Refused(Call),
     /// The first fault of the dump, where the design was bound to its header if that is whole.
-    #[error("{0}")]
     Dump(DumpFault),
     /// The header does not fit the design.
-    #[error("{0}")]
     Bind(BindFault),
-    /// A signal has no value before the second time.
-    #[error("{0}")]
-    Baseline(NoBaseline),
+    /// A bound signal has no value before the second time, or no run of the design shows what was read before the first fault
+    /// of the dump.
+    Replay(ReplayFault),
 }
 
 impl From<NoMemory> for ScoreFault {
@@ -59,10 +55,10 @@ impl From<BindFault> for ScoreFault {
     }
 }
 
-impl From<NoBaseline> for ScoreFault {
-    ghost from_gives = { λ given fault. fault ≡ score_fault.Baseline given };
+impl From<ReplayFault> for ScoreFault {
+    ghost from_gives = { λ given fault. fault ≡ score_fault.Replay given };
 
-    fn from(fault: NoBaseline) -> Self {
-        ScoreFault::Baseline(fault)
+    fn from(fault: ReplayFault) -> Self {
+        ScoreFault::Replay(fault)
     }
 }

@@ -2,19 +2,19 @@
 
 ghost use Rattle.std.specs.Prelude.{◌≢◌, ℕ, List};
 ghost use Rattle.design_model.specs.declared.design.Design.{Design};
-ghost use Rattle.vcd_reader.specs.declared.fault.DumpFault.TheVariants as dump_fault;
-ghost use Rattle.vcd_reader.specs.declared.fault.DumpKind.{DumpKind};
+ghost use Rattle.replay_core.specs.declared.fault.ReplayFault.{ReplayFault};
 ghost use Rattle.signal_binding.specs.declared.fault.BindFault.{BindFault};
 ghost use Rattle.signal_binding.specs.declared.fault.BindFault.TheVariants as bind_fault;
-ghost use Rattle.input_toggles.specs.declared.fault.NoBaseline.{NoBaseline};
+ghost use Rattle.vcd_reader.specs.declared.fault.DumpFault.TheVariants as dump_fault;
+ghost use Rattle.vcd_reader.specs.declared.fault.DumpKind.{DumpKind};
 ghost use Rattle.dump_score.specs.Faults.{IsTextFault};
 ghost use Rattle.dump_score.specs.declared.fault.ScoreFault.TheVariants as score_fault;
 
 /// A text that is refused for its binding is refused for nothing else: neither for a fault of its header, nor for one of
-/// its body, nor for a first value.
+/// its body, nor for what the replay finds.
 pub fn binding_goes_first()
     ensures fault { (design : Design) (instance text : List ℕ) (f : BindFault) (kind : DumpKind) (byte : ℕ) → f ≢ bind_fault.NoMemory
         → IsTextFault design instance text (score_fault.Bind f) → IsTextFault design instance text (score_fault.Dump (dump_fault.At kind byte)) → ⊥ }
-    ensures first_value { (design : Design) (instance text : List ℕ) (f : BindFault) (signal : NoBaseline) → f ≢ bind_fault.NoMemory
-        → IsTextFault design instance text (score_fault.Bind f) → IsTextFault design instance text (score_fault.Baseline signal) → ⊥ }
+    ensures replay { (design : Design) (instance text : List ℕ) (f : BindFault) (r : ReplayFault) → f ≢ bind_fault.NoMemory
+        → IsTextFault design instance text (score_fault.Bind f) → IsTextFault design instance text (score_fault.Replay r) → ⊥ }
 {}

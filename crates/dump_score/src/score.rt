@@ -1,9 +1,9 @@
 ghost use Rattle.std.specs.Prelude.{◌<◌, IfErr, IfOk, length};
-ghost use Rattle.design_model.specs.Lawful.{IsLawfulDesign};
 ghost use Rattle.design_model.specs.View.{design_view};
-ghost use Rattle.input_tables.specs.Counted.{AreAllPoints};
-ghost use Rattle.input_toggles.specs.InputDesign.{IsInputDesign};
-ghost use Rattle.input_toggles.specs.Scored.{AreSources};
+ghost use Rattle.design_points.specs.Counted.{AreAllPoints};
+ghost use Rattle.instance_paths.specs.Rooted.{IsRooted};
+ghost use Rattle.replay_core.specs.Fits.{IsReplayable};
+ghost use Rattle.table_laws.specs.Written.{IsWritten};
 ghost use Rattle.whole_files.specs.Effects.{OnlyReads};
 ghost use Rattle.dump_score.specs.Faults.{IsScoreFault};
 ghost use Rattle.dump_score.specs.Scoring.{IsScoreOfFile};
@@ -16,15 +16,16 @@ use cov_host::{Host, Name, Sequence};
 use cover_points::Points;
 use coverage_db::Db;
 use design_model::Design;
-use input_tables::{new_marks, score_table};
-use input_toggles::Scorer;
+use dump_replay::DumpReplay;
+use score_tables::score_table;
 use std::alloc::Global;
 
-/// The database of a design of inputs alone, which has these points and was read from these sources, under the dump in a
-/// file, in which the design is the instance.
+/// The database of a design of continuous assignments and combinational blocks, which has these points and was read from
+/// these sources, under the dump in a file, in which the design is the instance.
 ///
 /// The file is opened once and read in pieces of 65,536 bytes. All room is made before the body is read, apart from
-/// the database's own.
+/// the database's own. A fault of the text is reported as soon as it is read: one of the dump at its byte, and one of the
+/// replay at the time after the step that it is about.
 pub fn score_dump<H: Host>(
     alloc: Global,
     host: &mut H,
@@ -34,10 +35,10 @@ pub fn score_dump<H: Host>(
     sources: Sequence<Name>,
     instance: &str,
 ) -> Result<Db, ScoreFault>
-    requires design { IsInputDesign design.now }
-    requires lawful { IsLawfulDesign (design_view design.now) }
+    requires replayable { IsReplayable (design_view design.now) points.now }
     requires points { AreAllPoints (design_view design.now) points.now }
-    requires sources { AreSources sources }
+    requires written { IsWritten sources (design_view design.now) }
+    requires rooted { IsRooted (design_view design.now) }
     ensures scored { IfOk result (IsScoreOfFile name.now (H.outside host.old) design.now sources instance.now) }
     ensures fault { IfErr result (IsScoreFault name.now (H.outside host.old) (H.outside host.new) design.now instance.now) }
     ensures effects { OnlyReads (H.outside host.old) (H.outside host.new) }
@@ -66,10 +67,10 @@ fn score_file<H: Host>(
     sources: Sequence<Name>,
     instance: &str,
 ) -> Result<Db, ScoreFault>
-    requires design { IsInputDesign design.now }
-    requires lawful { IsLawfulDesign (design_view design.now) }
+    requires replayable { IsReplayable (design_view design.now) points.now }
     requires points { AreAllPoints (design_view design.now) points.now }
-    requires sources { AreSources sources }
+    requires written { IsWritten sources (design_view design.now) }
+    requires rooted { IsRooted (design_view design.now) }
     requires piece { 0 < length piece.old }
     ensures scored { IfOk result (IsScoreOfFile name.now (H.outside host.old) design.now sources instance.now) }
     ensures fault { IfErr result (IsScoreFault name.now (H.outside host.old) (H.outside host.new) design.now instance.now) }
@@ -77,10 +78,10 @@ fn score_file<H: Host>(
 {
     open(host, name)?;
     let mut opened = read_header(alloc, host, piece)?;
-    let mut scorer = Scorer::new(alloc, design, &opened.vars, instance)?;
-    let mut marks = new_marks(alloc, points)?;
+    let mut replay = DumpReplay::new(alloc, design, points, &opened.vars, instance)?;
     let span = opened.span;
-    score_body(host, piece, &span, &mut opened.body, &mut scorer)?;
-    score_end(&mut opened.body, &mut scorer)?;
-    Ok(score_table(alloc, design, points, &mut marks, &scorer, sources)?)
+    score_body(host, piece, &span, &mut opened.body, &mut replay)?;
+    score_end(&mut opened.body, &mut replay)?;
+    let marks = replay.finish();
+    Ok(score_table(alloc, design, points, &marks, sources)?)
 }

@@ -1,6 +1,7 @@
 -- A closing step of each dump that was followed up to it.
-use Rattle.std.proofs.Common.{◌≡◌, ◌∙◌, ℕ, suc, ◌+◌, Bool, true, false, ◌++◌, List, flat_map, length, Option, Some, None, sym, ap, subst}
-use Rattle.std.specs.Prelude.{slice_index_or}
+use Rattle.std.proofs.Common.{◌≡◌, ◌↔◌, ◌∙◌, ℕ, suc, ◌+◌, ◌<◌, Bool, true, false, ◌++◌, List, [], ◌∷◌, flat_map, length, Option, Some, None, refl, sym, ap, subst}
+use Rattle.std.specs.Prelude.{filter, slice_index_or}
+use Rattle.std.specs.List.{All}
 use Rattle.event_machine.specs.Cell.{Cell}
 use Rattle.four_state.specs.Vector.{Vector}
 use Rattle.body_replay.specs.Runs.{runs_of}
@@ -9,8 +10,9 @@ use Rattle.code_values.specs.Values.{value_of}
 use Rattle.cover_marks.specs.Marks.{AreMarksOf}
 use Rattle.cover_marks.specs.declared.marks.Marks.{Marks}
 use Rattle.design_model.specs.Design.{AreDistinct, In, IsClocked, process_at, signal_bits}
+use Rattle.design_model.specs.Lawful.{IsLawfulDesign}
 use Rattle.design_model.specs.Shows.{BoundDump}
-use Rattle.dump_check.specs.Checks.{IsFirstDifference, last_of_each}
+use Rattle.dump_check.specs.Checks.{AgreesAt, IsFirstDifference, last_of_each}
 use Rattle.dump_check.specs.declared.order.Difference.{Difference}
 use Rattle.early_sets.specs.WakeState.{WakeState}
 use Rattle.early_sets.specs.declared.habit.Habit.{Habit}
@@ -27,15 +29,16 @@ use Rattle.replay_model.specs.Sets.{AreFirstSets}
 use Rattle.replay_model.specs.Step.{Closing, Replay, all_run, contradicts, is_touched}
 use Rattle.replay_sets.specs.SetsOf.{sets_of}
 use Rattle.replay_steps.proofs.Settling.{targets_move}
+use Rattle.signal_marks.specs.Seen.{AreSeen}
 use Rattle.step_changes.specs.Changes.{AreChangedSignals, none_early}
 use Rattle.step_check.specs.Checks.{AreCheckRows}
 use Rattle.step_check.specs.Laws.{HasRun}
-use Rattle.step_check.proofs.Checked.{differ_law}
+use Rattle.step_check.proofs.Checked.{agree_law, differ_law}
 use Rattle.step_check.proofs.Moved.{moves_are}
 use Rattle.step_marks.specs.Marked.{IsOver, IsSeenAfter}
 use Rattle.step_marks.proofs.Closed as marking
 use Rattle.step_parts.specs.AtStep.{AtStep}
-use Rattle.step_parts.specs.Due.{HasBegun, IsContradicted, IsDueStep, step_of}
+use Rattle.step_parts.specs.Due.{Due, HasBegun, IsContradicted, IsDueStep, step_of}
 use Rattle.step_parts.proofs.Noted.{noted, seen_more}
 use Rattle.step_runs.specs.Runs.{IsRunOf}
 use Rattle.step_runs.proofs.Changed.{steps_are}

@@ -1,7 +1,7 @@
 -- The processes of an order, each once.
-use Rattle.std.proofs.Common.{◌≡◌, ℕ, ◌<◌, Bool, true, false, ◌++◌, List, [], ◌∷◌, length, sym, subst}
+use Rattle.std.proofs.Common.{◌≡◌, ℕ, ◌<◌, Bool, true, false, ◌++◌, List, [], ◌∷◌, length, refl, sym, subst, inl, inr}
 use Rattle.std.specs.Prelude.{filter, if◌then◌else◌, nat_eq}
-use Rattle.std.proofs.lemmas.Bool.{eqb-true, false_from_ne_true}
+use Rattle.std.proofs.lemmas.Bool.{cases_Bool, eqb-true, false_from_ne_true}
 use Rattle.cover_points.proofs.Members.{in_append}
 use Rattle.design_model.specs.Design.{AreDistinct, Design, In}
 use Rattle.process_order.proofs.Distinct.{in_filter}

@@ -1,19 +1,22 @@
 -- The parts of a replay fit its design before and after each call.
-use Rattle.std.proofs.Common.{◌≡◌, ◌∙◌, ℕ, ◌<◌, ◌≤◌, Bool, true, ◌++◌, List, [], length, Option, Some, None, inl, inr, sym, ap, subst, arith}
+use Rattle.std.proofs.Common.{◌≡◌, ◌∙◌, ℕ, ◌+◌, ◌<◌, ◌≤◌, Bool, true, ◌++◌, List, [], length, Option, Some, None, inl, inr, refl, sym, ap, subst, arith}
 use Rattle.std.specs.Prelude.{nat_lt, replicate, slice_index_or}
 use Rattle.std.proofs.lemmas.Bool.{cases_Bool}
 use Rattle.std.proofs.lemmas.Bool.Decides.{nat_tests}
 use Rattle.std.proofs.lemmas.List.{get_or-replicate, get_or_past, length-replicate}
+use Rattle.event_machine.specs.Cell.{Values as CellValues}
 use Rattle.four_state.specs.Vector.{Vector}
+use Rattle.four_state.specs.declared.bit.Bit.{Bit}
 use Rattle.body_replay.specs.Store.{Kept}
 use Rattle.body_store.specs.declared.store.Store.{Store}
 use Rattle.body_store.specs.Made.{nothing}
 use Rattle.code_values.specs.Values.{Values, no_values, value_of}
 use Rattle.cover_marks.specs.Marks.{AreMarksOf}
 use Rattle.cover_points.specs.declared.listing.Points.{Points}
-use Rattle.design_model.specs.Design.{Design}
+use Rattle.design_model.specs.Design.{Design, signal_at}
 use Rattle.design_model.specs.Lawful.{IsLawfulDesign}
 use Rattle.design_model.specs.View.{design_view}
+use Rattle.early_sets.specs.Rounds.{writer_at}
 use Rattle.early_sets.specs.WakeState.{WakeState, state_of}
 use Rattle.step_changes.specs.Changes.{AreUnsigned}
 use Rattle.dump_check.specs.Checks.{Checks}

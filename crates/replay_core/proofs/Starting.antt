@@ -1,25 +1,32 @@
 -- The first step of each dump that a replay can be of.
-use Rattle.std.proofs.Common.{◌≡◌, ℕ, ◌<◌, ◌≤◌, Bool, true, false, ◌++◌, List, [], ◌∷◌, length, IfNone, IfSome, Option, Some, None, refl, sym, ap, subst, inl, arith}
+use Rattle.std.proofs.Common.{◌≡◌, ◌∙◌, ℕ, ◌+◌, ◌<◌, ◌≤◌, Bool, true, false, ◌++◌, List, [], ◌∷◌, length, IfNone, IfSome, Option, Some, None, refl, sym, ap, subst, inl, arith}
 use Rattle.std.specs.Prelude.{filter, if◌then◌else◌, is_some}
 use Rattle.std.proofs.Math.Path.{fun_ext}
 use Rattle.event_machine.specs.Cell.{Cell}
 use Rattle.four_state.specs.Vector.{Vector}
 use Rattle.body_replay.specs.Runs.{AreRuns, runs_of}
+use Rattle.body_store.specs.declared.store.Store.{Store}
 use Rattle.cover_marks.specs.Marks.{AreMarksOf}
+use Rattle.cover_points.specs.Listed.{points_of}
 use Rattle.cover_points.specs.declared.listing.Points.{Points}
-use Rattle.design_model.specs.Design.{Design, In}
-use Rattle.design_model.specs.Points.{IsPoint}
+use Rattle.design_model.specs.Design.{Design, In, IsClocked, process_at}
+use Rattle.design_model.specs.Points.{IsPoint, StateNames}
 use Rattle.design_model.specs.Shows.{BoundDump, IsFirst, IsShown}
+use Rattle.design_model.specs.declared.point.Point.{Point}
 use Rattle.design_model.specs.declared.point.Point.TheVariants.{Arc as arc_point}
 use Rattle.early_sets.specs.declared.habit.Habit.{Habit}
-use Rattle.replay_follows.specs.Follows.{Follows, IsSubject, Parts}
+use Rattle.process_order.specs.Tables.{tables_of}
+use Rattle.replay_follows.specs.Follows.{Follows, IsSubject, Parts, Subject}
 use Rattle.replay_follows.specs.Laws.{first_replay}
 use Rattle.replay_follows.proofs.Steps.{against_first, starts}
-use Rattle.replay_model.specs.Start.{contradicts_first}
-use Rattle.replay_model.specs.Tables.{AreTables}
+use Rattle.replay_model.specs.Laws.{IsReplayOf}
+use Rattle.replay_model.specs.Start.{contradicts_first, started}
+use Rattle.replay_model.specs.Step.{Replay}
+use Rattle.replay_model.specs.Tables.{AreTables, Tables}
 use Rattle.step_changes.specs.Changes.{AreUnsigned}
 use Rattle.step_parts.specs.AtStep.{AtRest}
 use Rattle.step_values.specs.Dumped.{AreDumped}
+use Rattle.step_values.specs.Loose.{has_code}
 use Rattle.step_wakes.specs.Step.{IsOfDesign}
 use Rattle.store_knowledge.specs.Knows.{Knows}
 use Rattle.wake_laws.specs.Laws.{HasNoWriters, habit_of}

@@ -1,5 +1,5 @@
 -- How many bodies run in a step.
-use Rattle.std.specs.Prelude.{◌≡◌, ◌+◌, ℕ, true, List, length}
+use Rattle.std.specs.Prelude.{◌≡◌, ◌+◌, ◌≤◌, ℕ, true, List, length}
 use Rattle.std.specs.List.{All}
 use Rattle.design_model.specs.Design.{AreDistinct, Design, process_at}
 use Rattle.design_model.specs.Machine.{is_level}

@@ -64,7 +64,7 @@ found_under (var ∷ vars) width x code e = go (cases_Bool (holds x width var)) 
         let rest = later (sym (ap (λ b. option_map (λ (v : Var). v.code) (cond b (Some var) (find (holds x width) vars))) other) ∙ e) in
         record { place = suc rest.place; within = omega (arith, rest.within); found = rest.found; is = λ d. rest.is d; code_is = rest.code_is; size = rest.size }
 
-found_first : (vars : List Var) (width : ℕ) (xs : List ScopedName) (code : ℕ) → first_code vars width xs ≡ Some code → HasVariable vars code width
+pub found_first : (vars : List Var) (width : ℕ) (xs : List ScopedName) (code : ℕ) → first_code vars width xs ≡ Some code → HasVariable vars code width
 found_first vars width [] code e = absurd cc
 found_first vars width (x ∷ xs) code e = go (code_under vars width x) refl (λ f. found_first vars width xs code f)
   where

@@ -1,5 +1,5 @@
 -- Sources that are read on the way to a design.
-use Rattle.std.proofs.Common.{◌≡◌, ℕ, ◌+◌, ◌-◌, false, List, [], ◌∷◌, ◌++◌, Option, None, Some, Ok, Err, refl, sym, subst, inl, inr, arith}
+use Rattle.std.proofs.Common.{◌≡◌, ℕ, false, List, [], ◌∷◌, ◌++◌, Option, None, Some, Ok, Err, refl, sym, subst, inl, inr, arith}
 use Rattle.std.specs.Prelude.{◌≢◌, Contains, IfErr, IfOk, Result}
 use Rattle.std.proofs.lemmas.List.Elements.{Contains-append_right}
 use Rattle.cov_host.specs.Outside.{Outside}

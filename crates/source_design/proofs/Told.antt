@@ -1,21 +1,14 @@
 -- Where the host tells its files, they decide what is read of the sources.
-use Rattle.std.proofs.Common.{◌≡◌, ℕ, suc, List, [], ◌∷◌, length, take, drop, Option, None, Some, Ok, Err, refl, sym, ap, subst, ◌∙◌, inl, inr}
-use Rattle.std.specs.Prelude.{IfSome, IsSome, MatchOption, Result, map}
+use Rattle.std.proofs.Common.{◌≡◌, ℕ, suc, List, length, take, drop, Option, None, Some, Ok, Err, refl, sym, ap, subst, ◌∙◌, inl, inr}
+use Rattle.std.specs.Prelude.{IfSome, IsSome, MatchOption, Result}
 use Rattle.std.proofs.lemmas.List.{take-append-drop}
 use Rattle.cov_host.specs.Outside.{Files, Outside, IsCounted}
 use Rattle.cov_host.specs.declared.place.Place.{Place}
-use Rattle.design_model.specs.declared.design.Alias.{Alias}
-use Rattle.design_model.specs.declared.design.Constant.{Constant}
 use Rattle.design_model.specs.declared.design.Design.{Design}
-use Rattle.design_model.specs.declared.design.Instance.{Instance}
-use Rattle.design_model.specs.declared.design.Memory.{Memory}
-use Rattle.design_model.specs.declared.design.Signal.{Signal}
 use Rattle.design_model.specs.Design.{Design as FlatDesign}
-use Rattle.design_model.specs.View.{design_view, process_view}
-use Rattle.design_model.specs.declared.tree.Process.{Process}
+use Rattle.design_model.specs.View.{design_view}
 use Rattle.flat_design.specs.Fault.{Fault}
 use Rattle.flat_design.specs.Faults.{answer}
-use Rattle.input_design.specs.InputsAlone.{HasInputsAlone}
 use Rattle.verilog_lexer.specs.Answer.{Answer}
 use Rattle.verilog_lexer.specs.Defines.{DefineText}
 use Rattle.verilog_lexer.specs.Reading.{tokens_of}
@@ -38,6 +31,7 @@ use Rattle.source_files.specs.Files.{Grow, IsFile, Lacks, path_of}
 use Rattle.source_files.specs.Joining.{IsRefusedCall}
 use Rattle.source_files.proofs.Growing.{grow_within, grows_on, lacking_there, root_fits, root_there, settled}
 use Rattle.source_files.proofs.OneList.{one_list, one_list_of_roots, one_text}
+use Rattle.source_design.specs.Form.{HasLevelsAlone}
 use Rattle.source_design.specs.Accepted.{AreAccepted, AreFaulty, StandFor}
 use Rattle.source_design.specs.Reading.{HasBegun, HasFullInclude, HasFullRoot, HasSources, IsSourceFault, LacksAt}
 use Rattle.source_design.specs.Refusals.{AreOfNoForm, AreRefused, IsFoundAt}
@@ -96,39 +90,19 @@ design_or_refused sources defines top design refusal stands refused = go refusal
     go (kind.Elab k) place (Some name) found = faulty_or_flat sources defines top stands.modules (design_view design) _ stands.accepted stands.flat found
     go (kind.Elab k) place None found = found
 
-no_processes : (ps : List Process) → map process_view ps ≡ [] → ps ≡ []
-no_processes [] e = refl
-no_processes (p ∷ ps) e = absurd cc
-
--- a design by its parts
-abbrev made : List ℕ → List Instance → List Signal → List Memory → List Process → List Constant → List Alias → Design
-made top instances signals memories processes constants aliases = record { top = top; instances = instances; signals = signals; memories = memories; processes = processes; constants = constants; aliases = aliases }
-
--- designs of inputs alone are equal where what they stand for is
-one_view : (a b : Design) → HasInputsAlone (design_view a) → HasInputsAlone (design_view b) → design_view a ≡ design_view b → a ≡ b
-one_view a b first second same =
-    let processes : a.processes ≡ b.processes = no_processes a.processes first.processes ∙ sym (no_processes b.processes second.processes) in
-    ap (λ x. made x a.instances a.signals a.memories a.processes a.constants a.aliases) (ap (λ d. d.top) same)
-    ∙ ap (λ x. made b.top x a.signals a.memories a.processes a.constants a.aliases) (ap (λ d. d.instances) same)
-    ∙ ap (λ x. made b.top b.instances x a.memories a.processes a.constants a.aliases) (ap (λ d. d.signals) same)
-    ∙ ap (λ x. made b.top b.instances b.signals x a.processes a.constants a.aliases) (ap (λ d. d.memories) same)
-    ∙ ap (λ x. made b.top b.instances b.signals b.memories x a.constants a.aliases) processes
-    ∙ ap (λ x. made b.top b.instances b.signals b.memories b.processes x a.aliases) (ap (λ d. d.constants) same)
-    ∙ ap (λ x. made b.top b.instances b.signals b.memories b.processes b.constants x) (ap (λ d. d.aliases) same)
-
 -- sources stand for one design
-pub one_design : (sources : List SourceText) (defines : List DefineText) (top : List ℕ) (a b : Design) → StandFor sources defines top a → StandFor sources defines top b → a ≡ b
+pub one_design : (sources : List SourceText) (defines : List DefineText) (top : List ℕ) (a b : Design) → StandFor sources defines top a → StandFor sources defines top b → design_view a ≡ design_view b
 one_design sources defines top a b one other =
     let same = one_list_of_modules sources defines other.modules one.modules other.accepted one.accepted in
     let flat : answer one.modules top ≡ Ok (design_view b) = subst (λ ms. answer ms top ≡ Ok (design_view b)) same other.flat in
-    one_view a b one.inputs other.inputs (one_ok (answer one.modules top) (design_view a) (design_view b) one.flat flat)
+    one_ok (answer one.modules top) (design_view a) (design_view b) one.flat flat
 
 no_form_or_design : (sources : List SourceText) (defines : List DefineText) (top : List ℕ) (design : Design) → AreOfNoForm sources defines top → StandFor sources defines top design → ⊥
 no_form_or_design sources defines top design formless stands =
     let same = one_list_of_modules sources defines stands.modules formless.modules stands.accepted formless.accepted in
     let flat : answer formless.modules top ≡ Ok (design_view design) = subst (λ ms. answer ms top ≡ Ok (design_view design)) same stands.flat in
     let is : design_view design ≡ formless.design = one_ok (answer formless.modules top) (design_view design) formless.design flat formless.flat in
-    formless.more (subst HasInputsAlone is stands.inputs)
+    formless.more (subst HasLevelsAlone is stands.levels)
 
 -- sources in which a fault stands lack no file
 refused_lack : (sources : List SourceText) (defines : List DefineText) (top : List ℕ) (refusal : SourceRefusal) → AreRefused sources defines top refusal → (name : List ℕ) → Lacks sources defines name → ⊥

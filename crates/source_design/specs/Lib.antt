@@ -1,3 +1,4 @@
+pub mod Form
 pub mod Words
 pub mod Accepted
 pub mod Refusals

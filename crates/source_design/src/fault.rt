@@ -50,7 +50,7 @@ pub enum SourceFault<'a> {
     Included { call: Call, path: Name },
     /// The sources are refused.
     Refused(SourceRefusal),
-    /// The sources are accepted, and their design has a process, a memory, or a signal that is no input.
+    /// The sources are accepted, and their design has a Clocked process or a memory.
     NotYet,
 }
 

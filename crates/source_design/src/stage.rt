@@ -4,13 +4,13 @@ ghost use Rattle.source_design.specs.Staging.{IsElabFault, IsFound, IsLackingFro
 ghost use Rattle.source_design.specs.Words.{source_values};
 
 use crate::fault::{SourceFault, SourceKind, SourceRefusal, SourceSpot};
+use crate::form::has_levels_alone;
 use crate::words::SourceWords;
 use cov_host::{Name, NoMemory, Place};
 use design_model::Design;
 use elab_const::ConstFault;
 use elaborator::elaborate;
 use flat_design::ElabFault;
-use input_design::has_inputs_alone;
 use std::alloc::Global;
 use verilog_lexer::{LexFault, LexKind, Sources, lex};
 use verilog_parser::{ParseFault, parse};
@@ -45,7 +45,7 @@ pub(crate) fn find<'a>(
         Ok(design) => design,
         Err(fault) => return Err(elab_fault(alloc, sources, fault)),
     };
-    if !has_inputs_alone(&design) {
+    if !has_levels_alone(&design) {
         return Err(SourceFault::NotYet);
     }
     Ok(Found::Design(design))

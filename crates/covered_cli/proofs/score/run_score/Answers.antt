@@ -1,9 +1,11 @@
+use Rattle.std.proofs.Common.{sym, subst}
 use Rattle.std.proofs.lemmas.Result.{err_from_is_err_and}
 use Rattle.command_line.specs.CommandWords.{score_values}
 use Rattle.whole_files.proofs.EffectLemmas.{CountsUp-trans, KeepsFiles-trans}
-use Rattle.covered_cli.proofs.Inputs.{good_names}
-use Rattle.covered_cli.proofs.InputDesigns.{design_of_inputs, lawful_design}
+use Rattle.covered_cli.proofs.Designs.{lawful_design, replayable_design, rooted_design, written_design}
 use Rattle.covered_cli.proofs.Scoring.{IfErr-map, OnOk-map, design_stands, has_listed, others_kept, others_kept_since, points_stand, score_is_done, scoring_stands, writing_is_late, writing_stands}
+use Rattle.covered_cli.proofs.SourceNames.{AreGoodNames, good_names}
+use Rattle.covered_cli.specs.ScoreSources.{sources_in}
 use Rattle.covered_cli.proofs.score.run_score.Goals as goal
 
 pub returns-in_err-design-clause-fault : goal.returns-in_err-design-clause-fault
@@ -26,16 +28,19 @@ returns-in_err-points-clause-fault g c =
     let fault = err_from_is_err_and c.from_residual-in_err-points.result c.from_residual-in_err-points.ensures.1 in
     rw (fault.1, fault.2) (points_stand score before after read.sources _ read.gathered read.stands _ c.in_err-points.ensures.fault)
 
-pub db_of-requires-clause-lawful : goal.db_of-requires-clause-lawful
-db_of-requires-clause-lawful g c = lawful_design _ _ _ _ c.in_ok-design.ensures.read.stands
+pub db_of-requires-clause-replayable : goal.db_of-requires-clause-replayable
+db_of-requires-clause-replayable g c = rw c.deref.ensures (replayable_design _ _ _ _ _ c.in_ok-design.ensures.read.stands c.in_ok-points.ensures.points)
 
-pub db_of-requires-clause-design : goal.db_of-requires-clause-design
-db_of-requires-clause-design g c = design_of_inputs _ _ _ _ c.in_ok-design.ensures.read.stands
+pub db_of-requires-clause-rooted : goal.db_of-requires-clause-rooted
+db_of-requires-clause-rooted g c = rooted_design _ _ _ _ c.in_ok-design.ensures.read.stands
 
-pub db_of-requires-clause-sources : goal.db_of-requires-clause-sources
-db_of-requires-clause-sources g c =
+pub db_of-requires-clause-written : goal.db_of-requires-clause-written
+db_of-requires-clause-written g c =
+    let score = score_values c.args.words.now in
+    let before = g.H.Host.outside c.args.host.now in
     let read = c.in_ok-design.ensures.read in
-    rw read.names (good_names (score_values c.args.words.now) (g.H.Host.outside c.args.host.now) read.sources c.requires read.gathered)
+    let names = subst AreGoodNames (sym read.names) (good_names score before read.sources c.requires read.gathered) in
+    written_design (sources_in score) before _ read names.named names.some
 
 pub returns-in_err-db-clause-fault : goal.returns-in_err-db-clause-fault
 returns-in_err-db-clause-fault g c =
@@ -59,7 +64,7 @@ returns-clause-done g c =
     let effects = c.in_ok-design.ensures.effects in
     let db = c.in_ok-db.ensures in
     let kept = KeepsFiles-trans before middle later effects.files db.effects.files in
-    OnOk-map c.write.result (score_is_done score read.sources _ _ _ _ before middle later after (has_listed score before read.sources _ _ read.gathered read.stands c.in_ok-points.ensures.points) read.names (design_of_inputs _ _ _ _ read.stands) effects.files kept db.scored c.in_ok-text.ensures.text) c.write.ensures.written
+    OnOk-map c.write.result (score_is_done score read.sources _ _ _ _ before middle later after (has_listed score before read.sources _ _ read.gathered read.stands c.in_ok-points.ensures.points) read.names effects.files kept db.scored c.in_ok-text.ensures.text) c.write.ensures.written
 
 pub returns-in_err-text-clause-others : goal.returns-in_err-text-clause-others
 returns-in_err-text-clause-others g c =

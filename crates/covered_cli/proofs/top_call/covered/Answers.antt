@@ -1,6 +1,6 @@
 use Rattle.std.proofs.Common.{◌∙◌, sym}
 use Rattle.whole_files.proofs.EffectLemmas.{KeepsFiles-trans, Told-trans}
-use Rattle.covered_cli.proofs.Causes.{command_or_fault, usage_exactly}
+use Rattle.covered_cli.proofs.Causes.{command_or_fault, contradiction_cause, usage_exactly}
 use Rattle.covered_cli.proofs.Complete.{bad_dump_ends, bad_dump_not_done, bad_source_ends, bad_source_not_done, good_ends, points_end, points_not_done, unbound_ends, unbound_not_done}
 use Rattle.covered_cli.proofs.Databases.{database_cause, early_status, files_cause, good_databases_end, stands_later}
 use Rattle.covered_cli.proofs.Lines.{WarnsLine-since}
@@ -52,6 +52,9 @@ returns-in-Err-clause-databases g c good none = rw c.status.ensures (good_databa
 
 pub returns-in-Err-clause-files : goal.returns-in-Err-clause-files
 returns-in-Err-clause-files g c is = files_cause _ _ _ _ c.run.ensures.counts c.warn_of.ensures.counts _ c.in-Err.ensures.fault (rw c.status.ensures at is)
+
+pub returns-in-Err-clause-contradiction : goal.returns-in-Err-clause-contradiction
+returns-in-Err-clause-contradiction g c is = contradiction_cause _ _ _ _ c.in-Err.ensures.fault (rw c.status.ensures at is)
 
 pub returns-in-Err-clause-database : goal.returns-in-Err-clause-database
 returns-in-Err-clause-database g c is = database_cause _ _ _ _ c.in-Err.ensures.fault (rw c.status.ensures at is)

@@ -1,6 +1,6 @@
 use Rattle.covered_cli.proofs.Causes.{IfErr-map, OnOk-intro, is_some_command, keeps_unnamed, prints_nothing, stands_in_call}
 use Rattle.covered_cli.proofs.Scoring.{OnOk-map, command_is_done}
-use Rattle.covered_cli.proofs.Inputs.{forms_of_command}
+use Rattle.covered_cli.proofs.SourceNames.{forms_of_command}
 use Rattle.covered_cli.proofs.top_call.run.Goals as goal
 
 pub run_command-requires : goal.run_command-requires

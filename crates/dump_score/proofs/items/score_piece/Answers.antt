@@ -3,7 +3,7 @@ use Rattle.std.proofs.lemmas.Result.{err_from_is_err_and}
 use Rattle.four_state.specs.Vector.{Vector}
 use Rattle.vcd_reader.specs.Wanted.{item_by}
 use Rattle.vcd_reader.specs.WantedPieces.{kept_value}
-use Rattle.dump_score.proofs.Stepping.{Steps, found_in_piece, heard, reading_step, say_found_in_piece, scored_further}
+use Rattle.dump_score.proofs.Stepping.{Steps, can_say, found_in_piece, heard, reading_step, say_found_in_piece, scored_further, scoring_some, some_reading}
 use Rattle.dump_score.proofs.Opening.{whole_piece}
 use Rattle.dump_score.proofs.items.score_piece.Goals as goal
 use Rattle.dump_score.proofs.items.score_piece.Goals.{In_ok-heard}
@@ -20,39 +20,48 @@ pub returns-in_err-heard-clause-fault : goal.returns-in_err-heard-clause-fault
 returns-in_err-heard-clause-fault c =
     let fault = err_from_is_err_and c.from_residual.result c.from_residual.ensures.1 in
     let refused = rw c.split_at.ensures.back at c.in_err-heard.ensures.fault in
-    rw (fault.1, fault.2) (λ design vars instance text is.
-    let turn = c.loop-used.invariant.scores design vars instance text is in
+    rw (fault.1, fault.2) (λ design points vars instance text is.
+    let turn = c.loop-used.invariant.scores design points vars instance text is in
     found_in_piece text c.args.piece.now c.loop-used.used _ (omega (arith, length-drop c.loop-used.used c.args.piece.now, c.loop-used-test.true)) (refused (text ++ take c.loop-used.used c.args.piece.now) turn.b turn.stands))
+
+pub say-requires : goal.say-requires
+say-requires c =
+    let at = (goal.at.say-requires c).In_ok-heard in
+    can_say c.wanted.result.now (item_by c.in_ok-heard.heard.saying c.value.result.now) c.in_ok-heard.heard.used c.loop-used.body c.next_of.new.self c.loop-used.replay _ (some at) (steps at c.value.result.now c.value.ensures) c.wanted.ensures c.loop-used.invariant.reads
 
 pub returns-in_err-say-clause-fault : goal.returns-in_err-say-clause-fault
 returns-in_err-say-clause-fault c =
     let fault = err_from_is_err_and c.from_residual-in_err-say.result c.from_residual-in_err-say.ensures.1 in
     let at = (goal.at.returns-in_err-say-clause-fault c).In_ok-heard in
-    rw (fault.1, fault.2) (λ design vars instance text is.
-    say_found_in_piece c.wanted.result.now (item_by c.in_ok-heard.heard.saying c.value.result.now) c.in_ok-heard.heard.used c.loop-used.used c.loop-used.body c.next_of.new.self c.loop-used.scorer c.args.piece.now design vars instance text _ (some at) (steps at c.value.result.now c.value.ensures) c.wanted.ensures c.in_err-say.ensures.fault (c.loop-used.invariant.scores design vars instance text is))
+    rw (fault.1, fault.2) (λ design points vars instance text is.
+    say_found_in_piece c.wanted.result.now (item_by c.in_ok-heard.heard.saying c.value.result.now) c.in_ok-heard.heard.used c.loop-used.used c.loop-used.body c.next_of.new.self c.loop-used.replay c.args.piece.now design points vars instance text _ (some at) (steps at c.value.result.now c.value.ensures) c.wanted.ensures
+    c.in_err-say.ensures.fault (c.loop-used.invariant.scores design points vars instance text is))
 
 pub overflow_add-used : goal.overflow_add-used
 overflow_add-used c =
     let at = (goal.at.overflow_add-used c).In_ok-heard in
-    let reads = reading_step c.wanted.result.now (item_by c.in_ok-heard.heard.saying c.value.result.now) c.in_ok-heard.heard.used c.loop-used.body c.next_of.new.self _ (some at) (steps at c.value.result.now c.value.ensures) c.loop-used.invariant.reads in
+    let reads = reading_step c.wanted.result.now (item_by c.in_ok-heard.heard.saying c.value.result.now) c.in_ok-heard.heard.used c.loop-used.body c.next_of.new.self _ (some at) (steps at c.value.result.now c.value.ensures) (some_reading c.loop-used.body c.loop-used.replay c.loop-used.invariant.reads) in
     omega (arith, reads.2, length-drop c.loop-used.used c.args.piece.now, c.loop-used-test.true)
 
 pub loop-used-smaller : goal.loop-used-smaller
 loop-used-smaller c =
     let at = (goal.at.loop-used-smaller c).In_ok-heard in
-    let reads = reading_step c.wanted.result.now (item_by c.in_ok-heard.heard.saying c.value.result.now) c.in_ok-heard.heard.used c.loop-used.body c.next_of.new.self _ (some at) (steps at c.value.result.now c.value.ensures) c.loop-used.invariant.reads in
+    let reads = reading_step c.wanted.result.now (item_by c.in_ok-heard.heard.saying c.value.result.now) c.in_ok-heard.heard.used c.loop-used.body c.next_of.new.self _ (some at) (steps at c.value.result.now c.value.ensures) (some_reading c.loop-used.body c.loop-used.replay c.loop-used.invariant.reads) in
     omega (arith, reads.1, c.loop-used-test.true)
 
 pub loop-used-preserved : goal.loop-used-preserved
 loop-used-preserved c =
     let at = (goal.at.loop-used-preserved c).In_ok-heard in
     let made = steps at c.value.result.now c.value.ensures in
-    let reads = reading_step c.wanted.result.now (item_by c.in_ok-heard.heard.saying c.value.result.now) c.in_ok-heard.heard.used c.loop-used.body c.next_of.new.self _ (some at) made c.loop-used.invariant.reads in
+    let says = item_by c.in_ok-heard.heard.saying c.value.result.now in
+    let reads = reading_step c.wanted.result.now says c.in_ok-heard.heard.used c.loop-used.body c.next_of.new.self _ (some at) made (some_reading c.loop-used.body c.loop-used.replay c.loop-used.invariant.reads) in
     record {
       within = omega (arith, reads.2, length-drop c.loop-used.used c.args.piece.now, c.loop-used-test.true);
-      reads = reads.0;
-      scores = λ design vars instance text is. scored_further c.wanted.result.now (item_by c.in_ok-heard.heard.saying c.value.result.now) c.in_ok-heard.heard.used c.loop-used.used c.loop-used.body c.next_of.new.self c.loop-used.scorer c.say.new.scorer c.args.piece.now design vars instance text (some at) made c.wanted.ensures c.in_ok-say.ensures.ok (c.loop-used.invariant.scores design vars instance text is);
+      reads = scoring_some c.wanted.result.now says c.in_ok-heard.heard.used c.loop-used.body c.next_of.new.self c.loop-used.replay c.say.new.replay _ (some at) made c.wanted.ensures c.in_ok-say.ensures.ok c.loop-used.invariant.reads;
+      scores = λ design points vars instance text is.
+          scored_further c.wanted.result.now says c.in_ok-heard.heard.used c.loop-used.used c.loop-used.body c.next_of.new.self c.loop-used.replay c.say.new.replay c.args.piece.now design points vars instance text (some at) made c.wanted.ensures c.in_ok-say.ensures.ok
+          (c.loop-used.invariant.scores design points vars instance text is);
     }
 
 pub returns-clause-ok : goal.returns-clause-ok
-returns-clause-ok c = λ design vars instance text is. whole_piece _ _ design vars instance text c.args.piece.now c.loop-used.used (omega (arith, c.loop-used-test.false)) (c.loop-used.invariant.scores design vars instance text is)
+returns-clause-ok c = λ design points vars instance text is. whole_piece _ _ design points vars instance text c.args.piece.now c.loop-used.used (omega (arith, c.loop-used-test.false)) (c.loop-used.invariant.scores design points vars instance text is)

@@ -1,5 +1,4 @@
 use Rattle.std.proofs.Common.{◌++◌, take, arith}
-use Rattle.std.proofs.lemmas.Result.{err_from_is_err_and}
 use Rattle.whole_files.proofs.EffectLemmas.{OnlyReads-refl, OnlyReads-trans}
 use Rattle.dump_score.proofs.FileLemmas.{read_all_of, read_more}
 use Rattle.dump_score.proofs.Opening.{can_end, found_in_file, more_length, not_too_long, scoring_binds_on}
@@ -10,34 +9,32 @@ loop-at-init g c = record {
   reads = c.requires.body;
   reading = c.requires.reading;
   effects = OnlyReads-refl _;
-  scores = λ name before design vars instance text file at is. (text, file, at, is);
+  scores = λ name before design points vars instance text file at is. (text, file, at, is);
 }
 
 pub returns-then-count-eq0-clause-ok : goal.returns-then-count-eq0-clause-ok
-returns-then-count-eq0-clause-ok g c = λ name before design vars instance text file at is.
-    let turn = c.loop-at.invariant.scores name before design vars instance text file at is in
-    (turn.0, read_all_of name turn.0 _ c.in_ok-count.count before _ _ turn.1 c.in_ok-count.ensures.read c.if-count-eq0.true (omega (arith, c.requires.piece, c.loop-at.auto.piece, c.read.auto.piece)), can_end _ _ design vars instance turn.0 turn.3)
+returns-then-count-eq0-clause-ok g c = λ name before design points vars instance text file at is.
+    let turn = c.loop-at.invariant.scores name before design points vars instance text file at is in
+    (turn.0, read_all_of name turn.0 _ c.in_ok-count.count before _ _ turn.1 c.in_ok-count.ensures.read c.if-count-eq0.true (omega (arith, c.requires.piece, c.loop-at.auto.piece, c.read.auto.piece)), can_end _ _ design points vars instance turn.0 turn.3)
 
-pub returns-in_err-score_piece-clause-fault : goal.returns-in_err-score_piece-clause-fault
-returns-in_err-score_piece-clause-fault g c =
-    let fault = err_from_is_err_and c.from_residual-in_err-score_piece.result c.from_residual-in_err-score_piece.ensures.1 in
-    rw (fault.1, fault.2) (λ name before design vars instance text file at is.
-    let turn = c.loop-at.invariant.scores name before design vars instance text file at is in
+pub returns-in-Err-clause-fault : goal.returns-in-Err-clause-fault
+returns-in-Err-clause-fault g c = λ name before design points vars instance text file at is.
+    let turn = c.loop-at.invariant.scores name before design points vars instance text file at is in
     let more = read_more name turn.0 _ c.in_ok-count.count before _ _ turn.1 c.in_ok-count.ensures.read c.in_ok-count.ensures.effects c.in_ok-count.ensures.reading in
-    found_in_file name before (g.H.Host.outside c.read.new.host) (g.H.Host.outside c.read.new.host) design instance _ _ more (λ rest. scoring_binds_on _ _ design vars instance turn.0 _ rest turn.3) (c.in_err-score_piece.ensures.fault design vars instance turn.0 turn.3))
+    found_in_file name before (g.H.Host.outside c.read.new.host) (g.H.Host.outside c.read.new.host) design instance _ _ more (λ rest. scoring_binds_on _ _ design points vars instance turn.0 _ rest turn.3) (c.in-Err.ensures.fault design points vars instance turn.0 turn.3)
 
 pub loop-at-preserved : goal.loop-at-preserved
 loop-at-preserved g c = record {
-  reads = c.in_ok-score_piece.ensures.reads;
+  reads = c.in-Ok.ensures.reads;
   reading = c.in_ok-count.ensures.reading;
   effects = OnlyReads-trans _ _ _ c.loop-at.invariant.effects c.in_ok-count.ensures.effects;
-  scores = λ name before design vars instance text file at is.
-      let turn = c.loop-at.invariant.scores name before design vars instance text file at is in
+  scores = λ name before design points vars instance text file at is.
+      let turn = c.loop-at.invariant.scores name before design points vars instance text file at is in
       let more = read_more name turn.0 _ c.in_ok-count.count before _ _ turn.1 c.in_ok-count.ensures.read c.in_ok-count.ensures.effects c.in_ok-count.ensures.reading in
-      (turn.0 ++ take c.in_ok-count.count c.read.new.piece, more, more_length turn.0 c.read.new.piece c.loop-at.at c.in_ok-count.count turn.2 c.in_ok-count.ensures.read.within, c.in_ok-score_piece.ensures.ok design vars instance turn.0 turn.3);
+      (turn.0 ++ take c.in_ok-count.count c.read.new.piece, more, more_length turn.0 c.read.new.piece c.loop-at.at c.in_ok-count.count turn.2 c.in_ok-count.ensures.read.within, c.in-Ok.ensures.ok design points vars instance turn.0 turn.3);
 }
 
 pub returns-clause-fault : goal.returns-clause-fault
-returns-clause-fault g c = λ name before design vars instance text file at is.
-    let turn = c.loop-at.invariant.scores name before design vars instance text file at is in
-    absurd (omega (arith, not_too_long _ _ design vars instance turn.0 turn.3, turn.2, c.loop-at-test.false))
+returns-clause-fault g c = λ name before design points vars instance text file at is.
+    let turn = c.loop-at.invariant.scores name before design points vars instance text file at is in
+    absurd (omega (arith, not_too_long _ _ design points vars instance turn.0 turn.3, turn.2, c.loop-at-test.false))

@@ -1,7 +1,10 @@
 use Rattle.std.proofs.lemmas.Result.{err_from_is_err_and}
 use Rattle.design_model.specs.View.{design_view}
+use Rattle.event_machine.specs.Habit.{Free}
+use Rattle.shown_dumps.specs.Shown.{bound_dump}
 use Rattle.dump_score.proofs.FileLemmas.{header_refuses, nothing_read}
-use Rattle.dump_score.proofs.Opening.{bind_in_file, can_end_binds, end_in_file, opened_bound, opened_reading, scored_file}
+use Rattle.dump_score.proofs.Opening.{bind_in_file, can_end_binds, end_in_file, open_scoring, opened_bound}
+use Rattle.dump_score.proofs.Scored.{said, scored_file, scored_rises, scored_times}
 use Rattle.dump_score.proofs.score.score_file.Goals as goal
 
 pub returns-in_err-opened-clause-fault : goal.returns-in_err-opened-clause-fault
@@ -12,40 +15,34 @@ returns-in_err-opened-clause-fault g c =
     let start = nothing_read name before (g.H.Host.outside c.open.new.host) c.in_ok-open.ensures.opened c.in_ok-open.ensures.effects in
     rw (fault.1, fault.2) (header_refuses name before (g.H.Host.outside c.read_header.new.host) c.args.design.now c.args.instance.now _ (c.in_err-opened.ensures.fault name before start))
 
-pub returns-in_err-scorer-clause-fault : goal.returns-in_err-scorer-clause-fault
-returns-in_err-scorer-clause-fault g c =
-    let fault = err_from_is_err_and c.from_residual-in_err-scorer.result c.from_residual-in_err-scorer.ensures.1 in
+pub new-requires-clause-placed : goal.new-requires-clause-placed
+new-requires-clause-placed g c = c.requires.points.placed
+
+pub new-requires-clause-few : goal.new-requires-clause-few
+new-requires-clause-few g c = c.requires.points.few
+
+pub returns-in_err-replay-clause-fault : goal.returns-in_err-replay-clause-fault
+returns-in_err-replay-clause-fault g c =
+    let fault = err_from_is_err_and c.from_residual-in_err-replay.result c.from_residual-in_err-replay.ensures.1 in
     let name = c.args.name.now in
     let before = g.H.Host.outside c.args.host.now in
     let start = nothing_read name before (g.H.Host.outside c.open.new.host) c.in_ok-open.ensures.opened c.in_ok-open.ensures.effects in
     let now = g.H.Host.outside c.read_header.new.host in
-    let piece = c.read_header.new.piece in
-    let opened = c.in_ok-opened.opened in
-    let o = c.in_ok-opened.ensures.opened name before start in
-    let is = c.in_err-scorer.ensures.fault in
-    rw (fault.1, fault.2) (bind_in_file name before now now c.args.design.now c.args.instance.now piece opened _ o is)
+    rw (fault.1, fault.2) (bind_in_file name before now now c.args.design.now c.args.instance.now c.read_header.new.piece c.in_ok-opened.opened _ (c.in_ok-opened.ensures.opened name before start) c.in_err-replay.ensures.fault)
 
 pub score_body-requires-clause-used : goal.score_body-requires-clause-used
 score_body-requires-clause-used g c =
     let name = c.args.name.now in
     let before = g.H.Host.outside c.args.host.now in
     let start = nothing_read name before (g.H.Host.outside c.open.new.host) c.in_ok-open.ensures.opened c.in_ok-open.ensures.effects in
-    let now = g.H.Host.outside c.read_header.new.host in
-    let piece = c.read_header.new.piece in
-    let opened = c.in_ok-opened.opened in
-    let o = c.in_ok-opened.ensures.opened name before start in
-    o.used_within
+    (c.in_ok-opened.ensures.opened name before start).used_within
 
 pub score_body-requires-clause-count : goal.score_body-requires-clause-count
 score_body-requires-clause-count g c =
     let name = c.args.name.now in
     let before = g.H.Host.outside c.args.host.now in
     let start = nothing_read name before (g.H.Host.outside c.open.new.host) c.in_ok-open.ensures.opened c.in_ok-open.ensures.effects in
-    let now = g.H.Host.outside c.read_header.new.host in
-    let piece = c.read_header.new.piece in
-    let opened = c.in_ok-opened.opened in
-    let o = c.in_ok-opened.ensures.opened name before start in
-    o.count_within
+    (c.in_ok-opened.ensures.opened name before start).count_within
 
 pub score_body-requires-clause-body : goal.score_body-requires-clause-body
 score_body-requires-clause-body g c =
@@ -56,7 +53,8 @@ score_body-requires-clause-body g c =
     let piece = c.read_header.new.piece in
     let opened = c.in_ok-opened.opened in
     let o = c.in_ok-opened.ensures.opened name before start in
-    λ some. opened_reading name before now piece opened o some
+    let is = opened_bound name before now piece opened c.in_ok-replay.replay c.args.design.now c.args.points.now c.args.instance.now o c.in_ok-replay.ensures.followed in
+    λ some. open_scoring name before now piece opened.span opened.body c.in_ok-replay.replay c.args.design.now c.args.points.now opened.vars c.args.instance.now is some
 
 pub returns-in_err-score_body-clause-fault : goal.returns-in_err-score_body-clause-fault
 returns-in_err-score_body-clause-fault g c =
@@ -68,11 +66,21 @@ returns-in_err-score_body-clause-fault g c =
     let piece = c.read_header.new.piece in
     let opened = c.in_ok-opened.opened in
     let o = c.in_ok-opened.ensures.opened name before start in
-    let design = c.args.design.now in
-    let instance = c.args.instance.now in
-    let bound = c.in_ok-scorer.ensures.bound in
-    let is = opened_bound name before now piece opened c.in_ok-scorer.scorer design instance o bound in
-    rw (fault.1, fault.2) (c.in_err-score_body.ensures.fault name before design opened.vars instance is)
+    let is = opened_bound name before now piece opened c.in_ok-replay.replay c.args.design.now c.args.points.now c.args.instance.now o c.in_ok-replay.ensures.followed in
+    rw (fault.1, fault.2) (c.in_err-score_body.ensures.fault name before c.args.design.now c.args.points.now opened.vars c.args.instance.now is)
+
+pub score_end-requires : goal.score_end-requires
+score_end-requires g c =
+    let name = c.args.name.now in
+    let before = g.H.Host.outside c.args.host.now in
+    let start = nothing_read name before (g.H.Host.outside c.open.new.host) c.in_ok-open.ensures.opened c.in_ok-open.ensures.effects in
+    let now = g.H.Host.outside c.read_header.new.host in
+    let piece = c.read_header.new.piece in
+    let opened = c.in_ok-opened.opened in
+    let o = c.in_ok-opened.ensures.opened name before start in
+    let is = opened_bound name before now piece opened c.in_ok-replay.replay c.args.design.now c.args.points.now c.args.instance.now o c.in_ok-replay.ensures.followed in
+    let on = c.in_ok-score_body.ensures.ok name before c.args.design.now c.args.points.now opened.vars c.args.instance.now is in
+    (c.args.design.now, c.args.points.now, opened.vars, c.args.instance.now, on.0, on.2)
 
 pub returns-in_err-score_end-clause-fault : goal.returns-in_err-score_end-clause-fault
 returns-in_err-score_end-clause-fault g c =
@@ -85,14 +93,59 @@ returns-in_err-score_end-clause-fault g c =
     let opened = c.in_ok-opened.opened in
     let o = c.in_ok-opened.ensures.opened name before start in
     let design = c.args.design.now in
+    let points = c.args.points.now in
     let instance = c.args.instance.now in
-    let bound = c.in_ok-scorer.ensures.bound in
-    let is = opened_bound name before now piece opened c.in_ok-scorer.scorer design instance o bound in
-    let on = c.in_ok-score_body.ensures.ok name before design opened.vars instance is in
-    rw (fault.1, fault.2) (end_in_file name before (g.H.Host.outside c.score_body.new.host) design instance on.0 _ on.1 (can_end_binds _ _ design opened.vars instance on.0 on.2) (c.in_err-score_end.ensures.fault design opened.vars instance on.0 on.2))
+    let is = opened_bound name before now piece opened c.in_ok-replay.replay design points instance o c.in_ok-replay.ensures.followed in
+    let on = c.in_ok-score_body.ensures.ok name before design points opened.vars instance is in
+    rw (fault.1, fault.2) (end_in_file name before (g.H.Host.outside c.score_body.new.host) design instance on.0 _ on.1 (can_end_binds _ _ design points opened.vars instance on.0 on.2) (c.in_err-score_end.ensures.fault design points opened.vars instance on.0 on.2))
 
-pub new_marks-requires : goal.new_marks-requires
-new_marks-requires g c = (design_view c.args.design.now, c.requires.points)
+pub finish-marks-requires : goal.finish-marks-requires
+finish-marks-requires g c =
+    let name = c.args.name.now in
+    let before = g.H.Host.outside c.args.host.now in
+    let start = nothing_read name before (g.H.Host.outside c.open.new.host) c.in_ok-open.ensures.opened c.in_ok-open.ensures.effects in
+    let now = g.H.Host.outside c.read_header.new.host in
+    let piece = c.read_header.new.piece in
+    let opened = c.in_ok-opened.opened in
+    let o = c.in_ok-opened.ensures.opened name before start in
+    let is = opened_bound name before now piece opened c.in_ok-replay.replay c.args.design.now c.args.points.now c.args.instance.now o c.in_ok-replay.ensures.followed in
+    let on = c.in_ok-score_body.ensures.ok name before c.args.design.now c.args.points.now opened.vars c.args.instance.now is in
+    record { ready = (c.in_ok-score_end.ensures.ok c.args.design.now c.args.points.now opened.vars c.args.instance.now on.0 on.2).followed.of.ready }
+
+pub score_table-requires-clause-marks : goal.score_table-requires-clause-marks
+score_table-requires-clause-marks g c =
+    let name = c.args.name.now in
+    let before = g.H.Host.outside c.args.host.now in
+    let start = nothing_read name before (g.H.Host.outside c.open.new.host) c.in_ok-open.ensures.opened c.in_ok-open.ensures.effects in
+    let now = g.H.Host.outside c.read_header.new.host in
+    let piece = c.read_header.new.piece in
+    let opened = c.in_ok-opened.opened in
+    let o = c.in_ok-opened.ensures.opened name before start in
+    let design = c.args.design.now in
+    let points = c.args.points.now in
+    let instance = c.args.instance.now in
+    let is = opened_bound name before now piece opened c.in_ok-replay.replay design points instance o c.in_ok-replay.ensures.followed in
+    let on = c.in_ok-score_body.ensures.ok name before design points opened.vars instance is in
+    let scored = c.in_ok-score_end.ensures.ok design points opened.vars instance on.0 on.2 in
+    (c.finish-marks.ensures design points opened.vars instance scored.b.items (scored_rises c.score_end.new.replay design points opened.vars instance on.0 scored) scored.followed).of
+
+pub score_table-requires-clause-scored : goal.score_table-requires-clause-scored
+score_table-requires-clause-scored g c =
+    let name = c.args.name.now in
+    let before = g.H.Host.outside c.args.host.now in
+    let start = nothing_read name before (g.H.Host.outside c.open.new.host) c.in_ok-open.ensures.opened c.in_ok-open.ensures.effects in
+    let now = g.H.Host.outside c.read_header.new.host in
+    let piece = c.read_header.new.piece in
+    let opened = c.in_ok-opened.opened in
+    let o = c.in_ok-opened.ensures.opened name before start in
+    let design = c.args.design.now in
+    let points = c.args.points.now in
+    let instance = c.args.instance.now in
+    let is = opened_bound name before now piece opened c.in_ok-replay.replay design points instance o c.in_ok-replay.ensures.followed in
+    let on = c.in_ok-score_body.ensures.ok name before design points opened.vars instance is in
+    let scored = c.in_ok-score_end.ensures.ok design points opened.vars instance on.0 on.2 in
+    let final = c.finish-marks.ensures design points opened.vars instance scored.b.items (scored_rises c.score_end.new.replay design points opened.vars instance on.0 scored) scored.followed in
+    (Free, bound_dump design (said c.score_end.new.replay design points opened.vars instance on.0 scored) instance, scored_times c.score_end.new.replay design points opened.vars instance on.0 scored, final.scored)
 
 pub returns-clause-scored : goal.returns-clause-scored
 returns-clause-scored g c =
@@ -104,9 +157,12 @@ returns-clause-scored g c =
     let opened = c.in_ok-opened.opened in
     let o = c.in_ok-opened.ensures.opened name before start in
     let design = c.args.design.now in
+    let points = c.args.points.now in
     let instance = c.args.instance.now in
-    let bound = c.in_ok-scorer.ensures.bound in
-    let is = opened_bound name before now piece opened c.in_ok-scorer.scorer design instance o bound in
-    let on = c.in_ok-score_body.ensures.ok name before design opened.vars instance is in
-    let scored = c.in_ok-score_end.ensures.ok design opened.vars instance on.0 on.2 in
-    scored_file name before design c.args.sources instance on.0 opened.vars c.score_end.new.scorer _ on.1 scored c.in_ok-score_table.ensures
+    let is = opened_bound name before now piece opened c.in_ok-replay.replay design points instance o c.in_ok-replay.ensures.followed in
+    let on = c.in_ok-score_body.ensures.ok name before design points opened.vars instance is in
+    let scored = c.in_ok-score_end.ensures.ok design points opened.vars instance on.0 on.2 in
+    let replay = c.score_end.new.replay in
+    let final = c.finish-marks.ensures design points opened.vars instance scored.b.items (scored_rises replay design points opened.vars instance on.0 scored) scored.followed in
+    let times = scored_times replay design points opened.vars instance on.0 scored in
+    scored_file replay design points opened.vars instance on.0 scored name before c.args.sources c.finish-marks.result _ on.1 final (c.in_ok-score_table.ensures Free _ times final.scored)

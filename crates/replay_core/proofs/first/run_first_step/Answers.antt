@@ -1,5 +1,6 @@
-use Rattle.std.proofs.Common.{◌≡◌, ◌∙◌, length, map, ap, refl, subst, sym, arith}
+use Rattle.std.proofs.Common.{◌≡◌, ◌∙◌, ◌+◌, ◌≤◌, ℕ, List, length, map, ap, refl, subst, sym, arith}
 use Rattle.std.proofs.lemmas.List.{length-map}
+use Rattle.four_state.specs.Vector.{Vector}
 use Rattle.design_model.specs.Design.{is_assign, process_at}
 use Rattle.design_model.specs.View.{design_view, process_view}
 use Rattle.code_values.specs.Values.{Values}
@@ -9,7 +10,7 @@ use Rattle.replay_follows.specs.Laws.{first_replay}
 use Rattle.step_values.specs.Dumped.{AreDumped}
 use Rattle.step_values.specs.Vectors.{FitsSignals}
 use Rattle.store_knowledge.specs.Knows.{Knows}
-use Rattle.replay_core.specs.Made.{made_with, subject_of}
+use Rattle.replay_core.specs.Made.{made_with, parts_with, subject_of}
 use Rattle.replay_core.proofs.Given.{cells_given}
 use Rattle.replay_core.proofs.Parts.{first_fits, given_cells}
 use Rattle.replay_core.proofs.Starting.{compared_below, few_run, if_found, if_none, is_first, refuted_at, starts_at}

@@ -1,4 +1,4 @@
-use Rattle.std.proofs.Common.{◌≡◌, ◌∙◌, ◌++◌, drop, length, map, take, ap, subst, sym, arith}
+use Rattle.std.proofs.Common.{◌≡◌, ◌∙◌, Bool, ◌++◌, List, drop, length, map, take, ap, subst, sym, arith}
 use Rattle.std.proofs.Math.Seq.{take-append_seam}
 use Rattle.early_sets.specs.WakeState.{state_of}
 use Rattle.replay_model.specs.Step.{all_run, clocked_run, settle_start}

@@ -5,7 +5,7 @@ use Rattle.source_files.specs.Files.{Lacks}
 use Rattle.source_files.proofs.Contents.{joins_earlier}
 use Rattle.source_files.proofs.MissingNames.{missing_name}
 use Rattle.source_design.specs.Words.{source_values}
-use Rattle.source_design.proofs.Gathering.{begun_first, begun_more, design_gathered, include_fault, root_fault, stage_fault}
+use Rattle.source_design.proofs.Gathering.{begun_first, begun_more, design_gathered, include_fault, root_fault}
 use Rattle.source_design.proofs.read.read_design.Goals as goal
 
 pub returns-in-Err-clause-fault : goal.returns-in-Err-clause-fault

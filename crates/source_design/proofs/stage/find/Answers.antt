@@ -2,7 +2,7 @@ use Rattle.verilog_lexer.specs.TokenView.{lexemes}
 use Rattle.verilog_tree.specs.View.{modules_view}
 use Rattle.source_design.specs.Accepted.{AreAccepted}
 use Rattle.source_design.specs.Words.{source_values}
-use Rattle.source_design.proofs.Gathering.{elab_refused, found_by, parse_refused, refused_by}
+use Rattle.source_design.proofs.Gathering.{elab_refused, found_by, refused_by}
 use Rattle.source_design.proofs.stage.find.Goals as goal
 
 pub returns-in-Err-clause-found : goal.returns-in-Err-clause-found

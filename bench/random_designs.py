@@ -1,0 +1,110 @@
+#!/usr/bin/env python3
+"""Scores random designs under random dumps of their simulation, and checks each database.
+
+    bench/random_designs.py PROGRAM [--runs N] [--seed S] [--dumps K] [--out FOLDER] [--verbose]
+
+Each run makes a design of continuous assignments and combinational blocks and a bench that moves its inputs, simulates it by
+Icarus Verilog (`iverilog` and `vvp`) with K choices of dumped names, and scores it under each of these dumps. At times a dump
+gets more words that say the same, such as values that do not last. Checked is:
+
+- the status is 0, and the database lists the points of the design;
+- a point that is marked hit is hit in the simulation, which probes in a copy of the design report, and one that is marked missed
+  is not; the same in a second simulation, with other orders and other values of what is not decided, where that shows the
+  same dump. That a verdict holds in every other run is checked only as far as the next two points say it;
+- an undetermined point names a signal that is in doubt at a time of the window, and the simulation does not hit it where
+  nothing is in doubt for it. With all signals dumped nothing is in doubt, except for blocks that read a target before they
+  write it;
+- a point that a block reaches whatever the dump leaves open is marked hit;
+- a dump in which one bit of what its inputs decide is altered is refused as a contradiction at that time.
+
+A design that Icarus Verilog evaluates otherwise than the definitions in `trials` is counted and says nothing. A case with a fault
+is made smaller and kept in FOLDER with its files and `fault.txt`. Run N of seed S is run 1 of seed S + N - 1.
+"""
+import argparse
+import collections
+import os
+import shutil
+import sys
+import tempfile
+
+from trials.icarus import SimulationFault
+from trials.shrink import shrink
+from trials.trial import Trial, random_case
+
+
+def one_outcome(program, folder, case):
+    """The outcome of a case that has one choice of names."""
+    trial = Trial(program, folder, case, [case.names])
+    trial.build()
+    return trial.outcome(0, case.altered), trial
+
+
+def keep(program, case, fault, folder):
+    """Writes a smaller case with a fault of the same kind to a folder, and gives its text."""
+    with tempfile.TemporaryDirectory() as work:
+        def has_fault(smaller):
+            try:
+                found = one_outcome(program, work, smaller)[0].fault
+            except (KeyError, StopIteration, IndexError, SimulationFault):
+                return False
+            return found is not None and found.kind == fault.kind
+
+        smaller = shrink(case, has_fault)
+    shutil.rmtree(folder, ignore_errors=True)
+    outcome, trial = one_outcome(program, folder, smaller)
+    text = (outcome.fault or fault).text
+    with open(os.path.join(folder, "fault.txt"), "w", encoding="ascii", errors="replace") as it:
+        it.write(f"covered {' '.join(trial.words('altered.vcd' if smaller.altered else 'dump0.vcd'))}\n{text}\n")
+    return text
+
+
+def run(program, seed, options, counts, work):
+    """Whether the design of a seed has no fault under any of its dumps."""
+    case, choices, altered = random_case(seed, options.dumps)
+    trial = Trial(program, work, case, [*choices, case.names])
+    try:
+        trial.build()
+    except SimulationFault as fault:
+        counts["not simulated"] += 1
+        if options.verbose:
+            print(f"seed {seed}: {fault}")
+        return True
+    for number, names in enumerate(trial.choices):
+        numbers = altered if number == len(choices) else None
+        outcome = trial.outcome(number, numbers)
+        counts[outcome.word] += 1
+        counts.update(outcome.counts)
+        if outcome.detail and options.verbose:
+            print(f"seed {seed}: {outcome.word}: {outcome.detail}")
+        if outcome.fault:
+            folder = os.path.join(options.out, f"seed-{seed}")
+            text = keep(program, case.with_names(names, numbers), outcome.fault, folder)
+            print(f"seed {seed}: {text}\n  kept in {folder}", flush=True)
+            return False
+        if outcome.detail:
+            break
+    return True
+
+
+def main():
+    parser = argparse.ArgumentParser(description=__doc__, formatter_class=argparse.RawDescriptionHelpFormatter)
+    parser.add_argument("program")
+    parser.add_argument("--runs", type=int, default=100)
+    parser.add_argument("--seed", type=int, default=1)
+    parser.add_argument("--dumps", type=int, default=3)
+    parser.add_argument("--out", default=os.path.join(tempfile.gettempdir(), "random_designs"))
+    parser.add_argument("--verbose", action="store_true")
+    options = parser.parse_args()
+    if not (shutil.which("iverilog") and shutil.which("vvp")):
+        sys.exit("Icarus Verilog is not installed")
+    counts, faulty = collections.Counter(), 0
+    with tempfile.TemporaryDirectory() as work:
+        for seed in range(options.seed, options.seed + options.runs):
+            faulty += not run(os.path.abspath(options.program), seed, options, counts, work)
+    print(f"{options.runs} designs from seed {options.seed}: " + ", ".join(f"{n} {word}" for word, n in counts.items()))
+    print(f"{faulty} with a fault")
+    return 1 if faulty else 0
+
+
+if __name__ == "__main__":
+    sys.exit(main())

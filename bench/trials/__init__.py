@@ -1,0 +1,1 @@
+"""Random designs, their simulation, and what a database must say of them."""

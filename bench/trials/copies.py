@@ -1,0 +1,175 @@
+"""A copy of a design with probes, and the bench that simulates it and prints what is settled.
+
+Each instance of the copy is a module of its own. Each of its processes has a vector of probes with one bit for each statement and
+each case of a counted node: a block sets it to what its last evaluation visited, and the bench has those of continuous assignments
+set at settled times. Nothing of the design reads a probe. A block under `*` also reads whole what it mentions, since Icarus
+Verilog wakes such a block only by the bits that it reads, where the standard says that a name stands for the signal
+(IEEE 1364-2001, 9.7.5).
+"""
+from . import vectors
+from .statements import Block, Case, Empty
+from .terms import Binary, Constant, cases_of
+from .texts import ModuleText
+
+ANY_TURN = Constant(vectors.of_number(32, 0), True)
+
+
+class Probes:
+    """The probes of one process: the key of each bit of its vector, and the names of its scratch variables."""
+
+    def __init__(self, number, process):
+        self.number, self.process, self.keys, self.scratch = number, process, {}, []
+
+    def bit(self, key):
+        return f"probe_{self.number}[{self.keys.setdefault(key, len(self.keys))}]"
+
+    def variable(self, width, signed):
+        name = f"value_{self.number}_{len(self.scratch)}"
+        self.scratch.append(f"reg {'signed ' if signed else ''}[{width - 1}:0] {name};")
+        return name
+
+    def declarations(self):
+        number = self.number
+        return [f"reg [{max(len(self.keys), 1) - 1}:0] probe_{number};", f"reg [63:0] acted_{number};",
+                f"reg read_{number};", f"integer label_{number};", *self.scratch]
+
+    def truths(self, scope, term, width, signed):
+        """Statements that evaluate a node's operands in their contexts, and the names of their values."""
+        operands = term.operands(scope, width, signed) if isinstance(term, Binary) else [(term, width, signed)]
+        lines, names = [], []
+        for operand, w, s in operands:
+            name = self.variable(w, s)
+            text = operand.text() if s or not operand.own_sign(scope) else f"({operand.text()}) | {w}'b0"
+            lines.append(f"{name} = {text};")
+            names.append(name)
+        return lines, names
+
+    def of_term(self, term, width, signed, scope):
+        """Statements that set the probes of the counted nodes in a term."""
+        lines = []
+        for inner, w, s in term.within(scope, width, signed):
+            if not inner.node:
+                continue
+            more, names = self.truths(scope, inner, w, s)
+            lines += more
+            for case in cases_of(inner.word, len(names)):
+                test = " && ".join(f"(|{name}) === 1'b{digit}" for name, digit in zip(names, case) if digit != "-")
+                lines.append(f"if ({test}) {self.bit(('c', inner.node, case))} = 1'b1;")
+        return lines
+
+
+class CopyText(ModuleText):
+    """Writes the copy of one instance."""
+
+    def __init__(self, made, processes):
+        super().__init__(made.module, copy_name(made))
+        self.made, self.waiting, self.probes, self.scopes = made, processes, [], [made.scope]
+
+    def write(self):
+        lines = super().write()
+        declared = ["  " + line for probes in self.probes for line in probes.declarations()]
+        return [lines[0], *declared, *lines[1:]]
+
+    def mark(self, *terms):
+        pass
+
+    def mark_statement(self, statement):
+        pass
+
+    def next_probes(self):
+        self.probes.append(Probes(len(self.probes), self.waiting.pop(0)))
+        return self.probes[-1]
+
+    def assign(self, item):
+        super().assign(item)
+        for _ in item.sets:
+            probes = self.next_probes()
+            self.put(f"always @(tb.tick) begin probe_{probes.number} = 0;")
+            for scope, term, width, signed in probes.process.shaped_terms():
+                self.put_all(probes.of_term(term, width, signed, scope))
+            self.put("end")
+
+    def put_all(self, lines):
+        for line in lines:
+            self.put("  " + line)
+
+    def instance(self, item, module_name):
+        return super().instance(item, copy_name(self.made.below[item.name]))
+
+    def comb(self, item):
+        probes = self.next_probes()
+        self.put(f"always @{self.event_text(item)} begin")
+        names = sorted({self.local_name(it) for it in probes.process.mentions() - set(probes.process.targets())})
+        if item.listed is None and names:
+            self.put(f"  read_{probes.number} = ^{{{', '.join(names)}}};")
+        self.put(f"  acted_{probes.number} = $time;")
+        self.put(f"  probe_{probes.number} = 0;")
+        self.below(item.body)
+        self.put("end")
+
+    def local_name(self, signal):
+        return next(name for name, it in self.made.scope.names.items() if it is signal)
+
+    def statement(self, statement):
+        if isinstance(statement, (Block, Empty)):
+            super().statement(statement)
+            return
+        self.put("begin")
+        self.depth += 1
+        self.probe(statement)
+        super().statement(statement)
+        self.depth -= 1
+        self.put("end")
+
+    def probe(self, statement):
+        probes, scope = self.probes[-1], self.scopes[-1]
+        self.put(f"{probes.bit(('l', statement.point))} = 1'b1;")
+        shaped = statement.evaluated(scope)
+        if isinstance(statement, Case):
+            self.put_all(probes.of_term(*shaped[0], scope))
+            self.probe_labels(statement, shaped[1:])
+        else:
+            for term, width, signed in shaped:
+                self.put_all(probes.of_term(term, width, signed, scope))
+
+    def probe_labels(self, statement, shaped):
+        """The label that matches first, and then the nodes of the labels up to it."""
+        probes, scope = self.probes[-1], self.scopes[-1]
+        number = f"label_{probes.number}"
+        lines = [(k, line) for k, shape in enumerate(shaped) for line in probes.of_term(*shape, scope)]
+        if not lines:
+            return
+        self.put(f"{statement.kind} ({statement.selector.text()})")
+        for k, (label, _) in enumerate(statement.labels()):
+            self.put(f"  {label.text()}: {number} = {k};")
+        self.put(f"  default: {number} = {len(shaped)};")
+        self.put("endcase")
+        for k, line in lines:
+            self.put(f"if ({number} >= {k}) begin {line} end")
+
+    def loop(self, statement):
+        self.scopes.append(self.scopes[-1].with_constant(statement.variable, ANY_TURN))
+        super().loop(statement)
+        self.scopes.pop()
+
+
+def copy_name(made):
+    return "copy_" + made.path.replace(".", "__")
+
+
+class Copy:
+    """The copy of a flat design: its text, and the places of its probes."""
+
+    def __init__(self, flat):
+        self.flat, self.probes, lines = flat, [], []
+        for made in flat.instances:
+            own = [process for process in flat.processes if process.counted and process.scope is made.scope]
+            text = CopyText(made, own)
+            lines += text.write()
+            self.probes += [(made.path, probes) for probes in text.probes]
+        self.text = "\n".join(lines) + "\n"
+
+
+def in_bench(path):
+    """A path of the design as the bench names it: its top is the instance `tb.dut`."""
+    return "tb.dut" + path[len(path.split(".")[0]):]

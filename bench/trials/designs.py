@@ -1,0 +1,396 @@
+"""Modules, and the flat design that they make: its signals, its processes and its points.
+
+A module is a list of declarations and a list of items. The design has one instance of its top, and below it those of its items.
+"""
+from dataclasses import dataclass, field
+
+from . import terms, vectors
+from .statements import Set, assign, possible_masks, statements_in, united
+from .terms import Constant, Name
+
+
+@dataclass(eq=False)
+class Signal:
+    """A signal of the flat design: its instance by path, its name, and its range."""
+    path: str
+    name: str
+    high: int
+    low: int
+    ranged: bool
+    signed: bool
+    is_input: bool
+    kind: str
+
+    @property
+    def width(self):
+        return abs(self.high - self.low) + 1
+
+    @property
+    def full_name(self):
+        return f"{self.path}.{self.name}"
+
+    def offset(self, index):
+        """How far the bit with this index is above the lowest."""
+        return index - self.low if self.high >= self.low else self.low - index
+
+    def index(self, offset):
+        """The index of a bit as the database has it."""
+        return "-" if not self.ranged else str(self.low + offset if self.high >= self.low else self.low - offset)
+
+
+class Scope:
+    """What the names of a module mean in one instance."""
+
+    def __init__(self, path, names=()):
+        self.path, self.names = path, dict(names)
+
+    def find(self, name):
+        return self.names[name]
+
+    def with_constant(self, name, constant):
+        return Scope(self.path, {**self.names, name: constant})
+
+
+class NoSignals:
+    """The scope of a constant expression."""
+
+    def __init__(self, constants):
+        self.constants = constants
+
+    def find(self, name):
+        return self.constants[name]
+
+
+@dataclass
+class Param:
+    """A parameter; `header` says whether the module's head declares it, `local` whether it takes no other value."""
+    name: str
+    value: terms.Term
+    local: bool = False
+    header: bool = False
+    range_text: str = ""
+    width: int = None
+    signed: bool = None
+
+    def constant(self, given):
+        """Its value from what is given, extended or cut to its range."""
+        if self.width is None:
+            return given
+        return Constant(vectors.extend(given.vector, self.width, given.signed), self.signed)
+
+
+@dataclass
+class Declared:
+    """A declaration of one name: `direction` is `input`, `output` or None, `kind` is `wire`, `reg` or `integer`.
+
+    A port that is declared `twice` has its kind in a declaration of its own, where the head does not declare it.
+    """
+    name: str
+    kind: str
+    direction: str = None
+    signed: bool = False
+    high: terms.Term = None
+    low: terms.Term = None
+    initial: str = None
+    twice: bool = False
+
+    def signal(self, path, constants, is_input):
+        if self.kind == "integer":
+            return Signal(path, self.name, 31, 0, True, True, is_input, self.kind)
+        high, low = (bound.value(NoSignals(constants), None).ones if bound else 0 for bound in (self.high, self.low))
+        return Signal(path, self.name, high, low, self.high is not None, self.signed, is_input, self.kind)
+
+
+@dataclass
+class Assign:
+    """Continuous assignments of one `assign`; or, with `declared`, a net that is declared with its value."""
+    sets: list
+    declared: Declared = None
+
+
+@dataclass
+class Comb:
+    """A combinational block; `listed` has the names of its list, or is None for `*`."""
+    body: object
+    listed: list = None
+    loops: list = field(default_factory=list)
+    separator: str = " or "
+    star: str = "*"
+
+
+@dataclass
+class Instance:
+    """An instance of a module: `connections` has for each port an expression, None for an empty one, or no entry."""
+    module: object
+    name: str
+    connections: dict
+    overrides: dict = field(default_factory=dict)
+    by_name: bool = True
+    overrides_by_name: bool = True
+
+
+@dataclass
+class Plain:
+    """An item of which the design has nothing, such as an `initial` block."""
+    text: str
+
+
+@dataclass
+class Module:
+    """A module. `ansi` says whether its head declares the ports."""
+    name: str
+    params: list = field(default_factory=list)
+    ports: list = field(default_factory=list)
+    declared: list = field(default_factory=list)
+    items: list = field(default_factory=list)
+    ansi: bool = True
+    source: int = 1
+
+    def everything_declared(self):
+        return self.ports + self.declared + [item.declared for item in self.items if isinstance(item, Assign) and item.declared]
+
+    def used_names(self):
+        """The names in processes and connections."""
+        found = set()
+        for item in self.items:
+            if isinstance(item, Comb):
+                found.update(item.listed or [])
+            roots = [term for pair in item.sets for term in pair] if isinstance(item, Assign) else []
+            roots += [term for it in statements_in(item.body) for term in it.texts()] if isinstance(item, Comb) else []
+            roots += [term for term in item.connections.values() if term] if isinstance(item, Instance) else []
+            found.update(it.name() for root in roots for it in root.everything() if it.name())
+        return found
+
+    def signals(self):
+        """The declarations of signals: an integer is one where a process or a connection names it."""
+        used = self.used_names()
+        return [it for it in self.everything_declared() if it.kind != "integer" or it.name in used]
+
+    def constant_names(self):
+        loops = {name for item in self.items if isinstance(item, Comb) for name in item.loops}
+        return {param.name for param in self.params} | loops
+
+    def number(self):
+        """Numbers its line points and counted nodes, each from 1 in order of text."""
+        count = Counter(self.constant_names())
+        for item in self.items:
+            if isinstance(item, Assign):
+                for target, value in item.sets:
+                    count.term(target)
+                    count.term(value)
+            if isinstance(item, Comb):
+                count.statement(item.body)
+
+
+class Counter:
+    """The numbers of line points and counted nodes given so far in a module."""
+
+    def __init__(self, constants):
+        self.constants, self.points, self.nodes = constants, 0, 0
+
+    def names_signal(self, term):
+        return any(it.name() and it.name() not in self.constants for it in term.everything())
+
+    def term(self, term, condition=False):
+        is_operator = isinstance(term, (terms.Unary, terms.Binary))
+        counted = is_operator or condition and not isinstance(term, terms.Paren)
+        term.node = self.next_node() if counted and self.names_signal(term) else None
+        for part in term.parts():
+            inherited = condition and isinstance(term, terms.Paren)
+            self.term(part, inherited or isinstance(term, terms.Choice) and part is term.test)
+
+    def next_node(self):
+        self.nodes += 1
+        return self.nodes
+
+    def statement(self, statement):
+        if statement.word:
+            self.points += 1
+            statement.point = self.points
+        for part in statement.in_order():
+            if isinstance(part, terms.Term):
+                self.term(part, condition=statement.word == "if")
+            else:
+                self.statement(part)
+
+
+class Process:
+    """A process of the flat design; the kinds are below."""
+    counted = True
+
+    def mentions(self):
+        """The signals that its text reads."""
+        found = set()
+        for term, scope in self.read_terms():
+            found |= term.mentions(scope)
+        return found
+
+    def watched(self):
+        """The signals to which it is sensitive."""
+        return self.mentions()
+
+    def wake_masks(self):
+        """The bits that wake it, by signal: those of what it watches that it does not itself assign."""
+        targets = self.targets()
+        return {signal: bits for signal in self.watched() if (bits := vectors.mask(signal.width) & ~targets.get(signal, 0))}
+
+
+class Assignment(Process):
+    """A continuous assignment. That of a port has no module, is not counted, and has its target in another scope."""
+
+    def __init__(self, target, value, scope, module, target_scope=None):
+        self.target, self.value, self.scope, self.module = target, value, scope, module
+        self.target_scope, self.counted = target_scope or scope, module is not None
+
+    def read_terms(self):
+        return [(self.value, self.scope)]
+
+    def targets(self):
+        return possible_masks(self.target, self.target_scope)
+
+    def shaped_terms(self):
+        """The terms that it evaluates, each with its scope and the width and sign of its context."""
+        width = max(self.target.own_width(self.target_scope), self.value.own_width(self.scope))
+        return [(self.scope, self.value, width, self.value.own_sign(self.scope))]
+
+    def execute(self, state):
+        if self.target_scope is self.scope:
+            assign(self.target, self.value, self.scope, state)
+        else:
+            joined_assign(self, state)
+
+    def walk(self, view):
+        for scope, term, width, signed in self.shaped_terms():
+            view.evaluated(scope, term, width, signed, True)
+
+
+def joined_assign(process, state):
+    """Executes the assignment of a port, whose two sides are in different instances."""
+    scope, value, width, signed = process.shaped_terms()[0]
+    result = value.value(scope, state, width, signed)
+    assign(process.target, terms.Number("", result, signed), process.target_scope, state)
+
+
+class Combinational(Process):
+    """A combinational block in one instance."""
+
+    def __init__(self, item, scope, module):
+        self.item, self.scope, self.module, self.body = item, scope, module, item.body
+
+    def read_terms(self):
+        return [(term, scope) for statement, scope in self.body.copies(self.scope) for term, _, _ in statement.evaluated(scope)]
+
+    def watched(self):
+        return self.mentions() | {self.scope.find(name) for name in self.item.listed or []}
+
+    def targets(self):
+        found = {}
+        for statement, scope in self.body.copies(self.scope):
+            if isinstance(statement, Set):
+                found = united(found, possible_masks(statement.target, scope))
+        return found
+
+    def execute(self, state):
+        self.body.execute(self.scope, state)
+
+    def walk(self, view):
+        self.body.walk(self.scope, view, True)
+
+    def reads_first(self):
+        """The targets that it reads on some path before it has written them whole."""
+        found, targets = set(), self.targets()
+
+        def note(signals, written):
+            found.update(it for it in signals if it in targets and written.get(it, 0) != vectors.mask(it.width))
+
+        self.body.flow(self.scope, {}, note)
+        return found
+
+    def writes_whole(self):
+        """The signals that it writes whole on each path."""
+        written = self.body.flow(self.scope, {}, lambda signals, masks: None)
+        return {signal for signal, masks in written.items() if masks == vectors.mask(signal.width)}
+
+
+@dataclass
+class InstanceOf:
+    """An instance of the flat design."""
+    path: str
+    module: Module
+    scope: Scope
+    below: dict = field(default_factory=dict)
+
+
+class Flat:
+    """The flat design: its instances, signals, other names of signals, and processes."""
+
+    def __init__(self, top):
+        self.instances, self.signals, self.aliases, self.processes = [], [], [], []
+        self.top = self.add(top, top.name, {}, {})
+
+    def add(self, module, path, joined, given):
+        constants = {}
+        for param in module.params:
+            value = given.get(param.name) or evaluated(param.value, NoSignals(constants))
+            constants[param.name] = param.constant(value)
+        scope = Scope(path, constants)
+        for declared in module.signals():
+            self.declare(declared, scope, constants, joined, path == module.name)
+        made = InstanceOf(path, module, scope)
+        self.instances.append(made)
+        for item in module.items:
+            self.add_item(item, made)
+        return made
+
+    def declare(self, declared, scope, constants, joined, is_top):
+        signal = declared.signal(scope.path, constants, declared.direction == "input" and is_top)
+        outer = joined.get(declared.name)
+        if outer and is_same_signal(declared, signal, outer):
+            self.aliases.append((signal.full_name, outer))
+            signal = outer
+        else:
+            self.signals.append(signal)
+        scope.names[declared.name] = signal
+
+    def add_item(self, item, made):
+        scope = made.scope
+        if isinstance(item, Assign):
+            self.processes.extend(Assignment(target, value, scope, made.module) for target, value in item.sets)
+        if isinstance(item, Comb):
+            self.processes.append(Combinational(item, scope, made.module))
+        if isinstance(item, Instance):
+            self.add_instance(item, made)
+
+    def add_instance(self, item, made):
+        joined = {name: made.scope.find(term.name()) for name, term in item.connections.items()
+                  if isinstance(term, Name) and not isinstance(made.scope.find(term.name()), Constant)}
+        given = {name: evaluated(term, made.scope) for name, term in item.overrides.items()}
+        inner = self.add(item.module, f"{made.path}.{item.name}", joined, given)
+        made.below[item.name] = inner
+        for port in item.module.ports:
+            term = item.connections.get(port.name)
+            if term and inner.scope.find(port.name).path == inner.path:
+                self.join(port, term, made.scope, inner.scope)
+
+    def join(self, port, term, outer, inner):
+        if port.direction == "input":
+            self.processes.append(Assignment(Name(port.name), term, outer, None, inner))
+        else:
+            self.processes.append(Assignment(term, Name(port.name), inner, None, outer))
+
+    def writers(self):
+        """The processes that write each signal."""
+        found = {signal: [] for signal in self.signals}
+        for process in self.processes:
+            for signal in process.targets():
+                found[signal].append(process)
+        return found
+
+
+def evaluated(term, scope):
+    return Constant(term.value(scope, None), term.own_sign(scope))
+
+
+def is_same_signal(declared, signal, outer):
+    """Whether a port that is joined to the plain name of `outer` is one signal with it."""
+    return (signal.high, signal.low, signal.ranged, signal.signed) == (outer.high, outer.low, outer.ranged, outer.signed)

@@ -1,0 +1,146 @@
+"""What a simulation hits, and whether it is a run of the design by the definitions.
+
+The simulation is a run where each continuous assignment has its value at each settled time, and each combinational block
+that had to be evaluated in a step was evaluated, with what it writes on settled values. A difference here is one between Icarus
+Verilog and `vectors`, `terms` or `statements`, and not one of the program.
+"""
+from . import vectors
+from .designs import Assignment, Combinational
+from .terms import Binary, cases_of, holds
+from .vectors import digits_of
+
+
+class Outside(Exception):
+    """A body reads a signal that is not known."""
+
+
+class Execution:
+    """One execution of a body: what it writes and visits, and what it reads before it has written it whole.
+
+    With `known` it ends by `Outside` at the first read of another signal that it has not written whole.
+    """
+
+    def __init__(self, values, known=None):
+        self.before, self.known = values, known
+        self.values, self.written, self.visits, self.unwritten = {}, {}, set(), set()
+
+    def read(self, signal):
+        if self.written.get(signal, 0) != vectors.mask(signal.width):
+            self.unwritten.add(signal)
+            if self.known is not None and signal not in self.known:
+                raise Outside
+        return self.values[signal] if signal in self.values else self.before[signal]
+
+    def write(self, signal, low, part):
+        old = self.values[signal] if signal in self.values else self.before[signal]
+        self.values[signal] = vectors.place(old, low, part)
+        self.written[signal] = self.written.get(signal, 0) | vectors.written_mask(signal.width, low, part.width)
+
+    def reached(self, statement):
+        self.visits.add(("l", statement.point))
+
+    def evaluated(self, term, truths):
+        cases = cases_of(term.word, 2 if isinstance(term, Binary) else 1)
+        self.visits.update(("c", term.node, case) for case in cases if holds(case, truths))
+
+
+def differ_in(old, new, masks):
+    """Whether one of these bits of signals has changed."""
+    return any(((old[it].ones ^ new[it].ones) | (old[it].strange ^ new[it].strange)) & bits for it, bits in masks.items())
+
+
+def is_value_left(execution, values):
+    """Whether the bits that an execution has written have the values that it left."""
+    return all(not ((value.ones ^ values[it].ones) | (value.strange ^ values[it].strange)) & execution.written[it]
+               for it, value in execution.values.items())
+
+
+class Run:
+    """A simulation under one dump: what is settled at each listed time, from the first on and before the last.
+
+    At a listed time that is no step of the bench nothing of the design moves, so nothing is hit.
+    """
+
+    def __init__(self, flat, copy, settled, dump):
+        self.flat, self.copy, self.dump = flat, copy, dump
+        by_time = {it.time: it for it in settled}
+        self.steps = [by_time[time] for time in dump.times[:-1] if time in by_time]
+        self.wakes = {process: process.wake_masks() for process in flat.processes}
+
+    def shows_as(self, other, bound):
+        """Whether another run has the same settled values of the bound signals at these times."""
+        return len(self.steps) == len(other.steps) and all(
+            mine.time == its.time and all(mine.values[it] == its.values[it] for it in bound)
+            for mine, its in zip(self.steps, other.steps))
+
+    def window(self):
+        """Each step of the window with the one before it."""
+        return list(zip(self.steps, self.steps[1:]))
+
+    def probes(self, step):
+        """The counted processes with what the simulation says of their last evaluation: its visits and its time."""
+        for (_, probes), digits, acted in zip(self.copy.probes, step.probes, step.acted):
+            yield probes.process, {key for key, place in probes.keys.items() if digits[place] == "1"}, acted
+
+    def hits(self):
+        """The times at which each point is hit, by its process or signal and its key."""
+        found = {}
+        for old, new in self.window():
+            for process, visits, _ in self.probes(new):
+                if differ_in(old.values, new.values, self.wakes[process]):
+                    for key in visits:
+                        found.setdefault((process, key), []).append(new.time)
+            for signal in self.flat.signals:
+                for key in toggled(old.values[signal], new.values[signal]):
+                    found.setdefault((signal, key), []).append(new.time)
+        return found
+
+    def differences(self):
+        """How the simulation is no run of the design, as texts."""
+        found = []
+        for step in self.steps:
+            for process in self.flat.processes:
+                if isinstance(process, Assignment):
+                    found += assignment_differences(process, step)
+        for old, new in self.window():
+            for process, visits, acted in self.probes(new):
+                if differ_in(old.values, new.values, self.wakes[process]):
+                    found += evaluation_differences(process, visits, acted, new)
+        return found
+
+
+def toggled(old, new):
+    """The bits that go from 0 to 1 or back, each with whether it rises."""
+    rises, falls = vectors.zeros(old) & vectors.known_ones(new), vectors.known_ones(old) & vectors.zeros(new)
+    return [(k, rise) for rise, bits in ((True, rises), (False, falls)) for k in range(old.width) if bits >> k & 1]
+
+
+def assignment_differences(process, step):
+    execution = Execution(step.values)
+    process.execute(execution)
+    if is_value_left(execution, step.values):
+        return []
+    made = ", ".join(f"{it.full_name} {digits_of(value)} for {digits_of(step.values[it])}"
+                     for it, value in execution.values.items())
+    return [f"at {step.time} {process.target.text()} = {process.value.text()} makes {made}"]
+
+
+def evaluation_differences(process, visits, acted, step):
+    """How the last evaluation of a process whose wake bits have changed differs from the definitions."""
+    if isinstance(process, Combinational) and acted != str(step.time):
+        return [f"at {step.time} a block of {process.scope.path} that line {process.body.line} begins is not evaluated"]
+    execution = Execution(step.values)
+    process.execute(execution)
+    if execution.unwritten & set(process.targets()):
+        return []
+    name = f"the process at line {first_line(process)} of {process.scope.path}"
+    found = []
+    if visits != execution.visits:
+        found.append(f"at {step.time} {name} visits {sorted(visits)}, and by the definitions {sorted(execution.visits)}")
+    if not is_value_left(execution, step.values):
+        found.append(f"at {step.time} {name} leaves other values")
+    return found
+
+
+def first_line(process):
+    return process.body.line if isinstance(process, Combinational) else process.value.line

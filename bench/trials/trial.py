@@ -1,0 +1,212 @@
+"""One design with its bench: it is simulated under several dumps, each is scored, and each database is compared."""
+import os
+import random
+import subprocess
+from dataclasses import dataclass, replace
+
+from . import icarus
+from .copies import Copy, in_bench
+from .designs import Flat
+from .doubts import Doubts
+from .generator import random_design
+from .noise import add_noise
+from .runs import Run
+from .stimuli import bench_text, random_stimuli
+from .texts import source_texts
+from .vectors import digits_of
+from .verdicts import Comparison
+
+NOT_YET = "covered: source: early 1 NotYet\n"
+TOP_SCOPE, ALL_SCOPES = "all of the top", "all"
+
+
+@dataclass
+class Fault:
+    """What is wrong: its kind, by which a smaller design has the same fault, and the text."""
+    kind: str
+    text: str
+
+
+@dataclass
+class Case:
+    """A design, its bench, and the names that the dump has: those of signals and of ports that are joined to them.
+
+    `seed` gives another run, and the noise of the dump with `noisy`. With `altered`, two numbers, a bit of the dump is not
+    that of the simulation; the numbers choose which.
+    """
+    design: list
+    stimuli: object
+    seed: int
+    names: list
+    noisy: bool = False
+    altered: tuple = None
+
+    def with_names(self, names, altered=None):
+        return replace(self, names=names, altered=altered)
+
+
+class Outcome:
+    """What a dump comes to: `word` is `scored`, `contradicted` where it is altered, or why nothing is compared."""
+
+    def __init__(self, word, fault=None, detail="", counts=None):
+        self.word, self.fault, self.detail, self.counts = word, fault, detail, counts or {}
+
+
+def all_names(flat):
+    return [signal.full_name for signal in flat.signals] + [name for name, _ in flat.aliases]
+
+
+def random_names(chance, flat):
+    """Names to dump: all, all in the scope of the top or also below it, or some; of each input of the top at least one."""
+    form = chance.random()
+    if form < 0.3:
+        return all_names(flat) if form < 0.2 else [TOP_SCOPE] if form < 0.25 else [ALL_SCOPES]
+    share = chance.choice([0.0, 0.2, 0.5, 0.8, 0.95])
+    names = [name for name in all_names(flat) if chance.random() < share]
+    for signal in flat.signals:
+        known = [signal.full_name, *(name for name, it in flat.aliases if it is signal)]
+        if signal.is_input and not set(known) & set(names):
+            names.append(signal.full_name if chance.random() < 0.8 else chance.choice(known))
+    chance.shuffle(names)
+    return names
+
+
+def dumped(names, known):
+    """The arguments of `$dumpvars`, by the levels below them that are dumped."""
+    if names in ([TOP_SCOPE], [ALL_SCOPES]):
+        return {1 if names == [TOP_SCOPE] else 0: ["tb.dut"]}
+    return {0: [in_bench(name) for name in names if name in known]}
+
+
+class Trial:
+    """The files of a design in a folder, with a bench that can dump each of these choices of names."""
+
+    def __init__(self, program, folder, case, choices):
+        self.program, self.folder, self.case, self.choices = program, folder, case, choices
+        for module in case.design:
+            module.number()
+        self.sources = {f"part{number}.v": text for number, text in source_texts(case.design).items()}
+        self.flat = Flat(case.design[-1])
+        self.copy, self.other = Copy(self.flat), None
+
+    def path(self, name):
+        return os.path.join(self.folder, name)
+
+    def build(self):
+        """Writes the files and compiles the bench."""
+        os.makedirs(self.folder, exist_ok=True)
+        known = set(all_names(self.flat))
+        choices = [dumped(names, known) for names in self.choices]
+        other = self.case.stimuli.otherwise(random.Random(self.case.seed), self.flat)
+        bench = self.copy.text + bench_text(self.copy, self.case.stimuli, other, choices)
+        for name, text in {**self.sources, "bench.v": bench}.items():
+            with open(self.path(name), "w", encoding="ascii") as it:
+                it.write(text)
+        icarus.build(self.folder)
+
+    def words(self, dump):
+        """The words of `covered score` for a dump."""
+        sources = [word for name in self.sources for word in ("-v", name)]
+        return ["score", "-t", self.flat.top.module.name, "-i", "tb.dut", *sources, "-vcd", dump, "-o", "out.db"]
+
+    def outcome(self, number, altered=None):
+        """Simulates the bench with the choice of this number, and scores the dump."""
+        try:
+            settled = icarus.simulate(self.folder, self.copy, number)
+        except icarus.SimulationFault as fault:
+            return Outcome("not simulated", detail=str(fault))
+        if self.case.noisy:
+            add_noise(self.path(f"dump{number}.vcd"), random.Random(self.case.seed))
+        dump = icarus.read_dump(self.path(f"dump{number}.vcd"))
+        run = Run(self.flat, self.copy, settled, dump)
+        differences = run.differences()
+        if differences:
+            return Outcome("simulated otherwise", detail=differences[0])
+        doubts = Doubts(run, icarus.bind(self.flat, dump))
+        if altered:
+            return self.altered_outcome(run, doubts, altered)
+        return self.compared(self.score(f"dump{number}.vcd"), [run, *self.other_runs(run, doubts.bound)], doubts)
+
+    def other_runs(self, run, bound):
+        """The other run, if it shows the same dump."""
+        if self.other is None:
+            try:
+                self.other = icarus.simulate(self.folder, self.copy, None)
+            except icarus.SimulationFault:
+                self.other = []
+        other = Run(self.flat, self.copy, self.other, run.dump)
+        return [other] if run.shows_as(other, bound) and not other.differences() else []
+
+    def score(self, dump):
+        """Runs `covered score`: the status and what it says, or None where it does not end."""
+        if os.path.exists(self.path("out.db")):
+            os.remove(self.path("out.db"))
+        try:
+            done = subprocess.run([self.program, *self.words(dump)], cwd=self.folder, capture_output=True, timeout=600)
+        except subprocess.TimeoutExpired:
+            return None
+        return done.returncode, (done.stdout + done.stderr).decode(errors="replace")
+
+    def compared(self, done, runs, doubts):
+        """What the database of this dump comes to."""
+        if done is None:
+            return Outcome("scored", Fault("time", "covered does not end"))
+        status, said = done
+        if (status, said) == (2, NOT_YET):
+            return Outcome("not yet")
+        if status or said:
+            return Outcome("scored", Fault(" ".join(said.split()[:5]), f"status {status}: {said}"))
+        comparison = Comparison(self.flat, list(self.sources), runs, doubts)
+        with open(self.path("out.db"), encoding="ascii", errors="replace") as it:
+            faults = comparison.faults(it.read())
+        fault = Fault(f"verdict {fault_word(faults[0])}", "\n".join(faults)) if faults else None
+        return Outcome("scored", fault, counts={**comparison.counts, "other runs": len(runs) - 1})
+
+    def altered_outcome(self, run, doubts, altered):
+        """What a dump comes to of which one bit is not that of any run."""
+        forced = [(signal, number) for number, step in enumerate(run.steps) for signal in self.flat.signals
+                  if signal in doubts.bound and doubts.clear.forced(signal, step.time)]
+        if not forced:
+            return Outcome("not altered")
+        signal, number = forced[altered[0] % len(forced)]
+        self.write_altered(run, doubts, signal, number, altered[1])
+        done = self.score("altered.vcd")
+        if done is None:
+            return Outcome("contradicted", Fault("time", "covered does not end"))
+        status, said = done
+        if (status, said) == (2, NOT_YET):
+            return Outcome("not yet")
+        time = run.steps[number].time
+        if status == 4 and said.startswith("covered: contradiction: ") and f" at {time}: " in said:
+            return Outcome("contradicted")
+        text = f"{signal.full_name} is altered at {time}; status {status}: {said}"
+        return Outcome("contradicted", Fault(f"altered {status}", text))
+
+    def write_altered(self, run, doubts, signal, number, bit):
+        """Writes the dump of a simulation with a bit of a signal changed at one time."""
+        bound = [it for it in self.flat.signals if it in doubts.bound]
+        values = [{it: digits_of(step.values[it]) for it in bound} for step in run.steps]
+        digits = values[number][signal]
+        at = bit % len(digits)
+        values[number][signal] = digits[:at] + ("0" if digits[at] == "1" else "1") + digits[at + 1:]
+        times = [step.time for step in run.steps]
+        icarus.write_dump(self.path("altered.vcd"), icarus.Dump({}, [*times, run.dump.times[-1]], [*values, {}]), bound)
+
+
+def fault_word(text):
+    """The verdict in a fault, by which faults are of one kind."""
+    for word in ("= hit", "= missed", "= ?", "instead of"):
+        if word in text:
+            return word.lstrip("= ")
+    return "?"
+
+
+def random_case(seed, dumps):
+    """A random design with its bench, so many choices of names to dump, and the numbers that choose what is altered."""
+    chance = random.Random(seed)
+    design = random_design(chance)
+    for module in design:
+        module.number()
+    flat = Flat(design[-1])
+    case = Case(design, random_stimuli(chance, flat), seed, all_names(flat), chance.random() < 0.4)
+    return case, [random_names(chance, flat) for _ in range(dumps)], (chance.randrange(10_000), chance.randrange(128))

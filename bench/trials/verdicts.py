@@ -1,0 +1,80 @@
+"""Compares a database with what the simulation hits and with what the dump leaves open."""
+import re
+
+from .points import head_of, points_of
+
+UNDETERMINED = re.compile(r"\? (\d+) (\S+)$")
+
+
+def read_verdicts(text, head, points):
+    """The verdict of each point in order, and what is wrong with the form of the database."""
+    lines = text.split("\n")
+    want = [*head, *(point.address for point in points), "end", ""]
+    addresses = [line.partition(" = ")[0] if line[:2] in ("l ", "c ", "t ") else line for line in lines]
+    pairs = enumerate(zip(want, addresses), 1)
+    faults = [f"line {number} is `{got}` instead of `{it}`" for number, (it, got) in pairs if it != got]
+    if len(want) != len(addresses):
+        faults.append(f"{len(addresses)} lines instead of {len(want)}")
+    return [line.partition(" = ")[2] for line in lines[len(head):len(head) + len(points)]], faults[:3]
+
+
+class Comparison:
+    """The faults of a database: of its form, and of its verdicts. All of `runs` show the dump."""
+
+    def __init__(self, flat, sources, runs, doubts):
+        self.doubts, self.points = doubts, points_of(flat)
+        self.head = head_of(flat, sources, len(self.points))
+        self.hits = [run.hits() for run in runs]
+        self.signals = {signal.full_name: signal for signal in flat.signals}
+        self.counts = {"hit": 0, "missed": 0, "undetermined": 0}
+
+    def faults(self, text):
+        verdicts, found = read_verdicts(text, self.head, self.points)
+        if found:
+            return found
+        for point, verdict in zip(self.points, verdicts):
+            fault = self.fault(point, verdict)
+            if fault:
+                found.append(f"{point.address} = {verdict}: {fault}")
+        return found
+
+    def fault(self, point, verdict):
+        """What is wrong with the verdict, if something is; `times` are those at which each run hits the point."""
+        times = [hits.get((point.process or point.signal, point.key), []) for hits in self.hits]
+        if verdict in ("hit", "missed"):
+            self.counts[verdict] += 1
+            return self.decided_fault(point, verdict, times)
+        self.counts["undetermined"] += 1
+        return self.undetermined_fault(point, verdict, times)
+
+    def decided_fault(self, point, verdict, times):
+        """A point that is hit in no run or in each."""
+        for number, found in enumerate(times):
+            if verdict == "hit" and not found:
+                return f"run {number} does not hit it"
+            if verdict == "missed" and found:
+                return f"run {number} hits it at {found}"
+        reached = self.reached_at(point) if verdict == "missed" else None
+        return f"its block reaches it at {reached}" if reached is not None else None
+
+    def reached_at(self, point):
+        """A time at which the block of the point reaches it, so that each run hits it."""
+        if point.signal:
+            return None
+        return next((time for time in self.doubts.steps if point.key in self.doubts.reached(point.process, time)), None)
+
+    def undetermined_fault(self, point, verdict, times):
+        match = UNDETERMINED.match(verdict)
+        if not match:
+            return "no verdict"
+        time, signal = int(match[1]), self.signals.get(match[2])
+        if time not in self.doubts.steps or signal is None:
+            return "no time of the window, or no signal"
+        if signal not in self.doubts.doubtful(point, time):
+            names = sorted(it.full_name for it in self.doubts.doubtful(point, time))
+            return f"not in doubt there; in doubt are {names}"
+        sure = [time for found in times for time in found if not self.doubts.doubtful(point, time)]
+        if sure:
+            return f"nothing is in doubt at {sure}, where a run hits it"
+        reached = self.reached_at(point)
+        return f"its block reaches it at {reached}" if reached is not None else None

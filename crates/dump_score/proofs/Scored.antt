@@ -1,0 +1,66 @@
+-- What the table says of the file whose dump was scored.
+use Rattle.std.proofs.Common.{◌≡◌, ℕ, ◌<◌, ◌≤◌, ◌^◌, List, [], ◌∷◌, length, None, refl, sym, ap, subst, ◌∙◌, inl, inr}
+use Rattle.std.proofs.lemmas.List.{length-map}
+use Rattle.std.proofs.lemmas.List.Elements.{All-head, All-tail}
+use Rattle.cov_host.specs.Outside.{Outside}
+use Rattle.cover_marks.specs.declared.marks.Marks.{Marks}
+use Rattle.cover_points.specs.declared.listing.Points.{Points}
+use Rattle.coverage_db.specs.declared.db.Db.{Db}
+use Rattle.design_model.specs.Design.{In}
+use Rattle.design_model.specs.View.{design_view}
+use Rattle.design_model.specs.declared.design.Design.{Design}
+use Rattle.dump_replay.specs.Followed.{AreFinalMarks}
+use Rattle.dump_replay.specs.declared.replay.DumpReplay.{DumpReplay}
+use Rattle.entry_laws.proofs.Texts.{body_entries}
+use Rattle.entry_laws.specs.Entries.{AreEntries, IsEntry}
+use Rattle.event_machine.specs.Habit.{Free}
+use Rattle.score_tables.specs.Scored.{HasSmallTimes, IsScoreTable}
+use Rattle.shown_dumps.proofs.Times.{times_are}
+use Rattle.shown_dumps.specs.Bound.{IsBound}
+use Rattle.shown_dumps.specs.Said.{times_in}
+use Rattle.shown_dumps.specs.Shown.{bound_dump, dump_of}
+use Rattle.signal_binding.specs.Binding.{codes_of}
+use Rattle.vcd_reader.proofs.RisingTimes.{times_rise}
+use Rattle.vcd_reader.specs.Dump.{Dump, steps_of}
+use Rattle.vcd_reader.specs.Times.{Rises}
+use Rattle.vcd_reader.specs.declared.entry.Entry.{Entry}
+use Rattle.vcd_reader.specs.declared.entry.Entry.TheVariants.{Time, Value}
+use Rattle.vcd_reader.specs.declared.vars.Var.{Var}
+use Rattle.dump_score.specs.Reading.{IsFile}
+use Rattle.dump_score.specs.Scoring.{HasScored, IsScoreOfFile}
+
+-- a database can have each time that entries say
+small_times : (vars : List Var) (entries : List Entry) → AreEntries vars entries → (t : ℕ) → In t (times_in entries) → t < 2 ^ 63
+small_times vars [] fits t at = absurd at
+small_times vars (Time time ∷ entries) fits t (inl same) = subst (λ u. u < 2 ^ 63) same (All-head (IsEntry vars) (Time time) entries fits)
+small_times vars (Time time ∷ entries) fits t (inr at) = small_times vars entries (All-tail (IsEntry vars) (Time time) entries fits) t at
+small_times vars (Value code value ∷ entries) fits t at = small_times vars entries (All-tail (IsEntry vars) (Value code value) entries fits) t at
+
+-- a dump that was scored
+module _ (replay : DumpReplay) (design : Design) (points : Points) (vars : List Var) (instance text : List ℕ) (scored : HasScored replay design points vars instance text) where
+  -- what the text says of the design
+  abbrev pub said : Dump
+  said = record { vars = vars; steps = steps_of scored.b.items }
+
+  pub scored_rises : Rises None scored.b.items
+  scored_rises = times_rise text scored.b scored.ends
+
+  pub scored_times : HasSmallTimes (bound_dump design said instance)
+  scored_times t at =
+      small_times scored.b.vars scored.b.items (body_entries text scored.b (inr scored.ends)) t (subst (λ ts. In t ts) (times_are scored.b.items) at)
+
+  scored_bound : IsBound design said instance
+  scored_bound = record {
+    bindable = scored.followed.of.bindable;
+    first_values = λ two s. scored.followed.taken.based (subst (λ n. 2 ≤ n) (sym (length-map (steps_of scored.b.items) (λ step. step.time)) ∙ ap length (times_are scored.b.items)) two) s;
+  }
+
+  pub scored_file : (name : List ℕ) (before : Outside) (sources : List (List ℕ)) (marks : Marks) (db : Db) → IsFile before name text → AreFinalMarks (design_view design) Free (dump_of (codes_of design vars instance) (steps_of scored.b.items)) points marks
+      → IsScoreTable (design_view design) Free (bound_dump design said instance) sources db → IsScoreOfFile name before design sources instance db
+  scored_file name before sources marks db file final table = record {
+    text = text;
+    dump = said;
+    is = file;
+    is_dump = record { b = scored.b; ends = scored.ends; vars = sym scored.vars_are; steps = refl };
+    score = record { bound = scored_bound; forced = final.forced; table = table };
+  }
