@@ -2,31 +2,31 @@
 use Rattle.std.proofs.Common.{Bool, List, None, Option, Some, [], ap, ap₂, append-nil, append_assoc, arith, false, if◌then◌else◌, length, map, max, refl, subst, sym, true, ℕ, ◌≤◌, ◌&&◌, ◌++◌, ◌∙◌, ◌∷◌, ◌≡◌}
 use Rattle.std.specs.Prelude.{is_some, not}
 use Rattle.known_state.specs.Partly.{Partly, are_sure, filled, is_whole}
-use Rattle.four_state.specs.declared.bit.Bit.{Bit}
-use Rattle.four_state.specs.declared.bit.Bit.TheVariants.{One, Zero}
-use Rattle.four_state.specs.Vector.{extend}
+use Rattle.value_store.specs.four_state.declared.bit.Bit.{Bit}
+use Rattle.value_store.specs.four_state.declared.bit.Bit.TheVariants.{One, Zero}
+use Rattle.value_store.specs.four_state.Vector.{extend}
 use Rattle.known_state.specs.Join.{joined}
-use Rattle.design_model.specs.Design.{Design, nowhere}
-use Rattle.design_model.specs.Tree.{Target, Term, sign}
-use Rattle.design_model.specs.Assignment.{target_width}
-use Rattle.design_model.specs.Shape.{is_shaped, is_target, own_sign, own_width}
+use Rattle.value_store.specs.design_model.Design.{Design, nowhere}
+use Rattle.value_store.specs.design_model.Tree.{Target, Term, sign}
+use Rattle.value_store.specs.design_model.Assignment.{target_width}
+use Rattle.value_store.specs.design_model.Shape.{is_shaped, is_target, own_sign, own_width}
 use Rattle.std.proofs.lemmas.Bool.{and_parts}
-use Rattle.design_model.specs.Value.{head}
-use Rattle.body_replay.specs.KnownBits.{KnownBits, all_sure, extend_partly, sure}
-use Rattle.body_replay.specs.Store.{Kept, KnownWrite, keep_all, known_value, known_writes, set_bits}
-use Rattle.body_replay.specs.Replay.{Mark, Mode, State, blame_of, hit, in_mode, index_first, index_marks, line, queued, run_set, set_blames, set_first, set_known, set_marks, term_marks, written_marks}
-use Rattle.body_replay.proofs.Answered.{same_sure}
-use Rattle.body_replay.proofs.Exact.{extend_exact, sure_length}
-use Rattle.body_replay.proofs.Operators.{extend_length}
-use Rattle.body_replay.proofs.Unsure.{all_sure_is, all_sure_sure}
-use Rattle.term_replay.specs.Noted.{Adds, in_this, marks_of}
-use Rattle.term_replay.specs.Stands.{Scene, Stands, first_after}
-use Rattle.term_replay.proofs.Contexts.{context_head, length-value}
-use Rattle.term_replay.proofs.Marking.{adds_more, adds_same, hit_in}
-use Rattle.body_calls.specs.Lvalues.{Like, if_certain}
+use Rattle.value_store.specs.design_model.Value.{head}
+use Rattle.value_store.specs.body_replay.KnownBits.{KnownBits, all_sure, extend_partly, sure}
+use Rattle.value_store.specs.body_replay.Store.{Kept, KnownWrite, keep_all, known_value, known_writes, set_bits}
+use Rattle.value_store.specs.body_replay.Replay.{Mark, Mode, State, blame_of, hit, in_mode, index_first, index_marks, line, queued, run_set, set_blames, set_first, set_known, set_marks, term_marks, written_marks}
+use Rattle.value_store.proofs.body_replay.Answered.{same_sure}
+use Rattle.value_store.proofs.body_replay.Exact.{extend_exact, sure_length}
+use Rattle.value_store.proofs.body_replay.Operators.{extend_length}
+use Rattle.value_store.proofs.body_replay.Unsure.{all_sure_is, all_sure_sure}
+use Rattle.scene_laws.specs.term_replay.Noted.{Adds, in_this, marks_of}
+use Rattle.scene_laws.specs.term_replay.Stands.{Scene, Stands, first_after}
+use Rattle.scene_laws.proofs.term_replay.Contexts.{context_head, length-value}
+use Rattle.scene_laws.proofs.term_replay.Marking.{adds_more, adds_same, hit_in}
+use Rattle.scene_laws.specs.body_calls.Lvalues.{Like, if_certain}
 use Rattle.scene_laws.specs.At.{IsState, flat, scene_of}
 use Rattle.scene_laws.proofs.LikeScenes.{alike_first, alike_marks, alike_value, like_trans}
-use Rattle.body_calls.specs.Rooms.{Leaves, Rooms}
+use Rattle.scene_laws.specs.body_calls.Rooms.{Leaves, Rooms}
 use Rattle.assignments.specs.Pieces.{AllTake, ArePieces, blame_option, made, pieces_marks, pieces_take, pieces_writes, queued_by, widths}
 use Rattle.assignments.specs.Takes.{HasRoom, set_logs, set_queues}
 use Rattle.assignments.specs.declared.piece.Piece.{Piece}

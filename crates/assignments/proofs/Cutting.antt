@@ -2,13 +2,13 @@
 use Rattle.std.proofs.Common.{Bool, List, Option, Some, [], ap, ap₂, arith, drop, get_or, length, refl, sym, take, true, zero, suc, ℕ, ◌+◌, ◌-◌, ◌≤◌, ◌∙◌, ◌∷◌, ◌≡◌, ℤ, pos, ◌+ℤ◌}
 use Rattle.std.proofs.lemmas.Int.{ints}
 use Rattle.std.proofs.lemmas.List.{drop-take, drop_more, length-drop, length-take}
-use Rattle.four_state.specs.declared.bit.Bit.TheVariants.{X}
+use Rattle.value_store.specs.four_state.declared.bit.Bit.TheVariants.{X}
 use Rattle.known_state.specs.Partly.{are_sure}
-use Rattle.body_replay.specs.KnownBits.{KnownBits, all_sure, select_option, sure}
-use Rattle.body_replay.proofs.Answered.{same_sure}
-use Rattle.body_replay.proofs.Exact.{drop_exact, take_exact}
-use Rattle.body_replay.proofs.Stored.{one_selected}
-use Rattle.body_replay.proofs.Unsure.{all_sure_is, all_sure_sure}
+use Rattle.value_store.specs.body_replay.KnownBits.{KnownBits, all_sure, select_option, sure}
+use Rattle.value_store.proofs.body_replay.Answered.{same_sure}
+use Rattle.value_store.proofs.body_replay.Exact.{drop_exact, take_exact}
+use Rattle.value_store.proofs.body_replay.Stored.{one_selected}
+use Rattle.value_store.proofs.body_replay.Unsure.{all_sure_is, all_sure_sure}
 
 selected : (ps : KnownBits) (low w : ℕ) → low + w ≤ length ps → select_option ps (Some (pos low)) w ≡ take w (drop low ps)
 selected ps low zero l = refl

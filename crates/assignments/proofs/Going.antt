@@ -2,13 +2,13 @@
 use Rattle.std.proofs.Common.{Bool, List, Option, [], add-one, ap, append-nil, append_assoc, arith, drop, drop-cons, false, get_or, length, refl, subst, sym, take, true, ℕ, ◌+◌, ◌<◌, ◌≤◌, ◌∙◌, ◌∷◌, ◌≡◌, ◌++◌}
 use Rattle.std.proofs.lemmas.List.{drop-take, length-take, take-take, take_all}
 use Rattle.std.proofs.Math.Path.{fun_ext}
-use Rattle.design_model.specs.Design.{Design}
-use Rattle.body_replay.specs.KnownBits.{KnownBits, all_sure}
-use Rattle.body_replay.specs.Store.{KnownWrite, weaken}
-use Rattle.term_replay.specs.Stands.{Scene}
-use Rattle.body_calls.specs.Lvalues.{Like, Takes, if_certain, lvalue_writes, written, written_thing}
-use Rattle.body_calls.specs.Rooms.{Leaves, Rooms, takes_in}
-use Rattle.body_calls.specs.Ways.{Around}
+use Rattle.value_store.specs.design_model.Design.{Design}
+use Rattle.value_store.specs.body_replay.KnownBits.{KnownBits, all_sure}
+use Rattle.value_store.specs.body_replay.Store.{KnownWrite, weaken}
+use Rattle.scene_laws.specs.term_replay.Stands.{Scene}
+use Rattle.scene_laws.specs.body_calls.Lvalues.{Like, Takes, if_certain, lvalue_writes, written, written_thing}
+use Rattle.scene_laws.specs.body_calls.Rooms.{Leaves, Rooms, takes_in}
+use Rattle.scene_laws.specs.body_calls.Ways.{Around}
 use Rattle.assignments.specs.Pieces.{AllTake, all_assigned, assigned, blame_option, pieces_take, pieces_writes, widths}
 use Rattle.assignments.specs.declared.piece.Piece.{Piece}
 use Rattle.assignments.proofs.OnePart.{written_like}

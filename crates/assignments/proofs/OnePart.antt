@@ -3,25 +3,25 @@ use Rattle.std.proofs.Common.{Bool, List, None, Option, Some, [], ap, ap₂, eqb
 use Rattle.std.proofs.lemmas.Bool.{and_parts, true≢false}
 use Rattle.std.specs.Prelude.{nat_le}
 use Rattle.std.specs.Option.{unwrap_or}
-use Rattle.four_state.specs.declared.bit.Bit.{Bit}
-use Rattle.four_state.specs.declared.bit.Bit.TheVariants.{One, Zero}
-use Rattle.four_state.specs.Parts.{bits_with, index}
+use Rattle.value_store.specs.four_state.declared.bit.Bit.{Bit}
+use Rattle.value_store.specs.four_state.declared.bit.Bit.TheVariants.{One, Zero}
+use Rattle.value_store.specs.four_state.Parts.{bits_with, index}
 use Rattle.known_state.proofs.Allowed.{whole_filled}
 use Rattle.known_state.specs.Join.{joined}
-use Rattle.design_model.specs.Design.{Design, is_memory, signal_at, signal_cells}
-use Rattle.design_model.specs.Value.{offset_option}
-use Rattle.design_model.specs.Assignment.{signal_range}
-use Rattle.body_replay.specs.KnownBits.{KnownBits, all_sure, sure}
-use Rattle.body_replay.specs.Store.{Kept, keep_all, known_bit_option, perhaps_cells, write_bits}
-use Rattle.body_replay.specs.Replay.{part_blame}
-use Rattle.body_replay.proofs.Exact.{on_sure}
-use Rattle.body_replay.proofs.Frames.{join_self}
-use Rattle.body_replay.proofs.Stored.{known_with, part_stored, signal_stored, with_moved}
-use Rattle.body_replay.proofs.Unsure.{all_sure_is, one_unsure}
-use Rattle.term_replay.specs.Stands.{Scene}
-use Rattle.body_calls.specs.Lvalues.{Like, Takes, is_sure_signal, is_word_of, lvalue_blames, lvalue_writes, written, written_thing}
-use Rattle.body_calls.specs.declared.lvalue.Lvalue.{Lvalue}
-use Rattle.body_calls.specs.declared.lvalue.Lvalue.TheVariants.{Part, Signal, Word}
+use Rattle.value_store.specs.design_model.Design.{Design, is_memory, signal_at, signal_cells}
+use Rattle.value_store.specs.design_model.Value.{offset_option}
+use Rattle.value_store.specs.design_model.Assignment.{signal_range}
+use Rattle.value_store.specs.body_replay.KnownBits.{KnownBits, all_sure, sure}
+use Rattle.value_store.specs.body_replay.Store.{Kept, keep_all, known_bit_option, perhaps_cells, write_bits}
+use Rattle.value_store.specs.body_replay.Replay.{part_blame}
+use Rattle.value_store.proofs.body_replay.Exact.{on_sure}
+use Rattle.value_store.proofs.body_replay.Frames.{join_self}
+use Rattle.value_store.proofs.body_replay.Stored.{known_with, part_stored, signal_stored, with_moved}
+use Rattle.value_store.proofs.body_replay.Unsure.{all_sure_is, one_unsure}
+use Rattle.scene_laws.specs.term_replay.Stands.{Scene}
+use Rattle.scene_laws.specs.body_calls.Lvalues.{Like, Takes, is_sure_signal, is_word_of, lvalue_blames, lvalue_writes, written, written_thing}
+use Rattle.scene_laws.specs.body_calls.declared.lvalue.Lvalue.{Lvalue}
+use Rattle.scene_laws.specs.body_calls.declared.lvalue.Lvalue.TheVariants.{Part, Signal, Word}
 use Rattle.assignments.specs.Pieces.{assigned, assigned_blames, blame_option}
 use Rattle.assignments.proofs.Others.{other_signal}
 

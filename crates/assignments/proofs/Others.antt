@@ -2,18 +2,18 @@
 use Rattle.std.proofs.Common.{Bool, List, None, Option, Some, [], ap, ap₂, false, if◌then◌else◌, map, refl, true, ℕ, ◌&&◌, ◌==◌, ◌++◌, ◌∙◌, ◌∷◌, ◌≡◌, ℤ, pos, ◌+ℤ◌}
 use Rattle.std.specs.Prelude.{⊤}
 use Rattle.std.specs.List.{range_with_len}
-use Rattle.event_machine.specs.Cell.{Cell, same_cell}
-use Rattle.four_state.specs.declared.bit.Bit.{Bit}
-use Rattle.four_state.specs.Parts.{index, within}
-use Rattle.design_model.specs.Design.{Design, cell, memory_at, signal_at, signal_cells, word_cells}
-use Rattle.design_model.specs.Value.{named_word, offset_option}
-use Rattle.design_model.specs.Assignment.{option_cell, signal_range}
-use Rattle.body_replay.specs.KnownBits.{KnownBits, on_whole, whole_bits}
-use Rattle.body_replay.specs.Store.{Kept, keep_all, known_bit_option, known_bit_writes, known_word_writes, may_name, perhaps_cell, perhaps_cells, perhaps_words, weaken, words, writes_of}
-use Rattle.body_replay.proofs.Frames.{Misses, miss_append, miss_weaken, missed}
-use Rattle.body_calls.specs.Lvalues.{lvalue_writes, written_thing}
-use Rattle.body_calls.specs.declared.lvalue.Lvalue.{Lvalue}
-use Rattle.body_calls.specs.declared.lvalue.Lvalue.TheVariants.{Part, Signal, Word}
+use Rattle.scene_laws.specs.event_machine.Cell.{Cell, same_cell}
+use Rattle.value_store.specs.four_state.declared.bit.Bit.{Bit}
+use Rattle.value_store.specs.four_state.Parts.{index, within}
+use Rattle.value_store.specs.design_model.Design.{Design, cell, memory_at, signal_at, signal_cells, word_cells}
+use Rattle.value_store.specs.design_model.Value.{named_word, offset_option}
+use Rattle.value_store.specs.design_model.Assignment.{option_cell, signal_range}
+use Rattle.value_store.specs.body_replay.KnownBits.{KnownBits, on_whole, whole_bits}
+use Rattle.value_store.specs.body_replay.Store.{Kept, keep_all, known_bit_option, known_bit_writes, known_word_writes, may_name, perhaps_cell, perhaps_cells, perhaps_words, weaken, words, writes_of}
+use Rattle.value_store.proofs.body_replay.Frames.{Misses, miss_append, miss_weaken, missed}
+use Rattle.scene_laws.specs.body_calls.Lvalues.{lvalue_writes, written_thing}
+use Rattle.scene_laws.specs.body_calls.declared.lvalue.Lvalue.{Lvalue}
+use Rattle.scene_laws.specs.body_calls.declared.lvalue.Lvalue.TheVariants.{Part, Signal, Word}
 
 -- cells of another thing
 abbrev Others : Cell → List Cell → Type 0

@@ -1,16 +1,16 @@
 -- The parts of an assignment with their indexes evaluated, and what the assignment does by them.
 use Rattle.std.specs.Prelude.{◌≡◌, ◌+◌, ◌≤◌, ◌==◌, ◌||◌, ◌∷◌, ◌++◌, ℕ, Bool, true, false, if◌then◌else◌, List, [], take, drop, Option, Some, None}
 use Rattle.known_state.specs.Partly.{Partly}
-use Rattle.design_model.specs.Design.{Design, memory_at, signal_at}
-use Rattle.design_model.specs.Tree.{Target, Targets, a_target, all_of, bits_of, no_targets, several, word_of}
-use Rattle.body_replay.specs.KnownBits.{KnownBits, all_sure}
-use Rattle.body_replay.specs.Store.{KnownWrite, keep_all}
-use Rattle.body_replay.specs.Replay.{Mark, index_first, part_blame, word_marks, word_write}
-use Rattle.term_replay.specs.Stands.{Scene, Stands}
+use Rattle.value_store.specs.design_model.Design.{Design, memory_at, signal_at}
+use Rattle.value_store.specs.design_model.Tree.{Target, Targets, a_target, all_of, bits_of, no_targets, several, word_of}
+use Rattle.value_store.specs.body_replay.KnownBits.{KnownBits, all_sure}
+use Rattle.value_store.specs.body_replay.Store.{KnownWrite, keep_all}
+use Rattle.value_store.specs.body_replay.Replay.{Mark, index_first, part_blame, word_marks, word_write}
+use Rattle.scene_laws.specs.term_replay.Stands.{Scene, Stands}
 use Rattle.value_store.specs.Queue.{Queue}
-use Rattle.body_calls.specs.Lvalues.{Takes, if_certain, is_word_of, lvalue_writes, written_thing}
-use Rattle.body_calls.specs.declared.lvalue.Lvalue.{Lvalue}
-use Rattle.body_calls.specs.declared.lvalue.Lvalue.TheVariants.{Part, Signal, Word}
+use Rattle.scene_laws.specs.body_calls.Lvalues.{Takes, if_certain, is_word_of, lvalue_writes, written_thing}
+use Rattle.scene_laws.specs.body_calls.declared.lvalue.Lvalue.{Lvalue}
+use Rattle.scene_laws.specs.body_calls.declared.lvalue.Lvalue.TheVariants.{Part, Signal, Word}
 use Rattle.assignments.specs.declared.piece.Piece.{Piece}
 
 -- how many bits the parts have together

@@ -12,4 +12,5 @@ pub use assignment::assign;
 pub use laws::widths_law;
 pub use parts::{at_width, cut, make, note_written, queue_pieces, total_width, write_pieces};
 pub use piece::Piece;
+pub use scene_laws::{Bodies, Notes, Progress, Spot, evaluate};
 pub use target::locate;

@@ -2,19 +2,18 @@
 
 ghost use Rattle.std.specs.Prelude.{◌≡◌, ◌+◌, ◌≤◌, ◌++◌, ℕ, Bool, if◌then◌else◌, drop, length, take, true, None};
 ghost use Rattle.known_state.specs.Partly.{is_whole};
-ghost use Rattle.term_replay.specs.Noted.{Adds, in_this};
-ghost use Rattle.term_replay.specs.Stands.{Scene};
-ghost use Rattle.body_calls.specs.Lvalues.{Like, Takes, if_certain};
-ghost use Rattle.body_calls.specs.Rooms.{Leaves, takes_in};
+ghost use Rattle.scene_laws.specs.term_replay.Noted.{Adds, in_this};
+ghost use Rattle.scene_laws.specs.term_replay.Stands.{Scene};
+ghost use Rattle.scene_laws.specs.body_calls.Lvalues.{Like, Takes, if_certain};
+ghost use Rattle.scene_laws.specs.body_calls.Rooms.{Leaves, takes_in};
 ghost use Rattle.assignments.specs.Pieces.{AllTake, all_assigned, blame_option, lvalue_marks, pieces_marks, pieces_take, made, pieces_writes, queued_by, widths};
 ghost use Rattle.assignments.specs.Takes.{HasRoom};
-ghost use Rattle.body_replay.specs.KnownBits.{extend_partly};
+ghost use Rattle.value_store.specs.body_replay.KnownBits.{extend_partly};
 
 use crate::Piece;
-use body_calls::{Bodies, Lvalue};
 use cov_host::Place;
 use known_state::Known;
-use term_replay::{Access, Notes, Reads, TermHead, fitted, note_words};
+use scene_laws::{Access, Bodies, Lvalue, Notes, Reads, TermHead, fitted, note_words};
 
 /// Notes the words that the parts of an assignment write, in order.
 pub fn note_written<R: Reads, N: Notes>(

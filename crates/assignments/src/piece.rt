@@ -1,4 +1,4 @@
-use body_calls::Lvalue;
+use scene_laws::Lvalue;
 
 /// A part of an assignment, with its index evaluated.
 #[derive(Clone, Copy)]

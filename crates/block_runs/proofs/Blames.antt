@@ -4,8 +4,8 @@ use Rattle.std.specs.List.{list_all, range_with_len}
 use Rattle.std.proofs.lemmas.Bool.{or_parts}
 use Rattle.event_machine.specs.Cell.{Cell}
 use Rattle.four_state.specs.declared.bit.Bit.{Bit}
-use Rattle.known_state.specs.Join.{join_bit}
-use Rattle.known_state.proofs.Cases.{same_bit_refl}
+use Rattle.assignments.specs.known_state.Join.{join_bit}
+use Rattle.assignments.proofs.known_state.Cases.{same_bit_refl}
 use Rattle.design_model.specs.Design.{Design, cell, signal_at}
 use Rattle.design_model.specs.Mentions.{body_assigns, some_target_names, target_names}
 use Rattle.design_model.specs.Tree.{Stmt, Target, Targets, Term, a_target, all_of, bits_of, no_targets, several, word_of}

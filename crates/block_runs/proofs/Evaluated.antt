@@ -17,7 +17,7 @@ use Rattle.term_replay.specs.Stands.{Scene}
 use Rattle.body_calls.specs.Lvalues.{is_sure_signal}
 use Rattle.body_calls.specs.Own.{IsOwn, IsOwnOutside, is_in}
 use Rattle.body_calls.specs.Under.{Under, kept_with}
-use Rattle.scene_laws.specs.At.{IsState, flat}
+use Rattle.assignments.specs.scene_laws.At.{IsState, flat}
 use Rattle.block_runs.specs.Met.{met}
 use Rattle.block_runs.proofs.Blames.{IsLeft, run_left}
 use Rattle.block_runs.proofs.Queued.{after_queue, run_passes}

@@ -4,3 +4,4 @@ pub mod Evaluated
 pub mod Noting
 pub mod Ways
 pub mod WeakWay
+pub use Rattle.assignments.proofs as assignments

@@ -7,7 +7,7 @@ use Rattle.body_replay.specs.Contract.{IsStrong, Store, outcome, strong_outcome}
 use Rattle.body_replay.specs.Replay.{Mark, State}
 use Rattle.body_replay.specs.Store.{KnownWrite}
 use Rattle.term_replay.specs.Stands.{Scene}
-use Rattle.scene_laws.specs.At.{IsState}
+use Rattle.assignments.specs.scene_laws.At.{IsState}
 
 -- in each way except the weak one the body is evaluated
 pub strong_is : (d : Design) (s : Stmt) (st : Store) (how : c.Certainty) → IsStrong how → outcome d s st how ≡ strong_outcome d s st how

@@ -2,7 +2,7 @@
 use Rattle.std.specs.Prelude.{◌≡◌, List}
 use Rattle.body_replay.specs.Replay.{flush}
 use Rattle.body_replay.specs.Store.{Kept, KnownWrite, keep_all}
-use Rattle.scene_laws.specs.At.{flat}
+use Rattle.assignments.specs.scene_laws.At.{flat}
 
 -- the writes of one execution after the other are made as those of one list
 abbrev pub QueueLaw : Type 0

@@ -15,6 +15,7 @@ mod runs;
 mod strong;
 mod weak;
 
+pub use assignments::Piece;
 pub use certainty::Certainty;
 pub use laws::outcomes_law;
 pub use notes::{BlockNotes, Doubt};

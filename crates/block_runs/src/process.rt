@@ -3,9 +3,9 @@ ghost use Rattle.design_model.specs.Design.{Design, body};
 ghost use Rattle.design_model.specs.Shape.{is_body};
 ghost use Rattle.design_model.specs.View.{process_view};
 ghost use Rattle.body_replay.specs.Replay.{State, run as run_of};
-ghost use Rattle.scene_laws.specs.At.{IsState};
+ghost use Rattle.assignments.specs.scene_laws.At.{IsState};
 ghost use Rattle.assignments.specs.Widths.{HasWidths};
-ghost use Rattle.open_tests.specs.Weights.{HasRoomFor, LeavesBy};
+ghost use Rattle.statement_replay.specs.open_tests.Weights.{HasRoomFor, LeavesBy};
 
 use assignments::{Piece, assign};
 use body_calls::Bodies;

@@ -8,9 +8,9 @@ ghost use Rattle.design_model.specs.Shape.{is_body};
 ghost use Rattle.design_model.specs.View.{design_view, process_view};
 ghost use Rattle.body_calls.specs.Own.{IsOwn, IsOwnOutside, is_in};
 ghost use Rattle.body_calls.specs.Under.{kept_with};
-ghost use Rattle.scene_laws.specs.At.{flat};
+ghost use Rattle.assignments.specs.scene_laws.At.{flat};
 ghost use Rattle.assignments.specs.Widths.{HasWidths};
-ghost use Rattle.open_tests.specs.Weights.{HasRoomFor, queues};
+ghost use Rattle.statement_replay.specs.open_tests.Weights.{HasRoomFor, queues};
 ghost use Rattle.block_runs.specs.Met.{outcome_on};
 ghost use Rattle.block_runs.specs.Notes.{AddsNotes};
 

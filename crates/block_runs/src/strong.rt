@@ -9,9 +9,9 @@ ghost use Rattle.body_replay.specs.Contract.{strong_outcome};
 ghost use Rattle.body_replay.specs.Runs.{own_store};
 ghost use Rattle.body_calls.specs.Own.{IsOwn, IsOwnOutside, is_in};
 ghost use Rattle.body_calls.specs.Under.{kept_with};
-ghost use Rattle.scene_laws.specs.At.{flat};
+ghost use Rattle.assignments.specs.scene_laws.At.{flat};
 ghost use Rattle.assignments.specs.Widths.{HasWidths};
-ghost use Rattle.open_tests.specs.Weights.{HasRoomFor, LeavesBy};
+ghost use Rattle.statement_replay.specs.open_tests.Weights.{HasRoomFor, LeavesBy};
 ghost use Rattle.block_runs.specs.Met.{met};
 ghost use Rattle.block_runs.specs.Notes.{AddsNotes, way_of};
 

@@ -10,7 +10,7 @@ ghost use Rattle.body_replay.specs.Store.{keep_all};
 ghost use Rattle.body_calls.specs.Own.{IsOwn};
 ghost use Rattle.body_calls.specs.Under.{kept_with};
 ghost use Rattle.assignments.specs.Widths.{HasWidths};
-ghost use Rattle.open_tests.specs.Weights.{queues};
+ghost use Rattle.statement_replay.specs.open_tests.Weights.{queues};
 ghost use Rattle.block_runs.specs.Notes.{AddsNotes, way_of};
 
 use crate::by_way::ByWay;

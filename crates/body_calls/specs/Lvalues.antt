@@ -1,9 +1,9 @@
 -- What a write of a part of an assignment leaves of what bodies read.
 use Rattle.std.specs.Prelude.{◌≡◌, ◌<◌, ◌≤◌, ◌==◌, ◌&&◌, ◌||◌, ◌++◌, ℕ, Bool, true, false, if◌then◌else◌, List, length, map, nat_lt, Option}
 use Rattle.std.specs.Option.{unwrap_or}
-use Rattle.design_model.specs.Design.{Design, is_memory, memory_at, signal_at, signal_cells}
-use Rattle.body_replay.specs.KnownBits.{KnownBits, all_sure}
-use Rattle.body_replay.specs.Store.{KnownWrite, keep_all, weaken, write_bits, write_word, writes_of}
+use Rattle.term_replay.specs.design_model.Design.{Design, is_memory, memory_at, signal_at, signal_cells}
+use Rattle.term_replay.specs.body_replay.KnownBits.{KnownBits, all_sure}
+use Rattle.term_replay.specs.body_replay.Store.{KnownWrite, keep_all, weaken, write_bits, write_word, writes_of}
 use Rattle.term_replay.specs.Stands.{Scene}
 use Rattle.body_calls.specs.declared.lvalue.Lvalue.{Lvalue}
 use Rattle.body_calls.specs.declared.lvalue.Lvalue.TheVariants.{Part, Signal, Word}

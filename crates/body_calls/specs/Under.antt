@@ -1,7 +1,7 @@
 -- What the run of a body leaves: what is kept of the signals and memories of which bodies read something else, and the size of the log.
 use Rattle.std.specs.Prelude.{ℕ, Bool, if◌then◌else◌}
-use Rattle.body_replay.specs.Replay.{Blames}
-use Rattle.body_replay.specs.Store.{Kept}
+use Rattle.term_replay.specs.body_replay.Replay.{Blames}
+use Rattle.term_replay.specs.body_replay.Store.{Kept}
 use Rattle.term_replay.specs.Stands.{Scene}
 
 -- which signals and memories are shown or veiled, and what is kept of the cells of those, with what is to blame for each; how much

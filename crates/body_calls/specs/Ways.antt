@@ -1,8 +1,8 @@
 -- The two branches of a test that is not decided.
 use Rattle.std.specs.Prelude.{◌==◌, ◌&&◌, ◌||◌, ℕ, if◌then◌else◌}
 use Rattle.std.specs.List.{list_all}
-use Rattle.design_model.specs.Design.{Design, signal_cells}
-use Rattle.body_replay.specs.Replay.{join_kept, same_kept}
+use Rattle.term_replay.specs.design_model.Design.{Design, signal_cells}
+use Rattle.term_replay.specs.body_replay.Replay.{join_kept, same_kept}
 use Rattle.term_replay.specs.Stands.{Scene}
 
 -- an undecided test around, by what is to blame for it: in its first branch with what was known when it began, in its second one with

@@ -1,7 +1,7 @@
 ghost use Rattle.std.specs.Prelude.{◌≡◌, [], length, true};
 ghost use Rattle.std.specs.List.{All};
-ghost use Rattle.design_model.specs.Design.{is_number};
-ghost use Rattle.body_replay.specs.Store.{keep_all, weaken};
+ghost use Rattle.term_replay.specs.design_model.Design.{is_number};
+ghost use Rattle.term_replay.specs.body_replay.Store.{keep_all, weaken};
 ghost use Rattle.body_calls.specs.Lvalues.{Takes, lvalue_writes};
 ghost use Rattle.body_calls.specs.Own.{IsOwn, IsOwnOutside};
 ghost use Rattle.body_calls.specs.Under.{kept_with};

@@ -1,6 +1,6 @@
 ghost use Rattle.std.specs.Prelude.{◌≡◌, ◌≤◌, ◌++◌, ◌∷◌, ℕ, List, None, length, true};
 ghost use Rattle.known_state.specs.Partly.{is_whole};
-ghost use Rattle.body_replay.specs.Store.{KnownWrite};
+ghost use Rattle.term_replay.specs.body_replay.Store.{KnownWrite};
 ghost use Rattle.term_replay.specs.Stands.{Scene};
 ghost use Rattle.body_calls.specs.Lvalues.{Like, Takes, if_certain, lvalue_writes, written, written_thing};
 ghost use Rattle.body_calls.specs.Rooms.{Leaves, Rooms, takes_in};

@@ -9,3 +9,6 @@ mod lvalue;
 pub use blocks::Blocks;
 pub use bodies::Bodies;
 pub use lvalue::Lvalue;
+pub use term_replay::{
+    Access, Notes, Progress, Reads, Spot, TermHead, evaluate, fitted, note_words,
+};

@@ -4,11 +4,11 @@ use Rattle.std.specs.Prelude.{⊤, ℤ, pos, ◌+ℤ◌}
 use Rattle.std.proofs.lemmas.Bool.{and_from, and_parts, both_ways, cases_Bool, eqb-true, false_from_ne_true, leb-true, or_left, or_parts, or_right}
 use Rattle.std.proofs.lemmas.List.{length-drop, length-take}
 use Rattle.std.specs.List.{list_any, range_with_len}
-use Rattle.event_machine.specs.Cell.{Cell, Values, Write, same_cell}
-use Rattle.four_state.specs.declared.bit.Bit.{Bit}
-use Rattle.four_state.specs.declared.bit.Bit.TheVariants.{X}
-use Rattle.four_state.specs.Vector.{fill}
-use Rattle.four_state.specs.Parts.{index, within}
+use Rattle.design_model.specs.event_machine.Cell.{Cell, Values, Write, same_cell}
+use Rattle.design_model.specs.four_state.declared.bit.Bit.{Bit}
+use Rattle.design_model.specs.four_state.declared.bit.Bit.TheVariants.{X}
+use Rattle.design_model.specs.four_state.Vector.{fill}
+use Rattle.design_model.specs.four_state.Parts.{index, within}
 use Rattle.design_model.specs.Tree.{Term, number, signal, word, bit, part, slide, unary, binary, choice, concat, repeat, sign, Terms, no_terms, a_term, Target, all_of, bits_of, word_of, several, Targets, no_targets, a_target, Stmt, block, branch, select, turns, set, empty, Stmts, no_stmts, a_stmt, Arms, no_arms, arm}
 use Rattle.design_model.specs.Design.{Design, Thing, cell, cells, signal_at, memory_at, signal_cells, word_cells}
 use Rattle.design_model.specs.Value.{head, offset_option, named_word, value}
@@ -254,7 +254,7 @@ module _ (d : Design) (b : Kept) (c : Cell) where
         (target_missed t (drop (targets_width d ts) ps) (omega (arith, length-drop (targets_width d ts) ps, l)) p.0) (targets_missed ts (take (targets_width d ts) ps) (omega (arith, length-take (targets_width d ts) ps, l)) p.1)
 
   pub set_missed : (x : Target) (t : Term) → may_write d x c ≡ false → Misses c (known_writes d b x (set_bits d b x t))
-  set_missed x t e = target_missed x (set_bits d b x t) (length-moved (Rattle.four_state.specs.Vector.extend (target_width d x) (head t).signed) (known_value d b t) (target_width d x) (λ cs q. extend_length (target_width d x) (head t).signed cs)) e
+  set_missed x t e = target_missed x (set_bits d b x t) (length-moved (Rattle.design_model.specs.four_state.Vector.extend (target_width d x) (head t).signed) (known_value d b t) (target_width d x) (λ cs q. extend_length (target_width d x) (head t).signed cs)) e
 
 module _ (d : Design) (c : Cell) where
   -- blocking writes

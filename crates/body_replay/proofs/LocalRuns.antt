@@ -2,8 +2,8 @@
 use Rattle.std.proofs.Common.{◌≡◌, ℕ, ◌==◌, Bool, true, false, ◌&&◌, ◌||◌, List, [], ◌∷◌, ◌++◌, map, refl, sym, ap, ap₂, subst, ◌∙◌, Option, Some, None, if◌then◌else◌}
 use Rattle.std.proofs.lemmas.Bool.{or_left, or_right}
 use Rattle.std.specs.List.{list_all, range_with_len}
-use Rattle.event_machine.specs.Cell.{Cell}
-use Rattle.four_state.specs.declared.operator.CaseKind.{CaseKind}
+use Rattle.design_model.specs.event_machine.Cell.{Cell}
+use Rattle.design_model.specs.four_state.declared.operator.CaseKind.{CaseKind}
 use Rattle.known_state.specs.Join.{join_bit}
 use Rattle.design_model.specs.Tree.{Term, Terms, no_terms, a_term, Target, all_of, bits_of, word_of, several, Targets, no_targets, a_target, Stmt, block, branch, select, turns, set, empty, Stmts, no_stmts, a_stmt, Arms, no_arms, arm}
 use Rattle.design_model.specs.Design.{Design, cell, signal_at, signal_cells}

@@ -2,17 +2,17 @@
 use Rattle.std.proofs.Common.{◌≡◌, ℕ, ◌==◌, Bool, true, false, ◌&&◌, ◌||◌, List, [], ◌∷◌, ◌++◌, map, take, drop, refl, sym, ap, ap₂, eq-eqb, ◌∙◌, Option, Some, None, if◌then◌else◌}
 use Rattle.std.proofs.lemmas.Bool.{or_left, or_right}
 use Rattle.std.specs.List.{range_with_len}
-use Rattle.event_machine.specs.Cell.{Cell}
-use Rattle.four_state.specs.declared.bit.Bit.{Bit}
-use Rattle.four_state.specs.declared.operator.CaseKind.{CaseKind}
-use Rattle.four_state.specs.Arithmetic.{natural}
-use Rattle.four_state.specs.Parts.{index}
+use Rattle.design_model.specs.event_machine.Cell.{Cell}
+use Rattle.design_model.specs.four_state.declared.bit.Bit.{Bit}
+use Rattle.design_model.specs.four_state.declared.operator.CaseKind.{CaseKind}
+use Rattle.design_model.specs.four_state.Arithmetic.{natural}
+use Rattle.design_model.specs.four_state.Parts.{index}
 use Rattle.design_model.specs.Tree.{Head, Term, number, signal, word, bit, part, slide, unary, binary, choice, concat, repeat, sign, Terms, no_terms, a_term, Target, all_of, bits_of, word_of, several, Targets, no_targets, a_target}
 use Rattle.design_model.specs.Design.{Design, cell, signal_at, memory_at, signal_cells, word_cells}
 use Rattle.design_model.specs.Value.{head, range_of, offset_option, slide_offset, named_word, part_width}
 use Rattle.design_model.specs.Assignment.{signal_range, target_width, targets_width}
 use Rattle.design_model.specs.Mentions.{index_mentions, indexes_mention, mentions, mentions_any}
-use Rattle.point_words.specs.declared.node_case.NodeCase.TheVariants.{ValueFalse, ValueTrue}
+use Rattle.design_model.specs.point_words.declared.node_case.NodeCase.TheVariants.{ValueFalse, ValueTrue}
 use Rattle.body_replay.specs.KnownBits.{KnownBits, all_sure, choose_partly, copies_partly, extend_partly, known_match, known_truth, on_whole, select_option, whole_bits, unary_partly, unknown}
 use Rattle.body_replay.specs.Store.{Kept, KnownWrite, binary_of, choice_partly, join_words, known_joined, known_value, known_writes, known_writes_all, kept_word, may_name, option_kept, read_word, set_bits, words, write_bits, write_word}
 use Rattle.body_replay.specs.Replay.{Blames, Case, Mark, Spot, ask, blame_of, blame_of_all, choice_blame, first_read, first_of, first_reads, index_first, indexes_first, index_marks, indexes_marks, node_marks, note, one_case, term_marks, terms_marks, two_known, word_blame, word_marks, word_read, word_write, written_marks, all_written_marks}
@@ -222,7 +222,7 @@ module _ (d : Design) (b b' : Kept) (e e' : Blames) where
 
   -- the marks of a term
   abbrev own_marks : Option ℕ → KnownBits → ℕ → List Mark
-  own_marks n v w = node_marks n (one_case ValueFalse (ask v Rattle.four_state.specs.declared.truth.Truth.TheVariants.False) w ∷ one_case ValueTrue (ask v Rattle.four_state.specs.declared.truth.Truth.TheVariants.True) w ∷ [])
+  own_marks n v w = node_marks n (one_case ValueFalse (ask v Rattle.design_model.specs.four_state.declared.truth.Truth.TheVariants.False) w ∷ one_case ValueTrue (ask v Rattle.design_model.specs.four_state.declared.truth.Truth.TheVariants.True) w ∷ [])
 
   pub word_marks_same : (at : ℕ → Spot) (m : ℕ) (i : Term) → Same (λ x. mentions x i) → (f : Option ℕ) → word_marks d at m (head i).signed (known_value d b i) (blame_of d b e f i) ≡ word_marks d at m (head i).signed (known_value d b' i) (blame_of d b' e' f i)
   word_marks_same at m i s f = ap₂ (word_marks d at m (head i).signed) (value_same i s) (blame_same i s f)

@@ -1,8 +1,8 @@
 -- The runs of the bodies of a lawful design keep what the replay of a dump takes from them.
 use Rattle.std.proofs.Common.{◌≡◌, ◌⊎◌, inl, inr, ⊎_elim, ℕ, Bool, true, false, List, [], ◌∷◌, ◌++◌, map, refl, sym, ap, ap₂, subst, ◌∙◌, Option, Some, None, if◌then◌else◌}
 use Rattle.std.specs.Prelude.{⊤}
-use Rattle.event_machine.specs.Cell.{Cell, Update, Values, Write, join, put_all}
-use Rattle.four_state.specs.declared.bit.Bit.{Bit}
+use Rattle.design_model.specs.event_machine.Cell.{Cell, Update, Values, Write, join, put_all}
+use Rattle.design_model.specs.four_state.declared.bit.Bit.{Bit}
 use Rattle.design_model.specs.Tree.{Stmt}
 use Rattle.design_model.specs.Design.{Design, In, body_at}
 use Rattle.design_model.specs.Lawful.{IsLawfulDesign}

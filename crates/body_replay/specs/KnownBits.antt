@@ -1,16 +1,16 @@
 -- Partly known bits: each is sure with its value, or not known. What the operators give on them.
 use Rattle.std.specs.Prelude.{◌≡◌, ℕ, zero, suc, Bool, true, false, not, ◌&&◌, ◌||◌, ◌==◌, if◌then◌else◌, List, [], ◌∷◌, ◌++◌, map, length, replicate, ℤ, Option, Some, None, ⊤}
 use Rattle.std.specs.List.{list_all, list_any}
-use Rattle.four_state.specs.declared.bit.Bit.{Bit}
-use Rattle.four_state.specs.declared.bit.Bit.TheVariants.{Zero, One, X, Z}
-use Rattle.four_state.specs.declared.truth.Truth.{Truth}
-use Rattle.four_state.specs.declared.truth.Truth.TheVariants.{True, False, Strange}
-use Rattle.four_state.specs.Vector.{same_bit, is_one, all_known, truth, fill, extend}
-use Rattle.four_state.specs.Operators.{merge_bit, zip_bits, unary_value, binary_value, takes_same_shape, is_any}
-use Rattle.four_state.specs.declared.operator.Unary.{Unary}
-use Rattle.four_state.specs.declared.operator.Binary.{Binary}
-use Rattle.four_state.specs.declared.operator.CaseKind.{CaseKind}
-use Rattle.four_state.specs.Parts.{bits_from}
+use Rattle.design_model.specs.four_state.declared.bit.Bit.{Bit}
+use Rattle.design_model.specs.four_state.declared.bit.Bit.TheVariants.{Zero, One, X, Z}
+use Rattle.design_model.specs.four_state.declared.truth.Truth.{Truth}
+use Rattle.design_model.specs.four_state.declared.truth.Truth.TheVariants.{True, False, Strange}
+use Rattle.design_model.specs.four_state.Vector.{same_bit, is_one, all_known, truth, fill, extend}
+use Rattle.design_model.specs.four_state.Operators.{merge_bit, zip_bits, unary_value, binary_value, takes_same_shape, is_any}
+use Rattle.design_model.specs.four_state.declared.operator.Unary.{Unary}
+use Rattle.design_model.specs.four_state.declared.operator.Binary.{Binary}
+use Rattle.design_model.specs.four_state.declared.operator.CaseKind.{CaseKind}
+use Rattle.design_model.specs.four_state.Parts.{bits_from}
 use Rattle.known_state.specs.Partly.{filled, are_sure}
 use Rattle.known_state.specs.Join.{joined}
 use Rattle.known_state.specs.Agreed.{agreed, moved, both_moved, both_agreed}

@@ -1,21 +1,21 @@
 -- A body replayed on what is known: blames, marks, and the run itself.
 use Rattle.std.specs.Prelude.{◌≡◌, ◌⊎◌, ℕ, ◌==◌, Bool, true, false, ◌&&◌, ◌||◌, if◌then◌else◌, List, [], ◌∷◌, ◌++◌, map, Option, Some, None}
 use Rattle.std.specs.List.{list_all}
-use Rattle.event_machine.specs.Cell.{Values, Update, put_all}
-use Rattle.four_state.specs.declared.bit.Bit.{Bit}
-use Rattle.four_state.specs.declared.truth.Truth.{Truth}
-use Rattle.four_state.specs.declared.truth.Truth.TheVariants.{True, False, Strange}
-use Rattle.four_state.specs.Vector.{is_zero, same_bit}
-use Rattle.four_state.specs.Parts.{index}
-use Rattle.four_state.specs.declared.operator.CaseKind.{CaseKind}
-use Rattle.four_state.specs.declared.operator.Binary.{Binary}
-use Rattle.four_state.specs.declared.operator.Binary.TheVariants.{BitwiseAnd, BitwiseOr, LogicalAnd, LogicalOr}
+use Rattle.design_model.specs.event_machine.Cell.{Values, Update, put_all}
+use Rattle.design_model.specs.four_state.declared.bit.Bit.{Bit}
+use Rattle.design_model.specs.four_state.declared.truth.Truth.{Truth}
+use Rattle.design_model.specs.four_state.declared.truth.Truth.TheVariants.{True, False, Strange}
+use Rattle.design_model.specs.four_state.Vector.{is_zero, same_bit}
+use Rattle.design_model.specs.four_state.Parts.{index}
+use Rattle.design_model.specs.four_state.declared.operator.CaseKind.{CaseKind}
+use Rattle.design_model.specs.four_state.declared.operator.Binary.{Binary}
+use Rattle.design_model.specs.four_state.declared.operator.Binary.TheVariants.{BitwiseAnd, BitwiseOr, LogicalAnd, LogicalOr}
 use Rattle.known_state.specs.Join.{join_bit}
 use Rattle.design_model.specs.Tree.{Term, number, signal, word, bit, part, slide, unary, binary, choice, concat, repeat, sign, Terms, no_terms, a_term, Target, all_of, bits_of, word_of, several, Targets, no_targets, a_target, Stmt, block, branch, select, turns, set, empty, Stmts, no_stmts, a_stmt, Arms, no_arms, arm}
 use Rattle.design_model.specs.Design.{Design, memory_at, signal_cells, a_signal, a_word}
 use Rattle.design_model.specs.Value.{head, named_word}
-use Rattle.point_words.specs.declared.node_case.NodeCase.{NodeCase}
-use Rattle.point_words.specs.declared.node_case.NodeCase.TheVariants.{ValueFalse, ValueTrue, LeftFalse, RightFalse, LeftTrue, RightTrue, BothFalse, FalseTrue, TrueFalse, BothTrue}
+use Rattle.design_model.specs.point_words.declared.node_case.NodeCase.{NodeCase}
+use Rattle.design_model.specs.point_words.declared.node_case.NodeCase.TheVariants.{ValueFalse, ValueTrue, LeftFalse, RightFalse, LeftTrue, RightTrue, BothFalse, FalseTrue, TrueFalse, BothTrue}
 use Rattle.design_model.specs.Execution.{Visit, at_line, at_node, reads, writes_word, is_default}
 use Rattle.body_replay.specs.KnownBits.{KnownBits, whole_bits, all_sure, on_whole, known_truth, holds, both, known_match}
 use Rattle.body_replay.specs.Store.{Kept, words, may_name, read_word, known_value, KnownWrite, keep_all, weaken, known_writes, set_bits}

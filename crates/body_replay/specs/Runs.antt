@@ -1,8 +1,8 @@
 -- The runs of the processes of a design, in which each signal and memory is blamed by its own number, and what they promise.
 use Rattle.design_model.specs.Paths.{ReadsUnwritten}
 use Rattle.std.specs.Prelude.{◌≡◌, ◌⊎◌, ℕ, Bool, true, false, if◌then◌else◌, List, [], ◌∷◌, ◌++◌, Option, Some, None, ⊤}
-use Rattle.event_machine.specs.Cell.{Cell, Values, put_all}
-use Rattle.four_state.specs.declared.bit.Bit.{Bit}
+use Rattle.design_model.specs.event_machine.Cell.{Cell, Values, put_all}
+use Rattle.design_model.specs.four_state.declared.bit.Bit.{Bit}
 use Rattle.design_model.specs.Design.{Design, body_at}
 use Rattle.design_model.specs.Mentions.{blocking_target, body_mentions, has_cell, nonblocking_target}
 use Rattle.design_model.specs.Execution.{Visit, execution}

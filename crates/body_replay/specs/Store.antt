@@ -1,14 +1,14 @@
 -- What is known of each cell, the words of partly known memories, and what terms and targets give on it.
 use Rattle.std.specs.Prelude.{ℕ, ◌+◌, ◌-◌, ◌==◌, min, max, Bool, true, false, ◌&&◌, if◌then◌else◌, List, [], ◌∷◌, ◌++◌, map, length, take, drop, ℤ, pos, ◌+ℤ◌, Option, Some, None}
 use Rattle.std.specs.List.{range_with_len}
-use Rattle.event_machine.specs.Cell.{Cell, Values, same_cell}
-use Rattle.four_state.specs.declared.bit.Bit.{Bit}
-use Rattle.four_state.specs.declared.bit.Bit.TheVariants.{X}
-use Rattle.four_state.specs.declared.truth.Truth.{Truth}
-use Rattle.four_state.specs.Vector.{fill}
-use Rattle.four_state.specs.declared.operator.Binary.{Binary}
-use Rattle.four_state.specs.Arithmetic.{natural, low_bits}
-use Rattle.four_state.specs.Parts.{index, within}
+use Rattle.design_model.specs.event_machine.Cell.{Cell, Values, same_cell}
+use Rattle.design_model.specs.four_state.declared.bit.Bit.{Bit}
+use Rattle.design_model.specs.four_state.declared.bit.Bit.TheVariants.{X}
+use Rattle.design_model.specs.four_state.declared.truth.Truth.{Truth}
+use Rattle.design_model.specs.four_state.Vector.{fill}
+use Rattle.design_model.specs.four_state.declared.operator.Binary.{Binary}
+use Rattle.design_model.specs.four_state.Arithmetic.{natural, low_bits}
+use Rattle.design_model.specs.four_state.Parts.{index, within}
 use Rattle.known_state.specs.Partly.{allows_bits}
 use Rattle.known_state.specs.Join.{join_bit, joined}
 use Rattle.design_model.specs.Tree.{Head, Term, number, signal, word, bit, part, slide, unary, binary, choice, concat, repeat, sign, Terms, no_terms, a_term, Target, all_of, bits_of, word_of, several, Targets, no_targets, a_target}

@@ -11,9 +11,9 @@ use Rattle.design_model.specs.Lawful.{IsLawfulDesign, arm_sizes, is_memory_of, s
 use Rattle.design_model.specs.Shape.{are_bodies, are_shaped, are_targets, is_alone, is_arms, is_body, is_target}
 use Rattle.design_model.specs.Tree.{Arms, Process, Stmt, Stmts, Target, Targets, a_stmt, a_target, all_of, arm, assign, bits_of, block, branch, clocked, comb, empty, no_arms, no_stmts, no_targets, select, set, several, turns, word_of}
 use Rattle.value_store.specs.Rooms.{all_logged, all_parts, all_take, arms_logged, log_takes, logged, most_logged, target_parts, target_takes}
-use Rattle.assignments.specs.Widths.{HasWidths}
-use Rattle.assignments.proofs.Assigned.{set_narrow}
-use Rattle.assignments.proofs.Lawful.{lawful_widths}
+use Rattle.open_tests.specs.assignments.Widths.{HasWidths}
+use Rattle.open_tests.proofs.assignments.Assigned.{set_narrow}
+use Rattle.open_tests.proofs.assignments.Lawful.{lawful_widths}
 use Rattle.body_rooms.specs.Rooms.{CountedLaw}
 
 module _ (d : Design) (w : HasWidths d) where

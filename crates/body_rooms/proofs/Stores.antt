@@ -10,9 +10,9 @@ use Rattle.design_model.specs.Shape.{are_bodies, are_shaped, is_alone, is_arms, 
 use Rattle.design_model.specs.Tree.{Arms, Process, Stmt, Stmts, Target, a_stmt, arm, assign, block, branch, clocked, comb, empty, no_arms, no_stmts, select, set, turns}
 use Rattle.design_model.specs.View.{design_view}
 use Rattle.value_store.specs.Rooms.{all_queued, arms_queued, as_usize, processes_queued, queued_parts, target_parts}
-use Rattle.assignments.specs.Widths.{HasWidths}
-use Rattle.assignments.proofs.Assigned.{set_narrow}
-use Rattle.assignments.proofs.Lawful.{lawful_widths}
+use Rattle.open_tests.specs.assignments.Widths.{HasWidths}
+use Rattle.open_tests.proofs.assignments.Assigned.{set_narrow}
+use Rattle.open_tests.proofs.assignments.Lawful.{lawful_widths}
 use Rattle.body_store.specs.Bodies.{rooms_of}
 use Rattle.body_store.specs.declared.store.Store.{Store}
 use Rattle.body_rooms.proofs.Counted.{counted, parts_fit}

@@ -4,7 +4,7 @@ use Rattle.design_model.specs.Design.{body, body_at, no_process}
 use Rattle.design_model.specs.Tree.{Arms, Process, Stmt, Stmts, Target, Targets, a_stmt, a_target, all_of, arm, bits_of, block, branch, empty, no_arms, no_stmts, no_targets, select, set, several, turns, word_of}
 use Rattle.value_store.specs.Rooms as s
 use Rattle.value_store.specs.Rooms.{all_logged, all_parts, all_queued, arms_logged, arms_queued, log_takes, logged, most_logged, queued_parts, target_parts}
-use Rattle.assignments.specs.Takes.{all_take, set_logs, set_queues, target_takes}
+use Rattle.open_tests.specs.assignments.Takes.{all_take, set_logs, set_queues, target_takes}
 use Rattle.open_tests.specs.Weights.{weigh, weigh_all, weigh_arms}
 use Rattle.body_rooms.specs.Rooms.{RoomLaw}
 

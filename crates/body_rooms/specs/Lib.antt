@@ -1,1 +1,2 @@
 pub mod Rooms
+pub use Rattle.open_tests.specs as open_tests

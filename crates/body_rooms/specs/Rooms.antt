@@ -4,7 +4,7 @@ use Rattle.design_model.specs.Design.{Design, body_at}
 use Rattle.design_model.specs.Lawful.{IsLawfulDesign}
 use Rattle.design_model.specs.View.{design_view}
 use Rattle.value_store.specs.Rooms.{as_usize, log_takes, most_logged, processes_queued, queued_parts}
-use Rattle.body_calls.specs.Rooms.{Rooms}
+use Rattle.body_store.specs.body_calls.Rooms.{Rooms}
 use Rattle.open_tests.specs.Weights.{HasRoomFor}
 use Rattle.body_store.specs.Bodies.{rooms_of}
 use Rattle.body_store.specs.Views.{under_of}

@@ -1,7 +1,7 @@
 -- Hits that a sink takes, one after the other.
 use Rattle.std.proofs.Common.{List, [], map, sym, ◌++◌}
 use Rattle.std.proofs.lemmas.List.{map-append}
-use Rattle.body_replay.specs.Replay.{Mark, Spot, hit}
+use Rattle.value_store.specs.body_replay.Replay.{Mark, Spot, hit}
 use Rattle.term_replay.specs.Noted.{Adds}
 use Rattle.term_replay.proofs.Marking.{adds_both, adds_none, adds_same}
 

@@ -4,9 +4,9 @@ use Rattle.design_model.specs.Design.{Design, memory_at}
 use Rattle.design_model.specs.Tree.{Term, binary, bit, choice, concat, number, part, repeat, sign, signal, slide, unary, word}
 use Rattle.point_words.specs.declared.node_case.NodeCase.{NodeCase}
 use Rattle.point_words.specs.declared.node_case.NodeCase.TheVariants.{ValueFalse, ValueTrue}
-use Rattle.body_replay.specs.Contract.{term_spots, terms_spots, two_spots}
-use Rattle.body_replay.specs.Replay.{Spot, word_read}
-use Rattle.body_replay.specs.Store.{words}
+use Rattle.value_store.specs.body_replay.Contract.{term_spots, terms_spots, two_spots}
+use Rattle.value_store.specs.body_replay.Replay.{Spot, word_read}
+use Rattle.value_store.specs.body_replay.Store.{words}
 
 -- the cases that the node of a term can have
 abbrev pub own_cases : Term → List NodeCase

@@ -5,8 +5,8 @@ ghost use Rattle.std.specs.Prelude.{◌≡◌, ◌∷◌, [], map};
 ghost use Rattle.four_state.specs.declared.operator.Binary.{Binary as TheBinary};
 ghost use Rattle.point_words.specs.declared.node_case.NodeCase.TheVariants as cases;
 ghost use Rattle.design_model.specs.View.{term_view};
-ghost use Rattle.body_replay.specs.Contract.{node_spots, two_spots};
-ghost use Rattle.body_replay.specs.Replay.{hit, node as node_spot};
+ghost use Rattle.value_store.specs.body_replay.Contract.{node_spots, two_spots};
+ghost use Rattle.value_store.specs.body_replay.Replay.{hit, node as node_spot};
 ghost use Rattle.term_replay.specs.Noted.{Adds};
 ghost use Rattle.body_spots.specs.Spots.{own_cases};
 

@@ -4,8 +4,8 @@
 ghost use Rattle.std.specs.Prelude.{◌≡◌, ◌++◌, ◌∷◌, [], map};
 ghost use Rattle.design_model.specs.Design.{body};
 ghost use Rattle.design_model.specs.View.{arms_of, design_view, process_view, stmt_view, stmts_of, target_view, term_view};
-ghost use Rattle.body_replay.specs.Contract.{all_spots, arms_spots, body_spots, target_spots, term_spots};
-ghost use Rattle.body_replay.specs.Replay.{hit, line as line_spot};
+ghost use Rattle.value_store.specs.body_replay.Contract.{all_spots, arms_spots, body_spots, target_spots, term_spots};
+ghost use Rattle.value_store.specs.body_replay.Replay.{hit, line as line_spot};
 ghost use Rattle.term_replay.specs.Noted.{Adds};
 ghost use Rattle.value_store.specs.Rooms.{arm_view};
 

@@ -3,8 +3,8 @@
 
 ghost use Rattle.std.specs.Prelude.{◌≡◌, ◌++◌, map};
 ghost use Rattle.design_model.specs.View.{design_view, target_view, targets_of};
-ghost use Rattle.body_replay.specs.Contract.{target_spots, targets_spots};
-ghost use Rattle.body_replay.specs.Replay.{hit};
+ghost use Rattle.value_store.specs.body_replay.Contract.{target_spots, targets_spots};
+ghost use Rattle.value_store.specs.body_replay.Replay.{hit};
 ghost use Rattle.term_replay.specs.Noted.{Adds};
 
 use crate::terms::note_term;

@@ -3,8 +3,8 @@
 
 ghost use Rattle.std.specs.Prelude.{◌≡◌, ◌++◌, map};
 ghost use Rattle.design_model.specs.View.{design_view, term_view, terms_of};
-ghost use Rattle.body_replay.specs.Contract.{term_spots, terms_spots};
-ghost use Rattle.body_replay.specs.Replay.{hit};
+ghost use Rattle.value_store.specs.body_replay.Contract.{term_spots, terms_spots};
+ghost use Rattle.value_store.specs.body_replay.Replay.{hit};
 ghost use Rattle.term_replay.specs.Noted.{Adds};
 ghost use Rattle.body_spots.specs.Spots.{inner_spots};
 

@@ -4,8 +4,8 @@
 ghost use Rattle.std.specs.Prelude.{◌≡◌, ◌<◌, length, map};
 ghost use Rattle.design_model.specs.Design.{memory_at};
 ghost use Rattle.design_model.specs.View.{design_view};
-ghost use Rattle.body_replay.specs.Replay.{hit};
-ghost use Rattle.body_replay.specs.Store.{words as words_of};
+ghost use Rattle.value_store.specs.body_replay.Replay.{hit};
+ghost use Rattle.value_store.specs.body_replay.Store.{words as words_of};
 ghost use Rattle.term_replay.specs.Noted.{Adds, access_spot};
 ghost use Rattle.term_replay.specs.Words.{IsOf};
 

@@ -5,11 +5,11 @@ use Rattle.std.proofs.lemmas.Bool.{eqb-true}
 use Rattle.std.proofs.lemmas.Bool.Decides.{nat_tests}
 use Rattle.known_state.specs.Partly.{Partly, is_whole}
 use Rattle.design_model.specs.Design.{Design, signal_at, signal_cells}
-use Rattle.body_replay.specs.KnownBits.{all_sure}
-use Rattle.body_replay.specs.Store.{KnownWrite, keep_all}
-use Rattle.body_replay.proofs.Answered.{same_sure}
-use Rattle.memory_rebuild.specs.Words.{KnownWords}
-use Rattle.term_replay.specs.Stands.{Scene}
+use Rattle.body_calls.specs.body_replay.KnownBits.{all_sure}
+use Rattle.body_calls.specs.body_replay.Store.{KnownWrite, keep_all}
+use Rattle.body_calls.proofs.body_replay.Answered.{same_sure}
+use Rattle.word_log.specs.memory_rebuild.Words.{KnownWords}
+use Rattle.body_calls.specs.term_replay.Stands.{Scene}
 use Rattle.body_calls.specs.Lvalues.{Like, is_sure_signal}
 use Rattle.body_store.specs.Scenes.{blames_by, kept_by}
 use Rattle.body_store.proofs.Changed.{one_changed}

@@ -4,21 +4,21 @@ use Rattle.std.specs.List.{range_with_len}
 use Rattle.std.proofs.lemmas.Bool.{cases_eq}
 use Rattle.std.proofs.lemmas.Bool.Decides.{nat_tests}
 use Rattle.std.proofs.lemmas.List.Elements.{All-weaker}
-use Rattle.event_machine.specs.Cell.{Cell}
+use Rattle.design_model.specs.event_machine.Cell.{Cell}
 use Rattle.known_state.specs.Partly.{Partly}
 use Rattle.design_model.specs.declared.design.Memory.{Memory}
 use Rattle.design_model.specs.declared.design.Signal.{Signal}
 use Rattle.design_model.specs.Design.{Design, cell, is_memory, memory_at, signal_at, signal_cells}
-use Rattle.body_replay.specs.Replay.{Blames}
-use Rattle.body_replay.specs.KnownBits.{KnownBits}
-use Rattle.body_replay.specs.Store.{Kept, KnownWrite, keep_all, weaken, write_bits, writes_of}
-use Rattle.body_replay.proofs.Frames.{Misses, missed}
-use Rattle.memory_rebuild.specs.Words.{StandsFor}
-use Rattle.value_store.specs.Signals.{HasShape, Signals, shape_at, kept_at}
-use Rattle.value_store.specs.Parts.{part_written, updated}
-use Rattle.value_store.specs.Held as held
-use Rattle.value_store.specs.Held.{HoldsSignals, IsSignal, itself, with_kept}
-use Rattle.value_store.proofs.Held.{update_law, update_part_law}
+use Rattle.body_calls.specs.body_replay.Replay.{Blames}
+use Rattle.body_calls.specs.body_replay.KnownBits.{KnownBits}
+use Rattle.body_calls.specs.body_replay.Store.{Kept, KnownWrite, keep_all, weaken, write_bits, writes_of}
+use Rattle.body_calls.proofs.body_replay.Frames.{Misses, missed}
+use Rattle.word_log.specs.memory_rebuild.Words.{StandsFor}
+use Rattle.write_log.specs.value_store.Signals.{HasShape, Signals, shape_at, kept_at}
+use Rattle.write_log.specs.value_store.Parts.{part_written, updated}
+use Rattle.write_log.specs.value_store.Held as held
+use Rattle.write_log.specs.value_store.Held.{HoldsSignals, IsSignal, itself, with_kept}
+use Rattle.write_log.proofs.value_store.Held.{update_law, update_part_law}
 use Rattle.body_calls.specs.Lvalues.{if_certain}
 use Rattle.write_log.specs.Entries.{Fits}
 use Rattle.write_log.specs.Logs.{IsLogOf, LogState}

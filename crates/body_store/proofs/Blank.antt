@@ -10,12 +10,12 @@ use Rattle.std.proofs.Math.Path.{fun_ext}
 use Rattle.design_model.specs.declared.design.Memory.{Memory}
 use Rattle.design_model.specs.declared.design.Signal.{Signal}
 use Rattle.design_model.specs.Design.{Design, cell, memory_at, no_memory, no_signal, signal_at}
-use Rattle.body_replay.specs.Store.{Kept}
-use Rattle.body_replay.specs.Replay.{Blames}
-use Rattle.memory_rebuild.proofs.Laws.{unwritten_stands}
-use Rattle.memory_rebuild.specs.Words.{KnownWords, unwritten}
-use Rattle.value_store.specs.Signals.{Shape, Signals, kept_at, hidden_at, no_shape, no_value, shape_of, unknown_from, unknown_of, unknown_signals}
-use Rattle.value_store.specs.Held.{HoldsSignals, IsSignal}
+use Rattle.body_calls.specs.body_replay.Store.{Kept}
+use Rattle.body_calls.specs.body_replay.Replay.{Blames}
+use Rattle.word_log.proofs.memory_rebuild.Laws.{unwritten_stands}
+use Rattle.word_log.specs.memory_rebuild.Words.{KnownWords, unwritten}
+use Rattle.write_log.specs.value_store.Signals.{Shape, Signals, kept_at, hidden_at, no_shape, no_value, shape_of, unknown_from, unknown_of, unknown_signals}
+use Rattle.write_log.specs.value_store.Held.{HoldsSignals, IsSignal}
 use Rattle.word_log.specs.declared.memory.StoredMemory.{StoredMemory}
 use Rattle.body_store.specs.declared.store.Store.{Store}
 use Rattle.body_store.specs.Made as m

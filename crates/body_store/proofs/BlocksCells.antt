@@ -7,15 +7,15 @@ use Rattle.std.proofs.lemmas.Bool.{and_parts, cases_lt, eqb-true}
 use Rattle.std.proofs.lemmas.Bool.Decides.{nat_tests}
 use Rattle.std.proofs.lemmas.List.{get_or_past}
 use Rattle.std.proofs.lemmas.Nat.{div-mul-add, mod-mul-add}
-use Rattle.event_machine.specs.Cell.{Cell}
+use Rattle.design_model.specs.event_machine.Cell.{Cell}
 use Rattle.known_state.specs.Partly.{Partly}
 use Rattle.design_model.specs.declared.design.Memory.{Memory}
 use Rattle.design_model.specs.Design.{Design, cell, is_memory, memory_at, no_memory, signal_at, signal_cells}
-use Rattle.body_replay.specs.KnownBits.{KnownBits}
-use Rattle.body_replay.specs.Store.{Kept, keep_all, write_word}
-use Rattle.body_replay.proofs.Frames.{missed}
-use Rattle.body_replay.proofs.Writes.{keep_append}
-use Rattle.memory_rebuild.specs.Words.{IsIndex, KnownWords, StandsFor, word_at}
+use Rattle.body_calls.specs.body_replay.KnownBits.{KnownBits}
+use Rattle.body_calls.specs.body_replay.Store.{Kept, keep_all, write_word}
+use Rattle.body_calls.proofs.body_replay.Frames.{missed}
+use Rattle.body_calls.proofs.body_replay.Writes.{keep_append}
+use Rattle.word_log.specs.memory_rebuild.Words.{IsIndex, KnownWords, StandsFor, word_at}
 use Rattle.body_calls.specs.Lvalues.{Takes, if_certain, lvalue_writes}
 use Rattle.body_calls.specs.declared.lvalue.Lvalue.{Lvalue}
 use Rattle.body_calls.specs.declared.lvalue.Lvalue.TheVariants.{Part, Signal, Word}

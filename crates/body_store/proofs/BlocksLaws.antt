@@ -8,20 +8,20 @@ use Rattle.std.proofs.lemmas.Bool.Decides.{nat_tests}
 use Rattle.std.proofs.lemmas.List.{get_or_past, length-map}
 use Rattle.std.proofs.lemmas.List.FromFn.{length-map-range_with_len}
 use Rattle.std.proofs.lemmas.Nat.{div-mul-add, mod-mul-add}
-use Rattle.event_machine.specs.Cell.{Cell}
-use Rattle.four_state.specs.declared.bit.Bit.{Bit}
+use Rattle.design_model.specs.event_machine.Cell.{Cell}
+use Rattle.design_model.specs.four_state.declared.bit.Bit.{Bit}
 use Rattle.known_state.specs.Partly.{Partly, are_sure, blame_of}
 use Rattle.design_model.specs.declared.design.Memory.{Memory}
 use Rattle.design_model.specs.BodyLaws.{all_cells, word_indexes, words_cells}
 use Rattle.design_model.specs.Design.{Design, In, cell, memory_at, no_memory, signal_at, signal_cells, word_cells}
 use Rattle.design_model.specs.View.{design_view}
-use Rattle.body_replay.specs.KnownBits.{KnownBits, all_sure}
-use Rattle.body_replay.specs.Store.{Kept}
-use Rattle.body_replay.proofs.Answered.{same_sure}
-use Rattle.memory_rebuild.specs.Words.{KnownWords}
-use Rattle.term_replay.specs.Stands.{Scene}
-use Rattle.value_store.specs.Signals.{kept_at, read_at}
-use Rattle.value_store.specs.Held.{IsSignal}
+use Rattle.body_calls.specs.body_replay.KnownBits.{KnownBits, all_sure}
+use Rattle.body_calls.specs.body_replay.Store.{Kept}
+use Rattle.body_calls.proofs.body_replay.Answered.{same_sure}
+use Rattle.word_log.specs.memory_rebuild.Words.{KnownWords}
+use Rattle.body_calls.specs.term_replay.Stands.{Scene}
+use Rattle.write_log.specs.value_store.Signals.{kept_at, read_at}
+use Rattle.write_log.specs.value_store.Held.{IsSignal}
 use Rattle.body_calls.specs.Own.{IsOwn}
 use Rattle.body_store.specs.declared.store.Store.{Store}
 use Rattle.body_store.specs.Fitting.{memory_in}

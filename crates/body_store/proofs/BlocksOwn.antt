@@ -5,16 +5,16 @@ use Rattle.std.proofs.lemmas.Bool.{cases_lt}
 use Rattle.std.proofs.lemmas.Bool.Decides.{nat_tests}
 use Rattle.std.proofs.lemmas.List.{get_or_past, length-map}
 use Rattle.std.proofs.lemmas.List.FromFn.{length-map-range_with_len}
-use Rattle.event_machine.specs.Cell.{Cell}
+use Rattle.design_model.specs.event_machine.Cell.{Cell}
 use Rattle.design_model.specs.Design.{Design, cell, memory_at, no_memory, signal_at, signal_cells}
 use Rattle.design_model.specs.View.{design_view}
-use Rattle.body_replay.specs.KnownBits.{all_sure}
-use Rattle.body_replay.specs.Replay.{Blames}
-use Rattle.body_replay.specs.Store.{Kept}
-use Rattle.body_replay.proofs.Answered.{same_sure}
-use Rattle.memory_rebuild.specs.Words.{KnownWords, unwritten}
-use Rattle.term_replay.specs.Stands.{Scene}
-use Rattle.value_store.specs.Signals.{HasShape, kept_at, shape_at}
+use Rattle.body_calls.specs.body_replay.KnownBits.{all_sure}
+use Rattle.body_calls.specs.body_replay.Replay.{Blames}
+use Rattle.body_calls.specs.body_replay.Store.{Kept}
+use Rattle.body_calls.proofs.body_replay.Answered.{same_sure}
+use Rattle.word_log.specs.memory_rebuild.Words.{KnownWords, unwritten}
+use Rattle.body_calls.specs.term_replay.Stands.{Scene}
+use Rattle.write_log.specs.value_store.Signals.{HasShape, kept_at, shape_at}
 use Rattle.body_calls.specs.Own.{IsOwn, IsOwnOutside, is_in}
 use Rattle.body_store.specs.declared.store.Store.{Store}
 use Rattle.body_store.specs.Ended.{ended, settled}

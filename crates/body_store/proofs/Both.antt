@@ -13,9 +13,9 @@ use Rattle.std.proofs.lemmas.Bool.Decides.{nat_tests}
 use Rattle.design_model.specs.declared.design.Design as m
 use Rattle.design_model.specs.Design.{Design, is_memory, memory_at, no_memory}
 use Rattle.design_model.specs.View.{design_view}
-use Rattle.memory_rebuild.specs.Words.{count, least}
-use Rattle.value_store.specs.Signals.{Signals}
-use Rattle.term_replay.specs.Stands.{Scene}
+use Rattle.word_log.specs.memory_rebuild.Words.{count, least}
+use Rattle.write_log.specs.value_store.Signals.{Signals}
+use Rattle.body_calls.specs.term_replay.Stands.{Scene}
 use Rattle.write_log.specs.Logs as signals
 use Rattle.write_log.specs.Logs.{LogState, Readings, around, is_second}
 use Rattle.write_log.specs.declared.entry.Test.{Test}

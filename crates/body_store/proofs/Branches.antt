@@ -5,19 +5,19 @@ use Rattle.std.specs.List.{list_all, range_with_len}
 use Rattle.std.proofs.lemmas.List.{get_or_past}
 use Rattle.std.proofs.Math.Path.{fun_ext}
 use Rattle.std.proofs.lemmas.Bool.Decides.{nat_tests}
-use Rattle.event_machine.specs.Cell.{Cell}
-use Rattle.four_state.specs.declared.bit.Bit.{Bit}
+use Rattle.design_model.specs.event_machine.Cell.{Cell}
+use Rattle.design_model.specs.four_state.declared.bit.Bit.{Bit}
 use Rattle.known_state.specs.Partly.{Partly}
 use Rattle.known_state.specs.Join.{join_bit, joined}
 use Rattle.design_model.specs.Design.{Design, cell, no_signal, signal_at, signal_cells}
 use Rattle.design_model.specs.declared.design.Signal.{Signal}
-use Rattle.body_replay.specs.KnownBits.{KnownBits, all_sure}
-use Rattle.body_replay.specs.Replay.{State, join_kept, same_kept}
-use Rattle.body_replay.proofs.Answered.{same_sure}
-use Rattle.body_replay.proofs.Frames.{join_self}
-use Rattle.memory_rebuild.specs.Words.{KnownWords, word_at}
-use Rattle.term_replay.specs.Stands.{Scene}
-use Rattle.value_store.specs.Held.{IsSignal}
+use Rattle.body_calls.specs.body_replay.KnownBits.{KnownBits, all_sure}
+use Rattle.body_calls.specs.body_replay.Replay.{State, join_kept, same_kept}
+use Rattle.body_calls.proofs.body_replay.Answered.{same_sure}
+use Rattle.body_calls.proofs.body_replay.Frames.{join_self}
+use Rattle.word_log.specs.memory_rebuild.Words.{KnownWords, word_at}
+use Rattle.body_calls.specs.term_replay.Stands.{Scene}
+use Rattle.write_log.specs.value_store.Held.{IsSignal}
 use Rattle.write_log.specs.Common.{CommonLaw}
 use Rattle.write_log.specs.Entries.{IsCommon}
 use Rattle.body_calls.specs.Lvalues.{Like, is_sure_signal}

@@ -7,9 +7,9 @@ use Rattle.std.proofs.lemmas.Bool.Decides.{nat_tests}
 use Rattle.std.proofs.lemmas.List.{get_or_past}
 use Rattle.known_state.specs.Partly.{Partly}
 use Rattle.design_model.specs.Design.{Design, cell, signal_at, signal_cells}
-use Rattle.body_replay.specs.Store.{Kept, KnownWrite, keep_all}
-use Rattle.body_replay.proofs.Frames.{missed}
-use Rattle.memory_rebuild.specs.Words.{KnownWords}
+use Rattle.body_calls.specs.body_replay.Store.{Kept, KnownWrite, keep_all}
+use Rattle.body_calls.proofs.body_replay.Frames.{missed}
+use Rattle.word_log.specs.memory_rebuild.Words.{KnownWords}
 use Rattle.body_store.specs.Scenes.{bit_at, kept_by, word_bit}
 use Rattle.body_store.proofs.Inside.{Inside, inside_misses, is_below}
 use Rattle.body_store.proofs.Rows.{row_at, signal_bit}

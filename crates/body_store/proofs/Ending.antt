@@ -6,12 +6,12 @@ use Rattle.known_state.specs.Partly.{with_blame}
 use Rattle.design_model.specs.declared.design.Memory.{Memory}
 use Rattle.design_model.specs.declared.design.Signal.{Signal}
 use Rattle.design_model.specs.Design.{Design, no_memory}
-use Rattle.body_replay.specs.Replay.{Blames}
-use Rattle.body_replay.specs.Store.{Kept}
-use Rattle.memory_rebuild.specs.Words.{StandsFor}
-use Rattle.value_store.specs.Signals.{Signals, kept_at}
-use Rattle.value_store.specs.Held.{HoldsSignals, IsSignal, with_kept}
-use Rattle.value_store.proofs.Held.{one_kept}
+use Rattle.body_calls.specs.body_replay.Replay.{Blames}
+use Rattle.body_calls.specs.body_replay.Store.{Kept}
+use Rattle.word_log.specs.memory_rebuild.Words.{StandsFor}
+use Rattle.write_log.specs.value_store.Signals.{Signals, kept_at}
+use Rattle.write_log.specs.value_store.Held.{HoldsSignals, IsSignal, with_kept}
+use Rattle.write_log.proofs.value_store.Held.{one_kept}
 use Rattle.word_log.specs.declared.memory.StoredMemory.{StoredMemory}
 use Rattle.body_store.specs.Ended.{ended, settled}
 use Rattle.body_store.specs.Fitting.{FitsDesign, FitsWords, memory_in}

@@ -9,11 +9,11 @@ use Rattle.known_state.specs.Partly.{Partly}
 use Rattle.design_model.specs.declared.design.Memory.{Memory}
 use Rattle.design_model.specs.declared.design.Signal.{Signal}
 use Rattle.design_model.specs.Design.{Design, is_memory, memory_at, no_memory, no_signal, signal_at, signal_cells}
-use Rattle.body_replay.specs.KnownBits.{KnownBits, unknown}
-use Rattle.memory_rebuild.specs.declared.shape.Shape.{Shape}
-use Rattle.memory_rebuild.specs.Words.{HaveWidth, IsIndex, KnownWords, StandsFor, count, least, unwritten}
-use Rattle.value_store.specs.Signals as s
-use Rattle.value_store.specs.Signals.{SameUnder, Signals, no_shape, shape_at, unknown_signals}
+use Rattle.body_calls.specs.body_replay.KnownBits.{KnownBits, unknown}
+use Rattle.word_log.specs.memory_rebuild.declared.shape.Shape.{Shape}
+use Rattle.word_log.specs.memory_rebuild.Words.{HaveWidth, IsIndex, KnownWords, StandsFor, count, least, unwritten}
+use Rattle.write_log.specs.value_store.Signals as s
+use Rattle.write_log.specs.value_store.Signals.{SameUnder, Signals, no_shape, shape_at, unknown_signals}
 use Rattle.word_log.specs.declared.memory.StoredMemory.{StoredMemory}
 use Rattle.word_log.specs.Logs.{IsWordLogOf, WordLogState}
 use Rattle.word_log.specs.Memories.{SameShapes, word_in}

@@ -3,13 +3,13 @@ use Rattle.std.proofs.Common.{◌≡◌, ℕ, ◌+◌, ◌-◌, ◌<◌, ◌==�
 use Rattle.std.specs.Prelude.{min, nat_lt, slice_index_or}
 use Rattle.std.proofs.Math.Path.{fun_ext}
 use Rattle.std.proofs.lemmas.Bool.Decides.{nat_tests}
-use Rattle.event_machine.specs.Cell.{Cell}
+use Rattle.design_model.specs.event_machine.Cell.{Cell}
 use Rattle.known_state.specs.Partly.{Partly}
 use Rattle.design_model.specs.Design.{Design}
-use Rattle.body_replay.specs.Replay.{Blames}
-use Rattle.body_replay.specs.Store.{Kept}
-use Rattle.value_store.specs.Signals.{SameUnder, Signals, hidden_at, kept_at}
-use Rattle.value_store.specs.Held.{HoldsSignals, IsSignal}
+use Rattle.body_calls.specs.body_replay.Replay.{Blames}
+use Rattle.body_calls.specs.body_replay.Store.{Kept}
+use Rattle.write_log.specs.value_store.Signals.{SameUnder, Signals, hidden_at, kept_at}
+use Rattle.write_log.specs.value_store.Held.{HoldsSignals, IsSignal}
 use Rattle.write_log.specs.Entries.{has}
 use Rattle.write_log.specs.Logs.{LogState, Readings, around, is_inside, reads_of}
 use Rattle.write_log.specs.declared.entry.Test.{Test}

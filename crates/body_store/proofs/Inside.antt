@@ -4,15 +4,15 @@ use Rattle.std.specs.Prelude.{⊤, nat_lt}
 use Rattle.std.specs.List.{range_with_len}
 use Rattle.std.proofs.lemmas.Bool.{eqb-true, false≢true}
 use Rattle.std.proofs.lemmas.Bool.Decides.{nat_tests}
-use Rattle.event_machine.specs.Cell.{Cell, same_cell}
-use Rattle.four_state.specs.declared.bit.Bit.{Bit}
-use Rattle.four_state.specs.Parts.{index, within}
+use Rattle.design_model.specs.event_machine.Cell.{Cell, same_cell}
+use Rattle.design_model.specs.four_state.declared.bit.Bit.{Bit}
+use Rattle.design_model.specs.four_state.Parts.{index, within}
 use Rattle.design_model.specs.Design.{Design, cell, signal_at, signal_cells}
 use Rattle.design_model.specs.Value.{offset_option}
 use Rattle.design_model.specs.Assignment.{option_cell, signal_range}
-use Rattle.body_replay.specs.KnownBits.{KnownBits, on_whole, whole_bits}
-use Rattle.body_replay.specs.Store.{KnownWrite, known_bit_option, known_bit_writes, perhaps_cell, perhaps_cells, weaken, write_bits, writes_of}
-use Rattle.body_replay.proofs.Frames.{Misses}
+use Rattle.body_calls.specs.body_replay.KnownBits.{KnownBits, on_whole, whole_bits}
+use Rattle.body_calls.specs.body_replay.Store.{KnownWrite, known_bit_option, known_bit_writes, perhaps_cell, perhaps_cells, weaken, write_bits, writes_of}
+use Rattle.body_calls.proofs.body_replay.Frames.{Misses}
 
 -- each write is to a cell of this thing, at a place that passes the test
 abbrev pub Inside : ℕ → (ℕ → Bool) → List KnownWrite → Type 0

@@ -4,7 +4,7 @@ use Rattle.std.proofs.lemmas.Bool.{eqb-false, eqb-true}
 use Rattle.std.specs.Prelude.{slice_index}
 use Rattle.std.specs.List.{range_with_len}
 use Rattle.std.proofs.lemmas.Bool.Decides.{nat_tests}
-use Rattle.event_machine.specs.Cell.{Cell}
+use Rattle.design_model.specs.event_machine.Cell.{Cell}
 use Rattle.std.proofs.lemmas.List.{get_or_read}
 use Rattle.known_state.specs.Partly.{Partly}
 use Rattle.design_model.specs.declared.design.Design as m
@@ -12,13 +12,13 @@ use Rattle.design_model.specs.declared.design.Memory.{Memory}
 use Rattle.design_model.specs.declared.design.Signal.{Signal}
 use Rattle.design_model.specs.Design.{Design, cell, is_memory, memory_at, no_memory, signal_at}
 use Rattle.design_model.specs.View.{design_view}
-use Rattle.body_replay.specs.KnownBits.{KnownBits}
-use Rattle.body_replay.specs.Replay.{Blames}
-use Rattle.body_replay.specs.Store.{Kept, keep_all, write_word}
-use Rattle.memory_rebuild.specs.Words.{KnownWords, StandsFor, cell_writes, count, unwritten}
-use Rattle.memory_rebuild.proofs.Laws.{unwritten_stands}
-use Rattle.value_store.specs.Signals.{Signals, kept_at, no_value}
-use Rattle.value_store.specs.Held.{HoldsSignals, IsSignal}
+use Rattle.body_calls.specs.body_replay.KnownBits.{KnownBits}
+use Rattle.body_calls.specs.body_replay.Replay.{Blames}
+use Rattle.body_calls.specs.body_replay.Store.{Kept, keep_all, write_word}
+use Rattle.word_log.specs.memory_rebuild.Words.{KnownWords, StandsFor, cell_writes, count, unwritten}
+use Rattle.word_log.proofs.memory_rebuild.Laws.{unwritten_stands}
+use Rattle.write_log.specs.value_store.Signals.{Signals, kept_at, no_value}
+use Rattle.write_log.specs.value_store.Held.{HoldsSignals, IsSignal}
 use Rattle.write_log.specs.Entries.{has}
 use Rattle.body_calls.specs.Lvalues.{if_certain}
 use Rattle.word_log.specs.declared.memory.StoredMemory.{StoredMemory}

@@ -10,7 +10,7 @@ use Rattle.design_model.specs.declared.design.Memory.{Memory}
 use Rattle.design_model.specs.declared.design.Signal.{Signal}
 use Rattle.design_model.specs.Design.{Design}
 use Rattle.design_model.specs.Lawful.{is_memory_of, is_signal, span}
-use Rattle.value_store.specs.Signals.{HasWidth}
+use Rattle.write_log.specs.value_store.Signals.{HasWidth}
 use Rattle.body_store.specs.Made.{HasWordWidth}
 use Rattle.body_store.specs.Premises.{PremisesLaw}
 

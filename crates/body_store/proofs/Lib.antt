@@ -26,3 +26,4 @@ pub mod Holding
 pub mod NewVeils
 pub mod KeptWords
 pub mod ViewLaws
+pub use Rattle.body_calls.proofs.body_replay as body_replay

@@ -2,7 +2,7 @@
 use Rattle.std.proofs.Common.{◌≡◌, ℕ, ◌+◌, ◌-◌, ◌<◌, ◌≤◌, ◌==◌, ◌&&◌, ◌||◌, Bool, true, false, List, length, map, get_or, set, None, refl, sym, ap, subst, ◌∙◌, arith, eq-eqb, get_or-set_same, get_or-set_other, length-set, ⊎_elim}
 use Rattle.std.specs.Prelude.{◌*◌, nat_le}
 use Rattle.std.specs.List.{range_with_len}
-use Rattle.event_machine.specs.Cell.{Cell}
+use Rattle.design_model.specs.event_machine.Cell.{Cell}
 use Rattle.std.proofs.lemmas.Bool.{cases_eq, eqb-true, false≢true}
 use Rattle.std.proofs.lemmas.Bool.Decides.{nat_tests}
 use Rattle.std.proofs.lemmas.List.{get_or_read, length-map}
@@ -13,10 +13,10 @@ use Rattle.design_model.specs.declared.design.Memory.{Memory}
 use Rattle.design_model.specs.declared.design.Signal.{Signal}
 use Rattle.design_model.specs.Design.{Design, cell, is_memory, memory_at, no_memory}
 use Rattle.design_model.specs.View.{design_view}
-use Rattle.body_replay.specs.KnownBits.{KnownBits}
-use Rattle.body_replay.specs.Store.{Kept, keep_all, write_word}
-use Rattle.memory_rebuild.specs.Words.{IsIndex, KnownWords, StandsFor, count, word_at}
-use Rattle.value_store.specs.Signals.{Signals}
+use Rattle.body_calls.specs.body_replay.KnownBits.{KnownBits}
+use Rattle.body_calls.specs.body_replay.Store.{Kept, keep_all, write_word}
+use Rattle.word_log.specs.memory_rebuild.Words.{IsIndex, KnownWords, StandsFor, count, word_at}
+use Rattle.write_log.specs.value_store.Signals.{Signals}
 use Rattle.body_calls.specs.Lvalues.{Like, written}
 use Rattle.body_calls.specs.declared.lvalue.Lvalue.TheVariants.{Word}
 use Rattle.word_log.specs.declared.memory.StoredMemory.{StoredMemory}

@@ -2,7 +2,7 @@
 use Rattle.std.proofs.Common.{◌≡◌, ℕ, ◌+◌, ◌<◌, List, [], length, get_or, sym, ap, subst, ◌∙◌, arith}
 use Rattle.design_model.specs.declared.design.Memory.{Memory}
 use Rattle.design_model.specs.Design.{no_memory}
-use Rattle.memory_rebuild.specs.Words.{unwritten}
+use Rattle.word_log.specs.memory_rebuild.Words.{unwritten}
 use Rattle.body_store.specs.declared.veils.Veils.{Veils}
 use Rattle.body_store.specs.Fitting.{FitsWords}
 use Rattle.body_store.specs.Made.{shape_of}

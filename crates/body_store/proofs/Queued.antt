@@ -6,8 +6,8 @@ use Rattle.std.proofs.lemmas.Bool.Decides.{nat_tests}
 use Rattle.std.proofs.lemmas.List.{append-nil, take_more}
 use Rattle.known_state.proofs.Cases.{both_true}
 use Rattle.design_model.specs.Design.{Design, is_memory, memory_at, signal_at}
-use Rattle.body_replay.specs.Store.{Kept, keep_all}
-use Rattle.body_replay.proofs.Writes.{keep_append}
+use Rattle.body_calls.specs.body_replay.Store.{Kept, keep_all}
+use Rattle.body_calls.proofs.body_replay.Writes.{keep_append}
 use Rattle.body_calls.specs.Lvalues.{Takes}
 use Rattle.body_calls.specs.declared.lvalue.Lvalue.{Lvalue}
 use Rattle.body_calls.specs.declared.lvalue.Lvalue.TheVariants.{Part, Signal, Word}

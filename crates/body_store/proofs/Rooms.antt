@@ -3,7 +3,7 @@ use Rattle.std.proofs.Common.{◌≡◌, ℕ, ◌+◌, ◌-◌, ◌<◌, ◌≤�
 use Rattle.std.proofs.Math.Nat.{add-min-add_right, le-min, min-le_left, min-le_right}
 use Rattle.std.proofs.lemmas.Bool.{false≢true}
 use Rattle.std.proofs.lemmas.List.{length-append}
-use Rattle.value_store.specs.Signals.{Signals, read_at}
+use Rattle.write_log.specs.value_store.Signals.{Signals, read_at}
 use Rattle.write_log.specs.Logs.{LogState, Readings, around, is_inside, kept_log}
 use Rattle.write_log.specs.declared.entry.Overwritten.{Overwritten}
 use Rattle.write_log.specs.declared.entry.Test.{Test}

@@ -6,12 +6,12 @@ use Rattle.std.proofs.lemmas.Bool.Decides.{nat_tests}
 use Rattle.std.proofs.lemmas.List.{get_or-map}
 use Rattle.std.proofs.lemmas.List.FromFn.{get_or-map-range_with_len, length-map-range_with_len}
 use Rattle.std.proofs.lemmas.Nat.{div-mul-add, mod-mul-add}
-use Rattle.event_machine.specs.Cell.{Cell}
+use Rattle.design_model.specs.event_machine.Cell.{Cell}
 use Rattle.known_state.specs.Partly.{Partly}
 use Rattle.design_model.specs.Design.{Design, cell, memory_at, signal_at, signal_cells}
-use Rattle.body_replay.specs.KnownBits.{KnownBits}
-use Rattle.body_replay.specs.Store.{Kept}
-use Rattle.memory_rebuild.specs.Words.{IsIndex, KnownWords, StandsFor, word_at}
+use Rattle.body_calls.specs.body_replay.KnownBits.{KnownBits}
+use Rattle.body_calls.specs.body_replay.Store.{Kept}
+use Rattle.word_log.specs.memory_rebuild.Words.{IsIndex, KnownWords, StandsFor, word_at}
 use Rattle.body_store.specs.Scenes.{bit_at, has_index, kept_by, word_bit}
 
 -- the bits are those of a row of cells

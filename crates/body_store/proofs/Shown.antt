@@ -4,18 +4,18 @@ use Rattle.std.specs.Prelude.{nat_le, nat_lt}
 use Rattle.std.proofs.Math.Path.{fun_ext}
 use Rattle.std.proofs.lemmas.Bool.{eqb-true, eqb-false}
 use Rattle.std.proofs.lemmas.Bool.Decides.{nat_tests}
-use Rattle.event_machine.specs.Cell.{Cell}
-use Rattle.four_state.specs.declared.bit.Bit.{Bit}
+use Rattle.design_model.specs.event_machine.Cell.{Cell}
+use Rattle.design_model.specs.four_state.declared.bit.Bit.{Bit}
 use Rattle.known_state.specs.Partly.{Partly, blame_of}
 use Rattle.design_model.specs.declared.design.Design as m
 use Rattle.design_model.specs.View.{design_view}
-use Rattle.body_replay.specs.KnownBits.{KnownBits, unknown}
-use Rattle.body_replay.specs.Store.{Kept}
-use Rattle.memory_rebuild.specs.declared.shape.Shape.{Shape}
-use Rattle.memory_rebuild.specs.Words.{KnownWords, count, least, unwritten, word_at}
-use Rattle.term_replay.specs.Stands.{Scene}
-use Rattle.value_store.specs.Signals as s
-use Rattle.value_store.specs.Signals.{unknown_of}
+use Rattle.body_calls.specs.body_replay.KnownBits.{KnownBits, unknown}
+use Rattle.body_calls.specs.body_replay.Store.{Kept}
+use Rattle.word_log.specs.memory_rebuild.declared.shape.Shape.{Shape}
+use Rattle.word_log.specs.memory_rebuild.Words.{KnownWords, count, least, unwritten, word_at}
+use Rattle.body_calls.specs.term_replay.Stands.{Scene}
+use Rattle.write_log.specs.value_store.Signals as s
+use Rattle.write_log.specs.value_store.Signals.{unknown_of}
 use Rattle.word_log.specs.declared.memory.StoredMemory.{StoredMemory}
 use Rattle.body_store.specs.Fitting.{memory_in}
 use Rattle.body_store.specs.Scenes.{bit_at, blames_by, has_index, kept_by, scene_with, word_bit}

@@ -4,8 +4,8 @@ use Rattle.std.specs.List.{All}
 use Rattle.std.specs.Option.{unwrap_or}
 use Rattle.std.proofs.lemmas.Bool.{eqb-true, false≢true}
 use Rattle.std.proofs.lemmas.List.Elements.{All-drop, All-head, All-nil, All-tail}
-use Rattle.term_replay.specs.Stands.{Scene}
-use Rattle.value_store.specs.Signals.{HasShape, Signals, no_value, shape_at}
+use Rattle.body_calls.specs.term_replay.Stands.{Scene}
+use Rattle.write_log.specs.value_store.Signals.{HasShape, Signals, no_value, shape_at}
 use Rattle.write_log.specs.Entries.{Fits, first_value}
 use Rattle.write_log.specs.Logs as l
 use Rattle.write_log.specs.Logs.{IsLogOf, LogState, Readings, around, innermost, is_first, is_second, left_of, reads_of, tests_of, undo}

@@ -3,7 +3,7 @@ use Rattle.std.proofs.Common.{◌≡◌, ℕ, zero, suc, ◌+◌, ◌<◌, ◌�
 use Rattle.std.specs.List.{Contains}
 use Rattle.std.proofs.lemmas.Bool.{eqb-true, false≢true}
 use Rattle.std.proofs.lemmas.List.{get_or-take, get_or_past, take_more}
-use Rattle.memory_rebuild.specs.Words.{KnownWords, unwritten}
+use Rattle.word_log.specs.memory_rebuild.Words.{KnownWords, unwritten}
 use Rattle.design_model.specs.Design.{no_memory}
 use Rattle.write_log.specs.Entries.{has}
 use Rattle.write_log.proofs.Joins.{contains_has, has_append, has_contains}

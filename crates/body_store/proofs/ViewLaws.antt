@@ -6,16 +6,16 @@ use Rattle.std.specs.Option.{unwrap_or}
 use Rattle.std.proofs.Math.Path.{fun_ext}
 use Rattle.std.proofs.lemmas.Bool.{false≢true}
 use Rattle.std.proofs.lemmas.Bool.Decides.{nat_tests}
-use Rattle.event_machine.specs.Cell.{Cell}
+use Rattle.design_model.specs.event_machine.Cell.{Cell}
 use Rattle.known_state.specs.Partly.{Partly}
 use Rattle.design_model.specs.View.{design_view}
-use Rattle.body_replay.specs.Runs.{seen_of}
-use Rattle.body_replay.specs.Store.{Kept, keep_all}
-use Rattle.body_replay.proofs.Writes.{keep_append}
-use Rattle.memory_rebuild.specs.Words.{KnownWords}
-use Rattle.term_replay.specs.Stands.{Scene}
-use Rattle.value_store.specs.Signals.{hidden_at, kept_at, read_at}
-use Rattle.value_store.specs.Held.{IsSignal}
+use Rattle.body_calls.specs.body_replay.Runs.{seen_of}
+use Rattle.body_calls.specs.body_replay.Store.{Kept, keep_all}
+use Rattle.body_calls.proofs.body_replay.Writes.{keep_append}
+use Rattle.word_log.specs.memory_rebuild.Words.{KnownWords}
+use Rattle.body_calls.specs.term_replay.Stands.{Scene}
+use Rattle.write_log.specs.value_store.Signals.{hidden_at, kept_at, read_at}
+use Rattle.write_log.specs.value_store.Held.{IsSignal}
 use Rattle.body_calls.specs.Under.{kept_with}
 use Rattle.body_store.specs.declared.store.Store.{Store}
 use Rattle.body_store.specs.Fitting.{memory_in}

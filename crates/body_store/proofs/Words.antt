@@ -7,16 +7,16 @@ use Rattle.std.proofs.Math.Nat.{le-max_left, min-le_left, mod-lt, mod-add-div'}
 use Rattle.std.proofs.lemmas.Bool.{and_parts, eqb-true}
 use Rattle.std.proofs.lemmas.Bool.Decides.{nat_tests}
 use Rattle.std.proofs.lemmas.Nat.{div-mul-add}
-use Rattle.four_state.specs.declared.bit.Bit.{Bit}
-use Rattle.four_state.specs.Parts.{index}
+use Rattle.design_model.specs.four_state.declared.bit.Bit.{Bit}
+use Rattle.design_model.specs.four_state.Parts.{index}
 use Rattle.known_state.specs.Partly.{Partly}
 use Rattle.design_model.specs.declared.design.Memory.{Memory}
 use Rattle.design_model.specs.Design.{Design, cell, memory_at, word_cells}
 use Rattle.design_model.specs.Value.{named_word}
-use Rattle.body_replay.specs.KnownBits.{KnownBits, on_whole, whole_bits}
-use Rattle.body_replay.specs.Store.{Kept, KnownWrite, keep_all, known_word_writes, may_name, perhaps_words, weaken, words, write_word, writes_of}
-use Rattle.body_replay.proofs.Frames.{missed}
-use Rattle.memory_rebuild.specs.Words.{IsIndex, KnownWords, StandsFor, word_at}
+use Rattle.body_calls.specs.body_replay.KnownBits.{KnownBits, on_whole, whole_bits}
+use Rattle.body_calls.specs.body_replay.Store.{Kept, KnownWrite, keep_all, known_word_writes, may_name, perhaps_words, weaken, words, write_word, writes_of}
+use Rattle.body_calls.proofs.body_replay.Frames.{missed}
+use Rattle.word_log.specs.memory_rebuild.Words.{IsIndex, KnownWords, StandsFor, word_at}
 use Rattle.body_store.specs.Scenes.{bit_at, kept_by, word_bit}
 use Rattle.body_store.proofs.Inside.{Inside, inside_append, inside_misses, inside_row, inside_weaken}
 use Rattle.body_store.proofs.Rows.{memory_bit, row_at}

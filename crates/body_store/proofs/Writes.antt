@@ -10,15 +10,15 @@ use Rattle.design_model.specs.declared.design.Range.{Range}
 use Rattle.design_model.specs.Assignment.{signal_range}
 use Rattle.design_model.specs.Design.{Design, signal_at, signal_cells}
 use Rattle.design_model.specs.View.{design_view}
-use Rattle.body_replay.specs.KnownBits.{KnownBits, all_sure}
-use Rattle.body_replay.specs.Store.{Kept, keep_all, write_bits, writes_of}
-use Rattle.body_replay.proofs.Answered.{same_sure}
-use Rattle.body_replay.proofs.Stored.{signal_stored}
-use Rattle.memory_rebuild.specs.Words.{KnownWords}
-use Rattle.value_store.specs.Parts.{common_bits, part_written, placed_bits, whole_offset}
-use Rattle.value_store.specs.Signals as s
-use Rattle.value_store.specs.Signals.{Shape, Signals, read_at, shape_at}
-use Rattle.value_store.proofs.Left.{bits_after, joined_self, part_left}
+use Rattle.body_calls.specs.body_replay.KnownBits.{KnownBits, all_sure}
+use Rattle.body_calls.specs.body_replay.Store.{Kept, keep_all, write_bits, writes_of}
+use Rattle.body_calls.proofs.body_replay.Answered.{same_sure}
+use Rattle.body_calls.proofs.body_replay.Stored.{signal_stored}
+use Rattle.word_log.specs.memory_rebuild.Words.{KnownWords}
+use Rattle.write_log.specs.value_store.Parts.{common_bits, part_written, placed_bits, whole_offset}
+use Rattle.write_log.specs.value_store.Signals as s
+use Rattle.write_log.specs.value_store.Signals.{Shape, Signals, read_at, shape_at}
+use Rattle.write_log.proofs.value_store.Left.{bits_after, joined_self, part_left}
 use Rattle.body_calls.specs.Lvalues.{Like, written}
 use Rattle.body_calls.specs.declared.lvalue.Lvalue.TheVariants.{Part, Signal}
 use Rattle.word_log.specs.declared.memory.StoredMemory.{StoredMemory}

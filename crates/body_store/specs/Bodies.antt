@@ -3,8 +3,8 @@ use Rattle.std.specs.Prelude.{ℕ, ◌+◌, ◌-◌, min, nat_lt, if◌then◌el
 use Rattle.design_model.specs.declared.design.Design as m
 use Rattle.design_model.specs.Design.{memory_at}
 use Rattle.design_model.specs.View.{design_view}
-use Rattle.body_replay.specs.Store.{KnownWrite}
-use Rattle.memory_rebuild.specs.Words.{count}
+use Rattle.body_calls.specs.body_replay.Store.{KnownWrite}
+use Rattle.word_log.specs.memory_rebuild.Words.{count}
 use Rattle.write_log.specs.Logs.{around, reads_of}
 use Rattle.word_log.specs.Logs as w
 use Rattle.word_log.specs.Memories.{shape_of}

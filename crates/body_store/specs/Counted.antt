@@ -1,7 +1,7 @@
 -- The room that is counted for the runs of the bodies of a design.
 use Rattle.std.specs.Prelude.{◌≡◌, ℕ}
 use Rattle.design_model.specs.Design.{Design}
-use Rattle.value_store.specs.Rooms.{as_usize, log_takes, most_logged, processes_queued}
+use Rattle.write_log.specs.value_store.Rooms.{as_usize, log_takes, most_logged, processes_queued}
 
 -- places in the log for what any one of them logs, and in the queue for the parts of all of their nonblocking assignments
 pub record IsCounted (d : Design) (log queue : ℕ) : Type 0 where

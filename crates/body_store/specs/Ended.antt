@@ -1,6 +1,6 @@
 -- What is to blame once the run of a body has ended.
 use Rattle.std.specs.Prelude.{ℕ, ◌==◌, false, if◌then◌else◌, List, [], ◌∷◌}
-use Rattle.body_replay.specs.Replay.{Blames}
+use Rattle.body_calls.specs.body_replay.Replay.{Blames}
 
 -- the signal or memory is to blame for itself, and counts as not written
 abbrev pub settled : ℕ → Blames → Blames

@@ -3,9 +3,9 @@ use Rattle.std.specs.Prelude.{◌≡◌, ◌+◌, ◌<◌, ℕ, List, length, ma
 use Rattle.design_model.specs.declared.design.Memory.{Memory}
 use Rattle.design_model.specs.declared.design.Signal.{Signal}
 use Rattle.design_model.specs.Design.{no_memory}
-use Rattle.memory_rebuild.specs.Words.{IsIndex, KnownWords, count, word_at}
-use Rattle.value_store.specs.Signals as s
-use Rattle.value_store.specs.Signals.{Signals}
+use Rattle.word_log.specs.memory_rebuild.Words.{IsIndex, KnownWords, count, word_at}
+use Rattle.write_log.specs.value_store.Signals as s
+use Rattle.write_log.specs.value_store.Signals.{Signals}
 use Rattle.word_log.specs.declared.memory.StoredMemory.{StoredMemory}
 pub use Rattle.word_log.specs.Memories.{memory_in}
 use Rattle.word_log.specs.Memories.{shape_of}

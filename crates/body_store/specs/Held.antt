@@ -1,11 +1,11 @@
 -- When what a store holds is what is known of the cells of a design, as it is kept and as bodies read it.
 use Rattle.std.specs.Prelude.{◌≡◌, ◌+◌, ◌<◌, ℕ, length, map}
 use Rattle.design_model.specs.Design.{Design}
-use Rattle.body_replay.specs.Store.{Kept}
-use Rattle.body_replay.specs.Replay.{Blames}
-use Rattle.memory_rebuild.specs.Words.{StandsFor}
-use Rattle.value_store.specs.Signals.{Signals, read_at, shape_of}
-use Rattle.value_store.specs.Held.{HoldsSignals, IsSignal}
+use Rattle.body_calls.specs.body_replay.Store.{Kept}
+use Rattle.body_calls.specs.body_replay.Replay.{Blames}
+use Rattle.word_log.specs.memory_rebuild.Words.{StandsFor}
+use Rattle.write_log.specs.value_store.Signals.{Signals, read_at, shape_of}
+use Rattle.write_log.specs.value_store.Held.{HoldsSignals, IsSignal}
 use Rattle.word_log.specs.declared.memory.StoredMemory.{StoredMemory}
 use Rattle.body_store.specs.declared.store.Store.{Store}
 use Rattle.body_store.specs.Fitting.{memory_in}

@@ -2,9 +2,9 @@
 use Rattle.std.specs.Prelude.{◌≡◌, ℕ, false, List}
 use Rattle.std.specs.List.{flat_map}
 use Rattle.design_model.specs.Design.{Design}
-use Rattle.body_replay.specs.Replay.{Blames, flush}
-use Rattle.body_replay.specs.Runs.{seen_of}
-use Rattle.body_replay.specs.Store.{Kept, KnownWrite, keep_all}
+use Rattle.body_calls.specs.body_replay.Replay.{Blames, flush}
+use Rattle.body_calls.specs.body_replay.Runs.{seen_of}
+use Rattle.body_calls.specs.body_replay.Store.{Kept, KnownWrite, keep_all}
 use Rattle.body_calls.specs.Under.{kept_with}
 use Rattle.body_store.specs.declared.store.Store.{Store}
 use Rattle.body_store.specs.Held.{HoldsStore, ReadsStore}

@@ -1,8 +1,8 @@
 -- What a store holds before anything is known.
 use Rattle.std.specs.Prelude.{◌≡◌, ℕ, ◌+◌, ◌<◌, ◌≤◌, ◌==◌, false, if◌then◌else◌, List, length, slice_index_or, None}
 use Rattle.design_model.specs.declared.design.Memory.{Memory}
-use Rattle.body_replay.specs.Store.{Kept}
-use Rattle.body_replay.specs.Replay.{Blames}
+use Rattle.body_calls.specs.body_replay.Store.{Kept}
+use Rattle.body_calls.specs.body_replay.Replay.{Blames}
 use Rattle.word_log.specs.declared.memory.StoredMemory.{StoredMemory}
 pub use Rattle.word_log.specs.Memories.{shape_of, unknown_memory}
 

@@ -1,13 +1,13 @@
 -- What a store keeps and what bodies read of it, where each signal and memory is to blame for itself.
 use Rattle.std.specs.Prelude.{◌≡◌, ◌<◌, ℕ, false, length, None}
-use Rattle.event_machine.specs.Cell.{Cell}
+use Rattle.design_model.specs.event_machine.Cell.{Cell}
 use Rattle.design_model.specs.BodyLaws.{all_cells}
 use Rattle.design_model.specs.Design.{Design, In, signal_at}
 use Rattle.design_model.specs.View.{design_view}
-use Rattle.body_replay.specs.KnownBits.{KnownBits}
-use Rattle.body_replay.specs.Replay.{Blames}
-use Rattle.body_replay.specs.Store.{Kept}
-use Rattle.term_replay.specs.Stands.{Scene}
+use Rattle.body_calls.specs.body_replay.KnownBits.{KnownBits}
+use Rattle.body_calls.specs.body_replay.Replay.{Blames}
+use Rattle.body_calls.specs.body_replay.Store.{Kept}
+use Rattle.body_calls.specs.term_replay.Stands.{Scene}
 use Rattle.body_calls.specs.Own.{IsOwn}
 use Rattle.body_store.specs.declared.store.Store.{Store}
 use Rattle.body_store.specs.Held.{HoldsStore, ReadsStore}

@@ -3,7 +3,7 @@ use Rattle.std.specs.Prelude.{◌≤◌, length}
 use Rattle.std.specs.List.{All}
 use Rattle.design_model.specs.Design.{Design}
 use Rattle.design_model.specs.Lawful.{IsLawfulDesign}
-use Rattle.value_store.specs.Signals.{HasWidth}
+use Rattle.write_log.specs.value_store.Signals.{HasWidth}
 use Rattle.body_store.specs.Made.{HasWordWidth}
 
 -- each signal and each word has 1 to 128 bits, and there are at most so many signals and memories

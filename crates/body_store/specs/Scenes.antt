@@ -3,14 +3,14 @@ use Rattle.std.specs.Prelude.{ℕ, ◌-◌, ◌/◌, ◌%◌, ◌&&◌, min, max
 use Rattle.design_model.specs.declared.design.Design as m
 use Rattle.design_model.specs.View.{design_view}
 use Rattle.known_state.specs.Partly.{Partly}
-use Rattle.body_replay.specs.KnownBits.{KnownBits}
-use Rattle.body_replay.specs.Replay.{Blames}
-use Rattle.body_replay.specs.Store.{Kept}
-use Rattle.four_state.specs.declared.bit.Bit.{Bit}
-use Rattle.memory_rebuild.specs.declared.shape.Shape.{Shape}
-use Rattle.memory_rebuild.specs.Words.{KnownWords, word_at}
-use Rattle.term_replay.specs.Stands.{Scene}
-use Rattle.value_store.specs.Signals.{read_at}
+use Rattle.body_calls.specs.body_replay.KnownBits.{KnownBits}
+use Rattle.body_calls.specs.body_replay.Replay.{Blames}
+use Rattle.body_calls.specs.body_replay.Store.{Kept}
+use Rattle.design_model.specs.four_state.declared.bit.Bit.{Bit}
+use Rattle.word_log.specs.memory_rebuild.declared.shape.Shape.{Shape}
+use Rattle.word_log.specs.memory_rebuild.Words.{KnownWords, word_at}
+use Rattle.body_calls.specs.term_replay.Stands.{Scene}
+use Rattle.write_log.specs.value_store.Signals.{read_at}
 use Rattle.word_log.specs.declared.memory.StoredMemory.{StoredMemory}
 use Rattle.body_store.specs.declared.store.Store.{Store}
 use Rattle.body_store.specs.Fitting.{memory_in}

@@ -1,6 +1,6 @@
 -- The undecided tests around the two logs of a store, that of signals and that of words.
 use Rattle.std.specs.Prelude.{◌≡◌, ℕ, ◌+◌, ◌-◌, Bool, List, [], ◌∷◌, drop, length, map, Option, Some, None}
-use Rattle.term_replay.specs.Stands.{Scene}
+use Rattle.body_calls.specs.term_replay.Stands.{Scene}
 use Rattle.write_log.specs.Logs as l
 use Rattle.write_log.specs.Logs.{LogState, Readings}
 use Rattle.write_log.specs.declared.entry.Test.{Test}

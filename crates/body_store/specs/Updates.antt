@@ -1,7 +1,7 @@
 -- The updates that nonblocking assignments have queued.
 use Rattle.std.specs.Prelude.{ℕ, ◌==◌, ◌&&◌, nat_le, nat_lt, Bool, true, List, [], ◌∷◌, ◌++◌, length}
 use Rattle.design_model.specs.Design.{Design, is_memory, memory_at, signal_at}
-use Rattle.body_replay.specs.Store.{KnownWrite}
+use Rattle.body_calls.specs.body_replay.Store.{KnownWrite}
 use Rattle.body_calls.specs.Lvalues.{if_certain, lvalue_writes}
 use Rattle.body_calls.specs.declared.lvalue.Lvalue.{Lvalue}
 use Rattle.body_calls.specs.declared.lvalue.Lvalue.TheVariants.{Part, Signal as Whole, Word}

@@ -2,7 +2,7 @@
 use Rattle.std.specs.Prelude.{◌≡◌, ◌+◌, ◌<◌, ◌==◌, ◌||◌, ℕ, Bool, false, if◌then◌else◌, List, length, slice_index, slice_index_or}
 use Rattle.design_model.specs.declared.design.Memory.{Memory}
 use Rattle.design_model.specs.Design.{no_memory}
-use Rattle.memory_rebuild.specs.Words.{KnownWords, unwritten}
+use Rattle.word_log.specs.memory_rebuild.Words.{KnownWords, unwritten}
 use Rattle.write_log.specs.Entries.{has}
 use Rattle.word_log.specs.declared.memory.StoredMemory.{StoredMemory}
 use Rattle.body_store.specs.declared.veils.Veils.{Veils}

@@ -2,10 +2,10 @@
 use Rattle.std.specs.Prelude.{ℕ, ◌-◌, ◌==◌, nat_lt, Bool, if◌then◌else◌, is_some, None}
 use Rattle.known_state.specs.Partly.{blame_of}
 use Rattle.design_model.specs.View.{design_view}
-use Rattle.body_replay.specs.KnownBits.{KnownBits}
-use Rattle.body_replay.specs.Runs.{StoreView}
-use Rattle.term_replay.specs.Stands.{Scene}
-use Rattle.value_store.specs.Signals.{hidden_at, kept_at}
+use Rattle.body_calls.specs.body_replay.KnownBits.{KnownBits}
+use Rattle.body_calls.specs.body_replay.Runs.{StoreView}
+use Rattle.body_calls.specs.term_replay.Stands.{Scene}
+use Rattle.write_log.specs.value_store.Signals.{hidden_at, kept_at}
 use Rattle.body_calls.specs.Under.{Under}
 use Rattle.body_store.specs.declared.store.Store.{Store}
 use Rattle.body_store.specs.Fitting.{memory_in}

@@ -4,8 +4,8 @@ ghost use Rattle.std.specs.Prelude.{◌≡◌, [], true};
 ghost use Rattle.std.specs.List.{All};
 ghost use Rattle.design_model.specs.Design.{is_number};
 ghost use Rattle.design_model.specs.View.{design_view};
-ghost use Rattle.body_replay.specs.Replay.{Blames};
-ghost use Rattle.body_replay.specs.Store.{Kept};
+ghost use Rattle.body_calls.specs.body_replay.Replay.{Blames};
+ghost use Rattle.body_calls.specs.body_replay.Store.{Kept};
 ghost use Rattle.body_store.specs.Ended.{ended, settled};
 
 use crate::Store;

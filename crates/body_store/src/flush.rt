@@ -2,7 +2,7 @@
 
 ghost use Rattle.std.specs.Prelude.{◌≡◌, [], length};
 ghost use Rattle.design_model.specs.View.{design_view};
-ghost use Rattle.body_replay.specs.Store.{Kept, keep_all};
+ghost use Rattle.body_calls.specs.body_replay.Store.{Kept, keep_all};
 ghost use Rattle.body_calls.specs.Lvalues.{Takes};
 ghost use Rattle.body_calls.specs.Own.{IsOwn};
 

@@ -3,9 +3,9 @@
 ghost use Rattle.std.specs.Prelude.{◌≡◌, ◌-◌, ◌<◌, ◌≤◌, [], length, true};
 ghost use Rattle.design_model.specs.Design.{is_memory};
 ghost use Rattle.design_model.specs.View.{design_view};
-ghost use Rattle.body_replay.specs.Replay.{Blames};
-ghost use Rattle.body_replay.specs.Store.{Kept};
-ghost use Rattle.memory_rebuild.specs.Words.{unwritten};
+ghost use Rattle.body_calls.specs.body_replay.Replay.{Blames};
+ghost use Rattle.body_calls.specs.body_replay.Store.{Kept};
+ghost use Rattle.word_log.specs.memory_rebuild.Words.{unwritten};
 
 use crate::Store;
 

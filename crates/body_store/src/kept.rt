@@ -3,16 +3,16 @@
 ghost use Rattle.std.specs.Prelude.{◌≡◌, ◌-◌, ◌<◌, ◌≤◌, ℕ, [], length, true};
 ghost use Rattle.design_model.specs.Design.{Design, is_memory, memory_at, signal_at, signal_cells};
 ghost use Rattle.design_model.specs.View.{design_view};
-ghost use Rattle.body_replay.specs.Replay.{Blames};
-ghost use Rattle.body_replay.specs.Store.{Kept, keep_all, read_word, write_bits, write_word, writes_of};
-ghost use Rattle.value_store.specs.Held.{IsSignal};
-ghost use Rattle.memory_rebuild.specs.Words.{StandsFor, cell_writes};
+ghost use Rattle.body_calls.specs.body_replay.Replay.{Blames};
+ghost use Rattle.body_calls.specs.body_replay.Store.{Kept, keep_all, read_word, write_bits, write_word, writes_of};
+ghost use Rattle.write_log.specs.value_store.Held.{IsSignal};
+ghost use Rattle.word_log.specs.memory_rebuild.Words.{StandsFor, cell_writes};
 ghost use Rattle.body_calls.specs.Lvalues.{if_certain};
 
 use crate::Store;
 use crate::write::signed_as;
 use known_state::Known;
-use memory_rebuild::Rebuilt;
+use word_log::Rebuilt;
 
 impl<'a> Store<'a> {
     ghost use Rattle.body_store.specs.Held.{HoldsStore};

@@ -2,9 +2,9 @@ ghost use Rattle.std.specs.Prelude.{◌≡◌, ◌-◌, ◌<◌, length, true};
 ghost use Rattle.design_model.specs.Design.{is_memory};
 
 use crate::{Store, StoredMemory};
+use body_calls::Reads;
 use design_model::Range;
 use known_state::Known;
-use term_replay::Reads;
 
 impl<'a> Store<'a> {
     ghost use Rattle.design_model.specs.View.{design_view};

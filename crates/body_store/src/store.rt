@@ -1,7 +1,7 @@
 ghost use Rattle.std.specs.Prelude.{◌≡◌, ◌+◌, ◌≤◌, ℕ, [], IfOk, false, length, true};
 ghost use Rattle.std.specs.List.{All};
 ghost use Rattle.design_model.specs.View.{design_view};
-ghost use Rattle.value_store.specs.Signals.{HasWidth};
+ghost use Rattle.write_log.specs.value_store.Signals.{HasWidth};
 ghost use Rattle.write_log.specs.Logs.{IsLogOf};
 ghost use Rattle.word_log.specs.Logs.{IsWordLogOf};
 ghost use Rattle.body_store.specs.Tests.{SameTests};
@@ -16,9 +16,8 @@ use crate::{StoredMemory, Update};
 use cov_host::NoMemory;
 use design_model::Design;
 use std::alloc::Global;
-use value_store::{Queue, Signals, log_room, queue_room};
 use word_log::WordLog;
-use write_log::Log;
+use write_log::{Log, Queue, Signals, log_room, queue_room};
 
 /// What is known of the signals and memories of a design, between the runs of bodies and while one runs.
 #[derive(Drop)]

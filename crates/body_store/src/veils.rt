@@ -5,8 +5,8 @@ ghost use Rattle.body_store.specs.Made.{HasWordWidth};
 use cov_host::NoMemory;
 use design_model::Memory;
 use index_sets::IndexSet;
-use memory_rebuild::Rebuilt;
 use std::alloc::Global;
+use word_log::Rebuilt;
 
 /// Which memories are veiled, and what is kept of those. While a memory is veiled, what bodies read and write of it lies in
 /// its own place.

@@ -3,7 +3,7 @@
 ghost use Rattle.std.specs.Prelude.{◌≡◌, ◌<◌, ◌≤◌, ◌==◌, ℕ, None, if◌then◌else◌, length, true};
 ghost use Rattle.std.specs.Option.{unwrap_or as or_old};
 ghost use Rattle.known_state.specs.Partly.{is_whole as is_wholly_sure, with_blame};
-ghost use Rattle.value_store.specs.Signals.{HasShape, read_at, shape_at};
+ghost use Rattle.write_log.specs.value_store.Signals.{HasShape, read_at, shape_at};
 
 use crate::Store;
 use known_state::Known;

@@ -6,7 +6,7 @@ use Rattle.design_model.specs.Design.{body_at}
 use Rattle.design_model.specs.Lawful.{IsLawfulDesign}
 use Rattle.design_model.specs.View.{design_view, process_view}
 use Rattle.value_store.specs.Rooms.{queued_parts}
-use Rattle.open_tests.specs.Weights.{HasRoomFor}
+use Rattle.body_rooms.specs.open_tests.Weights.{HasRoomFor}
 use Rattle.body_rooms.specs.Rooms.{AmongLaw, PlacesLaw, ReadyLaw}
 use Rattle.body_store.specs.Bodies.{around_of, rooms_of}
 use Rattle.body_store.specs.Held.{HoldsStore}

@@ -6,7 +6,7 @@ use Rattle.design_model.specs.View.{design_view}
 use Rattle.body_replay.specs.Store.{Kept}
 use Rattle.body_calls.specs.Own.{IsOwn}
 use Rattle.body_calls.specs.Under.{kept_with}
-use Rattle.open_tests.specs.Weights.{HasRoomFor}
+use Rattle.body_rooms.specs.open_tests.Weights.{HasRoomFor}
 use Rattle.body_store.specs.declared.store.Store.{Store}
 use Rattle.body_store.specs.Bodies.{around_of, rooms_of}
 use Rattle.body_store.specs.Held.{HoldsStore}

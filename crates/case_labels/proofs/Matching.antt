@@ -9,21 +9,21 @@ use Rattle.known_state.specs.declared.maybe.Maybe.TheVariants.{Yes, No, Unsure}
 use Rattle.design_model.specs.Tree as t
 use Rattle.design_model.specs.View.{term_view, terms_of}
 use Rattle.design_model.specs.declared.tree.Term.{Term}
-use Rattle.body_replay.specs.KnownBits.{KnownBits, all_sure, known_match}
-use Rattle.body_replay.specs.Store.{known_value}
-use Rattle.body_replay.specs.Replay.{Mark, Mode, after_first, after_label, blame_of, deeper, doubted, either, first_read, in_mode, label_first, label_marks, labels_blame, labels_match, select_blame, term_marks, undecided}
-use Rattle.body_replay.proofs.Answered as a
-use Rattle.body_replay.proofs.Answered.{label_answer, same_sure}
-use Rattle.body_replay.proofs.Unsure.{match_none}
-use Rattle.term_replay.specs.Noted.{Adds, in_this, marks_of}
-use Rattle.term_replay.specs.Questions.{IsAnswer, answer_of}
-use Rattle.term_replay.specs.Stands.{Scene, Stands, first_after}
-use Rattle.term_replay.proofs.Marking.{adds_more, adds_none, adds_same}
+use Rattle.scene_laws.specs.body_replay.KnownBits.{KnownBits, all_sure, known_match}
+use Rattle.scene_laws.specs.body_replay.Store.{known_value}
+use Rattle.scene_laws.specs.body_replay.Replay.{Mark, Mode, after_first, after_label, blame_of, deeper, doubted, either, first_read, in_mode, label_first, label_marks, labels_blame, labels_match, select_blame, term_marks, undecided}
+use Rattle.scene_laws.proofs.body_replay.Answered as a
+use Rattle.scene_laws.proofs.body_replay.Answered.{label_answer, same_sure}
+use Rattle.scene_laws.proofs.body_replay.Unsure.{match_none}
+use Rattle.scene_laws.specs.term_replay.Noted.{Adds, in_this, marks_of}
+use Rattle.scene_laws.specs.term_replay.Questions.{IsAnswer, answer_of}
+use Rattle.scene_laws.specs.term_replay.Stands.{Scene, Stands, first_after}
+use Rattle.scene_laws.proofs.term_replay.Marking.{adds_more, adds_none, adds_same}
 use Rattle.std.proofs.lemmas.Bool.{and_parts}
 use Rattle.design_model.specs.Design.{Design}
 use Rattle.design_model.specs.Shape.{are_shaped, is_shaped, own_width, widest}
 use Rattle.design_model.specs.Value.{head}
-use Rattle.term_replay.proofs.Contexts.{context_head}
+use Rattle.scene_laws.proofs.term_replay.Contexts.{context_head}
 use Rattle.scene_laws.specs.Contexts.{AreLabels}
 use Rattle.scene_laws.proofs.BodyContexts.{widest_least}
 use Rattle.case_labels.specs.Labels.{undecided_after}

@@ -1,16 +1,16 @@
 ghost use Rattle.std.specs.Prelude.{◌≡◌, ℕ, Bool, length, map};
 ghost use Rattle.design_model.specs.Tree as t;
 ghost use Rattle.design_model.specs.View.{term_view, terms_of};
-ghost use Rattle.body_replay.specs.Replay.{deeper, label_first, label_marks, labels_blame, labels_match};
-ghost use Rattle.term_replay.specs.Noted.{Adds, in_this};
-ghost use Rattle.term_replay.specs.Questions.{IsAnswer};
+ghost use Rattle.scene_laws.specs.body_replay.Replay.{deeper, label_first, label_marks, labels_blame, labels_match};
+ghost use Rattle.scene_laws.specs.term_replay.Noted.{Adds, in_this};
+ghost use Rattle.scene_laws.specs.term_replay.Questions.{IsAnswer};
 ghost use Rattle.scene_laws.specs.Contexts.{AreLabels};
 ghost use Rattle.case_labels.specs.Labels.{undecided_after};
 
 use design_model::Term;
 use four_state::CaseKind;
 use known_state::{Known, Maybe};
-use term_replay::{Notes, Progress, Reads, evaluate};
+use scene_laws::{Notes, Progress, Reads, evaluate};
 
 /// Whether some label of an arm matches the selector, and the blame of the first read of the run that was not wholly sure,
 /// after the labels are evaluated.

@@ -2,13 +2,13 @@
 use Rattle.std.proofs.Common.{◌≡◌, ◌<◌, ◌+◌, ◌*◌, ℕ, Bool, true, false, not, Ok, Err, Result, List, length, map, get_or, refl, sym, ap, subst, ◌∙◌, arith}
 use Rattle.std.specs.Prelude.{IfOk}
 use Rattle.std.proofs.lemmas.List.{get_or-map, length-map}
-use Rattle.point_words.specs.declared.node_case.NodeCase.{NodeCase}
-use Rattle.point_words.specs.declared.node_case.NodeCase.TheVariants.{ValueFalse, ValueTrue, LeftFalse, RightFalse, LeftTrue, RightTrue, BothFalse, FalseTrue, TrueFalse, BothTrue}
+use Rattle.cover_points.specs.point_words.declared.node_case.NodeCase.{NodeCase}
+use Rattle.cover_points.specs.point_words.declared.node_case.NodeCase.TheVariants.{ValueFalse, ValueTrue, LeftFalse, RightFalse, LeftTrue, RightTrue, BothFalse, FalseTrue, TrueFalse, BothTrue}
 use Rattle.number_tables.specs.Tables.{AreApart as SlotsApart, IsNumberOf, no_slot}
 use Rattle.number_tables.specs.declared.slot.Slot.{Slot}
 use Rattle.number_tables.specs.declared.table.NumberTable.{NumberTable}
-use Rattle.text_points.specs.declared.points.LinePoint.{LinePoint}
-use Rattle.text_points.specs.declared.points.NodePoint.{NodePoint}
+use Rattle.cover_points.specs.text_points.declared.points.LinePoint.{LinePoint}
+use Rattle.cover_points.specs.text_points.declared.points.NodePoint.{NodePoint}
 use Rattle.cover_points.specs.Order.{case_rank, second_rank}
 use Rattle.cover_points.specs.Visits.{AreApart, IsVisitOf, visit_of}
 use Rattle.cover_points.specs.declared.listing.Points.{Points}

@@ -5,7 +5,7 @@ use Rattle.std.proofs.lemmas.List.{get_or-map, length-map}
 use Rattle.number_tables.specs.Tables.{AreApart as SlotsApart, IsNumberOf, no_slot}
 use Rattle.number_tables.specs.declared.slot.Slot.{Slot}
 use Rattle.number_tables.specs.declared.table.NumberTable.{NumberTable}
-use Rattle.design_machines.specs.declared.machine.Machine.{Machine}
+use Rattle.cover_points.specs.design_machines.declared.machine.Machine.{Machine}
 use Rattle.cover_points.specs.Listed.{IsPlaced}
 use Rattle.cover_points.specs.MachinePoints.{machine_view}
 use Rattle.cover_points.specs.Visits.{AreOnce, ArePlaced, IsMachinePointAt, point_at}
@@ -14,7 +14,7 @@ use Rattle.cover_points.specs.declared.machine_point.MachinePoint.{MachinePoint}
 use Rattle.cover_points.specs.declared.machine_point.MachinePoint.TheVariants.{Arc, State}
 use Rattle.cover_points.proofs.Members.{in_at}
 use Rattle.cover_points.proofs.Places.{length_is, no_state, state_place, states_end, toggles_end}
-use Rattle.design_machines.specs.Machines.{machine_at, no_machine}
+use Rattle.cover_points.specs.design_machines.Machines.{machine_at, no_machine}
 use Rattle.cover_marks.specs.Index.{FindsStates}
 use Rattle.cover_marks.specs.Slots.{machine_slot, machine_slots, state_counts}
 use Rattle.cover_marks.proofs.Numbers.{Numbers}

@@ -2,7 +2,7 @@
 use Rattle.std.specs.Prelude.{◌≡◌, ℕ, List, Bool, true, false, not}
 use Rattle.number_tables.specs.Tables.{IsNumberOf}
 use Rattle.number_tables.specs.declared.table.NumberTable.{NumberTable}
-use Rattle.point_words.specs.declared.node_case.NodeCase.{NodeCase}
+use Rattle.cover_points.specs.point_words.declared.node_case.NodeCase.{NodeCase}
 use Rattle.cover_points.specs.Visits.{IsMachinePointAt, IsVisitOf}
 use Rattle.cover_points.specs.declared.machine_point.MachinePoint.{MachinePoint}
 use Rattle.cover_points.specs.declared.listing.Points.{Points}

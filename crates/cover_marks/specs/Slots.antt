@@ -1,14 +1,14 @@
 -- Slots in the tables of numbers.
 use Rattle.std.specs.Prelude.{◌+◌, ◌*◌, ℕ, Bool, List, length, map, slice_index_or}
-use Rattle.point_words.specs.declared.node_case.NodeCase.{NodeCase}
+use Rattle.cover_points.specs.point_words.declared.node_case.NodeCase.{NodeCase}
 use Rattle.number_tables.specs.declared.slot.Slot.{Slot}
-use Rattle.text_points.specs.declared.points.LinePoint.{LinePoint}
-use Rattle.text_points.specs.declared.points.NodePoint.{NodePoint}
+use Rattle.cover_points.specs.text_points.declared.points.LinePoint.{LinePoint}
+use Rattle.cover_points.specs.text_points.declared.points.NodePoint.{NodePoint}
 use Rattle.cover_points.specs.Order.{case_rank, second_rank}
 use Rattle.cover_points.specs.declared.machine_point.MachinePoint.{MachinePoint}
 use Rattle.cover_points.specs.declared.machine_point.MachinePoint.TheVariants.{Arc, State}
 use Rattle.cover_points.specs.declared.points.IndexPoint.{IndexPoint}
-use Rattle.design_machines.specs.declared.machine.Machine.{Machine}
+use Rattle.cover_points.specs.design_machines.declared.machine.Machine.{Machine}
 
 -- of a statement: a row for each process, and a column for each number
 abbrev pub line_slot : ℕ → ℕ → Slot

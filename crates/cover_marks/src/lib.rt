@@ -10,5 +10,6 @@ mod marks;
 mod slots;
 mod tables;
 
+pub use cover_points::Visit;
 pub use marks::Marks;
 pub use point_marks::{Doubt, Verdict};

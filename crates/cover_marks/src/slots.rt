@@ -4,15 +4,12 @@ ghost use Rattle.std.specs.Prelude.{◌≡◌, ◌<◌, ◌^◌, IfOk, length, s
 ghost use Rattle.std.specs.List.{All};
 ghost use Rattle.cover_points.specs.Order.{second_rank};
 ghost use Rattle.cover_marks.specs.Slots.{index_slot, index_slots, line_slot, line_slots, machine_slot, machine_slots, node_slot, node_slots, state_counts};
-ghost use Rattle.design_machines.specs.declared.machine.Machine.{Machine as TheMachine};
+ghost use Rattle.cover_points.specs.design_machines.declared.machine.Machine.{Machine as TheMachine};
 
 use cov_host::NoMemory;
-use cover_points::{IndexPoint, MachinePoint, case_rank};
-use design_machines::Machine;
-use design_model::NodeCase;
+use cover_points::{IndexPoint, LinePoint, Machine, MachinePoint, NodeCase, NodePoint, case_rank};
 use number_tables::Slot;
 use std::alloc::Global;
-use text_points::{LinePoint, NodePoint};
 
 /// How many cases there are.
 const CASES: usize = 10;

@@ -9,7 +9,7 @@ use Rattle.std.proofs.lemmas.Cmp.{nat_list_cmp_total, tied_itself}
 use Rattle.std.proofs.lemmas.Map.Keys.{Less-from_sorted}
 use Rattle.design_model.specs.Design.{Design, process_at}
 use Rattle.design_model.specs.Lawful.{instance_of}
-use Rattle.point_words.specs.declared.node_case.NodeCase.{NodeCase}
+use Rattle.design_model.specs.point_words.declared.node_case.NodeCase.{NodeCase}
 use Rattle.text_points.specs.declared.points.LinePoint.{LinePoint}
 use Rattle.text_points.specs.declared.points.NodePoint.{NodePoint}
 use Rattle.cover_points.specs.Listed.{IsPointList, points_of}

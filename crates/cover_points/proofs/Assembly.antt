@@ -5,8 +5,8 @@ use Rattle.cov_host.specs.declared.place.Place.{Place}
 use Rattle.design_model.specs.Design.{Design, In}
 use Rattle.design_machines.specs.declared.machine.Machine.{Machine}
 use Rattle.design_model.specs.Points.{IsPoint, StateNames}
-use Rattle.point_words.specs.declared.line_word.LineWord.{LineWord}
-use Rattle.point_words.specs.declared.node_case.NodeCase.{NodeCase}
+use Rattle.design_model.specs.point_words.declared.line_word.LineWord.{LineWord}
+use Rattle.design_model.specs.point_words.declared.node_case.NodeCase.{NodeCase}
 use Rattle.design_model.specs.declared.point.Point.{Point}
 use Rattle.design_model.specs.declared.point.Point.TheVariants.{Line, Logic, Toggle, State, Arc, Word}
 use Rattle.text_points.specs.declared.points.LinePoint.{LinePoint}

@@ -12,3 +12,4 @@ pub mod Places
 pub mod Seen
 pub mod Apart
 pub mod PointFaults
+pub use Rattle.design_machines.proofs.state_machines as state_machines

@@ -9,7 +9,7 @@ use Rattle.design_model.specs.Design.{Design, In, no_instance, no_process, proce
 use Rattle.design_model.specs.Lawful.{IsLawfulDesign, instance_of}
 use Rattle.design_model.specs.Points.{IsPoint}
 use Rattle.design_model.specs.declared.point.Point.TheVariants.{Line as line_point}
-use Rattle.point_words.specs.declared.line_word.LineWord.{LineWord}
+use Rattle.design_model.specs.point_words.declared.line_word.LineWord.{LineWord}
 use Rattle.design_model.specs.Numbered.{LineAt, line_at, lines_of}
 use Rattle.text_points.specs.Lines.{line_with}
 use Rattle.text_points.specs.declared.points.LinePoint.{LinePoint}

@@ -7,10 +7,10 @@ use Rattle.std.specs.List.Sorted.{IsPermutation}
 use Rattle.std.specs.Ordering.{eq_by_cmp, nat_cmp, ordering_then}
 use Rattle.std.proofs.lemmas.Bool.{cases_order}
 use Rattle.std.proofs.lemmas.Bool.Decides.{nat_tests}
-use Rattle.four_state.specs.Vector.{Vector, same_bits}
-use Rattle.four_state.specs.declared.bit.Bit.{Bit}
-use Rattle.four_state.specs.declared.bit.Bit.TheVariants.{One, X, Z, Zero}
-use Rattle.state_machines.specs.Same.{bits_at, no_value}
+use Rattle.design_model.specs.four_state.Vector.{Vector, same_bits}
+use Rattle.design_model.specs.four_state.declared.bit.Bit.{Bit}
+use Rattle.design_model.specs.four_state.declared.bit.Bit.TheVariants.{One, X, Z, Zero}
+use Rattle.design_machines.specs.state_machines.Same.{bits_at, no_value}
 use Rattle.design_model.specs.Design.{Design, In, no_instance}
 use Rattle.design_model.specs.Lawful.{IsLawfulDesign}
 use Rattle.design_model.specs.Points.{IsMachineAt, IsNameOf, IsPoint, IsStateValue, StateNames}

@@ -1,7 +1,7 @@
 -- In one instance of a lawful design a name is that of one signal, and of one parameter.
 use Rattle.std.proofs.Common.{◌≡◌, ◌<◌, ◌++◌, ℕ, inl, inr, List, [], ◌∷◌, length, map, sym, ap, subst, ◌∙◌}
-use Rattle.four_state.specs.Parts.{extended_vector}
-use Rattle.four_state.specs.Vector.{Vector}
+use Rattle.design_model.specs.four_state.Parts.{extended_vector}
+use Rattle.design_model.specs.four_state.Vector.{Vector}
 use Rattle.design_model.specs.Design.{AreDistinct, Design, In, Named, no_signal, signal_at}
 use Rattle.design_model.specs.declared.design.Alias.{Alias}
 use Rattle.design_model.specs.declared.design.Constant.{Constant}

@@ -10,13 +10,13 @@ use Rattle.design_model.specs.Design.{Design, In, no_instance, no_process, proce
 use Rattle.design_model.specs.Execution.{node_cases}
 use Rattle.design_model.specs.Lawful.{IsLawfulDesign, instance_of}
 use Rattle.design_model.specs.Points.{IsPoint}
-use Rattle.point_words.specs.declared.node_case.NodeCase.{NodeCase}
-use Rattle.point_words.specs.declared.node_case.NodeCase.TheVariants.{ValueFalse, ValueTrue, LeftFalse, RightFalse, LeftTrue, RightTrue, BothFalse, FalseTrue, TrueFalse, BothTrue}
+use Rattle.design_model.specs.point_words.declared.node_case.NodeCase.{NodeCase}
+use Rattle.design_model.specs.point_words.declared.node_case.NodeCase.TheVariants.{ValueFalse, ValueTrue, LeftFalse, RightFalse, LeftTrue, RightTrue, BothFalse, FalseTrue, TrueFalse, BothTrue}
 use Rattle.design_model.specs.declared.point.Point.{Point}
 use Rattle.design_model.specs.declared.point.Point.TheVariants.{Logic as logic_point}
 use Rattle.design_model.specs.Numbered.{NodeAt, counted_terms, node_at as numbered_node, node_text, nodes_in, nodes_of}
 use Rattle.design_model.specs.Value.{head}
-use Rattle.point_words.specs.Words.{operator_text}
+use Rattle.design_model.specs.point_words.Words.{operator_text}
 use Rattle.text_points.specs.Nodes.{cases_with, node_at, numbered_cases}
 use Rattle.text_points.specs.Operators.{operator_of}
 use Rattle.text_points.proofs.OperatorTexts.{text_is}

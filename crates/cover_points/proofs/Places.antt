@@ -3,11 +3,11 @@ use Rattle.std.proofs.Common.{◌≡◌, ◌<◌, ◌+◌, ◌-◌, ◌++◌, �
 use Rattle.std.proofs.lemmas.Bool.{cases_lt}
 use Rattle.std.proofs.lemmas.List.{get_or-append_right, get_or-map, get_or_append_left, length-map}
 use Rattle.design_model.specs.Design.{nowhere}
-use Rattle.point_words.specs.declared.line_word.LineWord.TheVariants.{Assign}
-use Rattle.point_words.specs.declared.node_case.NodeCase.TheVariants.{ValueFalse}
+use Rattle.design_model.specs.point_words.declared.line_word.LineWord.TheVariants.{Assign}
+use Rattle.design_model.specs.point_words.declared.node_case.NodeCase.TheVariants.{ValueFalse}
 use Rattle.design_model.specs.declared.point.Point.{Point}
 use Rattle.text_points.specs.declared.points.LinePoint.{LinePoint}
-use Rattle.point_words.specs.declared.operator.Operator.TheVariants.{Value}
+use Rattle.design_model.specs.point_words.declared.operator.Operator.TheVariants.{Value}
 use Rattle.text_points.specs.declared.points.NodePoint.{NodePoint}
 use Rattle.cover_points.specs.Listed.{points_of}
 use Rattle.cover_points.specs.MachinePoints.{machine_view}

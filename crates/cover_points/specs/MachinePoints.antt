@@ -3,8 +3,8 @@ use Rattle.std.specs.Prelude.{◌==◌, ◌++◌, if◌then◌else◌, ℕ, List
 use Rattle.std.specs.declared.cmp.Ordering.{Ordering}
 use Rattle.std.specs.Ordering.{nat_cmp, ordering_then}
 use Rattle.std.specs.List.{flat_map, range_with_len}
-use Rattle.four_state.specs.Vector.{Vector}
-use Rattle.state_machines.specs.Same.{no_value}
+use Rattle.design_model.specs.four_state.Vector.{Vector}
+use Rattle.design_machines.specs.state_machines.Same.{no_value}
 use Rattle.design_machines.specs.Machines.{machine_at, name_at}
 use Rattle.design_machines.specs.declared.machine.Machine.{Machine}
 use Rattle.design_model.specs.declared.design.Instance.{Instance}

@@ -7,7 +7,7 @@ use Rattle.design_model.specs.Numbered.{counted_terms, lines_of}
 use Rattle.design_model.specs.declared.point.Point.{Point}
 use Rattle.design_model.specs.declared.point.Point.TheVariants.{Line as line_point, Logic as logic_point}
 use Rattle.text_points.specs.Lines.{lines_with}
-use Rattle.point_words.specs.Words.{operator_text}
+use Rattle.design_model.specs.point_words.Words.{operator_text}
 use Rattle.text_points.specs.Nodes.{nodes_with}
 use Rattle.text_points.specs.declared.points.LinePoint.{LinePoint}
 use Rattle.text_points.specs.declared.points.NodePoint.{NodePoint}

@@ -17,6 +17,8 @@ mod things;
 mod visit;
 
 pub use compare::case_rank;
+pub use design_machines::Machine;
+pub use design_model::NodeCase;
 pub use fault::PointFault;
 pub use lines::line_points;
 pub use listing::{MOST_POINTS, Points, list};
@@ -24,5 +26,6 @@ pub use machine_point::MachinePoint;
 pub use machines::machine_points;
 pub use nodes::node_points;
 pub use points::IndexPoint;
+pub use text_points::{LinePoint, NodePoint};
 pub use things::{toggle_points, word_points};
 pub use visit::Visit;

@@ -9,7 +9,7 @@ ghost use Rattle.design_model.specs.Design.{In};
 ghost use Rattle.design_model.specs.Lawful.{IsLawfulDesign};
 ghost use Rattle.design_model.specs.Points.{IsPoint};
 ghost use Rattle.design_model.specs.declared.point.Point.TheVariants.{Line as line_point};
-ghost use Rattle.point_words.specs.declared.line_word.LineWord.{LineWord};
+ghost use Rattle.design_model.specs.point_words.declared.line_word.LineWord.{LineWord};
 ghost use Rattle.design_model.specs.View.{design_view, process_view};
 ghost use Rattle.cover_points.specs.Order.{line_cmp};
 ghost use Rattle.cover_points.specs.Texts.{IsOwner, each_from, line_view, owner, process_lines};

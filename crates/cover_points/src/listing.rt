@@ -13,9 +13,8 @@ use crate::{
     word_points,
 };
 use cov_host::NoMemory;
-use design_machines::{Machine, design_machines};
+use design_machines::{Machine, States, design_machines};
 use design_model::Design;
-use state_machines::States;
 use std::alloc::Global;
 use text_points::{LinePoint, NodePoint};
 

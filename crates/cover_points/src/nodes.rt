@@ -9,7 +9,7 @@ ghost use Rattle.design_model.specs.Design.{In};
 ghost use Rattle.design_model.specs.Lawful.{IsLawfulDesign};
 ghost use Rattle.design_model.specs.Points.{IsPoint};
 ghost use Rattle.design_model.specs.declared.point.Point.TheVariants.{Logic as logic_point};
-ghost use Rattle.point_words.specs.declared.node_case.NodeCase.{NodeCase};
+ghost use Rattle.design_model.specs.point_words.declared.node_case.NodeCase.{NodeCase};
 ghost use Rattle.design_model.specs.View.{design_view, process_view};
 ghost use Rattle.cover_points.specs.Order.{node_cmp};
 ghost use Rattle.cover_points.specs.Texts.{IsOwner, each_from, node_view, process_nodes};

@@ -19,7 +19,7 @@ use Rattle.signal_binding.specs.Binding.{IsBindable}
 use Rattle.vcd_reader.proofs.OneHeader.{one_header}
 use Rattle.vcd_reader.specs.Dump.{Dump, IsDump, SaysBody}
 use Rattle.vcd_reader.specs.Reading.{Body}
-use Rattle.verdict_laws.specs.Sound.{IsShownBy}
+use Rattle.dump_score.specs.verdict_laws.Sound.{IsShownBy}
 use Rattle.verilog_lexer.specs.Sources.{SourceText}
 use Rattle.whole_files.specs.Effects.{CountsUp, IsMissing}
 use Rattle.whole_files.proofs.EffectLemmas.{IsCounted-later}

@@ -14,7 +14,7 @@ use Rattle.design_model.specs.declared.design.Instance.{Instance}
 use Rattle.design_model.specs.declared.design.Memory.{Memory}
 use Rattle.design_model.specs.declared.design.Signal.{Signal}
 use Rattle.design_model.specs.declared.tree.Process.{Process}
-use Rattle.dump_replay.specs.Faults.{IsContradicted}
+use Rattle.dump_score.specs.dump_replay.Faults.{IsContradicted}
 use Rattle.event_machine.specs.Habit.{Free}
 use Rattle.four_state.specs.Vector.{Vector}
 use Rattle.four_state.specs.declared.bit.Bit.{Bit}
@@ -38,7 +38,7 @@ use Rattle.vcd_reader.specs.declared.entry.Entry.{Entry}
 use Rattle.vcd_reader.specs.declared.entry.Entry.TheVariants.{Time}
 use Rattle.vcd_reader.specs.declared.fault.DumpFault.TheVariants.{At}
 use Rattle.vcd_reader.specs.declared.vars.Var.{Var}
-use Rattle.verdict_laws.specs.Sound.{IsShownBy}
+use Rattle.dump_score.specs.verdict_laws.Sound.{IsShownBy}
 use Rattle.covered_cli.specs.Scoring.{IsContradictedText, IsDumpRefusal}
 use Rattle.covered_cli.specs.declared.contradiction.Contradiction.{Contradiction}
 use Rattle.covered_cli.specs.declared.dump_refusal.DumpRefusal.{DumpRefusal}

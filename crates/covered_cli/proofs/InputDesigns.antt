@@ -6,8 +6,8 @@ use Rattle.design_model.specs.declared.design.Design.{Design}
 use Rattle.verilog_lexer.specs.Defines.{DefineText}
 use Rattle.verilog_lexer.specs.Sources.{SourceText}
 use Rattle.verilog_lexer.proofs.KeptTokens.{tokens_are_sound}
-use Rattle.parsed_modules.proofs.Modules.{named_modules, modules_of_tokens}
-use Rattle.flat_laws.proofs.LawfulDesigns.{answered_lawful}
+use Rattle.written_designs.proofs.parsed_modules.Modules.{named_modules, modules_of_tokens}
+use Rattle.own_wakes.proofs.flat_laws.LawfulDesigns.{answered_lawful}
 use Rattle.input_design.proofs.InputDesigns.{lawful_scored}
 use Rattle.input_toggles.specs.InputDesign.{IsInputDesign}
 use Rattle.source_design.specs.Accepted.{StandFor}

@@ -7,12 +7,12 @@ use Rattle.design_model.specs.Design.{Design as Tree, is_number}
 use Rattle.design_model.specs.Lawful.{IsLawfulDesign}
 use Rattle.design_model.specs.View.{design_view}
 use Rattle.design_model.specs.declared.design.Design.{Design}
-use Rattle.dump_replay.specs.Faults.{IsReplayFault}
+use Rattle.dump_score.specs.dump_replay.Faults.{IsReplayFault}
 use Rattle.dump_score.specs.Faults.{IsScoreFault}
 use Rattle.dump_score.specs.declared.fault.ScoreFault.TheVariants as score_fault
-use Rattle.replay_core.specs.Fits.{signal_of}
-use Rattle.replay_core.specs.declared.fault.ReplayFault.{ReplayFault}
-use Rattle.replay_core.specs.declared.fault.ReplayFault.TheVariants as replay_fault
+use Rattle.dump_score.specs.replay_core.Fits.{signal_of}
+use Rattle.dump_score.specs.replay_core.declared.fault.ReplayFault.{ReplayFault}
+use Rattle.dump_score.specs.replay_core.declared.fault.ReplayFault.TheVariants as replay_fault
 use Rattle.signal_binding.specs.declared.fault.BindFault.{BindFault}
 use Rattle.signal_binding.specs.declared.fault.BindFault.TheVariants as bind_fault
 use Rattle.vcd_reader.specs.declared.entry.Entry.{Entry}

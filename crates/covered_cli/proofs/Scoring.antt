@@ -21,7 +21,7 @@ use Rattle.coverage_db.specs.Text.{text_of}
 use Rattle.coverage_db.specs.declared.db.Db.{Db}
 use Rattle.dump_score.specs.Reading.{IsFile}
 use Rattle.dump_score.specs.Scoring.{IsScoreOfFile}
-use Rattle.score_tables.specs.Head.{HasHead}
+use Rattle.dump_score.specs.score_tables.Head.{HasHead}
 use Rattle.verilog_lexer.specs.Sources.{SourceText}
 use Rattle.whole_files.proofs.EffectLemmas.{IsCounted-earlier, Told-map, Told-trans}
 use Rattle.whole_files.specs.Effects.{CountsUp, IsMissing}

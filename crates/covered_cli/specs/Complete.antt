@@ -16,7 +16,7 @@ use Rattle.covered_cli.specs.Effects.{WarnsLine}
 use Rattle.covered_cli.specs.Fault.{points_line}
 use Rattle.source_design.specs.Accepted.{StandFor}
 use Rattle.source_design.specs.Reading.{HasSources}
-use Rattle.verdict_laws.specs.Sound.{IsShownBy}
+use Rattle.dump_score.specs.verdict_laws.Sound.{IsShownBy}
 use Rattle.verilog_lexer.specs.Sources.{SourceText}
 use Rattle.covered_cli.specs.ScoreSources.{sources_in}
 use Rattle.covered_cli.specs.Scoring.{HasDesign, HasNoScore, HasTooManyPoints, IsRefusedDump}

@@ -1,8 +1,8 @@
 -- Which fault of the program a fault of a binding or of the replay is.
 use Rattle.std.specs.Prelude.{◌≡◌, ◌<◌, ℕ, List}
 use Rattle.design_model.specs.Design.{Design, path_of}
-use Rattle.replay_core.specs.declared.fault.ReplayFault.{ReplayFault}
-use Rattle.replay_core.specs.declared.fault.ReplayFault.TheVariants as replay_fault
+use Rattle.dump_score.specs.replay_core.declared.fault.ReplayFault.{ReplayFault}
+use Rattle.dump_score.specs.replay_core.declared.fault.ReplayFault.TheVariants as replay_fault
 use Rattle.signal_binding.specs.declared.fault.BindFault.{BindFault}
 use Rattle.signal_binding.specs.declared.fault.BindFault.TheVariants as bind_fault
 use Rattle.covered_cli.specs.declared.dump_refusal.DumpRefusal.TheVariants as refusal

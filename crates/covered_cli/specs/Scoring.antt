@@ -15,23 +15,23 @@ use Rattle.design_model.specs.Design.{path_of}
 use Rattle.design_model.specs.View.{design_view}
 use Rattle.design_model.specs.declared.design.Design.{Design}
 use Rattle.design_points.specs.Counted.{HasFewPoints, HasManyPoints}
-use Rattle.dump_replay.specs.Faults.{IsContradicted}
+use Rattle.dump_score.specs.dump_replay.Faults.{IsContradicted}
 use Rattle.dump_score.specs.Faults.{IsDumpFault, SaysSome}
 use Rattle.dump_score.specs.Reading.{IsFile}
 use Rattle.dump_score.specs.Scoring.{AreForced}
 use Rattle.event_machine.specs.Habit.{Free}
-use Rattle.score_tables.specs.Head.{HasHead}
+use Rattle.dump_score.specs.score_tables.Head.{HasHead}
 use Rattle.shown_dumps.specs.Bound.{HasNoBaseline, IsBound}
 use Rattle.shown_dumps.specs.Shown.{bound_dump}
 use Rattle.signal_binding.specs.Binding.{IsNotDumped}
 use Rattle.signal_binding.specs.Names.{stands_in}
 use Rattle.source_design.specs.Accepted.{StandFor}
 use Rattle.source_design.specs.Reading.{HasSources}
-use Rattle.table_laws.specs.Rows.{ListsPoints}
+use Rattle.written_designs.specs.table_laws.Rows.{ListsPoints}
 use Rattle.vcd_reader.specs.Dump.{Dump, IsDump}
 use Rattle.vcd_reader.specs.declared.fault.DumpFault.TheVariants.{At}
-use Rattle.verdict_laws.specs.Reasoned.{IsReasoned}
-use Rattle.verdict_laws.specs.Sound.{IsSound}
+use Rattle.dump_score.specs.verdict_laws.Reasoned.{IsReasoned}
+use Rattle.dump_score.specs.verdict_laws.Sound.{IsSound}
 use Rattle.verilog_lexer.specs.Sources.{SourceText}
 use Rattle.covered_cli.specs.ScoreSources.{sources_in}
 use Rattle.covered_cli.specs.declared.contradiction.Contradiction.{Contradiction}

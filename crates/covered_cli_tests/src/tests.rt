@@ -109,8 +109,7 @@ const SCORE_INV: &[&str] = &[
     "score", "-t", "inv", "-i", "tb.dut", "-v", "inv.v", "-vcd", "D", "-o", "B",
 ];
 
-const INV: &str =
-    "module inv(input a, input b, output y); assign y = a & b; endmodule\n";
+const INV: &str = "module inv(input a, input b, output y); assign y = a & b; endmodule\n";
 
 /// A dump of it.
 const INV_DUMP: &str =

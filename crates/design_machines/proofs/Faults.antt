@@ -1,7 +1,7 @@
 -- Faults of a machine.
 use Rattle.std.proofs.Common.{◌≡◌, ◌⊎◌, ◌∙◌, ℕ, inl, inr, List, Result, Err, sym}
-use Rattle.design_model.specs.Design.{Design}
-use Rattle.design_model.specs.Points.{IsInstanceOf, StateNames}
+use Rattle.state_machines.specs.design_model.Design.{Design}
+use Rattle.state_machines.specs.design_model.Points.{IsInstanceOf, StateNames}
 use Rattle.design_machines.specs.Faults.{IsFaultIn, IsFaultOf}
 use Rattle.design_machines.specs.Machines.{AreMachinesBelow, IsCounted}
 use Rattle.design_machines.specs.declared.fault.StateFault.{StateFault}

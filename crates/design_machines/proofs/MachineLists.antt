@@ -5,8 +5,8 @@ use Rattle.std.proofs.lemmas.Bool.{cases_lt}
 use Rattle.std.proofs.lemmas.List.{take_more}
 use Rattle.four_state.specs.Vector.{Vector, fit}
 use Rattle.four_state.specs.declared.bit.Bit.{Bit}
-use Rattle.design_model.specs.Design.{Design, In, signal_at}
-use Rattle.design_model.specs.Points.{IsInstanceOf, IsStateValue, StateNames}
+use Rattle.state_machines.specs.design_model.Design.{Design, In, signal_at}
+use Rattle.state_machines.specs.design_model.Points.{IsInstanceOf, IsStateValue, StateNames}
 use Rattle.state_machines.specs.Machines.{no_machine}
 use Rattle.design_machines.specs.Machines.{AreMachines, AreMachinesBelow, IsCounted, IsMachineOf}
 use Rattle.design_machines.specs.declared.machine.Machine.{Machine}

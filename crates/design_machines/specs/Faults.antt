@@ -2,8 +2,8 @@
 use Rattle.std.specs.Prelude.{◌≡◌, ◌⊎◌, ◌<◌, ℕ, List, length, slice_index_or, take}
 use Rattle.std.specs.List.{AllZip}
 use Rattle.four_state.specs.Vector.{Vector}
-use Rattle.design_model.specs.Design.{Design}
-use Rattle.design_model.specs.Points.{IsInstanceOf, IsNameOf, IsStateValue, StateNames}
+use Rattle.state_machines.specs.design_model.Design.{Design}
+use Rattle.state_machines.specs.design_model.Points.{IsInstanceOf, IsNameOf, IsStateValue, StateNames}
 use Rattle.state_machines.specs.Machines.{no_machine}
 use Rattle.state_machines.specs.Same.{IsFirstSame}
 use Rattle.state_machines.specs.Values.{IsFirstNoParameter, IsNamedSignal}

@@ -1,2 +1,3 @@
 pub mod Machines
 pub mod Faults
+pub use Rattle.state_machines.specs as state_machines

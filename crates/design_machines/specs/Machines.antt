@@ -2,9 +2,9 @@
 use Rattle.std.specs.Prelude.{◌≡◌, ◌<◌, ◌≤◌, ℕ, List, [], length, slice_index_or}
 use Rattle.std.specs.List.{AllZip}
 use Rattle.four_state.specs.Vector.{Vector}
-use Rattle.design_model.specs.Design.{Design, In, no_instance}
-use Rattle.design_model.specs.declared.design.Instance.{Instance}
-use Rattle.design_model.specs.Points.{IsInstanceOf, IsStateValue, StateNames}
+use Rattle.state_machines.specs.design_model.Design.{Design, In, no_instance}
+use Rattle.state_machines.specs.design_model.declared.design.Instance.{Instance}
+use Rattle.state_machines.specs.design_model.Points.{IsInstanceOf, IsStateValue, StateNames}
 use Rattle.state_machines.specs.Same.{HasBefore}
 use Rattle.state_machines.specs.Values.{IsNamedSignal}
 use Rattle.design_machines.specs.declared.machine.Machine.{Machine}

@@ -1,9 +1,9 @@
 //! A machine in all instances of its module.
 
 ghost use Rattle.std.specs.Prelude.{◌≡◌, ◌⊎◌, ◌↔◌, ◌++◌, ◌∷◌, [], ◌<◌, ℕ, List, Err, IsTrue, OnOk, length};
-ghost use Rattle.design_model.specs.Lawful.{IsLawfulDesign};
-ghost use Rattle.design_model.specs.Points.{IsInstanceOf};
-ghost use Rattle.design_model.specs.View.{design_view};
+ghost use Rattle.state_machines.specs.design_model.Lawful.{IsLawfulDesign};
+ghost use Rattle.state_machines.specs.design_model.Points.{IsInstanceOf};
+ghost use Rattle.state_machines.specs.design_model.View.{design_view};
 ghost use Rattle.state_machines.specs.Seen.{machine_seen};
 ghost use Rattle.design_machines.specs.Faults.{IsFaultOf};
 ghost use Rattle.design_machines.specs.Machines.{AreMachinesBelow, IsCounted, IsOfModule};
@@ -15,8 +15,7 @@ use crate::fault::{no_state, too_many_states};
 use crate::machine::machine_at;
 use crate::{Machine, StateFault};
 use cov_host::NoMemory;
-use design_model::{Design, Instance};
-use state_machines::NamedMachine;
+use state_machines::{Design, Instance, NamedMachine};
 use std::alloc::Global;
 
 /// The greatest number of states of a machine.

@@ -9,4 +9,5 @@ mod table;
 pub use fault::StateFault;
 pub use found::MOST_STATES;
 pub use machine::Machine;
+pub use state_machines::States;
 pub use table::design_machines;

@@ -2,9 +2,9 @@
 
 ghost use Rattle.std.specs.Prelude.{◌≡◌, ◌⊎◌, Err, IfOk};
 ghost use Rattle.std.specs.List.{AllZip};
-ghost use Rattle.design_model.specs.Lawful.{IsLawfulDesign};
-ghost use Rattle.design_model.specs.Points.{IsInstanceOf, IsStateValue};
-ghost use Rattle.design_model.specs.View.{design_view};
+ghost use Rattle.state_machines.specs.design_model.Lawful.{IsLawfulDesign};
+ghost use Rattle.state_machines.specs.design_model.Points.{IsInstanceOf, IsStateValue};
+ghost use Rattle.state_machines.specs.design_model.View.{design_view};
 ghost use Rattle.state_machines.specs.Seen.{machine_seen};
 ghost use Rattle.state_machines.specs.Values.{IsNamedSignal};
 ghost use Rattle.design_machines.specs.Faults.{IsFaultIn};
@@ -15,9 +15,8 @@ ghost use Rattle.design_machines.specs.declared.fault.StateFault.TheVariants as 
 use crate::StateFault;
 use crate::fault::{name_of, no_parameter, no_state, same_state};
 use cov_host::{Name, NoMemory, Sequence};
-use design_model::Design;
 use four_state::Four;
-use state_machines::{InstanceMachine, MachineFault, NamedMachine, first_same, machine_in};
+use state_machines::{Design, InstanceMachine, MachineFault, NamedMachine, first_same, machine_in};
 use std::alloc::Global;
 
 /// A state machine in an instance of its module.

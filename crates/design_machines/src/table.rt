@@ -1,6 +1,6 @@
 ghost use Rattle.std.specs.Prelude.{◌≡◌, ◌⊎◌, Err, IfOk};
-ghost use Rattle.design_model.specs.Lawful.{IsLawfulDesign};
-ghost use Rattle.design_model.specs.View.{design_view};
+ghost use Rattle.state_machines.specs.design_model.Lawful.{IsLawfulDesign};
+ghost use Rattle.state_machines.specs.design_model.View.{design_view};
 ghost use Rattle.design_machines.specs.Faults.{IsStateFault};
 ghost use Rattle.design_machines.specs.Machines.{AreMachines};
 ghost use Rattle.design_machines.specs.declared.fault.StateFault.{StateFault as TheFault};
@@ -8,8 +8,7 @@ ghost use Rattle.design_machines.specs.declared.fault.StateFault.TheVariants as 
 
 use crate::found::push_machines;
 use crate::{Machine, StateFault};
-use design_model::Design;
-use state_machines::States;
+use state_machines::{Design, States};
 use std::alloc::Global;
 
 /// The machines in the instances of a design, in the order in which they were named and then in that of the instances.

@@ -37,3 +37,7 @@ pub mod Gate
 pub mod Pipe
 pub mod Ram
 pub mod WordBit
+pub use Rattle.cov_host.specs as cov_host
+pub use Rattle.event_machine.specs as event_machine
+pub use Rattle.four_state.specs as four_state
+pub use Rattle.point_words.specs as point_words

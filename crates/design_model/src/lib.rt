@@ -32,6 +32,7 @@ mod map;
 mod point;
 mod tree;
 
+pub use cov_host::{NoMemory, Place};
 pub use design::{Alias, Constant, Design, Instance, Memory, Range, Signal};
 pub use examples::{
     bit_of_word, memory_word, moving_input, steady_register, undumped_net, undumped_register,

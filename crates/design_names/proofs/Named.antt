@@ -14,13 +14,13 @@ use Rattle.flat_design.specs.Faults.{answer}
 use Rattle.flat_design.specs.Flat.{elaborated, elaborated_from, module_of, start, top_instance}
 use Rattle.flat_design.specs.Identifiers.{declared_names, names_of}
 use Rattle.flat_design.specs.Instances.{Instantiation, Sofar, context, declared, is_memory, is_own, memory_of, opened, signal_of}
-use Rattle.flat_laws.proofs.Freedom.{IsFree, IsSound, answered_sound}
-use Rattle.flat_laws.proofs.LawfulLimits.{answered_design, answered_keeps, base_of}
-use Rattle.flat_laws.proofs.LawfulNames.{declared_named, in_map_back}
-use Rattle.flat_laws.proofs.LawfulPaths.{found_in}
-use Rattle.flat_laws.proofs.LawfulScope.{found_passes, same_bytes}
-use Rattle.flat_laws.proofs.Members.{in_append, in_filter, in_flat_map_back, in_map, in_right}
-use Rattle.flat_laws.proofs.Steps.{Here, IsBelow, Steps, instance_opens, inner_of}
+use Rattle.parsed_modules.proofs.flat_laws.Freedom.{IsFree, IsSound, answered_sound}
+use Rattle.parsed_modules.proofs.flat_laws.LawfulLimits.{answered_design, answered_keeps, base_of}
+use Rattle.parsed_modules.proofs.flat_laws.LawfulNames.{declared_named, in_map_back}
+use Rattle.parsed_modules.proofs.flat_laws.LawfulPaths.{found_in}
+use Rattle.parsed_modules.proofs.flat_laws.LawfulScope.{found_passes, same_bytes}
+use Rattle.parsed_modules.proofs.flat_laws.Members.{in_append, in_filter, in_flat_map_back, in_map, in_right}
+use Rattle.parsed_modules.proofs.flat_laws.Steps.{Here, IsBelow, Steps, instance_opens, inner_of}
 use Rattle.parsed_modules.specs.Named.{AreNamed}
 use Rattle.verilog_tree.specs.Tree.{InstanceItem, Item, Module, One, instance_item}
 use Rattle.design_names.specs.Names.{AreSmall, HasNames}

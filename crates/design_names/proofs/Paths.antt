@@ -7,7 +7,7 @@ use Rattle.coverage_db.specs.Table.{is_path}
 use Rattle.coverage_db.proofs.Lacking.{name_lacks}
 use Rattle.coverage_db.proofs.Splitting.{pieces_one}
 use Rattle.flat_design.specs.Instances.{dotted}
-use Rattle.flat_laws.proofs.LawfulCounts.{all_append}
+use Rattle.parsed_modules.proofs.flat_laws.LawfulCounts.{all_append}
 
 -- the names in a path
 abbrev pieces : List ℕ → List (List ℕ)

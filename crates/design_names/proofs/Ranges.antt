@@ -15,8 +15,8 @@ use Rattle.flat_design.specs.Fault.{none}
 use Rattle.flat_design.specs.Instances.{constant_scope, declared, sort_words}
 use Rattle.flat_design.specs.Scope.{Scope, names, names_faulty, natural_number, range_or}
 use Rattle.flat_design.proofs.NoConstFaults.{both_false, both_none, bound_clean}
-use Rattle.flat_laws.proofs.LawfulDeclared.{from_all}
-use Rattle.flat_laws.proofs.Members.{in_append, in_flat_map, in_map}
+use Rattle.parsed_modules.proofs.flat_laws.LawfulDeclared.{from_all}
+use Rattle.parsed_modules.proofs.flat_laws.Members.{in_append, in_flat_map, in_map}
 use Rattle.four_state.specs.declared.index.Index.{Index}
 use Rattle.four_state.specs.declared.index.Index.TheVariants as number
 use Rattle.verilog_tree.specs.Tree.{Expr, ItemForm, Module, RangeExpr, continuous_item, always_item, initial_item, instance_item, integer_item, net_item, parameter_item, port_item, variable_item}

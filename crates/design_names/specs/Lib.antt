@@ -1,1 +1,2 @@
 pub mod Names
+pub use Rattle.parsed_modules.specs as parsed_modules

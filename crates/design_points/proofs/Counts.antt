@@ -9,11 +9,11 @@ use Rattle.cover_points.specs.declared.fault.PointFault.TheVariants as fault
 use Rattle.cover_points.specs.declared.listing.Points.{Points}
 use Rattle.cover_points.proofs.Apart.{points_once}
 use Rattle.cover_points.proofs.Members.{in_contains}
-use Rattle.design_machines.specs.Faults.{IsStateFault}
-use Rattle.design_machines.specs.Machines.{AreMachines}
-use Rattle.design_machines.specs.declared.fault.StateFault.{StateFault}
-use Rattle.design_machines.specs.declared.fault.StateFault.TheVariants as of_machines
-use Rattle.design_machines.specs.declared.machine.Machine.{Machine}
+use Rattle.cover_points.specs.design_machines.Faults.{IsStateFault}
+use Rattle.cover_points.specs.design_machines.Machines.{AreMachines}
+use Rattle.cover_points.specs.design_machines.declared.fault.StateFault.{StateFault}
+use Rattle.cover_points.specs.design_machines.declared.fault.StateFault.TheVariants as of_machines
+use Rattle.cover_points.specs.design_machines.declared.machine.Machine.{Machine}
 use Rattle.design_model.specs.Design.{AreDistinct, Design, In}
 use Rattle.design_model.specs.Points.{StateNames}
 use Rattle.design_points.specs.Counted.{HasFewPoints, HasManyPoints}

@@ -5,11 +5,11 @@ use Rattle.std.proofs.lemmas.Bool.{and_parts, leb-true, ltb-true}
 use Rattle.four_state.specs.Parts.{index}
 use Rattle.four_state.specs.declared.bit.Bit.{Bit}
 use Rattle.four_state.specs.declared.bit.Bit.TheVariants.{X}
-use Rattle.known_state.specs.Join.{joined}
+use Rattle.term_replay.specs.known_state.Join.{joined}
 use Rattle.design_model.specs.Design.{is_memory, memory_at, signal_cells}
 use Rattle.design_model.specs.Value.{named_word}
-use Rattle.body_replay.specs.KnownBits.{KnownBits, on_whole, whole_bits}
-use Rattle.body_replay.specs.Store.{join_words, kept_word, may_name, option_kept, read_word, words}
+use Rattle.term_replay.specs.body_replay.KnownBits.{KnownBits, on_whole, whole_bits}
+use Rattle.term_replay.specs.body_replay.Store.{join_words, kept_word, may_name, option_kept, read_word, words}
 use Rattle.design_targets.specs.Written.{all_x, smallest_design}
 
 -- it has one signal and one memory

@@ -1,7 +1,7 @@
 -- What the texts of the processes of a design may write is what their machine may write.
 use Rattle.std.specs.Prelude.{◌≡◌, ◌↔◌, ◌+◌, ◌<◌, ℕ, Bool, true, false, length}
 use Rattle.std.specs.List.{Contains}
-use Rattle.event_machine.specs.Cell.{Cell}
+use Rattle.design_model.specs.event_machine.Cell.{Cell}
 use Rattle.design_model.specs.Design.{Design, body_at}
 use Rattle.design_model.specs.Machine.{machine}
 use Rattle.design_targets.specs.Written.{written}

@@ -10,7 +10,7 @@ use Rattle.design_model.specs.Mentions.{blank, is_constant}
 use Rattle.design_model.specs.Shape.{is_alone, is_body}
 use Rattle.design_model.specs.Tree.{Process, Stmt, Term}
 use Rattle.design_model.specs.Value.{head, value}
-use Rattle.body_replay.specs.Store.{Kept}
+use Rattle.term_replay.specs.body_replay.Store.{Kept}
 use Rattle.term_replay.specs.Stands.{Scene}
 use Rattle.design_targets.specs.Leaves.{Leaf, leaves}
 

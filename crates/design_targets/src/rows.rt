@@ -11,7 +11,7 @@ use crate::leaves::{Leaf, push_leaves};
 use crate::place::has_place;
 use cov_host::NoMemory;
 use design_model::Process;
-use index_sets::Rows;
+use early_sets::Rows;
 use std::alloc::Global;
 
 /// For each process the signals and memories of which its blocking assignments may write a bit, or with `false` its

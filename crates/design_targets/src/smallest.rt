@@ -2,12 +2,11 @@
 
 ghost use Rattle.std.specs.Prelude.{◌≡◌, ◌∷◌, [], false, ⊤};
 ghost use Rattle.four_state.specs.declared.bit.Bit.TheVariants.{X};
-ghost use Rattle.known_state.specs.Partly.{whole_of};
+ghost use Rattle.term_replay.specs.known_state.Partly.{whole_of};
 
 use design_model::Range;
 use four_state::{Bit, Four};
-use known_state::Known;
-use term_replay::{Notes, Reads, Spot};
+use term_replay::{Known, Notes, Reads, Spot};
 
 /// One signal and one memory of one word, each of one bit, which is x. A constant reads neither.
 #[derive(Drop)]

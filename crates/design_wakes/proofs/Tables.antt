@@ -5,7 +5,7 @@ use Rattle.std.proofs.Math.ListN.{get_or-map}
 use Rattle.std.proofs.lemmas.List.{map-append, take_more}
 use Rattle.std.proofs.lemmas.Simd.{map-map}
 use Rattle.four_state.specs.declared.edge.Edge.{Edge}
-use Rattle.event_machine.specs.Machine.{Edge as MachineEdge}
+use Rattle.design_model.specs.event_machine.Machine.{Edge as MachineEdge}
 use Rattle.design_model.specs.Design.{cell, no_process}
 use Rattle.design_model.specs.Machine.{is_level, lists_edge, same_edge}
 use Rattle.design_model.specs.Tree.{Process, assign, clocked, comb}

@@ -1,7 +1,7 @@
 -- What wakes each process of a list of processes, by signal and memory.
 use Rattle.std.specs.Prelude.{◌≡◌, ◌<◌, ◌↔◌, if◌then◌else◌, ℕ, true, List, [], ◌∷◌, length, slice_index_or}
 use Rattle.std.specs.List.{Contains}
-use Rattle.event_machine.specs.Machine.{Edge as MachineEdge, Posedge, Negedge}
+use Rattle.design_model.specs.event_machine.Machine.{Edge as MachineEdge, Posedge, Negedge}
 use Rattle.four_state.specs.declared.edge.Edge.{Edge}
 use Rattle.four_state.specs.declared.edge.Edge.TheVariants.{Neg, Pos}
 use Rattle.design_model.specs.Design.{cell, no_process}

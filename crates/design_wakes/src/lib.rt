@@ -11,4 +11,5 @@ mod turned;
 
 pub use edges::{edge_rows, event_rows};
 pub use level::level_rows;
+pub use process_names::{push_assigned, push_level};
 pub use turned::transpose;

@@ -25,7 +25,7 @@ use Rattle.shown_dumps.proofs.Dumps.{codes_long, is_dump}
 use Rattle.shown_dumps.proofs.Ongoing.{values_given}
 use Rattle.shown_dumps.proofs.Times.{times_are}
 use Rattle.shown_dumps.proofs.Values.{first_until}
-use Rattle.step_values.specs.Dumped.{AreDumped}
+use Rattle.replay_core.specs.step_values.Dumped.{AreDumped}
 use Rattle.dump_replay.proofs.More.{times_time}
 
 -- a code without a value is told by the test

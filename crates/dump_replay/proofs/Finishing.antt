@@ -9,10 +9,10 @@ use Rattle.design_model.specs.View.{design_view}
 use Rattle.design_model.specs.declared.design.Design.{Design}
 use Rattle.early_sets.specs.declared.habit.Habit.TheVariants.{Free}
 use Rattle.event_machine.specs.Habit.{Free as free}
-use Rattle.mark_laws.specs.Marked.{AreVerdicts}
+use Rattle.replay_core.specs.mark_laws.Marked.{AreVerdicts}
 use Rattle.replay_core.specs.Followed.{AreFinal}
 use Rattle.replay_core.specs.Parts.{IsNew, made_of}
-use Rattle.replay_follows.specs.Laws.{IsLastStep}
+use Rattle.replay_core.specs.replay_follows.Laws.{IsLastStep}
 use Rattle.score_tables.proofs.Tables.{unmarked}
 use Rattle.signal_binding.specs.Binding.{codes_of}
 use Rattle.vcd_reader.specs.Dump.{steps_of}

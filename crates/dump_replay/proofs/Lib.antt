@@ -5,3 +5,5 @@ pub mod Ends
 pub mod Following
 pub mod Closing
 pub mod Finishing
+pub use Rattle.score_tables.proofs.instance_paths as instance_paths
+pub use Rattle.shown_dumps.proofs as shown_dumps

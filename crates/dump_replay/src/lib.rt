@@ -9,3 +9,5 @@
 mod replay;
 
 pub use replay::DumpReplay;
+pub use replay_core::ReplayFault;
+pub use score_tables::score_table;

@@ -4,8 +4,8 @@ use Rattle.std.proofs.lemmas.Bool.{false≢true}
 use Rattle.std.specs.Prelude.{IsSome}
 use Rattle.design_model.specs.declared.design.Design.{Design}
 use Rattle.dump_replay.specs.Faults.{IsReplayFault}
-use Rattle.replay_core.specs.declared.fault.ReplayFault.{ReplayFault}
-use Rattle.replay_core.specs.declared.fault.ReplayFault.TheVariants.{Contradiction, NoBaseline}
+use Rattle.dump_replay.specs.replay_core.declared.fault.ReplayFault.{ReplayFault}
+use Rattle.dump_replay.specs.replay_core.declared.fault.ReplayFault.TheVariants.{Contradiction, NoBaseline}
 use Rattle.signal_binding.specs.Binding.{IsBindFault, IsBindable}
 use Rattle.signal_binding.specs.declared.fault.BindFault.{BindFault}
 use Rattle.signal_binding.specs.declared.fault.BindFault.TheVariants as bind_fault

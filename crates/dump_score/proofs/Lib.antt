@@ -4,3 +4,4 @@ pub mod Widths
 pub mod Opening
 pub mod Scored
 pub mod BindingFirst
+pub use Rattle.dump_replay.proofs.instance_paths as instance_paths

@@ -3,7 +3,7 @@ use Rattle.std.proofs.Common.{◌≡◌, ℕ, ◌<◌, ◌≤◌, ◌^◌, List,
 use Rattle.std.proofs.lemmas.List.{length-map}
 use Rattle.std.proofs.lemmas.List.Elements.{All-head, All-tail}
 use Rattle.cov_host.specs.Outside.{Outside}
-use Rattle.cover_marks.specs.declared.marks.Marks.{Marks}
+use Rattle.dump_replay.specs.cover_marks.declared.marks.Marks.{Marks}
 use Rattle.cover_points.specs.declared.listing.Points.{Points}
 use Rattle.coverage_db.specs.declared.db.Db.{Db}
 use Rattle.design_model.specs.Design.{In}
@@ -14,11 +14,11 @@ use Rattle.dump_replay.specs.declared.replay.DumpReplay.{DumpReplay}
 use Rattle.entry_laws.proofs.Texts.{body_entries}
 use Rattle.entry_laws.specs.Entries.{AreEntries, IsEntry}
 use Rattle.event_machine.specs.Habit.{Free}
-use Rattle.score_tables.specs.Scored.{HasSmallTimes, IsScoreTable}
-use Rattle.shown_dumps.proofs.Times.{times_are}
-use Rattle.shown_dumps.specs.Bound.{IsBound}
-use Rattle.shown_dumps.specs.Said.{times_in}
-use Rattle.shown_dumps.specs.Shown.{bound_dump, dump_of}
+use Rattle.dump_replay.specs.score_tables.Scored.{HasSmallTimes, IsScoreTable}
+use Rattle.dump_replay.proofs.shown_dumps.Times.{times_are}
+use Rattle.dump_replay.specs.shown_dumps.Bound.{IsBound}
+use Rattle.dump_replay.specs.shown_dumps.Said.{times_in}
+use Rattle.dump_replay.specs.shown_dumps.Shown.{bound_dump, dump_of}
 use Rattle.signal_binding.specs.Binding.{codes_of}
 use Rattle.vcd_reader.proofs.RisingTimes.{times_rise}
 use Rattle.vcd_reader.specs.Dump.{Dump, steps_of}

@@ -28,7 +28,7 @@ use Rattle.dump_replay.specs.Followed.{HasFollowed}
 use Rattle.dump_replay.specs.declared.replay.DumpReplay.{DumpReplay}
 use Rattle.entry_laws.proofs.Texts.{body_entries, entries_so_far}
 use Rattle.entry_laws.specs.Entries.{AreEntries}
-use Rattle.replay_core.specs.declared.fault.ReplayFault.{ReplayFault}
+use Rattle.dump_replay.specs.replay_core.declared.fault.ReplayFault.{ReplayFault}
 use Rattle.dump_score.specs.Faults.{IsEndFault, IsFoundFault}
 use Rattle.dump_score.specs.Scoring.{CanSay, HasScored, IsReading, IsScoring, IsScoringSome, entries_of}
 use Rattle.dump_score.specs.declared.fault.ScoreFault.TheVariants as fault

@@ -6,10 +6,10 @@ use Rattle.design_model.specs.declared.design.Design.{Design}
 use Rattle.dump_replay.specs.declared.replay.DumpReplay.{DumpReplay}
 use Rattle.entry_laws.specs.Entries.{AreEntries, FitsCode, IsEntry}
 use Rattle.four_state.specs.Vector.{Vector}
-use Rattle.replay_core.specs.Parts.{made_of}
-use Rattle.shown_dumps.proofs.Bits.{found_first}
-use Rattle.shown_dumps.proofs.Dumps.{code_is, coded_signal}
-use Rattle.shown_dumps.specs.Shown.{code_at}
+use Rattle.dump_replay.specs.replay_core.Parts.{made_of}
+use Rattle.dump_replay.proofs.shown_dumps.Bits.{found_first}
+use Rattle.dump_replay.proofs.shown_dumps.Dumps.{code_is, coded_signal}
+use Rattle.dump_replay.specs.shown_dumps.Shown.{code_at}
 use Rattle.signal_binding.specs.Binding.{codes_of, names_of, signal_of}
 use Rattle.vcd_reader.specs.declared.entry.Entry.{Entry}
 use Rattle.vcd_reader.specs.declared.entry.Entry.TheVariants.{Value}

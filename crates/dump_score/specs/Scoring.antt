@@ -13,9 +13,9 @@ use Rattle.dump_replay.specs.declared.replay.DumpReplay.{DumpReplay}
 use Rattle.entry_laws.specs.Entries.{AreEntries}
 use Rattle.event_machine.specs.Habit.{Free}
 use Rattle.four_state.specs.declared.bit.Bit.{Bit}
-use Rattle.score_tables.specs.Scored.{IsScoreTable}
-use Rattle.shown_dumps.specs.Bound.{IsBound}
-use Rattle.shown_dumps.specs.Shown.{bound_dump}
+use Rattle.dump_replay.specs.score_tables.Scored.{IsScoreTable}
+use Rattle.dump_replay.specs.shown_dumps.Bound.{IsBound}
+use Rattle.dump_replay.specs.shown_dumps.Shown.{bound_dump}
 use Rattle.vcd_reader.specs.Dump.{Dump, IsDump}
 use Rattle.vcd_reader.specs.Pieces.{BodyHasEnded, BodyHasRead, Splits, body_at_end}
 use Rattle.vcd_reader.specs.Reading.{Body}

@@ -2,7 +2,7 @@ ghost use Rattle.std.specs.Prelude.{◌≡◌};
 ghost use Rattle.dump_score.specs.declared.fault.ScoreFault.TheVariants as score_fault;
 
 use cov_host::NoMemory;
-use replay_core::ReplayFault;
+use dump_replay::ReplayFault;
 use signal_binding::BindFault;
 use std::alloc::AllocError;
 use vcd_reader::DumpFault;

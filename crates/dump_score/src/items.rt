@@ -18,9 +18,8 @@ use crate::ScoreFault;
 use crate::header::Span;
 use crate::pieces::read;
 use cov_host::Host;
-use dump_replay::DumpReplay;
+use dump_replay::{DumpReplay, ReplayFault};
 use four_state::Four;
-use replay_core::ReplayFault;
 use vcd_reader::{Body, DumpFault, DumpKind, Saying};
 
 /// The longest dump, in bytes.

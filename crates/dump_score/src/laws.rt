@@ -2,7 +2,7 @@
 
 ghost use Rattle.std.specs.Prelude.{◌≢◌, ℕ, List};
 ghost use Rattle.design_model.specs.declared.design.Design.{Design};
-ghost use Rattle.replay_core.specs.declared.fault.ReplayFault.{ReplayFault};
+ghost use Rattle.dump_replay.specs.replay_core.declared.fault.ReplayFault.{ReplayFault};
 ghost use Rattle.signal_binding.specs.declared.fault.BindFault.{BindFault};
 ghost use Rattle.signal_binding.specs.declared.fault.BindFault.TheVariants as bind_fault;
 ghost use Rattle.vcd_reader.specs.declared.fault.DumpFault.TheVariants as dump_fault;

@@ -13,6 +13,7 @@ mod laws;
 mod pieces;
 mod score;
 
+pub use dump_replay::ReplayFault;
 pub use fault::ScoreFault;
 pub use laws::binding_goes_first;
 pub use score::score_dump;

@@ -1,9 +1,9 @@
 ghost use Rattle.std.specs.Prelude.{◌<◌, IfErr, IfOk, length};
 ghost use Rattle.design_model.specs.View.{design_view};
-ghost use Rattle.design_points.specs.Counted.{AreAllPoints};
-ghost use Rattle.instance_paths.specs.Rooted.{IsRooted};
-ghost use Rattle.replay_core.specs.Fits.{IsReplayable};
-ghost use Rattle.table_laws.specs.Written.{IsWritten};
+ghost use Rattle.dump_replay.specs.design_points.Counted.{AreAllPoints};
+ghost use Rattle.dump_replay.specs.instance_paths.Rooted.{IsRooted};
+ghost use Rattle.dump_replay.specs.replay_core.Fits.{IsReplayable};
+ghost use Rattle.dump_replay.specs.table_laws.Written.{IsWritten};
 ghost use Rattle.whole_files.specs.Effects.{OnlyReads};
 ghost use Rattle.dump_score.specs.Faults.{IsScoreFault};
 ghost use Rattle.dump_score.specs.Scoring.{IsScoreOfFile};
@@ -16,8 +16,7 @@ use cov_host::{Host, Name, Sequence};
 use cover_points::Points;
 use coverage_db::Db;
 use design_model::Design;
-use dump_replay::DumpReplay;
-use score_tables::score_table;
+use dump_replay::{DumpReplay, score_table};
 use std::alloc::Global;
 
 /// The database of a design of continuous assignments and combinational blocks, which has these points and was read from

@@ -10,3 +10,5 @@ pub mod Rounds
 pub mod Early
 pub mod Turns
 pub mod Settled
+pub use Rattle.index_sets.specs as index_sets
+pub use Rattle.wake_tables.specs as wake_tables

@@ -23,6 +23,7 @@ mod wakes;
 
 pub use edges::Edges;
 pub use habit::Habit;
+pub use index_sets::Rows;
 pub(crate) use rule::Rule;
 pub use turns::{TurnCount, Turns, Uncounted};
 pub use wakes::Wakes;

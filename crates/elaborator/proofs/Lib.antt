@@ -13,3 +13,4 @@ pub mod WalkPorts
 pub mod WalkItems
 pub mod NamedLemmas
 pub mod WalkOnes
+pub use Rattle.flat_laws.proofs as flat_laws

@@ -11,9 +11,9 @@ use Rattle.design_model.specs.Mentions.{blocking_target}
 use Rattle.body_replay.specs.Contract.{quiet}
 use Rattle.body_replay.specs.Runs.{Runs}
 use Rattle.process_order.proofs.Distinct.{contains_in, in_either, in_filter, in_left, in_right}
-use Rattle.replay_model.specs.Start.{Starting, after_first, all_first, first_kept, first_store, run_all_first, run_first}
-use Rattle.replay_model.specs.Tables.{AreTables, Tables}
-use Rattle.replay_model.proofs.Clocked.{at_false, at_true}
+use Rattle.process_order.specs.replay_model.Start.{Starting, after_first, all_first, first_kept, first_store, run_all_first, run_first}
+use Rattle.process_order.specs.replay_model.Tables.{AreTables, Tables}
+use Rattle.process_order.proofs.replay_model.Clocked.{at_false, at_true}
 use Rattle.wake_list.specs.Members.{IsOnce, has}
 use Rattle.wake_list.proofs.MemberLemmas.{once_few}
 use Rattle.first_step.specs.Begun.{assigns}

@@ -19,19 +19,19 @@ use Rattle.dump_check.specs.Checks.{AgreesAt, IsFirstDifference, last_of_each, m
 use Rattle.dump_check.specs.declared.order.Difference.{Difference}
 use Rattle.index_sets.specs.Rows.{row_at}
 use Rattle.process_order.proofs.Distinct.{contains_in, filter_in, in_right}
-use Rattle.process_targets.specs.Rows.{AreTargetRows}
-use Rattle.process_targets.specs.Targets.{row_has}
-use Rattle.process_targets.specs.declared.bits.Bits.{Bits}
-use Rattle.replay_model.specs.Start.{Starting, all_first, contradicts_first}
-use Rattle.replay_model.specs.Step.{is_dumped, known_bits, surely_differ}
-use Rattle.replay_model.specs.Tables.{Tables}
+use Rattle.settling.specs.process_targets.Rows.{AreTargetRows}
+use Rattle.settling.specs.process_targets.Targets.{row_has}
+use Rattle.settling.specs.process_targets.declared.bits.Bits.{Bits}
+use Rattle.process_order.specs.replay_model.Start.{Starting, all_first, contradicts_first}
+use Rattle.process_order.specs.replay_model.Step.{is_dumped, known_bits, surely_differ}
+use Rattle.process_order.specs.replay_model.Tables.{Tables}
 use Rattle.settling.specs.First.{AtFirst}
-use Rattle.step_values.specs.Dumped.{AreDumped}
-use Rattle.step_values.specs.Loose.{has_code}
-use Rattle.step_values.specs.Vectors.{StepVectors}
-use Rattle.step_values.proofs.Dumps.{bits_in}
-use Rattle.still_check.proofs.Bits.{allowed, differ_of, differs}
-use Rattle.step_changes.proofs.Found.{code_of}
+use Rattle.settling.specs.step_values.Dumped.{AreDumped}
+use Rattle.settling.specs.step_values.Loose.{has_code}
+use Rattle.settling.specs.step_values.Vectors.{StepVectors}
+use Rattle.settling.proofs.step_values.Dumps.{bits_in}
+use Rattle.step_check.proofs.still_check.Bits.{allowed, differ_of, differs}
+use Rattle.step_check.proofs.step_changes.Found.{code_of}
 use Rattle.step_check.specs.Checks.{AreCheckRows}
 use Rattle.step_check.proofs.Lists.{all_in, checked_has, flat_in, has_checked, in_flat, in_last, last_in}
 use Rattle.value_store.specs.Signals.{no_value}

@@ -14,11 +14,11 @@ use Rattle.design_model.specs.Design.{Design, cell, signal_at, signal_cells}
 use Rattle.body_replay.specs.Store.{Kept}
 use Rattle.body_store.specs.Made.{nothing}
 use Rattle.body_store.specs.declared.store.Store.{Store}
-use Rattle.store_knowledge.specs.Knows.{Knows}
-use Rattle.step_values.specs.Dumped.{AreDumped, putting}
-use Rattle.step_values.specs.Loose.{has_code}
-use Rattle.step_values.specs.Vectors.{FitsSignals, StepVectors, vector_at}
-use Rattle.step_values.proofs.Aside.{set_there, set_wide}
+use Rattle.settling.specs.store_knowledge.Knows.{Knows}
+use Rattle.settling.specs.step_values.Dumped.{AreDumped, putting}
+use Rattle.settling.specs.step_values.Loose.{has_code}
+use Rattle.settling.specs.step_values.Vectors.{FitsSignals, StepVectors, vector_at}
+use Rattle.settling.proofs.step_values.Aside.{set_there, set_wide}
 use Rattle.first_step.specs.Begun.{MakesNothing, Puts, putting_all}
 
 -- ---- by which signals

@@ -10,11 +10,11 @@ use Rattle.design_model.specs.Design.{Design, signal_at}
 use Rattle.body_replay.specs.Runs.{runs_of}
 use Rattle.body_store.specs.Made.{nothing}
 use Rattle.body_store.specs.declared.store.Store.{Store}
-use Rattle.replay_model.specs.Start.{Starting, all_first, first_kept, run_all_first}
-use Rattle.replay_model.specs.Tables.{Tables}
-use Rattle.store_knowledge.specs.Knows.{Knows}
-use Rattle.step_values.specs.Loose.{has_code}
-use Rattle.step_values.specs.Vectors.{FitsSignals, StepVectors}
+use Rattle.process_order.specs.replay_model.Start.{Starting, all_first, first_kept, run_all_first}
+use Rattle.process_order.specs.replay_model.Tables.{Tables}
+use Rattle.settling.specs.store_knowledge.Knows.{Knows}
+use Rattle.settling.specs.step_values.Loose.{has_code}
+use Rattle.settling.specs.step_values.Vectors.{FitsSignals, StepVectors}
 use Rattle.settling.specs.First.{AtFirst}
 use Rattle.first_step.specs.Begun.{IsFirstOf, Puts}
 

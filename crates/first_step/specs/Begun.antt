@@ -8,10 +8,10 @@ use Rattle.design_model.specs.Design.{Design, is_assign, process_at, signal_at, 
 use Rattle.body_replay.specs.Store.{Kept}
 use Rattle.body_store.specs.Made.{nothing}
 use Rattle.body_store.specs.declared.store.Store.{Store}
-use Rattle.store_knowledge.specs.Knows.{Knows}
-use Rattle.step_values.specs.Dumped.{AreDumped}
-use Rattle.step_values.specs.Loose.{has_code}
-use Rattle.step_values.specs.Vectors.{FitsSignals, StepVectors, vector_at}
+use Rattle.settling.specs.store_knowledge.Knows.{Knows}
+use Rattle.settling.specs.step_values.Dumped.{AreDumped}
+use Rattle.settling.specs.step_values.Loose.{has_code}
+use Rattle.settling.specs.step_values.Vectors.{FitsSignals, StepVectors, vector_at}
 
 -- the Assigns among some processes of a design
 abbrev pub assigns : Design → List ℕ → List ℕ

@@ -9,13 +9,13 @@ ghost use Rattle.body_replay.specs.Store.{Kept};
 ghost use Rattle.dump_check.specs.Checks.{IsFirstDifference, last_of_each};
 ghost use Rattle.index_sets.specs.Rows.{row_at};
 ghost use Rattle.process_order.specs.Tables.{tables_of};
-ghost use Rattle.replay_model.specs.Start.{contradicts_first, started};
-ghost use Rattle.replay_model.specs.Tables.{AreTables};
-ghost use Rattle.store_knowledge.specs.Knows.{Knows};
+ghost use Rattle.process_order.specs.replay_model.Start.{contradicts_first, started};
+ghost use Rattle.process_order.specs.replay_model.Tables.{AreTables};
+ghost use Rattle.settling.specs.store_knowledge.Knows.{Knows};
 ghost use Rattle.step_check.specs.Checks.{AreCheckRows};
-ghost use Rattle.step_values.specs.Dumped.{AreDumped};
-ghost use Rattle.step_values.specs.Loose.{has_code};
-ghost use Rattle.step_values.specs.Vectors.{FitsSignals};
+ghost use Rattle.settling.specs.step_values.Dumped.{AreDumped};
+ghost use Rattle.settling.specs.step_values.Loose.{has_code};
+ghost use Rattle.settling.specs.step_values.Vectors.{FitsSignals};
 ghost use Rattle.settling.specs.Runs.{HasRows};
 ghost use Rattle.first_step.specs.Begun.{IsFirstOf};
 
@@ -26,11 +26,10 @@ use code_values::CodeValues;
 use dump_check::{CheckOrder, Difference};
 use index_sets::Rows;
 use process_order::ProcessTables;
-use settling::{ProcessRows, Scratch};
+use settling::{ProcessRows, Scratch, StepValues};
 use std::sync::ledger::Ledger;
 use step_check::check;
 use step_counts::Steps;
-use step_values::StepValues;
 use value_store::Queue;
 
 /// The first step: the dump's values are put into a store that knows nothing, and each Assign runs once, those of `tables.order`

@@ -4,16 +4,15 @@ ghost use Rattle.std.specs.Prelude.{◌≡◌, ◌<◌, ◌≤◌, ◌==◌, ◌
 ghost use Rattle.event_machine.specs.Cell.{Values};
 ghost use Rattle.four_state.specs.declared.bit.Bit.{Bit};
 ghost use Rattle.design_model.specs.View.{design_view};
-ghost use Rattle.step_values.specs.Dumped.{AreDumped};
-ghost use Rattle.step_values.specs.Loose.{has_code};
-ghost use Rattle.step_values.specs.Vectors.{FitsSignals};
+ghost use Rattle.settling.specs.step_values.Dumped.{AreDumped};
+ghost use Rattle.settling.specs.step_values.Loose.{has_code};
+ghost use Rattle.settling.specs.step_values.Vectors.{FitsSignals};
 ghost use Rattle.first_step.specs.Begun.{MakesNothing, Puts};
 
 use body_store::Store;
 use code_values::CodeValues;
 use known_state::Known;
-use settling::ProcessRows;
-use step_values::{StepValues, is_coded, put_dump};
+use settling::{ProcessRows, StepValues, is_coded, put_dump};
 
 /// Puts in what the dump says of each signal that has a code; nothing was made of these signals yet. It takes constant time for
 /// each signal of the design.

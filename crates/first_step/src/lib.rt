@@ -13,3 +13,7 @@ mod runs;
 
 pub use begin::begin_first;
 pub use laws::first_example;
+pub use settling::{
+    Found, ProcessRows, SavedValues, Scratch, StepValues, Wake, new_store_law, wake_rows, wakes_of,
+};
+pub use step_check::{check, check_rows};

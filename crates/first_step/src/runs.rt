@@ -10,21 +10,20 @@ ghost use Rattle.design_model.specs.View.{design_view, process_view};
 ghost use Rattle.body_replay.specs.Runs.{runs_of};
 ghost use Rattle.body_replay.specs.Store.{Kept};
 ghost use Rattle.index_sets.specs.Rows.{row_at};
-ghost use Rattle.replay_model.specs.Start.{Starting, run_all_first, run_first as run_first_of};
-ghost use Rattle.replay_model.specs.Tables.{Tables};
-ghost use Rattle.store_knowledge.specs.Knows.{Knows};
-ghost use Rattle.step_values.specs.Loose.{has_code};
-ghost use Rattle.step_values.specs.Vectors.{FitsSignals};
+ghost use Rattle.process_order.specs.replay_model.Start.{Starting, run_all_first, run_first as run_first_of};
+ghost use Rattle.process_order.specs.replay_model.Tables.{Tables};
+ghost use Rattle.settling.specs.store_knowledge.Knows.{Knows};
+ghost use Rattle.settling.specs.step_values.Loose.{has_code};
+ghost use Rattle.settling.specs.step_values.Vectors.{FitsSignals};
 ghost use Rattle.settling.specs.First.{AtFirst};
 ghost use Rattle.settling.specs.Runs.{HasRows};
 ghost use Rattle.first_step.specs.Begun.{assigns};
 
 use body_store::Store;
 use design_model::Process;
-use settling::{ProcessRows, Scratch, run_first};
+use settling::{ProcessRows, Scratch, StepValues, run_first};
 use std::sync::ledger::Ledger;
 use step_counts::Steps;
-use step_values::StepValues;
 use value_store::Queue;
 
 /// Runs the Assigns among some processes, in order, and puts their numbers after those that ran. Each run is one step.

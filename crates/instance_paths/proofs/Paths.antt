@@ -4,9 +4,9 @@ use Rattle.std.proofs.lemmas.Bool.{false≢true}
 use Rattle.design_model.specs.Design.{Design, In, no_instance}
 use Rattle.design_model.specs.declared.design.Instance.{Instance}
 use Rattle.verilog_tree.specs.Tree.{Module}
-use Rattle.flat_design.specs.Faults.{answer}
-use Rattle.flat_design.specs.Flat.{elaborated, elaborated_from, module_of, start, top_instance}
-use Rattle.flat_design.specs.Instances.{Instantiation, Sofar, dotted, opened}
+use Rattle.flat_laws.specs.flat_design.Faults.{answer}
+use Rattle.flat_laws.specs.flat_design.Flat.{elaborated, elaborated_from, module_of, start, top_instance}
+use Rattle.flat_laws.specs.flat_design.Instances.{Instantiation, Sofar, dotted, opened}
 use Rattle.flat_laws.proofs.Freedom.{IsFree, IsSound, answered_sound}
 use Rattle.flat_laws.proofs.LawfulLimits.{answered_design, answered_keeps, base_of}
 use Rattle.flat_laws.proofs.Members.{in_append}

@@ -6,7 +6,7 @@
 ghost use Rattle.std.specs.Prelude.{◌≡◌, ℕ, List, Ok};
 ghost use Rattle.design_model.specs.Design.{Design};
 ghost use Rattle.verilog_tree.specs.Tree.{Module};
-ghost use Rattle.flat_design.specs.Faults.{answer};
+ghost use Rattle.flat_laws.specs.flat_design.Faults.{answer};
 ghost use Rattle.instance_paths.specs.Rooted.{IsRooted};
 
 /// The first instance of the flat design of modules is the top, and each is the top or below it.

@@ -2,12 +2,12 @@
 use Rattle.std.proofs.Common.{◌≡◌, ◌≢◌, ◌⊎◌, ◌<◌, ◌++◌, ℕ, Option, Some, None, List, [], ◌∷◌, length, get_or, set, replicate, refl, sym, ap, subst, ◌∙◌, append_assoc, inl, inr, arith}
 use Rattle.std.proofs.lemmas.Bool.{cases_eq}
 use Rattle.std.proofs.lemmas.List.{get_or-replicate, get_or-set_same, get_or-set_other, length-replicate, length-set}
-use Rattle.body_replay.specs.Contract.{Doubted}
+use Rattle.replay_model.specs.body_replay.Contract.{Doubted}
 use Rattle.cover_points.specs.Listed.{points_of}
 use Rattle.cover_points.specs.Visits.{AreApart, AreOnce, point_at}
 use Rattle.cover_points.specs.declared.listing.Points.{Points}
-use Rattle.design_model.specs.Design.{Design}
-use Rattle.design_model.specs.declared.point.Point.{Point}
+use Rattle.replay_model.specs.design_model.Design.{Design}
+use Rattle.replay_model.specs.design_model.declared.point.Point.{Point}
 use Rattle.point_marks.specs.Marking.{with_doubt}
 use Rattle.point_marks.specs.declared.verdict.Doubt.{Doubt}
 use Rattle.point_marks.specs.declared.verdict.Verdict.{Verdict}

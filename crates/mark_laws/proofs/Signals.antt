@@ -3,14 +3,14 @@ use Rattle.std.proofs.Common.{◌≡◌, ◌≢◌, ◌<◌, ◌+◌, ◌++◌, 
 use Rattle.std.specs.Prelude.{if◌then◌else◌}
 use Rattle.std.proofs.lemmas.Bool.{cases_eq}
 use Rattle.std.proofs.lemmas.List.{append-nil}
-use Rattle.four_state.specs.declared.bit.Bit.{Bit}
-use Rattle.body_replay.specs.Contract.{Doubted}
+use Rattle.replay_model.specs.four_state.declared.bit.Bit.{Bit}
+use Rattle.replay_model.specs.body_replay.Contract.{Doubted}
 use Rattle.cover_points.specs.Listed.{points_of}
 use Rattle.cover_points.specs.Visits.{AreOnce, no_point, point_at}
 use Rattle.cover_points.specs.declared.listing.Points.{Points}
-use Rattle.design_model.specs.Design.{Design}
-use Rattle.design_model.specs.declared.point.Point.{Point}
-use Rattle.design_model.specs.declared.point.Point.TheVariants as point
+use Rattle.replay_model.specs.design_model.Design.{Design}
+use Rattle.replay_model.specs.design_model.declared.point.Point.{Point}
+use Rattle.replay_model.specs.design_model.declared.point.Point.TheVariants as point
 use Rattle.point_marks.specs.declared.verdict.Verdict.{Verdict}
 use Rattle.point_marks.specs.declared.verdict.Verdict.TheVariants as marks
 use Rattle.replay_model.specs.Marks.{IsKeyOf, IsVerdict, Marking, of_point}

@@ -2,15 +2,15 @@
 use Rattle.std.proofs.Common.{◌≡◌, ◌≢◌, ◌<◌, ◌++◌, ℕ, zero, suc, true, false, Option, Some, None, List, [], ◌∷◌, length, get_or, refl, sym, ap, subst, ◌∙◌, inl, inr, arith}
 use Rattle.std.specs.List.{All, Contains}
 use Rattle.std.proofs.lemmas.List.Elements.{All-head, All-tail}
-use Rattle.body_replay.specs.Contract.{Doubted}
-use Rattle.body_replay.specs.Replay.{Spot, line, node, word_read, word_write}
+use Rattle.replay_model.specs.body_replay.Contract.{Doubted}
+use Rattle.replay_model.specs.body_replay.Replay.{Spot, line, node, word_read, word_write}
 use Rattle.cover_points.specs.Listed.{points_of}
 use Rattle.cover_points.specs.Visits.{AreApart, AreOnce, point_at, visit_of}
 use Rattle.cover_points.specs.declared.listing.Points.{Points}
 use Rattle.cover_points.specs.declared.visit.Visit.TheVariants.{Line, Node}
-use Rattle.design_model.specs.Design.{Design}
-use Rattle.design_model.specs.declared.point.Point.{Point}
-use Rattle.design_model.specs.declared.point.Point.TheVariants as point
+use Rattle.replay_model.specs.design_model.Design.{Design}
+use Rattle.replay_model.specs.design_model.declared.point.Point.{Point}
+use Rattle.replay_model.specs.design_model.declared.point.Point.TheVariants as point
 use Rattle.point_marks.specs.Marking.{IsVerdict, Marking, doubt_of as doubt_told, hit_of}
 use Rattle.point_marks.specs.declared.verdict.Doubt.{Doubt}
 use Rattle.point_marks.specs.declared.verdict.Verdict.{Verdict}

@@ -1,13 +1,13 @@
 -- What a replay reports, as markings of the numbers of points.
 use Rattle.std.specs.Prelude.{◌≡◌, ◌<◌, ℕ, List, [], ◌∷◌, length, Option, Some, None, ⊤}
-use Rattle.body_replay.specs.Contract.{Doubted}
-use Rattle.body_replay.specs.Replay.{Spot, line, node, word_read, word_write}
+use Rattle.replay_model.specs.body_replay.Contract.{Doubted}
+use Rattle.replay_model.specs.body_replay.Replay.{Spot, line, node, word_read, word_write}
 use Rattle.cover_points.specs.Listed.{points_of}
 use Rattle.cover_points.specs.Visits.{point_at}
 use Rattle.cover_points.specs.declared.listing.Points.{Points}
 use Rattle.cover_points.specs.declared.visit.Visit.{Visit}
 use Rattle.cover_points.specs.declared.visit.Visit.TheVariants.{Line, Node, Read, Write}
-use Rattle.design_model.specs.Design.{Design}
+use Rattle.replay_model.specs.design_model.Design.{Design}
 use Rattle.point_marks.specs.Marking.{Marking}
 use Rattle.point_marks.specs.declared.verdict.Doubt.{Doubt}
 use Rattle.point_marks.specs.declared.verdict.Verdict.{Verdict}

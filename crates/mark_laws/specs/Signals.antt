@@ -1,6 +1,6 @@
 -- The verdicts after the points on signals are reported, each at most once in a step.
 use Rattle.std.specs.Prelude.{◌≡◌, ◌<◌, ℕ, List, [], ◌∷◌, length, Option, Some, None}
-use Rattle.body_replay.specs.Contract.{Doubted}
+use Rattle.replay_model.specs.body_replay.Contract.{Doubted}
 use Rattle.cover_points.specs.Listed.{points_of}
 use Rattle.cover_points.specs.Visits.{point_at}
 use Rattle.cover_points.specs.declared.listing.Points.{Points}

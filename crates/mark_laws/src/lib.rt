@@ -11,12 +11,12 @@
 #![tactic(auto)]
 
 ghost use Rattle.std.specs.Prelude.{◌≡◌, ◌<◌, ◌++◌, ◌∷◌, [], ℕ, List, None, Some, length, replicate, slice_set};
-ghost use Rattle.body_replay.specs.Replay.{Spot};
+ghost use Rattle.replay_model.specs.body_replay.Replay.{Spot};
 ghost use Rattle.cover_points.specs.Listed.{points_of};
 ghost use Rattle.cover_points.specs.Visits.{AreApart, AreOnce, point_at, visit_of};
 ghost use Rattle.cover_points.specs.declared.listing.Points.{Points};
-ghost use Rattle.design_model.specs.Design.{Design};
-ghost use Rattle.design_model.specs.declared.point.Point.{Point};
+ghost use Rattle.replay_model.specs.design_model.Design.{Design};
+ghost use Rattle.replay_model.specs.design_model.declared.point.Point.{Point};
 ghost use Rattle.mark_laws.specs.Marked.{AreVerdicts, IsNoKey, verdict_at};
 ghost use Rattle.mark_laws.specs.Signals.{FollowNotes};
 ghost use Rattle.mark_laws.specs.Numbered.{AreNumbered, doubt_of, verdict_view, visit_at};

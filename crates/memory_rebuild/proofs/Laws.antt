@@ -4,7 +4,7 @@ use Rattle.std.specs.Prelude.{nat_le, ℤ, pos, negsuc}
 use Rattle.std.specs.List.{range_with_len}
 use Rattle.std.proofs.lemmas.List.{get_or-replicate}
 use Rattle.std.proofs.lemmas.Bool.{cases_Bool, cases_eq, eqb-true, false≢true}
-use Rattle.event_machine.specs.Cell.{Cell}
+use Rattle.body_replay.specs.event_machine.Cell.{Cell}
 use Rattle.four_state.specs.declared.bit.Bit.{Bit}
 use Rattle.four_state.specs.declared.bit.Bit.TheVariants.{X}
 use Rattle.four_state.specs.Vector.{Vector, fill}
@@ -12,9 +12,9 @@ use Rattle.four_state.specs.Arithmetic.{low_bits}
 use Rattle.four_state.specs.Parts.{index}
 use Rattle.known_state.specs.Partly.{Partly, allows_bits, is_whole, whole_of}
 use Rattle.known_state.specs.Join.{joined}
-use Rattle.design_model.specs.Design.{Design, In, memory_at, word_cells, cell}
-use Rattle.design_model.specs.declared.design.Memory.{Memory}
-use Rattle.design_model.specs.Value.{named_word}
+use Rattle.body_replay.specs.design_model.Design.{Design, In, memory_at, word_cells, cell}
+use Rattle.body_replay.specs.design_model.declared.design.Memory.{Memory}
+use Rattle.body_replay.specs.design_model.Value.{named_word}
 use Rattle.body_replay.specs.KnownBits.{AllAllow, KnownBits, on_whole, sure, whole_bits, unknown}
 use Rattle.body_replay.specs.Store.{Kept, KnownWrite, is_word, join_words, keep_all, known_word_writes, may_name, option_kept, perhaps_words, read_word, weaken, words, writes_of}
 use Rattle.body_replay.proofs.Answered.{same_sure}

@@ -5,3 +5,4 @@ pub mod Reading
 pub mod Kept
 pub mod Weakening
 pub mod Laws
+pub use Rattle.body_replay.proofs as body_replay

@@ -20,7 +20,7 @@ use Rattle.known_state.proofs.Allowed.{allowed_by_places, length-filled}
 use Rattle.known_state.proofs.Cases.{both_true}
 use Rattle.known_state.proofs.Strict.{known-cut, known_for}
 use Rattle.known_state.proofs.Widths.{length-low_bits}
-use Rattle.design_model.specs.Value.{named_word}
+use Rattle.body_replay.specs.design_model.Value.{named_word}
 use Rattle.body_replay.specs.KnownBits.{KnownBits}
 use Rattle.body_replay.specs.Store.{is_word}
 use Rattle.body_replay.proofs.Values.{named_bounds}

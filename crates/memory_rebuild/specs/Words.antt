@@ -1,15 +1,15 @@
 -- Memories of which the words are partly known: what an index reads, and what a write leaves of each word.
 use Rattle.std.specs.Prelude.{◌≡◌, ℕ, ◌+◌, ◌-◌, ◌≤◌, min, max, Bool, if◌then◌else◌, List, [], ◌∷◌, length, replicate, slice_index_or, Option, Some, None}
-use Rattle.event_machine.specs.Cell.{Cell}
+use Rattle.body_replay.specs.event_machine.Cell.{Cell}
 use Rattle.four_state.specs.declared.bit.Bit.{Bit}
 use Rattle.four_state.specs.declared.bit.Bit.TheVariants.{X}
 use Rattle.four_state.specs.Vector.{fill}
 use Rattle.four_state.specs.Parts.{index}
 use Rattle.known_state.specs.Partly.{Partly, is_whole, with_blame}
 use Rattle.known_state.specs.Join.{joined}
-use Rattle.design_model.specs.Design.{Design, memory_at, no_memory}
-use Rattle.design_model.specs.declared.design.Memory.{Memory}
-use Rattle.design_model.specs.Value.{named_word}
+use Rattle.body_replay.specs.design_model.Design.{Design, memory_at, no_memory}
+use Rattle.body_replay.specs.design_model.declared.design.Memory.{Memory}
+use Rattle.body_replay.specs.design_model.Value.{named_word}
 use Rattle.body_replay.specs.KnownBits.{KnownBits, AllAllow, whole_bits, sure, unknown, on_whole}
 use Rattle.body_replay.specs.Store.{Kept, KnownWrite, is_word, kept_word, may_name, weaken, words, write_word}
 use Rattle.memory_rebuild.specs.declared.shape.Shape.{Shape}

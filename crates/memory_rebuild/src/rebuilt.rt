@@ -1,7 +1,7 @@
 ghost use Rattle.std.specs.Prelude.{◌≡◌, ◌+◌, ◌<◌, ◌==◌, ◌≤◌, ℕ, List, All, Contains, IfOk, MatchOption, None, Some, false, true, if◌then◌else◌, length};
 ghost use Rattle.four_state.specs.declared.bit.Bit.{Bit};
 ghost use Rattle.known_state.specs.Partly.{is_whole as is_whole_value, with_blame};
-ghost use Rattle.design_model.specs.Design.{Design, memory_at};
+ghost use Rattle.body_replay.specs.design_model.Design.{Design, memory_at};
 ghost use Rattle.body_replay.specs.KnownBits.{AllAllow, unknown, whole_bits};
 ghost use Rattle.body_replay.specs.Store.{Kept, keep_all, read_word};
 ghost use Rattle.memory_rebuild.specs.Words.{AllowsWords, HaveWidth, IsForgotten, IsIndex, StandsFor, bits_left, cell_writes, least, count, may_be, named_by, option_word, read_of, true_word, true_words, unwritten, word_after, word_at};

@@ -4,8 +4,8 @@ use Rattle.std.specs.Prelude.{nat_le, nat_lt}
 use Rattle.std.specs.List.{list_any, range_with_len}
 use Rattle.std.proofs.lemmas.List.{get_or_past}
 use Rattle.std.proofs.lemmas.Bool.{and_from, and_parts, cases_lt, eqb-true, false≢true, le-leb, leb-true, lt-ltb, ltb-true, or_cases, or_left, or_right}
-use Rattle.event_machine.specs.Cell.{Cell, Values, same_cell}
-use Rattle.four_state.specs.declared.bit.Bit.{Bit}
+use Rattle.design_model.specs.event_machine.Cell.{Cell, Values, same_cell}
+use Rattle.design_model.specs.four_state.declared.bit.Bit.{Bit}
 use Rattle.design_model.specs.Design.{Design, In, IsThing, Thing, a_signal, a_word, cell, cells, is_memory, memory_at, no_memory, no_signal, signal_at, signal_cells, thing_bits, word_cells}
 use Rattle.design_model.specs.Execution.{Visit, at_line, at_node, reads, writes_word}
 use Rattle.design_model.specs.Machine.{is_input_cell}

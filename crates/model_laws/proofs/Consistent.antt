@@ -1,9 +1,9 @@
 -- What is clear contradicts itself at no time: by rounds, and in time.
 use Rattle.std.proofs.Common.{◌≡◌, ⊎_elim, ℕ, zero, suc, ◌+◌, ◌<◌, ◌≤◌, List, length, max, refl, sym, subst, ◌∙◌, arith}
 use Rattle.std.proofs.lemmas.Bool.{cases_lt}
-use Rattle.event_machine.specs.Cell.{Values}
-use Rattle.event_machine.specs.Habit.{Habit}
-use Rattle.four_state.specs.declared.bit.Bit.{Bit}
+use Rattle.design_model.specs.event_machine.Cell.{Values}
+use Rattle.design_model.specs.event_machine.Habit.{Habit}
+use Rattle.design_model.specs.four_state.declared.bit.Bit.{Bit}
 use Rattle.design_model.specs.Design.{Design, IsThing, Thing, a_signal, a_word, memory_at, owner, thing_bits}
 use Rattle.design_model.specs.Mentions.{blank}
 use Rattle.design_model.specs.Reads.{Agrees, HasValue, PartialMap, nothing_known}

@@ -1,13 +1,13 @@
 -- A point of an Assign or Comb for which nothing is in doubt is hit in each run that shows the dump, or in none, also where a memory wakes it.
 use Rattle.std.proofs.Common.{◌≡◌, ◌≢◌, ◌⊎◌, inl, inr, ⊎_elim, ℕ, suc, ◌<◌, ◌≤◌, ◌-◌, Bool, true, false, List, [], ◌∷◌, ◌++◌, length, nat_le, refl, sym, ap, subst, ◌∙◌, arith, if◌then◌else◌}
 use Rattle.std.proofs.lemmas.Bool.{and_parts, both_ways, cases_Bool, cases_lt, false_from_ne_true, leb-true}
-use Rattle.event_machine.specs.Cell.{Cell, Values, Write, WritesCell}
-use Rattle.event_machine.specs.Machine.{IsTarget, IsWakeCell, output}
-use Rattle.event_machine.specs.Habit.{Habit}
-use Rattle.event_machine.specs.Laws.{EvaluatesSettled}
-use Rattle.event_machine.specs.Step.{outputs}
-use Rattle.four_state.specs.Vector.{same_bit}
-use Rattle.four_state.specs.declared.bit.Bit.{Bit}
+use Rattle.design_model.specs.event_machine.Cell.{Cell, Values, Write, WritesCell}
+use Rattle.design_model.specs.event_machine.Machine.{IsTarget, IsWakeCell, output}
+use Rattle.design_model.specs.event_machine.Habit.{Habit}
+use Rattle.design_model.specs.event_machine.Laws.{EvaluatesSettled}
+use Rattle.design_model.specs.event_machine.Step.{outputs}
+use Rattle.design_model.specs.four_state.Vector.{same_bit}
+use Rattle.design_model.specs.four_state.declared.bit.Bit.{Bit}
 use Rattle.design_model.specs.Tree.{Process, assign, clocked, comb}
 use Rattle.design_model.specs.Design.{Design, In, IsClocked, IsComb, IsThing, Thing, a_signal, a_word, body_at, cell, cells, is_assign, owner, process_at, signal_at, thing_bits}
 use Rattle.design_model.specs.Mentions.{body_assigns, body_mentions}

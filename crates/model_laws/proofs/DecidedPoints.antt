@@ -1,6 +1,6 @@
 -- The decided law for each point.
 use Rattle.std.proofs.Common.{◌⊎◌, inl, inr, ⊎_elim, zero, suc}
-use Rattle.event_machine.specs.Habit.{Habit}
+use Rattle.design_model.specs.event_machine.Habit.{Habit}
 use Rattle.design_model.specs.Tree.{Process, assign, clocked, comb}
 use Rattle.design_model.specs.Design.{Design, IsClocked, process_at}
 use Rattle.design_model.specs.Machine.{machine}

@@ -3,8 +3,8 @@ use Rattle.std.proofs.Common.{◌≡◌, ◌⊎◌, ⊎_elim, inl, inr, ℕ, zer
 use Rattle.std.specs.Prelude.{nat_lt}
 use Rattle.std.specs.List.{list_all}
 use Rattle.std.proofs.lemmas.Bool.{and_right, both_ways, cases_Bool, cases_lt, eqb-true, false≢true, lt-ltb, ltb-true}
-use Rattle.event_machine.specs.Cell.{Cell}
-use Rattle.event_machine.specs.Machine.{IsWakeCell}
+use Rattle.design_model.specs.event_machine.Cell.{Cell}
+use Rattle.design_model.specs.event_machine.Machine.{IsWakeCell}
 use Rattle.design_model.specs.Tree.{Process, all_of, assign, clocked, comb}
 use Rattle.design_model.specs.Design.{Design, In, IsAssign, IsClocked, IsComb, body_at, cell, is_assign, is_number, path_of, process_at, signal_at}
 use Rattle.design_model.specs.Mentions.{any_set, body_assigns, body_queues, may_write}

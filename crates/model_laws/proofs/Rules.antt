@@ -3,9 +3,9 @@ use Rattle.std.proofs.Common.{◌≡◌, ◌≢◌, ◌⊎◌, inl, inr, ⊎_eli
 use Rattle.std.specs.Prelude.{nat_le, slice_index_or}
 use Rattle.std.specs.List.{list_all, list_any, range_with_len}
 use Rattle.std.proofs.lemmas.Bool.{and_parts, both_ways, cases_Bool, cases_lt, false≢true, leb-true, or_cases}
-use Rattle.event_machine.specs.Cell.{Cell, Values, put_all}
-use Rattle.event_machine.specs.Habit.{Habit}
-use Rattle.four_state.specs.declared.bit.Bit.{Bit}
+use Rattle.design_model.specs.event_machine.Cell.{Cell, Values, put_all}
+use Rattle.design_model.specs.event_machine.Habit.{Habit}
+use Rattle.design_model.specs.four_state.declared.bit.Bit.{Bit}
 use Rattle.design_model.specs.Tree.{Process, assign, clocked, comb}
 use Rattle.design_model.specs.Design.{Design, IsAssign, IsClocked, IsComb, IsThing, Thing, a_signal, a_word, body, body_at, cell, is_assign, no_process, owner, process_at, signal_at, thing_bits}
 use Rattle.design_model.specs.Mentions.{any_set, body_assigns, may_write, target_names}

@@ -2,9 +2,9 @@
 use Rattle.std.proofs.Common.{◌≡◌, ◌⊎◌, inl, inr, ⊎_elim, ℕ, zero, suc, ◌+◌, ◌<◌, ◌≤◌, ◌==◌, Bool, true, false, List, [], ◌∷◌, length, refl, sym, ap, ap₂, subst, ◌∙◌, arith, eq-eqb, if◌then◌else◌}
 use Rattle.std.specs.Prelude.{nat_le}
 use Rattle.std.proofs.lemmas.Bool.{and_parts, both_ways, cases_Bool, cases_lt, eqb-true, ltb-true}
-use Rattle.event_machine.specs.Cell.{Cell, Values}
-use Rattle.four_state.specs.Vector.{same_bit}
-use Rattle.four_state.specs.declared.bit.Bit.{Bit}
+use Rattle.design_model.specs.event_machine.Cell.{Cell, Values}
+use Rattle.design_model.specs.four_state.Vector.{same_bit}
+use Rattle.design_model.specs.four_state.declared.bit.Bit.{Bit}
 use Rattle.design_model.specs.Design.{Design, IsThing, Thing, a_signal, a_word, owner, thing_bits}
 use Rattle.design_model.specs.Reads.{PartialMap}
 use Rattle.design_model.proofs.Lawful.{same_bit_is, same_bit_self}

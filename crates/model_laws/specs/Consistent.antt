@@ -1,8 +1,8 @@
 -- What is clear contradicts itself in no dump, and what follows for a signal that an Assign both drives and mentions.
 use Rattle.std.specs.Prelude.{◌≡◌, ℕ, true, false, List}
-use Rattle.event_machine.specs.Cell.{Values}
-use Rattle.event_machine.specs.Habit.{Habit}
-use Rattle.four_state.specs.declared.bit.Bit.{Bit}
+use Rattle.design_model.specs.event_machine.Cell.{Values}
+use Rattle.design_model.specs.event_machine.Habit.{Habit}
+use Rattle.design_model.specs.four_state.declared.bit.Bit.{Bit}
 use Rattle.design_model.specs.Design.{Design, Thing, a_signal, body_at, is_assign, process_at}
 use Rattle.design_model.specs.Mentions.{body_assigns, body_mentions}
 use Rattle.design_model.specs.Reads.{Agrees, HasValue}

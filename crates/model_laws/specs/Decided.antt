@@ -1,6 +1,6 @@
 -- Each point is decided where nothing is in doubt for it, whatever its blocks are and whatever they are sensitive to.
 use Rattle.std.specs.Prelude.{◌⊎◌}
-use Rattle.event_machine.specs.Habit.{Habit}
+use Rattle.design_model.specs.event_machine.Habit.{Habit}
 use Rattle.design_model.specs.Design.{Design}
 use Rattle.design_model.specs.declared.point.Point.{Point}
 use Rattle.design_model.specs.DecidedLaw.{IsBlockPoint, IsDecided, IsSignalPoint}

@@ -1,9 +1,9 @@
 -- Signals that an Assign both drives and mentions: when it has a wake bit of them, and what holds where it has none.
 use Rattle.std.specs.Prelude.{◌≡◌, ◌≢◌, ◌⊎◌, ◌∷◌, ◌<◌, ℕ, true, false, [], length, codes}
 use Rattle.std.specs.List.{list_any}
-use Rattle.event_machine.specs.Cell.{Cell, Values}
-use Rattle.four_state.specs.declared.bit.Bit.{Bit}
-use Rattle.four_state.specs.declared.bit.Bit.TheVariants.{X, Zero}
+use Rattle.design_model.specs.event_machine.Cell.{Cell, Values}
+use Rattle.design_model.specs.four_state.declared.bit.Bit.{Bit}
+use Rattle.design_model.specs.four_state.declared.bit.Bit.TheVariants.{X, Zero}
 use Rattle.design_model.specs.Tree.{Term, all_of, assign, bit, signal}
 use Rattle.design_model.specs.Design.{Design, body_at, cell, is_assign, process_at}
 use Rattle.design_model.specs.Value.{value}

@@ -6,7 +6,7 @@
 //! reads a net which it drives has a wake bit ([`own_wake_law`]).
 #![tactic(auto)]
 
-ghost use Rattle.event_machine.specs.Habit.{Habit};
+ghost use Rattle.design_model.specs.event_machine.Habit.{Habit};
 ghost use Rattle.design_model.specs.Design.{Design as DesignTree};
 ghost use Rattle.design_model.specs.Lawful.{IsLawfulDesign};
 ghost use Rattle.model_laws.specs.Decided.{DecidedLaw};

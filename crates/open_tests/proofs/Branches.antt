@@ -1,24 +1,24 @@
 -- The forms of a statement, step by step: conditions, cases and arms.
 use Rattle.std.proofs.Common.{Bool, List, None, Option, Some, [], ap, false, refl, subst, sym, true, ℕ, ◌∙◌, ◌∷◌, ◌≡◌}
-use Rattle.four_state.specs.declared.operator.CaseKind.{CaseKind}
-use Rattle.known_state.specs.Maybe.{Holds}
-use Rattle.known_state.specs.Partly.{Partly}
-use Rattle.known_state.specs.declared.maybe.Maybe.{Maybe}
-use Rattle.known_state.specs.declared.maybe.Maybe.TheVariants.{Yes, No, Unsure}
-use Rattle.design_model.specs.Design.{Design, nowhere}
-use Rattle.design_model.specs.Tree.{Arms, Stmt, Stmts, Term, Terms, branch, select}
-use Rattle.body_replay.specs.KnownBits.{holds, known_truth}
-use Rattle.body_replay.specs.Store.{KnownWrite, known_value}
-use Rattle.body_replay.specs.Replay.{Mark, Mode, State, again, blame_of, decide, deeper, evaluate_known, joined_states, label_first, label_marks, labels_blame, labels_match, reach, run, run_all, run_arms, run_default, see_labels}
-use Rattle.term_replay.specs.Noted.{Adds, in_this, mark_of, marks_of}
-use Rattle.term_replay.specs.Questions.{IsAnswer, answer_of, blame_in}
-use Rattle.term_replay.specs.Stands.{Scene, Stands, first_after}
-use Rattle.term_replay.specs.declared.evaluation.Progress.{Progress}
-use Rattle.term_replay.specs.declared.notes.Spot.TheVariants.{Line}
-use Rattle.body_calls.specs.Lvalues.{Like}
-use Rattle.body_calls.specs.Ways.{Around, in_second, joined_scene}
-use Rattle.scene_laws.specs.At.{IsState, scene_of}
-use Rattle.scene_laws.proofs.LikeScenes.{alike_value}
+use Rattle.assignments.specs.four_state.declared.operator.CaseKind.{CaseKind}
+use Rattle.assignments.specs.known_state.Maybe.{Holds}
+use Rattle.assignments.specs.known_state.Partly.{Partly}
+use Rattle.assignments.specs.known_state.declared.maybe.Maybe.{Maybe}
+use Rattle.assignments.specs.known_state.declared.maybe.Maybe.TheVariants.{Yes, No, Unsure}
+use Rattle.assignments.specs.design_model.Design.{Design, nowhere}
+use Rattle.assignments.specs.design_model.Tree.{Arms, Stmt, Stmts, Term, Terms, branch, select}
+use Rattle.assignments.specs.body_replay.KnownBits.{holds, known_truth}
+use Rattle.assignments.specs.body_replay.Store.{KnownWrite, known_value}
+use Rattle.assignments.specs.body_replay.Replay.{Mark, Mode, State, again, blame_of, decide, deeper, evaluate_known, joined_states, label_first, label_marks, labels_blame, labels_match, reach, run, run_all, run_arms, run_default, see_labels}
+use Rattle.assignments.specs.term_replay.Noted.{Adds, in_this, mark_of, marks_of}
+use Rattle.assignments.specs.term_replay.Questions.{IsAnswer, answer_of, blame_in}
+use Rattle.assignments.specs.term_replay.Stands.{Scene, Stands, first_after}
+use Rattle.assignments.specs.term_replay.declared.evaluation.Progress.{Progress}
+use Rattle.assignments.specs.term_replay.declared.notes.Spot.TheVariants.{Line}
+use Rattle.assignments.specs.body_calls.Lvalues.{Like}
+use Rattle.assignments.specs.body_calls.Ways.{Around, in_second, joined_scene}
+use Rattle.assignments.specs.scene_laws.At.{IsState, scene_of}
+use Rattle.assignments.proofs.scene_laws.LikeScenes.{alike_value}
 use Rattle.open_tests.specs.declared.after_arm.AfterArm.TheVariants.{Next, Open, Ran}
 use Rattle.open_tests.proofs.Cases.{ArmRuns, IsBlamed}
 use Rattle.open_tests.proofs.LikeLabels.{labels_answer, labels_blamed, labels_state}

@@ -1,21 +1,21 @@
 -- The arms of a case, one arm further.
 use Rattle.std.proofs.Common.{Bool, List, Option, [], add-one, ap, arith, drop, drop-cons, false, get_or, if◌then◌else◌, length, map, refl, subst, suc, sym, true, ℕ, ◌+◌, ◌<◌, ◌≤◌, ◌∙◌, ◌∷◌, ◌≡◌}
-use Rattle.four_state.specs.declared.operator.CaseKind.{CaseKind}
-use Rattle.known_state.specs.Partly.{Partly, is_whole}
-use Rattle.design_model.specs.Design.{Design}
-use Rattle.design_model.specs.Execution.{is_default}
-use Rattle.design_model.specs.Tree.{Arms, Stmt, Target, Terms, arm, no_arms}
-use Rattle.design_model.specs.View.{arms_of, stmt_view, term_view, terms_of}
-use Rattle.design_model.specs.declared.tree.CaseArm.{CaseArm}
-use Rattle.design_model.specs.declared.tree.StmtForm.TheFolds.{fold_out-CaseArm}
-use Rattle.body_replay.specs.Store.{KnownWrite}
-use Rattle.body_replay.specs.Replay.{Mark, Mode, State, run_arms, run_default}
-use Rattle.term_replay.specs.Stands.{Scene}
-use Rattle.term_replay.specs.declared.evaluation.Progress.{Progress}
-use Rattle.value_store.specs.Rooms.{arm_view}
-use Rattle.body_calls.specs.Rooms.{Leaves, Rooms}
-use Rattle.body_calls.specs.Ways.{Around}
-use Rattle.scene_laws.specs.At.{IsState}
+use Rattle.assignments.specs.four_state.declared.operator.CaseKind.{CaseKind}
+use Rattle.assignments.specs.known_state.Partly.{Partly, is_whole}
+use Rattle.assignments.specs.design_model.Design.{Design}
+use Rattle.assignments.specs.design_model.Execution.{is_default}
+use Rattle.assignments.specs.design_model.Tree.{Arms, Stmt, Target, Terms, arm, no_arms}
+use Rattle.assignments.specs.design_model.View.{arms_of, stmt_view, term_view, terms_of}
+use Rattle.assignments.specs.design_model.declared.tree.CaseArm.{CaseArm}
+use Rattle.assignments.specs.design_model.declared.tree.StmtForm.TheFolds.{fold_out-CaseArm}
+use Rattle.assignments.specs.body_replay.Store.{KnownWrite}
+use Rattle.assignments.specs.body_replay.Replay.{Mark, Mode, State, run_arms, run_default}
+use Rattle.assignments.specs.term_replay.Stands.{Scene}
+use Rattle.assignments.specs.term_replay.declared.evaluation.Progress.{Progress}
+use Rattle.assignments.specs.value_store.Rooms.{arm_view}
+use Rattle.assignments.specs.body_calls.Rooms.{Leaves, Rooms}
+use Rattle.assignments.specs.body_calls.Ways.{Around}
+use Rattle.assignments.specs.scene_laws.At.{IsState}
 use Rattle.assignments.specs.Takes.{HasRoom, set_logs, set_queues}
 use Rattle.open_tests.specs.Arms.{IsAfter, arm_of}
 use Rattle.open_tests.specs.Open.{AreOpen, AreSecond, OpenArm, close}

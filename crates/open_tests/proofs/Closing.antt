@@ -1,12 +1,12 @@
 -- The second branches of undecided arms, ended one after the other.
 use Rattle.std.proofs.Common.{List, Option, [], arith, length, refl, subst, suc, sym, zero, ℕ, ◌-◌, ◌<◌, ◌∙◌, ◌∷◌, ◌≡◌}
-use Rattle.design_model.specs.Design.{Design}
-use Rattle.body_replay.specs.Store.{KnownWrite}
-use Rattle.body_replay.specs.Replay.{State, joined_states}
-use Rattle.term_replay.specs.Stands.{Scene}
-use Rattle.body_calls.specs.Lvalues.{Like}
-use Rattle.body_calls.specs.Ways.{Around, in_second, joined_scene}
-use Rattle.scene_laws.specs.At.{IsState}
+use Rattle.assignments.specs.design_model.Design.{Design}
+use Rattle.assignments.specs.body_replay.Store.{KnownWrite}
+use Rattle.assignments.specs.body_replay.Replay.{State, joined_states}
+use Rattle.assignments.specs.term_replay.Stands.{Scene}
+use Rattle.assignments.specs.body_calls.Lvalues.{Like}
+use Rattle.assignments.specs.body_calls.Ways.{Around, in_second, joined_scene}
+use Rattle.assignments.specs.scene_laws.At.{IsState}
 use Rattle.open_tests.specs.Open.{AreOpen, AreSecond, OpenArm, close}
 use Rattle.open_tests.proofs.States.{joined_state}
 

@@ -3,14 +3,14 @@ use Rattle.std.proofs.Common.{Bool, List, [], ap, arith, false, if◌then◌else
 use Rattle.std.proofs.lemmas.Bool.{eqb-true}
 use Rattle.std.specs.Global.{Vec}
 use Rattle.std.specs.Prelude.{vec_len}
-use Rattle.design_model.specs.Design.{Design}
-use Rattle.design_model.specs.Execution.{is_default}
-use Rattle.design_model.specs.Tree.{Arms, Stmt, Terms, arm}
-use Rattle.design_model.specs.View.{term_view, terms_of}
-use Rattle.design_model.specs.declared.tree.Term.{Term}
-use Rattle.body_replay.specs.Replay.{Mode, State, run, run_default}
-use Rattle.body_calls.specs.Rooms.{Leaves, Rooms}
-use Rattle.body_calls.specs.Ways.{Around}
+use Rattle.assignments.specs.design_model.Design.{Design}
+use Rattle.assignments.specs.design_model.Execution.{is_default}
+use Rattle.assignments.specs.design_model.Tree.{Arms, Stmt, Terms, arm}
+use Rattle.assignments.specs.design_model.View.{term_view, terms_of}
+use Rattle.assignments.specs.design_model.declared.tree.Term.{Term}
+use Rattle.assignments.specs.body_replay.Replay.{Mode, State, run, run_default}
+use Rattle.assignments.specs.body_calls.Rooms.{Leaves, Rooms}
+use Rattle.assignments.specs.body_calls.Ways.{Around}
 use Rattle.assignments.specs.Takes.{HasRoom, set_logs, set_queues}
 use Rattle.open_tests.specs.Weights.{HasRoomFor, LeavesBy, default_logs, default_queues, logs, queues, weigh, weigh_default}
 use Rattle.open_tests.proofs.Weighing.{leaves_inside, leaves_more, leaves_none, room_inside}

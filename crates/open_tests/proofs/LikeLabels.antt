@@ -1,21 +1,21 @@
 -- The labels of an arm on scenes that are alike, and the state after they are evaluated.
 use Rattle.std.proofs.Common.{Bool, List, None, Option, Some, ap, ap₂, false, if◌then◌else◌, refl, sym, true, ℕ, ◌++◌, ◌∙◌, ◌≡◌}
-use Rattle.four_state.specs.declared.operator.CaseKind.{CaseKind}
-use Rattle.known_state.specs.Partly.{Partly, is_whole}
-use Rattle.design_model.specs.Design.{Design}
-use Rattle.design_model.specs.Tree.{Terms, a_term, no_terms}
-use Rattle.body_replay.specs.KnownBits.{KnownBits, all_sure, known_match}
-use Rattle.body_replay.specs.Store.{Kept, KnownWrite, known_value}
-use Rattle.body_replay.specs.Replay.{Blames, Mark, Mode, State, after_first, after_label, blame_of, first_read, label_first, label_marks, labels_blame, labels_match, see_labels, select_blame, term_marks, undecided}
-use Rattle.body_replay.proofs.Answered.{same_sure}
-use Rattle.body_replay.proofs.Unsure.{match_none}
-use Rattle.term_replay.specs.Noted.{Adds, in_this}
-use Rattle.term_replay.specs.Stands.{Scene}
-use Rattle.term_replay.proofs.Marking.{adds_same}
-use Rattle.body_calls.specs.Lvalues.{Like}
-use Rattle.scene_laws.specs.At.{IsState, scene_of}
-use Rattle.scene_laws.proofs.LikeScenes.{like_blames}
-use Rattle.scene_laws.proofs.LikeTerms.{LikeBlames, term_like}
+use Rattle.assignments.specs.four_state.declared.operator.CaseKind.{CaseKind}
+use Rattle.assignments.specs.known_state.Partly.{Partly, is_whole}
+use Rattle.assignments.specs.design_model.Design.{Design}
+use Rattle.assignments.specs.design_model.Tree.{Terms, a_term, no_terms}
+use Rattle.assignments.specs.body_replay.KnownBits.{KnownBits, all_sure, known_match}
+use Rattle.assignments.specs.body_replay.Store.{Kept, KnownWrite, known_value}
+use Rattle.assignments.specs.body_replay.Replay.{Blames, Mark, Mode, State, after_first, after_label, blame_of, first_read, label_first, label_marks, labels_blame, labels_match, see_labels, select_blame, term_marks, undecided}
+use Rattle.assignments.proofs.body_replay.Answered.{same_sure}
+use Rattle.assignments.proofs.body_replay.Unsure.{match_none}
+use Rattle.assignments.specs.term_replay.Noted.{Adds, in_this}
+use Rattle.assignments.specs.term_replay.Stands.{Scene}
+use Rattle.assignments.proofs.term_replay.Marking.{adds_same}
+use Rattle.assignments.specs.body_calls.Lvalues.{Like}
+use Rattle.assignments.specs.scene_laws.At.{IsState, scene_of}
+use Rattle.assignments.proofs.scene_laws.LikeScenes.{like_blames}
+use Rattle.assignments.proofs.scene_laws.LikeTerms.{LikeBlames, term_like}
 
 -- by two blames that bodies do not tell apart, and two blames of the selector that are the same where it is not wholly sure
 module _ (d : Design) (k : Kept) (e e' : Blames) (like : LikeBlames d k e e') (kind : CaseKind) (on : KnownBits) (b b' : ℕ) (same : all_sure on ≡ false → b' ≡ b) where

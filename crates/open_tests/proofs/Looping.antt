@@ -1,13 +1,13 @@
 -- Statements one after the other.
 use Rattle.std.proofs.Common.{List, Option, ap, arith, refl, subst, ℕ, ◌+◌, ◌≤◌, ◌∙◌, ◌≡◌}
-use Rattle.design_model.specs.Design.{Design}
-use Rattle.design_model.specs.Tree.{Stmt, Stmts, a_stmt, no_stmts}
-use Rattle.body_replay.specs.Store.{KnownWrite}
-use Rattle.body_replay.specs.Replay.{Mark, Mode, State, run, run_all}
-use Rattle.term_replay.specs.Stands.{Scene}
-use Rattle.body_calls.specs.Rooms.{Rooms, takes_in}
-use Rattle.body_calls.specs.Ways.{Around}
-use Rattle.scene_laws.specs.At.{IsState}
+use Rattle.assignments.specs.design_model.Design.{Design}
+use Rattle.assignments.specs.design_model.Tree.{Stmt, Stmts, a_stmt, no_stmts}
+use Rattle.assignments.specs.body_replay.Store.{KnownWrite}
+use Rattle.assignments.specs.body_replay.Replay.{Mark, Mode, State, run, run_all}
+use Rattle.assignments.specs.term_replay.Stands.{Scene}
+use Rattle.assignments.specs.body_calls.Rooms.{Rooms, takes_in}
+use Rattle.assignments.specs.body_calls.Ways.{Around}
+use Rattle.assignments.specs.scene_laws.At.{IsState}
 use Rattle.assignments.proofs.Going.{takes_same}
 use Rattle.open_tests.specs.Weights.{HasRoomFor, HasRoomForAll, LeavesBy, LeavesByAll, all_logs, all_queues, logs}
 

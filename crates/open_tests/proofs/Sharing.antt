@@ -1,14 +1,14 @@
 -- The room that the branches of a test and the arms of a case share.
 use Rattle.std.proofs.Common.{List, None, Some, ap, arith, false, if◌then◌else◌, refl, true, ◌+◌, ◌≤◌, ◌∙◌, ◌≡◌}
-use Rattle.four_state.specs.declared.operator.CaseKind.{CaseKind}
-use Rattle.design_model.specs.Design.{Design}
-use Rattle.design_model.specs.Execution.{is_default}
-use Rattle.design_model.specs.Tree.{Stmt, Stmts, Terms, a_stmt, a_term, no_stmts, no_terms}
-use Rattle.body_replay.specs.KnownBits.{KnownBits}
-use Rattle.body_replay.specs.Store.{Kept}
-use Rattle.body_replay.specs.Replay.{labels_match}
-use Rattle.body_calls.specs.Rooms.{Leaves, Rooms, takes_in}
-use Rattle.body_calls.specs.Ways.{Around}
+use Rattle.assignments.specs.four_state.declared.operator.CaseKind.{CaseKind}
+use Rattle.assignments.specs.design_model.Design.{Design}
+use Rattle.assignments.specs.design_model.Execution.{is_default}
+use Rattle.assignments.specs.design_model.Tree.{Stmt, Stmts, Terms, a_stmt, a_term, no_stmts, no_terms}
+use Rattle.assignments.specs.body_replay.KnownBits.{KnownBits}
+use Rattle.assignments.specs.body_replay.Store.{Kept}
+use Rattle.assignments.specs.body_replay.Replay.{labels_match}
+use Rattle.assignments.specs.body_calls.Rooms.{Leaves, Rooms, takes_in}
+use Rattle.assignments.specs.body_calls.Ways.{Around}
 use Rattle.assignments.specs.Takes.{HasRoom}
 use Rattle.open_tests.specs.Weights.{HasRoomFor, HasRoomForAll, LeavesBy, LeavesByAll, all_logs, all_queues, arm_logs, arm_queues, logs, queues}
 use Rattle.open_tests.proofs.Weighing.{all_leaves_inside, all_room_inside, leaves_inside, room_inside}

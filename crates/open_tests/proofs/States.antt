@@ -1,26 +1,26 @@
 -- Where the run of a body is, step by step.
 use Rattle.std.proofs.Common.{Bool, List, None, Option, [], ap, map, refl, subst, sym, ℕ, ◌++◌, ◌∙◌, ◌∷◌, ◌≡◌}
-use Rattle.known_state.specs.Maybe.{Holds}
-use Rattle.known_state.specs.Partly.{Partly}
-use Rattle.known_state.specs.declared.maybe.Maybe.{Maybe}
-use Rattle.known_state.specs.declared.maybe.Maybe.TheVariants.{Yes, No, Unsure}
-use Rattle.design_model.specs.Design.{Design, nowhere}
-use Rattle.design_model.specs.Tree.{Stmt, Stmts, Term, branch}
-use Rattle.body_replay.specs.KnownBits.{holds, known_truth}
-use Rattle.body_replay.specs.Store.{KnownWrite, known_value}
-use Rattle.body_replay.specs.Replay.{Mark, Mode, State, again, blame_of, decide, evaluate_known, in_mode, joined_states, line, reach, run, run_all}
-use Rattle.body_replay.proofs.Answered as a
-use Rattle.body_replay.proofs.Answered.{holds_answer, same_sure}
-use Rattle.body_replay.proofs.Unsure.{holds_none, known_truth_none}
-use Rattle.term_replay.specs.Noted.{Adds, in_this, marks_of}
-use Rattle.term_replay.specs.Questions.{answer_of}
-use Rattle.term_replay.specs.Stands.{Scene, Stands, first_after}
-use Rattle.term_replay.proofs.Marking.{adds_same, hit_in}
-use Rattle.body_calls.specs.Lvalues.{Like}
-use Rattle.body_calls.specs.Ways.{joined_scene}
-use Rattle.scene_laws.specs.At.{IsState, scene_of}
-use Rattle.scene_laws.proofs.LikeScenes.{alike_first, alike_marks, like_trans}
-use Rattle.scene_laws.proofs.LikeWays.{joined_like}
+use Rattle.assignments.specs.known_state.Maybe.{Holds}
+use Rattle.assignments.specs.known_state.Partly.{Partly}
+use Rattle.assignments.specs.known_state.declared.maybe.Maybe.{Maybe}
+use Rattle.assignments.specs.known_state.declared.maybe.Maybe.TheVariants.{Yes, No, Unsure}
+use Rattle.assignments.specs.design_model.Design.{Design, nowhere}
+use Rattle.assignments.specs.design_model.Tree.{Stmt, Stmts, Term, branch}
+use Rattle.assignments.specs.body_replay.KnownBits.{holds, known_truth}
+use Rattle.assignments.specs.body_replay.Store.{KnownWrite, known_value}
+use Rattle.assignments.specs.body_replay.Replay.{Mark, Mode, State, again, blame_of, decide, evaluate_known, in_mode, joined_states, line, reach, run, run_all}
+use Rattle.assignments.proofs.body_replay.Answered as a
+use Rattle.assignments.proofs.body_replay.Answered.{holds_answer, same_sure}
+use Rattle.assignments.proofs.body_replay.Unsure.{holds_none, known_truth_none}
+use Rattle.assignments.specs.term_replay.Noted.{Adds, in_this, marks_of}
+use Rattle.assignments.specs.term_replay.Questions.{answer_of}
+use Rattle.assignments.specs.term_replay.Stands.{Scene, Stands, first_after}
+use Rattle.assignments.proofs.term_replay.Marking.{adds_same, hit_in}
+use Rattle.assignments.specs.body_calls.Lvalues.{Like}
+use Rattle.assignments.specs.body_calls.Ways.{joined_scene}
+use Rattle.assignments.specs.scene_laws.At.{IsState, scene_of}
+use Rattle.assignments.proofs.scene_laws.LikeScenes.{alike_first, alike_marks, like_trans}
+use Rattle.assignments.proofs.scene_laws.LikeWays.{joined_like}
 
 module _ {T S : Type 0} (noted : T → List Mark → S → Type 0) (start : T) (d : Design) (s : State) (mode : Mode) (v : Scene) (queue : List KnownWrite) where
   -- a statement is reached

@@ -1,17 +1,17 @@
 -- The plain tree of a statement by its form, and lists of statements from one on.
 use Rattle.std.proofs.Common.{Bool, List, None, Option, Some, add-one, drop, drop-cons, get_or, length, map, refl, ℕ, ◌+◌, ◌<◌, ◌≡◌}
 use Rattle.std.specs.Global.{Vec}
-use Rattle.four_state.specs.declared.operator.CaseKind.{CaseKind}
-use Rattle.design_model.specs.Tree as t
-use Rattle.design_model.specs.View.{arms_of, stmt_view, stmts_of, target_view, term_view}
-use Rattle.design_model.specs.declared.tree.CaseArm.{CaseArm}
-use Rattle.design_model.specs.declared.tree.Stmt.{Stmt}
-use Rattle.design_model.specs.declared.tree.StmtForm as form
-use Rattle.design_model.specs.declared.tree.StmtForm.TheFolds.{fold_out-Stmt, fold-roll-StmtForm}
-use Rattle.design_model.specs.declared.tree.StmtForm.TheVariants.{rolls-Block, rolls-Case, rolls-Empty, rolls-If, rolls-Set, rolls-Turns}
-use Rattle.design_model.specs.declared.tree.Target.{Target}
-use Rattle.design_model.specs.declared.tree.Term.{Term}
-use Rattle.value_store.specs.Rooms.{arm_view}
+use Rattle.assignments.specs.four_state.declared.operator.CaseKind.{CaseKind}
+use Rattle.assignments.specs.design_model.Tree as t
+use Rattle.assignments.specs.design_model.View.{arms_of, stmt_view, stmts_of, target_view, term_view}
+use Rattle.assignments.specs.design_model.declared.tree.CaseArm.{CaseArm}
+use Rattle.assignments.specs.design_model.declared.tree.Stmt.{Stmt}
+use Rattle.assignments.specs.design_model.declared.tree.StmtForm as form
+use Rattle.assignments.specs.design_model.declared.tree.StmtForm.TheFolds.{fold_out-Stmt, fold-roll-StmtForm}
+use Rattle.assignments.specs.design_model.declared.tree.StmtForm.TheVariants.{rolls-Block, rolls-Case, rolls-Empty, rolls-If, rolls-Set, rolls-Turns}
+use Rattle.assignments.specs.design_model.declared.tree.Target.{Target}
+use Rattle.assignments.specs.design_model.declared.tree.Term.{Term}
+use Rattle.assignments.specs.value_store.Rooms.{arm_view}
 use Rattle.open_tests.specs.Views.{else_view}
 
 module _ (x : Stmt) where

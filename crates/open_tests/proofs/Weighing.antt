@@ -1,8 +1,8 @@
 -- Room that is taken step by step.
 use Rattle.std.proofs.Common.{Bool, List, ap, arith, false, refl, true, ℕ, ◌+◌, ◌≤◌, ◌∙◌, ◌∷◌, ◌≡◌, []}
-use Rattle.design_model.specs.Tree.{Stmt, Stmts, Target, Targets, a_stmt, a_target, all_of, bits_of, block, branch, empty, no_stmts, no_targets, select, set, several, turns, word_of}
-use Rattle.body_calls.specs.Rooms.{Leaves, Rooms, takes_in}
-use Rattle.body_calls.specs.Ways.{Around}
+use Rattle.assignments.specs.design_model.Tree.{Stmt, Stmts, Target, Targets, a_stmt, a_target, all_of, bits_of, block, branch, empty, no_stmts, no_targets, select, set, several, turns, word_of}
+use Rattle.assignments.specs.body_calls.Rooms.{Leaves, Rooms, takes_in}
+use Rattle.assignments.specs.body_calls.Ways.{Around}
 use Rattle.assignments.specs.Takes.{HasRoom, all_take, set_logs, target_takes}
 use Rattle.open_tests.specs.Weights.{HasRoomFor, HasRoomForAll, LeavesBy, LeavesByAll, all_logs, all_queues, logs, queues}
 

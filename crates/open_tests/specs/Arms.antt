@@ -1,14 +1,14 @@
 -- Where the run of a case is after an arm.
 use Rattle.std.specs.Prelude.{◌≡◌, ◌∷◌, ℕ, List, []}
-use Rattle.four_state.specs.declared.operator.CaseKind.{CaseKind}
-use Rattle.design_model.specs.Design.{Design}
-use Rattle.design_model.specs.Tree.{Stmt, Terms}
-use Rattle.body_replay.specs.KnownBits.{KnownBits}
-use Rattle.body_replay.specs.Store.{KnownWrite}
-use Rattle.body_replay.specs.Replay.{Mark, Mode, State, decide, deeper, joined_states, labels_blame, labels_match, run, see_labels}
-use Rattle.term_replay.specs.Stands.{Scene}
-use Rattle.body_calls.specs.Ways.{Around}
-use Rattle.scene_laws.specs.At.{IsState}
+use Rattle.assignments.specs.four_state.declared.operator.CaseKind.{CaseKind}
+use Rattle.assignments.specs.design_model.Design.{Design}
+use Rattle.assignments.specs.design_model.Tree.{Stmt, Terms}
+use Rattle.assignments.specs.body_replay.KnownBits.{KnownBits}
+use Rattle.assignments.specs.body_replay.Store.{KnownWrite}
+use Rattle.assignments.specs.body_replay.Replay.{Mark, Mode, State, decide, deeper, joined_states, labels_blame, labels_match, run, see_labels}
+use Rattle.assignments.specs.term_replay.Stands.{Scene}
+use Rattle.assignments.specs.body_calls.Ways.{Around}
+use Rattle.assignments.specs.scene_laws.At.{IsState}
 use Rattle.open_tests.specs.Open.{AreOpen, OpenArm}
 use Rattle.open_tests.specs.declared.after_arm.AfterArm.{AfterArm}
 use Rattle.open_tests.specs.declared.after_arm.AfterArm.TheVariants.{Next, Open, Ran}

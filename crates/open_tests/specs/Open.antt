@@ -1,11 +1,11 @@
 -- The undecided arms of a case whose second branches run, and what they make of the state at its end.
 use Rattle.std.specs.Prelude.{◌≡◌, ◌∷◌, ℕ, suc, zero, List, []}
-use Rattle.design_model.specs.Design.{Design}
-use Rattle.body_replay.specs.Replay.{State, joined_states}
-use Rattle.term_replay.specs.Stands.{Scene}
-use Rattle.body_calls.specs.Lvalues.{Like}
-use Rattle.body_calls.specs.Ways.{Around, in_second}
-use Rattle.scene_laws.specs.At.{scene_of}
+use Rattle.assignments.specs.design_model.Design.{Design}
+use Rattle.assignments.specs.body_replay.Replay.{State, joined_states}
+use Rattle.assignments.specs.term_replay.Stands.{Scene}
+use Rattle.assignments.specs.body_calls.Lvalues.{Like}
+use Rattle.assignments.specs.body_calls.Ways.{Around, in_second}
+use Rattle.assignments.specs.scene_laws.At.{scene_of}
 
 -- an undecided arm: what is to blame, and what its body left
 pub record OpenArm : Type 0 where

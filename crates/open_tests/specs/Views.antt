@@ -1,8 +1,8 @@
 -- The plain tree of an else branch.
 use Rattle.std.specs.Prelude.{Option, Some, None}
-use Rattle.design_model.specs.Tree as t
-use Rattle.design_model.specs.View.{stmt_view}
-use Rattle.design_model.specs.declared.tree.Stmt.{Stmt}
+use Rattle.assignments.specs.design_model.Tree as t
+use Rattle.assignments.specs.design_model.View.{stmt_view}
+use Rattle.assignments.specs.design_model.declared.tree.Stmt.{Stmt}
 
 -- the else branch, if there is one
 abbrev pub else_view : Option Stmt → t.Stmts

@@ -1,9 +1,9 @@
 -- How much of the log and of the queue the run of a body takes at most, by its text.
 use Rattle.std.specs.Prelude.{◌+◌, ℕ, Bool, List, if◌then◌else◌}
-use Rattle.design_model.specs.Tree.{Arms, Stmt, Stmts, Target, Terms, a_stmt, arm, block, branch, empty, no_arms, no_stmts, select, set, turns}
-use Rattle.design_model.specs.Execution.{is_default}
-use Rattle.body_calls.specs.Rooms.{Leaves, Rooms, takes_in}
-use Rattle.body_calls.specs.Ways.{Around}
+use Rattle.assignments.specs.design_model.Tree.{Arms, Stmt, Stmts, Target, Terms, a_stmt, arm, block, branch, empty, no_arms, no_stmts, select, set, turns}
+use Rattle.assignments.specs.design_model.Execution.{is_default}
+use Rattle.assignments.specs.body_calls.Rooms.{Leaves, Rooms, takes_in}
+use Rattle.assignments.specs.body_calls.Ways.{Around}
 use Rattle.assignments.specs.Takes.{HasRoom, set_logs, set_queues}
 
 -- the weight of the assignments of a statement, outside and inside of its tests, and of each test the same

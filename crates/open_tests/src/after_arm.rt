@@ -1,4 +1,4 @@
-use term_replay::Progress;
+use assignments::Progress;
 
 /// Where the run of a case statement is after an arm (IEEE 1364-2001, clause 9.5).
 pub enum AfterArm {

@@ -5,4 +5,8 @@ mod after_arm;
 mod ways;
 
 pub use after_arm::AfterArm;
+pub use assignments::{
+    Bodies, Notes, Piece, Progress, Spot, assign, at_width, cut, evaluate, locate, queue_pieces,
+    total_width,
+};
 pub use ways::end_tests;

@@ -1,12 +1,12 @@
 ghost use Rattle.std.specs.Prelude.{◌≡◌, ℕ, List, Option, length};
-ghost use Rattle.design_model.specs.Design.{Design};
-ghost use Rattle.body_replay.specs.Replay.{State};
-ghost use Rattle.body_calls.specs.Rooms.{Leaves};
-ghost use Rattle.body_calls.specs.Ways.{Around};
-ghost use Rattle.scene_laws.specs.At.{IsState};
+ghost use Rattle.assignments.specs.design_model.Design.{Design};
+ghost use Rattle.assignments.specs.body_replay.Replay.{State};
+ghost use Rattle.assignments.specs.body_calls.Rooms.{Leaves};
+ghost use Rattle.assignments.specs.body_calls.Ways.{Around};
+ghost use Rattle.assignments.specs.scene_laws.At.{IsState};
 ghost use Rattle.open_tests.specs.Open.{AreOpen, AreSecond, OpenArm, close};
 
-use body_calls::Bodies;
+use assignments::Bodies;
 
 /// Ends the second branches of so many undecided tests, the innermost first.
 pub fn end_tests<B: Bodies>(store: &mut B, count: usize)

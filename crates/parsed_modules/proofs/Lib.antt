@@ -7,3 +7,4 @@ pub mod Expressions
 pub mod Statements
 pub mod Items
 pub mod Modules
+pub use Rattle.flat_laws.proofs as flat_laws

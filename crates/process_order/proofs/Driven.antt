@@ -4,9 +4,9 @@ use Rattle.std.specs.List.{list_any}
 use Rattle.design_model.specs.Design.{IsClocked, body}
 use Rattle.design_model.specs.Mentions.{any_set, any_set_in, any_set_of, body_assigns, target_names as names}
 use Rattle.design_model.specs.Tree.{Arms, Process, Stmt, Stmts, Target, Term, a_stmt, arm, assign, block, branch, clocked, comb, empty, no_arms, no_stmts, select, set, turns}
-use Rattle.process_names.specs.Assigned.{assigned}
-use Rattle.process_names.proofs.AssignedLaw.{blocks_is, queues_is}
-use Rattle.process_names.proofs.NamesLaw.{has-append}
+use Rattle.design_wakes.specs.process_names.Assigned.{assigned}
+use Rattle.design_wakes.proofs.process_names.AssignedLaw.{blocks_is, queues_is}
+use Rattle.design_wakes.proofs.process_names.NamesLaw.{has-append}
 use Rattle.process_order.specs.Names.{driven_names, is_clocked}
 
 abbrev has : ℕ → List ℕ → Bool

@@ -12,10 +12,10 @@ use Rattle.design_model.specs.Mentions.{body_assigns}
 use Rattle.design_model.specs.Tree.{Process}
 use Rattle.design_model.specs.View.{process_view}
 use Rattle.design_model.specs.declared.tree.Process.{Process as CodeProcess}
-use Rattle.early_sets.proofs.Membership.{is_in_from, is_in_gives}
+use Rattle.design_wakes.proofs.early_sets.Membership.{is_in_from, is_in_gives}
 use Rattle.index_sets.specs.Rows.{row_at}
-use Rattle.process_names.specs.Names.{level_names}
-use Rattle.process_names.proofs.NamesLaw.{level_is}
+use Rattle.design_wakes.specs.process_names.Names.{level_names}
+use Rattle.design_wakes.proofs.process_names.NamesLaw.{level_is}
 use Rattle.replay_model.specs.Tables.{AreTables, Drives, StandsBefore, Tables}
 use Rattle.process_order.specs.Names.{driven_names, is_clocked}
 use Rattle.process_order.specs.Order.{IsRunOrder}

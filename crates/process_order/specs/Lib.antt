@@ -4,3 +4,4 @@ pub mod Needs
 pub mod Order
 pub mod Parts
 pub mod Tables
+pub use Rattle.replay_model.specs as replay_model

@@ -3,7 +3,7 @@ use Rattle.std.specs.Prelude.{ℕ, Bool, true, false, List, [], ◌++◌, map}
 use Rattle.std.specs.Global.{Vec}
 use Rattle.design_model.specs.Tree.{Process, assign, clocked, comb}
 use Rattle.design_model.specs.Design.{body}
-use Rattle.process_names.specs.Assigned.{assigned}
+use Rattle.design_wakes.specs.process_names.Assigned.{assigned}
 
 -- the items of vectors
 abbrev pub lists_of : List (Vec ℕ) → List (List ℕ)

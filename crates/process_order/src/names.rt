@@ -5,13 +5,13 @@ ghost use Rattle.std.specs.Prelude.{◌≡◌, ◌<◌, ◌≤◌, ◌↔◌, �
 ghost use Rattle.std.specs.List.{Contains};
 ghost use Rattle.design_model.specs.View.{process_view};
 ghost use Rattle.index_sets.specs.Rows.{row_at};
-ghost use Rattle.process_names.specs.Names.{level_names};
+ghost use Rattle.design_wakes.specs.process_names.Names.{level_names};
 ghost use Rattle.process_order.specs.Names.{driven_names, is_clocked, lists_of};
 
 use cov_host::NoMemory;
 use design_model::Process;
+use design_wakes::{push_assigned, push_level};
 use index_sets::IndexSet;
-use process_names::{push_assigned, push_level};
 use std::alloc::Global;
 
 /// For each process what it mentions or lists.

@@ -5,14 +5,14 @@ use Rattle.std.specs.List.{All, list_any}
 use Rattle.std.proofs.lemmas.Bool.{and_parts, eqb-true, leb-true}
 use Rattle.std.proofs.lemmas.List.Elements.{All-append, All-cons, All-nil}
 use Rattle.std.proofs.lemmas.List.Folds.{list_any-append}
-use Rattle.event_machine.specs.Cell.{Cell}
+use Rattle.design_model.specs.event_machine.Cell.{Cell}
 use Rattle.design_model.specs.Tree.{Arms, Stmt, Stmts, Target, Targets, Term, a_stmt, a_target, all_of, arm, bits_of, block, branch, empty, no_arms, no_stmts, no_targets, select, set, several, turns, word_of}
 use Rattle.design_model.specs.Design.{Design, body_at, is_memory, signal_at}
 use Rattle.design_model.specs.Mentions.{any_set, any_set_in, any_set_of, may_write, some_may_write}
 use Rattle.design_model.specs.Shape.{all_signed_of, are_bodies, are_shaped, are_targets, is_alone, is_arms, is_body, is_shaped, is_target, own_sign, own_width, same_bool, widest_of}
 use Rattle.design_model.specs.WellFormed.{are_well_formed, are_well_formed_arms, are_well_formed_bodies, are_well_formed_targets, is_well_formed, is_well_formed_body, is_well_formed_target}
 use Rattle.design_model.specs.Lawful.{IsLawfulDesign}
-use Rattle.process_names.proofs.NamesLaw.{or_right_false}
+use Rattle.design_targets.proofs.process_names.NamesLaw.{or_right_false}
 use Rattle.design_targets.specs.Leaves.{Leaf, all_leaves, all_target_leaves, arms_leaves, leaves, target_leaves}
 use Rattle.process_targets.specs.Laws.{LeavesLaw, RightLaw}
 use Rattle.process_targets.specs.Targets.{IsRightLeaf, leaf_has}

@@ -7,16 +7,16 @@ use Rattle.std.proofs.lemmas.List.{map-append}
 use Rattle.std.proofs.lemmas.List.Elements.{All-from_get_or}
 use Rattle.std.proofs.lemmas.List.Folds.{list_any-append, list_any_at}
 use Rattle.std.proofs.lemmas.Bool.Decides.{nat_tests}
-use Rattle.event_machine.specs.Cell.{Cell}
+use Rattle.design_model.specs.event_machine.Cell.{Cell}
 use Rattle.four_state.specs.Masks.{is_set}
 use Rattle.design_model.specs.Design.{Design, body_at, cell, signal_at}
 use Rattle.design_model.specs.Lawful.{IsLawfulDesign}
 use Rattle.design_model.specs.Mentions.{body_blocks, has_cell, is_constant, static_writes}
 use Rattle.design_model.specs.Shape.{same_bool}
 use Rattle.design_model.specs.Tree.{Arms, Stmt, Stmts, Target, Targets, a_stmt, a_target, all_of, arm, bits_of, block, branch, empty, no_arms, no_stmts, no_targets, select, set, several, turns, word_of}
-use Rattle.process_names.specs.Assigned.{all_assigned, all_target_names, arms_assigned, assigned, target_names}
-use Rattle.process_names.proofs.AssignedLaw.{blocks_is}
-use Rattle.process_names.proofs.NamesLaw.{or_right_false}
+use Rattle.design_targets.specs.process_names.Assigned.{all_assigned, all_target_names, arms_assigned, assigned, target_names}
+use Rattle.design_targets.proofs.process_names.AssignedLaw.{blocks_is}
+use Rattle.design_targets.proofs.process_names.NamesLaw.{or_right_false}
 use Rattle.design_targets.specs.Leaves.{Leaf, all_leaves, all_target_leaves, arms_leaves, leaves, target_leaves}
 use Rattle.process_targets.specs.Placed.{no_bits}
 use Rattle.process_targets.specs.Rows.{AddsLeaf, AreTargets, HasLeaves, IsInside}

@@ -1,6 +1,6 @@
 -- Rows that bits are added to.
 use Rattle.std.proofs.Common.{◌≡◌, ◌∙◌, ℕ, zero, suc, ◌<◌, ◌==◌, ◌&&◌, ◌||◌, Bool, true, false, bit_or, List, [], ◌∷◌, length, get_or, slice_set, refl, ap, arith}
-use Rattle.event_machine.specs.Cell.{Cell}
+use Rattle.design_model.specs.event_machine.Cell.{Cell}
 use Rattle.four_state.specs.Masks.{is_set}
 use Rattle.four_state.proofs.Places.{is_set-or}
 use Rattle.process_targets.specs.Targets.{has_bit, names, row_has}

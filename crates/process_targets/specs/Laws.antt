@@ -1,7 +1,7 @@
 -- What the parts of the targets of a process of a lawful design may write.
 use Rattle.std.specs.Prelude.{◌≡◌, ◌<◌, ◌≤◌, ◌+◌, ◌&&◌, ℕ, true, length, nat_le, nat_lt, pos}
 use Rattle.std.specs.List.{All, list_any}
-use Rattle.event_machine.specs.Cell.{Cell}
+use Rattle.design_model.specs.event_machine.Cell.{Cell}
 use Rattle.four_state.specs.Vector.{fill}
 use Rattle.four_state.specs.declared.bit.Bit.TheVariants.{X}
 use Rattle.design_model.specs.Assignment.{bit_writes}

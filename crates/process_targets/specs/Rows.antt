@@ -1,7 +1,7 @@
 -- The rows of the bits of signals that the processes of a design may write.
 use Rattle.std.specs.Prelude.{◌≡◌, ◌<◌, ◌^◌, ◌==◌, ◌&&◌, ◌||◌, ℕ, Bool, List, length, nat_lt}
 use Rattle.std.specs.List.{All, list_any}
-use Rattle.event_machine.specs.Cell.{Cell}
+use Rattle.design_model.specs.event_machine.Cell.{Cell}
 use Rattle.design_model.specs.Design.{Design, body_at, signal_at}
 use Rattle.design_model.specs.Mentions.{blocking_target, body_blocks}
 use Rattle.design_targets.specs.Leaves.{Leaf}

@@ -1,7 +1,7 @@
 -- The bits of signals that a process may write, as masks.
 use Rattle.std.specs.Prelude.{◌≡◌, ◌≤◌, ◌==◌, ◌&&◌, ◌||◌, ℕ, Bool, true, not, List, map, nat_le, nat_lt, ℤ, pos, Option, Some, None, ⊤}
 use Rattle.std.specs.List.{list_any}
-use Rattle.event_machine.specs.Cell.{Cell}
+use Rattle.design_model.specs.event_machine.Cell.{Cell}
 use Rattle.four_state.specs.Masks.{is_set}
 use Rattle.four_state.specs.Parts.{index}
 use Rattle.design_model.specs.Assignment.{signal_range}

@@ -1,7 +1,7 @@
 //! Bits of signals, as masks.
 
 ghost use Rattle.std.specs.Prelude.{◌≡◌, ◌<◌, ◌||◌, ◌==◌, OnOk, ℕ, length, true};
-ghost use Rattle.event_machine.specs.Cell.{Cell};
+ghost use Rattle.design_model.specs.event_machine.Cell.{Cell};
 ghost use Rattle.four_state.specs.Masks.{is_set};
 ghost use Rattle.design_model.specs.Design.{cell};
 ghost use Rattle.process_targets.specs.Placed.{ArePlaced, IsPlaceOf};

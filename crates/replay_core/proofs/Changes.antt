@@ -8,11 +8,11 @@ use Rattle.std.proofs.lemmas.List.{get_or-set_other, length-set, set_past}
 use Rattle.four_state.specs.Parts.{extended_vector}
 use Rattle.four_state.specs.Vector.{Vector}
 use Rattle.four_state.specs.declared.bit.Bit.{Bit}
-use Rattle.term_replay.proofs.Standing.{extend_own}
+use Rattle.first_step.proofs.term_replay.Standing.{extend_own}
 use Rattle.code_values.specs.Values.{Values, lacks_code, value_of}
 use Rattle.cover_points.specs.declared.listing.Points.{Points}
 use Rattle.design_model.specs.Design.{Design, signal_at}
-use Rattle.step_changes.specs.Changes.{AreUnsigned}
+use Rattle.first_step.specs.step_changes.Changes.{AreUnsigned}
 use Rattle.replay_core.specs.Fits.{AreWideValues, FitsReplay, HaveValues}
 use Rattle.replay_core.specs.Parts.{without_sign}
 use Rattle.replay_core.specs.declared.fault.Phase.{Phase}

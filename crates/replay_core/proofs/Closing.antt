@@ -17,7 +17,7 @@ use Rattle.dump_check.specs.declared.order.Difference.{Difference}
 use Rattle.early_sets.specs.WakeState.{WakeState}
 use Rattle.early_sets.specs.declared.habit.Habit.{Habit}
 use Rattle.index_sets.specs.Rows.{row_at}
-use Rattle.mark_laws.specs.Marked.{AreVerdicts}
+use Rattle.first_step.specs.mark_laws.Marked.{AreVerdicts}
 use Rattle.process_order.proofs.Distinct.{contains_in, filter_in, in_filter}
 use Rattle.process_targets.specs.Rows.{AreTargetRows}
 use Rattle.process_targets.specs.declared.bits.Bits.{Bits}
@@ -27,31 +27,31 @@ use Rattle.replay_follows.proofs.Steps.{against, closes, due}
 use Rattle.replay_model.proofs.Bits.{any_in}
 use Rattle.replay_model.specs.Sets.{AreFirstSets}
 use Rattle.replay_model.specs.Step.{Closing, Replay, all_run, contradicts, is_touched}
-use Rattle.replay_sets.specs.SetsOf.{sets_of}
-use Rattle.replay_steps.proofs.Settling.{targets_move}
+use Rattle.first_step.specs.replay_sets.SetsOf.{sets_of}
+use Rattle.first_step.proofs.replay_steps.Settling.{targets_move}
 use Rattle.signal_marks.specs.Seen.{AreSeen}
-use Rattle.step_changes.specs.Changes.{AreChangedSignals, none_early}
-use Rattle.step_check.specs.Checks.{AreCheckRows}
-use Rattle.step_check.specs.Laws.{HasRun}
-use Rattle.step_check.proofs.Checked.{agree_law, differ_law}
-use Rattle.step_check.proofs.Moved.{moves_are}
+use Rattle.first_step.specs.step_changes.Changes.{AreChangedSignals, none_early}
+use Rattle.first_step.specs.step_check.Checks.{AreCheckRows}
+use Rattle.first_step.specs.step_check.Laws.{HasRun}
+use Rattle.first_step.proofs.step_check.Checked.{agree_law, differ_law}
+use Rattle.first_step.proofs.step_check.Moved.{moves_are}
 use Rattle.step_marks.specs.Marked.{IsOver, IsSeenAfter}
 use Rattle.step_marks.proofs.Closed as marking
-use Rattle.step_parts.specs.AtStep.{AtStep}
-use Rattle.step_parts.specs.Due.{Due, HasBegun, IsContradicted, IsDueStep, step_of}
-use Rattle.step_parts.proofs.Noted.{noted, seen_more}
+use Rattle.step_start.specs.step_parts.AtStep.{AtStep}
+use Rattle.step_start.specs.step_parts.Due.{Due, HasBegun, IsContradicted, IsDueStep, step_of}
+use Rattle.step_start.proofs.step_parts.Noted.{noted, seen_more}
 use Rattle.step_runs.specs.Runs.{IsRunOf}
 use Rattle.step_runs.proofs.Changed.{steps_are}
 use Rattle.step_start.proofs.Members.{all_of}
-use Rattle.step_values.specs.Dumped.{AreDumped}
-use Rattle.step_values.specs.Vectors.{StepVectors}
-use Rattle.step_wakes.specs.Step.{IsOfDesign}
-use Rattle.still_check.specs.Stays.{IsLeastMoved}
-use Rattle.toggle_laws.specs.Turns.{MarksInTurn}
-use Rattle.wake_bits.specs.Wakes.{AreWakeRows}
-use Rattle.wake_bits.specs.declared.wakes.Wake.{Wake}
+use Rattle.first_step.specs.step_values.Dumped.{AreDumped}
+use Rattle.first_step.specs.step_values.Vectors.{StepVectors}
+use Rattle.first_step.specs.step_wakes.Step.{IsOfDesign}
+use Rattle.step_start.specs.still_check.Stays.{IsLeastMoved}
+use Rattle.step_marks.specs.toggle_laws.Turns.{MarksInTurn}
+use Rattle.first_step.specs.wake_bits.Wakes.{AreWakeRows}
+use Rattle.first_step.specs.wake_bits.declared.wakes.Wake.{Wake}
 use Rattle.wake_laws.specs.Laws.{HasNoWriters, habit_of}
-use Rattle.body_calls.specs.Own.{is_in}
+use Rattle.body_store.specs.body_calls.Own.{is_in}
 use Rattle.replay_core.specs.Closing.{IsDueAt}
 use Rattle.replay_core.specs.Codes.{flags_of}
 use Rattle.replay_core.specs.Faults.{IsRefuted}
@@ -179,9 +179,9 @@ module _ (m : Made) (h : Habit) (dump : BoundDump) (t : ℕ) (a : Replay) (x : P
           nothing : (c : Cell) → contradicts (step y.sets) c ≡ false
           nothing = subst (λ ws. (c : Cell) → contradicts (step ws) c ≡ false) (sym sets) none
 
-          rest : Rattle.step_parts.specs.AtStep.AtRest m.design m.points (next_replay f t a x y.sets) y.store y.acted y.marks y.seen
+          rest : Rattle.step_start.specs.step_parts.AtStep.AtRest m.design m.points (next_replay f t a x y.sets) y.store y.acted y.marks y.seen
           rest =
-              subst (λ ws. Rattle.step_parts.specs.AtStep.AtRest m.design m.points (next_replay f t a x ws) y.store y.acted y.marks y.seen) (sym sets)
-              (subst (λ st. Rattle.step_parts.specs.AtStep.AtRest m.design m.points (next_replay f t a x wakes) st y.acted y.marks y.seen) (sym store)
-              (subst (λ fs. Rattle.step_parts.specs.AtStep.AtRest m.design m.points (next_replay f t a x wakes) last fs y.marks y.seen) (sym acted)
+              subst (λ ws. Rattle.step_start.specs.step_parts.AtStep.AtRest m.design m.points (next_replay f t a x ws) y.store y.acted y.marks y.seen) (sym sets)
+              (subst (λ st. Rattle.step_start.specs.step_parts.AtStep.AtRest m.design m.points (next_replay f t a x wakes) st y.acted y.marks y.seen) (sym store)
+              (subst (λ fs. Rattle.step_start.specs.step_parts.AtStep.AtRest m.design m.points (next_replay f t a x wakes) last fs y.marks y.seen) (sym acted)
               (marking.closes (step wakes) m.points last w wakes flags marks y.marks y.seen due_step.changes.lawful at.follows.subject.listed at.follows.subject.once over turns seen)))

@@ -7,8 +7,8 @@ use Rattle.dump_check.specs.declared.order.Difference.{Difference}
 use Rattle.early_sets.specs.declared.habit.Habit.{Habit}
 use Rattle.replay_follows.specs.Follows.{Follows}
 use Rattle.replay_follows.proofs.Steps.{nexts}
-use Rattle.step_changes.specs.Changes.{AreUnsigned}
-use Rattle.step_values.specs.Dumped.{AreDumped}
+use Rattle.first_step.specs.step_changes.Changes.{AreUnsigned}
+use Rattle.first_step.specs.step_values.Dumped.{AreDumped}
 use Rattle.wake_laws.specs.Laws.{habit_of}
 use Rattle.replay_core.specs.Closing.{Closes, Counts, ForDue, IsDueAt, Refutes}
 use Rattle.replay_core.specs.Faults.{IsContradiction, fault_at, phase_after}

@@ -11,8 +11,8 @@ use Rattle.design_wakes.specs.Transpose.{IsTranspose}
 use Rattle.index_sets.specs.Rows.{row_at}
 use Rattle.process_order.proofs.Distinct.{contains_in}
 use Rattle.process_order.specs.Needs.{is_bound}
-use Rattle.step_changes.specs.Changes.{AreSignalsOf}
-use Rattle.step_values.specs.Loose.{has_code}
+use Rattle.first_step.specs.step_changes.Changes.{AreSignalsOf}
+use Rattle.first_step.specs.step_values.Loose.{has_code}
 use Rattle.replay_core.specs.Codes.{code_list, flags_of}
 
 -- the flags say which signals have a code

@@ -11,7 +11,7 @@ use Rattle.four_state.specs.declared.bit.Bit.{Bit}
 use Rattle.four_state.specs.declared.bit.Bit.TheVariants.{X}
 use Rattle.design_model.specs.Design.{Design, cell, signal_at, signal_bits, signal_cells}
 use Rattle.code_values.specs.Values.{lacks_code, value_of}
-use Rattle.step_values.specs.Dumped.{AreDumped}
+use Rattle.first_step.specs.step_values.Dumped.{AreDumped}
 use Rattle.replay_core.specs.Fits.{AreWideValues, HaveValues}
 
 -- the bits of a value, if there is one

@@ -18,16 +18,16 @@ use Rattle.design_model.specs.Lawful.{IsLawfulDesign}
 use Rattle.design_model.specs.View.{design_view}
 use Rattle.early_sets.specs.Rounds.{writer_at}
 use Rattle.early_sets.specs.WakeState.{WakeState, state_of}
-use Rattle.step_changes.specs.Changes.{AreUnsigned}
+use Rattle.first_step.specs.step_changes.Changes.{AreUnsigned}
 use Rattle.dump_check.specs.Checks.{Checks}
 use Rattle.index_sets.specs.Rows.{row_at}
-use Rattle.settling.specs.declared.parts.Scratch.{Scratch}
+use Rattle.first_step.specs.settling.declared.parts.Scratch.{Scratch}
 use Rattle.step_start.specs.Fits.{FitsStep}
-use Rattle.step_values.specs.Vectors.{FitsSignals, StepVectors as StepValues}
+use Rattle.first_step.specs.step_values.Vectors.{FitsSignals, StepVectors as StepValues}
 use Rattle.value_store.specs.Queue.{Queue}
 use Rattle.step_start.specs.declared.room.StepRoom.{StepRoom}
-use Rattle.step_values.specs.Dumped.{AreDumped}
-use Rattle.store_knowledge.specs.Knows.{Knows}
+use Rattle.first_step.specs.step_values.Dumped.{AreDumped}
+use Rattle.first_step.specs.store_knowledge.Knows.{Knows}
 use Rattle.wake_laws.specs.Laws.{HasNoWriters}
 use Rattle.replay_core.specs.Fits.{AreWideValues, FitsParts, FitsReplay, FitsRoom, FitsState, FitsTables, HaveValues, IsReplayable, IsUntouched}
 use Rattle.replay_core.specs.declared.fault.Phase.TheVariants.{New, Refused, Started}
@@ -39,7 +39,7 @@ use Rattle.replay_core.proofs.Codes.{coded_below}
 use Rattle.replay_core.proofs.Given.{cells_given, dumped}
 
 -- only signals of the design have a code
-pub coded : (d : Design) (x : ReplayTables) → FitsTables d x → (s : ℕ) → Rattle.step_values.specs.Loose.has_code x.step.codes.items s ≡ true → s < length d.signals
+pub coded : (d : Design) (x : ReplayTables) → FitsTables d x → (s : ℕ) → Rattle.first_step.specs.step_values.Loose.has_code x.step.codes.items s ≡ true → s < length d.signals
 coded d x fits s h = let below = coded_below x.step.codes.items s h in let size = fits.codes in omega (arith, below, size)
 
 -- what a step begins with
@@ -69,7 +69,7 @@ no_writers v w same none x = ap (λ ws. slice_index_or ws x None) same ∙ none 
 
 -- the room after a step has begun
 pub room_begun : (d : Design) (x : ReplayTables) (r : ReplayRoom) (n : StepRoom) (given : Values) → FitsStep d x.step n given → (state_of n.sets).writers ≡ (state_of r.step.sets).writers
-    → ((flags : List Bool) → Rattle.step_wakes.specs.Step.IsOfDesign d flags (state_of r.step.sets) → Rattle.step_wakes.specs.Step.IsOfDesign d flags (state_of n.sets)) → FitsRoom d x r → FitsRoom d x (record r { step = n })
+    → ((flags : List Bool) → Rattle.first_step.specs.step_wakes.Step.IsOfDesign d flags (state_of r.step.sets) → Rattle.first_step.specs.step_wakes.Step.IsOfDesign d flags (state_of n.sets)) → FitsRoom d x r → FitsRoom d x (record r { step = n })
 room_begun d x r n given fits writers inputs room = record {
   changed = fits.changed;
   changes = fits.changes;
@@ -192,7 +192,7 @@ new_ready d points x r s count replayable tables room none untouched values size
 
 -- all three once a step has begun
 pub begun_fits : (d : Design) (points : Points) (x : ReplayTables) (r : ReplayRoom) (s : ReplayState) (n : StepRoom) (store : Store) (k : Kept) → FitsParts d points x r s → FitsStep d x.step n s.values → (state_of n.sets).writers ≡ (state_of r.step.sets).writers
-    → ((flags : List Bool) → Rattle.step_wakes.specs.Step.IsOfDesign d flags (state_of r.step.sets) → Rattle.step_wakes.specs.Step.IsOfDesign d flags (state_of n.sets)) → Knows d k store → FitsParts d points x (record r { step = n }) (record s { store = store })
+    → ((flags : List Bool) → Rattle.first_step.specs.step_wakes.Step.IsOfDesign d flags (state_of r.step.sets) → Rattle.first_step.specs.step_wakes.Step.IsOfDesign d flags (state_of n.sets)) → Knows d k store → FitsParts d points x (record r { step = n }) (record s { store = store })
 begun_fits d points x r s n store k fits step writers inputs knows =
     let state = fits.state in
     record {
@@ -213,7 +213,7 @@ begun_fits d points x r s n store k fits step writers inputs knows =
 
 -- so they are after the call that begins it
 pub begin_fits : (d : Design) (points : Points) (x : ReplayTables) (r : ReplayRoom) (s : ReplayState) (n : StepRoom) (store : Store) → FitsParts d points x r s → FitsStep (design_view s.store.design.now) x.step n s.values → store.design ≡ s.store.design
-    → (state_of n.sets).writers ≡ (state_of r.step.sets).writers → ((e : Design) (flags : List Bool) → Rattle.step_wakes.specs.Step.IsOfDesign e flags (state_of r.step.sets) → Rattle.step_wakes.specs.Step.IsOfDesign e flags (state_of n.sets))
+    → (state_of n.sets).writers ≡ (state_of r.step.sets).writers → ((e : Design) (flags : List Bool) → Rattle.first_step.specs.step_wakes.Step.IsOfDesign e flags (state_of r.step.sets) → Rattle.first_step.specs.step_wakes.Step.IsOfDesign e flags (state_of n.sets))
     → (e : Design) × (k : Kept) × Knows e k store → FitsParts d points x (record r { step = n }) (record s { store = store })
 begin_fits d points x r s n store fits step design writers inputs known =
     let k = known.1 in

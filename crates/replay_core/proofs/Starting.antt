@@ -23,12 +23,12 @@ use Rattle.replay_model.specs.Laws.{IsReplayOf}
 use Rattle.replay_model.specs.Start.{contradicts_first, started}
 use Rattle.replay_model.specs.Step.{Replay}
 use Rattle.replay_model.specs.Tables.{AreTables, Tables}
-use Rattle.step_changes.specs.Changes.{AreUnsigned}
-use Rattle.step_parts.specs.AtStep.{AtRest}
-use Rattle.step_values.specs.Dumped.{AreDumped}
-use Rattle.step_values.specs.Loose.{has_code}
-use Rattle.step_wakes.specs.Step.{IsOfDesign}
-use Rattle.store_knowledge.specs.Knows.{Knows}
+use Rattle.first_step.specs.step_changes.Changes.{AreUnsigned}
+use Rattle.step_start.specs.step_parts.AtStep.{AtRest}
+use Rattle.first_step.specs.step_values.Dumped.{AreDumped}
+use Rattle.first_step.specs.step_values.Loose.{has_code}
+use Rattle.first_step.specs.step_wakes.Step.{IsOfDesign}
+use Rattle.first_step.specs.store_knowledge.Knows.{Knows}
 use Rattle.wake_laws.specs.Laws.{HasNoWriters, habit_of}
 use Rattle.first_step.specs.Begun.{IsFirstOf}
 use Rattle.replay_core.specs.Codes.{flags_of}

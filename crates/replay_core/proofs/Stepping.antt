@@ -14,17 +14,17 @@ use Rattle.index_sets.specs.Rows.{row_at}
 use Rattle.replay_follows.specs.Follows.{Parts}
 use Rattle.replay_follows.specs.Laws.{due_at}
 use Rattle.replay_model.specs.Step.{Closing, Replay, all_run, clocked_run, settle_start}
-use Rattle.step_changes.specs.Changes.{AreChangedSignals}
-use Rattle.step_check.specs.Laws.{HasRun}
-use Rattle.step_check.proofs.Checked.{agree_law}
+use Rattle.first_step.specs.step_changes.Changes.{AreChangedSignals}
+use Rattle.first_step.specs.step_check.Laws.{HasRun}
+use Rattle.first_step.proofs.step_check.Checked.{agree_law}
 use Rattle.step_marks.specs.Marked.{IsOver, IsSeenAfter}
-use Rattle.step_parts.specs.AtStep.{AtStep}
-use Rattle.step_parts.specs.Due.{Due, HasBegun, IsContradicted, IsDueStep, step_of}
+use Rattle.step_start.specs.step_parts.AtStep.{AtStep}
+use Rattle.step_start.specs.step_parts.Due.{Due, HasBegun, IsContradicted, IsDueStep, step_of}
 use Rattle.step_runs.specs.Runs.{IsRunOf}
 use Rattle.step_start.specs.declared.room.StepRoom.{StepRoom}
-use Rattle.step_wakes.specs.Step.{IsOfDesign}
-use Rattle.still_check.specs.Stays.{IsLeastMoved}
-use Rattle.toggle_laws.specs.Turns.{MarksInTurn}
+use Rattle.first_step.specs.step_wakes.Step.{IsOfDesign}
+use Rattle.step_start.specs.still_check.Stays.{IsLeastMoved}
+use Rattle.step_marks.specs.toggle_laws.Turns.{MarksInTurn}
 use Rattle.wake_laws.specs.Laws.{HasNoWriters}
 use Rattle.replay_core.specs.Closing.{Closes, Counts, IsDueAt, Refutes}
 use Rattle.replay_core.specs.Codes.{flags_of}

@@ -16,14 +16,14 @@ use Rattle.design_model.specs.declared.design.Design as m
 use Rattle.design_model.specs.Design.{Design, body_at}
 use Rattle.design_model.specs.Lawful.{IsLawfulDesign}
 use Rattle.design_model.specs.View.{design_view}
-use Rattle.mark_laws.specs.Marked.{AreVerdicts}
-use Rattle.mark_laws.proofs.Marked.{nothing_marked}
-use Rattle.open_tests.specs.Weights.{HasRoomFor}
+use Rattle.first_step.specs.mark_laws.Marked.{AreVerdicts}
+use Rattle.first_step.proofs.mark_laws.Marked.{nothing_marked}
+use Rattle.body_rooms.specs.open_tests.Weights.{HasRoomFor}
 use Rattle.point_marks.specs.Marking.{IsMarked, IsVerdict, doubt_of}
 use Rattle.point_marks.specs.declared.verdict.Verdict.{Verdict}
 use Rattle.point_marks.specs.declared.verdict.Verdict.TheVariants.{Hit, Missed, Undetermined}
-use Rattle.store_knowledge.specs.Knows.{Knows}
-use Rattle.store_knowledge.specs.Laws.{NewLaw}
+use Rattle.first_step.specs.store_knowledge.Knows.{Knows}
+use Rattle.first_step.specs.store_knowledge.Laws.{NewLaw}
 use Rattle.value_store.specs.Rooms.{queued_parts}
 
 -- ---- the marks

@@ -7,7 +7,7 @@ use Rattle.early_sets.specs.declared.habit.Habit.{Habit}
 use Rattle.replay_follows.specs.Follows.{Follows, Parts, Subject}
 use Rattle.replay_follows.specs.Laws.{AreGiven}
 use Rattle.replay_model.specs.Step.{Replay}
-use Rattle.step_values.specs.Dumped.{AreDumped}
+use Rattle.first_step.specs.step_values.Dumped.{AreDumped}
 use Rattle.wake_laws.specs.Laws.{habit_of}
 use Rattle.replay_core.specs.Faults.{IsRefuted}
 use Rattle.replay_core.specs.Made.{IsDumpFor, Made, subject_of}

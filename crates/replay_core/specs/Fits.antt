@@ -12,21 +12,21 @@ use Rattle.design_model.specs.Lawful.{IsLawfulDesign}
 use Rattle.early_sets.specs.WakeState.{state_of}
 use Rattle.four_state.specs.Vector.{Vector}
 use Rattle.index_sets.specs.Rows.{row_at}
-use Rattle.mark_laws.specs.Marked.{AreVerdicts}
+use Rattle.first_step.specs.mark_laws.Marked.{AreVerdicts}
 use Rattle.model_laws.specs.Own.{HasOwnWakes}
 use Rattle.process_order.specs.Tables.{tables_of}
 use Rattle.replay_model.specs.Tables.{AreTables}
 use Rattle.run_order.specs.Ranked.{AreRanksOf}
-use Rattle.settling.specs.Runs.{HasRows}
+use Rattle.first_step.specs.settling.Runs.{HasRows}
 use Rattle.signal_marks.specs.Seen.{AreSeen}
-use Rattle.step_changes.specs.Changes.{AreSignalsOf, AreUnsigned}
-use Rattle.step_check.specs.Checks.{AreCheckRows}
-use Rattle.step_parts.specs.AtStep.{flag_at}
-use Rattle.step_values.specs.Loose.{has_code}
-use Rattle.step_values.specs.Vectors.{FitsSignals}
-use Rattle.step_wakes.specs.Step.{IsOfDesign}
-use Rattle.store_knowledge.specs.Knows.{Knows}
-use Rattle.wake_bits.specs.Wakes.{AreWakeRows}
+use Rattle.first_step.specs.step_changes.Changes.{AreSignalsOf, AreUnsigned}
+use Rattle.first_step.specs.step_check.Checks.{AreCheckRows}
+use Rattle.step_start.specs.step_parts.AtStep.{flag_at}
+use Rattle.first_step.specs.step_values.Loose.{has_code}
+use Rattle.first_step.specs.step_values.Vectors.{FitsSignals}
+use Rattle.first_step.specs.step_wakes.Step.{IsOfDesign}
+use Rattle.first_step.specs.store_knowledge.Knows.{Knows}
+use Rattle.first_step.specs.wake_bits.Wakes.{AreWakeRows}
 use Rattle.wake_laws.specs.Laws.{HasNoWriters}
 use Rattle.replay_core.specs.Codes.{flags_of}
 use Rattle.replay_core.specs.declared.fault.Phase.{Phase}

@@ -8,11 +8,11 @@ use Rattle.design_model.specs.Design.{signal_bits}
 use Rattle.design_model.specs.Shows.{BoundDump, IsListed, IsWindow}
 use Rattle.early_sets.specs.declared.habit.Habit.{Habit}
 use Rattle.four_state.specs.declared.bit.Bit.{Bit}
-use Rattle.mark_laws.specs.Marked.{AreVerdicts}
+use Rattle.first_step.specs.mark_laws.Marked.{AreVerdicts}
 use Rattle.replay_follows.specs.Follows.{Follows}
 use Rattle.replay_model.specs.Laws.{AreReasonedVerdicts, AreSoundVerdicts}
 use Rattle.replay_model.specs.Step as model
-use Rattle.step_values.specs.Dumped.{AreDumped}
+use Rattle.first_step.specs.step_values.Dumped.{AreDumped}
 use Rattle.wake_laws.specs.Laws.{habit_of}
 use Rattle.replay_core.specs.Made.{IsDumpFor, Made, subject_of}
 use Rattle.replay_core.specs.Parts.{IsStarted, given_of, made_of, parts_of}

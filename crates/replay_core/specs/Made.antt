@@ -9,7 +9,7 @@ use Rattle.early_sets.specs.declared.habit.Habit.{Habit}
 use Rattle.process_order.specs.Tables.{tables_of}
 use Rattle.replay_follows.specs.Follows.{Parts, Subject}
 use Rattle.replay_model.specs.Tables.{Tables}
-use Rattle.step_values.specs.Loose.{has_code}
+use Rattle.first_step.specs.step_values.Loose.{has_code}
 use Rattle.replay_core.specs.Codes.{flags_of}
 use Rattle.replay_core.specs.declared.room.ReplayRoom.{ReplayRoom}
 use Rattle.replay_core.specs.declared.state.ReplayState.{ReplayState}

@@ -11,7 +11,7 @@ ghost use Rattle.dump_check.specs.declared.order.Difference.{Difference as Found
 ghost use Rattle.early_sets.specs.declared.habit.Habit.{Habit};
 ghost use Rattle.four_state.specs.Vector.{Vector};
 ghost use Rattle.known_state.specs.Partly.{Partly};
-ghost use Rattle.mark_laws.specs.Marked.{AreVerdicts};
+ghost use Rattle.first_step.specs.mark_laws.Marked.{AreVerdicts};
 ghost use Rattle.replay_follows.specs.Laws.{IsLastStep};
 ghost use Rattle.wake_laws.specs.Laws.{habit_of};
 ghost use Rattle.replay_core.specs.Faults.{IsContradiction, fault_at, phase_after};

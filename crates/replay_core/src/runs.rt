@@ -5,7 +5,7 @@ ghost use Rattle.std.specs.List.{All};
 ghost use Rattle.design_model.specs.View.{design_view};
 ghost use Rattle.early_sets.specs.WakeState.{state_of};
 ghost use Rattle.replay_model.specs.Step.{Closing, all_run, clocked_run, settle_start};
-ghost use Rattle.step_parts.specs.AtStep.{AtStep};
+ghost use Rattle.step_start.specs.step_parts.AtStep.{AtStep};
 ghost use Rattle.step_runs.specs.Runs.{IsRunOf};
 ghost use Rattle.replay_core.specs.Fits.{FitsParts, IsReplayable};
 
@@ -13,7 +13,7 @@ use crate::room::ReplayRoom;
 use crate::state::ReplayState;
 use crate::tables::ReplayTables;
 use design_model::Design;
-use settling::{Found, ProcessRows};
+use first_step::{Found, ProcessRows};
 use std::sync::ledger::Ledger;
 use step_counts::Steps;
 use step_runs::run_all;

@@ -8,7 +8,7 @@ ghost use Rattle.cover_points.specs.Listed.{points_of};
 ghost use Rattle.cover_points.specs.Visits.{ArePlaced};
 ghost use Rattle.design_model.specs.Lawful.{IsLawfulDesign};
 ghost use Rattle.design_model.specs.View.{design_view};
-ghost use Rattle.store_knowledge.specs.Knows.{Knows};
+ghost use Rattle.first_step.specs.store_knowledge.Knows.{Knows};
 ghost use Rattle.replay_core.specs.Fits.{IsReplayable, IsUntouched};
 
 use body_rooms::store_rooms_law;
@@ -18,10 +18,10 @@ use cov_host::NoMemory;
 use cover_marks::Marks;
 use cover_points::{MOST_POINTS, Points};
 use design_model::Design;
-use run_marks::MarkNotes;
+use first_step::new_store_law;
 use signal_marks::SignalMarks;
 use std::alloc::Global;
-use store_knowledge::new_store_law;
+use step_runs::MarkNotes;
 
 /// What is kept from step to step.
 #[derive(Drop)]

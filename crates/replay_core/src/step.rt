@@ -12,9 +12,9 @@ ghost use Rattle.dump_check.specs.Checks.{AgreesAt, IsFirstDifference, last_of_e
 ghost use Rattle.index_sets.specs.Rows.{row_at};
 ghost use Rattle.replay_model.specs.Step.{Closing};
 ghost use Rattle.step_marks.specs.Marked.{IsOver, IsSeenAfter};
-ghost use Rattle.step_values.specs.Vectors.{FitsSignals};
-ghost use Rattle.store_knowledge.specs.Knows.{Knows};
-ghost use Rattle.toggle_laws.specs.Turns.{MarksInTurn};
+ghost use Rattle.first_step.specs.step_values.Vectors.{FitsSignals};
+ghost use Rattle.first_step.specs.store_knowledge.Knows.{Knows};
+ghost use Rattle.step_marks.specs.toggle_laws.Turns.{MarksInTurn};
 ghost use Rattle.replay_core.specs.Closing.{Closes, Counts, Refutes};
 ghost use Rattle.replay_core.specs.Fits.{FitsParts, HaveValues, IsReplayable};
 ghost use Rattle.replay_core.specs.Made.{made_with, parts_with};
@@ -26,14 +26,13 @@ use crate::tables::ReplayTables;
 use body_store::Store;
 use design_model::Design;
 use dump_check::Difference;
-use run_marks::MarkNotes;
+use first_step::{StepValues, check};
 use signal_marks::SignalMarks;
 use std::sync::ledger::Ledger;
-use step_check::check;
 use step_counts::Steps;
 use step_marks::mark_moved;
+use step_runs::MarkNotes;
 use step_start::begin_step;
-use step_values::StepValues;
 
 /// Closes the step that ends at this time, where each signal with a code has a value. The result is the signal that contradicts it,
 /// if there is one.

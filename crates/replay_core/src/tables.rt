@@ -7,8 +7,8 @@ ghost use Rattle.process_order.specs.Tables.{tables_of};
 ghost use Rattle.process_targets.specs.Rows.{AreTargetRows};
 ghost use Rattle.replay_model.specs.Tables.{AreTables};
 ghost use Rattle.run_order.specs.Ranked.{AreRanksOf};
-ghost use Rattle.step_changes.specs.Changes.{AreSignalsOf};
-ghost use Rattle.step_values.specs.Loose.{has_code};
+ghost use Rattle.first_step.specs.step_changes.Changes.{AreSignalsOf};
+ghost use Rattle.first_step.specs.step_values.Loose.{has_code};
 ghost use Rattle.replay_core.specs.Codes.{flags_of};
 ghost use Rattle.replay_core.specs.Fits.{FitsTables};
 
@@ -16,15 +16,14 @@ use crate::rows::{code_lists, joined};
 use cov_host::NoMemory;
 use design_model::Design;
 use design_wakes::transpose;
+use first_step::{Wake, check_rows, wake_rows};
 use index_sets::Rows;
 use process_order::{ProcessTables, process_tables};
 use process_targets::target_rows;
 use run_order::RunOrder;
 use std::alloc::Global;
-use step_check::check_rows;
 use step_runs::{rows_law, written_rows};
 use step_start::StepTables;
-use wake_bits::{Wake, wake_rows};
 
 /// What is read in each step.
 #[derive(Drop)]

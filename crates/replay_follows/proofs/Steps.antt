@@ -3,20 +3,20 @@ use Rattle.std.proofs.Common.{◌≡◌, ℕ, zero, suc, ◌+◌, ◌-◌, ◌<�
 use Rattle.std.specs.Prelude.{slice_index_or}
 use Rattle.four_state.specs.Vector.{Vector}
 use Rattle.code_values.specs.Values.{value_of}
-use Rattle.cover_points.specs.Listed.{points_of}
+use Rattle.step_parts.specs.cover_points.Listed.{points_of}
 use Rattle.design_model.specs.Design.{signal_bits}
 use Rattle.design_model.specs.Shows.{BoundDump, IsListed, IsShownOf, IsWindow, IsWindowOf, last_time}
-use Rattle.replay_model.proofs.ReasonedLaws.{reasoned_verdict_law}
-use Rattle.replay_model.proofs.SoundLaws.{contradiction_law, first_contradiction_law, sound_verdict_law}
-use Rattle.replay_model.proofs.StandsLaws.{first_stands_law, step_stands_law}
-use Rattle.replay_model.specs.Step.{Replay}
-use Rattle.replay_steps.proofs.Resting.{rests}
-use Rattle.replay_sets.specs.SetsOf.{sets_of}
-use Rattle.step_changes.specs.Changes.{AreUnsigned, IsDue, none_early}
-use Rattle.step_changes.proofs.Woken.{none_clocked}
-use Rattle.step_values.specs.Dumped.{AreDumped}
-use Rattle.step_values.proofs.Bound.{bound_known}
-use Rattle.wake_laws.specs.Laws.{habit_of}
+use Rattle.step_parts.proofs.replay_model.ReasonedLaws.{reasoned_verdict_law}
+use Rattle.step_parts.proofs.replay_model.SoundLaws.{contradiction_law, first_contradiction_law, sound_verdict_law}
+use Rattle.step_parts.proofs.replay_model.StandsLaws.{first_stands_law, step_stands_law}
+use Rattle.step_parts.specs.replay_model.Step.{Replay}
+use Rattle.step_parts.proofs.replay_steps.Resting.{rests}
+use Rattle.step_parts.specs.replay_sets.SetsOf.{sets_of}
+use Rattle.step_parts.specs.step_changes.Changes.{AreUnsigned, IsDue, none_early}
+use Rattle.step_parts.proofs.step_changes.Woken.{none_clocked}
+use Rattle.step_parts.specs.step_values.Dumped.{AreDumped}
+use Rattle.step_parts.proofs.step_values.Bound.{bound_known}
+use Rattle.step_parts.specs.wake_laws.Laws.{habit_of}
 use Rattle.replay_follows.specs.Follows.{Follows, Parts, Subject}
 use Rattle.replay_follows.specs.Laws.{ClosedLaw, ContradictedLaw, DueLaw, FirstContradictedLaw, FirstLaw, GivenLaw, NextLaw, RestLaw, VerdictsLaw}
 

@@ -1,29 +1,29 @@
 -- A replay has followed a dump up to a time.
 use Rattle.std.specs.Prelude.{◌≡◌, ◌++◌, ℕ, Bool, List, [], length, Option}
 use Rattle.bit_changes.specs.declared.toggles.Toggles.{Toggles}
-use Rattle.body_replay.specs.Runs.{Runs}
-use Rattle.body_store.specs.declared.store.Store.{Store}
+use Rattle.step_parts.specs.body_replay.Runs.{Runs}
+use Rattle.step_parts.specs.body_store.declared.store.Store.{Store}
 use Rattle.code_values.specs.Values.{Values}
-use Rattle.cover_marks.specs.declared.marks.Marks.{Marks}
-use Rattle.cover_points.specs.Listed.{IsPointList, points_of}
-use Rattle.cover_points.specs.Visits.{AreApart, AreOnce}
-use Rattle.cover_points.specs.declared.listing.Points.{Points}
+use Rattle.step_parts.specs.cover_marks.declared.marks.Marks.{Marks}
+use Rattle.step_parts.specs.cover_points.Listed.{IsPointList, points_of}
+use Rattle.step_parts.specs.cover_points.Visits.{AreApart, AreOnce}
+use Rattle.step_parts.specs.cover_points.declared.listing.Points.{Points}
 use Rattle.design_model.specs.Design.{Design}
 use Rattle.design_model.specs.Shows.{BoundDump, IsShown}
 use Rattle.early_sets.specs.WakeState.{WakeState}
 use Rattle.early_sets.specs.declared.habit.Habit.{Habit}
 use Rattle.model_laws.specs.Own.{HasOwnWakes}
-use Rattle.replay_model.specs.Laws.{IsReplayOf}
-use Rattle.replay_model.specs.Stands.{Stands}
-use Rattle.replay_model.specs.Step.{Replay}
-use Rattle.replay_model.specs.Tables.{Tables}
+use Rattle.step_parts.specs.replay_model.Laws.{IsReplayOf}
+use Rattle.step_parts.specs.replay_model.Stands.{Stands}
+use Rattle.step_parts.specs.replay_model.Step.{Replay}
+use Rattle.step_parts.specs.replay_model.Tables.{Tables}
 use Rattle.run_order.specs.Ranked.{AreRanksOf}
-use Rattle.step_changes.specs.Changes.{AreUnsigned}
+use Rattle.step_parts.specs.step_changes.Changes.{AreUnsigned}
 use Rattle.step_parts.specs.AtStep.{AtRest}
-use Rattle.step_values.specs.Dumped.{AreDumped}
-use Rattle.step_values.specs.Loose.{has_code}
-use Rattle.step_wakes.specs.Step.{IsOfDesign, flag_at}
-use Rattle.wake_laws.specs.Laws.{HasNoWriters, habit_of}
+use Rattle.step_parts.specs.step_values.Dumped.{AreDumped}
+use Rattle.step_parts.specs.step_values.Loose.{has_code}
+use Rattle.step_parts.specs.step_wakes.Step.{IsOfDesign, flag_at}
+use Rattle.step_parts.specs.wake_laws.Laws.{HasNoWriters, habit_of}
 
 -- what stays of a replay from its first step to its last
 pub record Subject : Type 0 where

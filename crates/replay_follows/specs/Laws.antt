@@ -3,24 +3,24 @@ use Rattle.std.specs.Prelude.{◌≡◌, ◌<◌, ◌≤◌, ◌+◌, ℕ, suc, 
 use Rattle.event_machine.specs.Cell.{Cell}
 use Rattle.four_state.specs.declared.bit.Bit.{Bit}
 use Rattle.code_values.specs.Values.{Values}
-use Rattle.cover_marks.specs.Marks.{AreMarksOf}
-use Rattle.cover_points.specs.Listed.{points_of}
+use Rattle.step_parts.specs.cover_marks.Marks.{AreMarksOf}
+use Rattle.step_parts.specs.cover_points.Listed.{points_of}
 use Rattle.design_model.specs.Clear.{IsForced}
 use Rattle.design_model.specs.Design.{signal_bits}
 use Rattle.design_model.specs.Shows.{BoundDump, IsContradicted, IsFirst, IsListed, IsShown, IsWindow}
 use Rattle.early_sets.specs.WakeState.{WakeState}
-use Rattle.mark_laws.specs.Marked.{AreVerdicts}
-use Rattle.replay_model.specs.Laws.{AreReasonedVerdicts, AreSoundVerdicts}
-use Rattle.replay_model.specs.Sets.{AreFirstSets}
-use Rattle.replay_model.specs.Start.{contradicts_first, started}
-use Rattle.replay_model.specs.Step.{Closing, Replay, closed, contradicts}
-use Rattle.replay_sets.specs.SetsOf.{sets_of}
-use Rattle.step_changes.specs.Changes.{AreUnsigned, none_early}
+use Rattle.step_parts.specs.mark_laws.Marked.{AreVerdicts}
+use Rattle.step_parts.specs.replay_model.Laws.{AreReasonedVerdicts, AreSoundVerdicts}
+use Rattle.step_parts.specs.replay_model.Sets.{AreFirstSets}
+use Rattle.step_parts.specs.replay_model.Start.{contradicts_first, started}
+use Rattle.step_parts.specs.replay_model.Step.{Closing, Replay, closed, contradicts}
+use Rattle.step_parts.specs.replay_sets.SetsOf.{sets_of}
+use Rattle.step_parts.specs.step_changes.Changes.{AreUnsigned, none_early}
 use Rattle.step_parts.specs.AtStep.{AtRest}
 use Rattle.step_parts.specs.Due.{Due, IsDueStep, step_of}
-use Rattle.step_values.specs.Dumped.{AreDumped}
-use Rattle.step_wakes.specs.Step.{IsOfDesign}
-use Rattle.wake_laws.specs.Laws.{HasNoWriters, habit_of}
+use Rattle.step_parts.specs.step_values.Dumped.{AreDumped}
+use Rattle.step_parts.specs.step_wakes.Step.{IsOfDesign}
+use Rattle.step_parts.specs.wake_laws.Laws.{HasNoWriters, habit_of}
 use Rattle.replay_follows.specs.Follows.{Follows, IsSubject, Parts, Subject}
 
 -- the replay after the first step, at this time

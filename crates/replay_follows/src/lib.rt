@@ -12,7 +12,7 @@ ghost use Rattle.std.specs.Prelude.{◌≡◌, ◌∷◌, [], ℕ, None, Some, s
 ghost use Rattle.four_state.specs.Vector.{Vector};
 ghost use Rattle.code_values.specs.Values.{value_of};
 ghost use Rattle.design_model.specs.Design.{signal_bits};
-ghost use Rattle.replay_model.specs.Step.{Replay};
+ghost use Rattle.step_parts.specs.replay_model.Step.{Replay};
 ghost use Rattle.replay_follows.specs.Follows.{Follows, Parts, Subject};
 ghost use Rattle.replay_follows.specs.Laws.{ClosedLaw, ContradictedLaw, DueLaw, FirstContradictedLaw, FirstLaw, GivenLaw, NextLaw, RestLaw, VerdictsLaw};
 

@@ -8,7 +8,7 @@ use Rattle.event_machine.specs.Machine.{Edge as MachineEdge, IsCombinational, Is
 use Rattle.event_machine.specs.Habit.{Habit}
 use Rattle.event_machine.specs.MayMove.{MayWake, of_input, of_target}
 use Rattle.event_machine.specs.Laws.{EarlyLaw}
-use Rattle.four_state.specs.declared.bit.Bit.{Bit}
+use Rattle.design_model.specs.four_state.declared.bit.Bit.{Bit}
 use Rattle.design_model.specs.Tree.{Process, assign, clocked, comb}
 use Rattle.design_model.specs.declared.point.Point.{Point}
 use Rattle.design_model.specs.Design.{Design, In, IsAssign, IsClocked, IsComb, body_at, is_assign, no_process, process_at, signal_at}

@@ -3,14 +3,14 @@ use Rattle.std.proofs.Common.{◌≡◌, ◌⊎◌, inl, inr, ⊎_elim, Bool, tr
 use Rattle.std.specs.List.{list_any, list_all}
 use Rattle.std.proofs.lemmas.Bool.{and_parts, or_cases, or_parts, or_left, or_right, both_ways, not-false, not-true}
 use Rattle.event_machine.specs.Cell.{Cell, same_cell}
-use Rattle.four_state.specs.Vector.{same_bit}
-use Rattle.four_state.specs.declared.bit.Bit.{Bit}
+use Rattle.design_model.specs.four_state.Vector.{same_bit}
+use Rattle.design_model.specs.four_state.declared.bit.Bit.{Bit}
 use Rattle.design_model.specs.Design.{In}
 use Rattle.design_model.proofs.Lawful.{same_bit_is, same_bit_self}
 use Rattle.body_replay.specs.KnownBits.{Allows}
 use Rattle.body_replay.specs.Replay.{flush}
 use Rattle.body_replay.specs.Store.{Kept, KnownWrite, keep_all, keep_write, write_bit}
-use Rattle.known_state.specs.Join.{join_bit}
+use Rattle.body_replay.specs.known_state.Join.{join_bit}
 use Rattle.replay_model.specs.Step.{surely_differ, surely_same}
 
 pub keep_same : (ks : List KnownWrite) (b b' : Kept) (c : Cell) → b c ≡ b' c → keep_all b ks c ≡ keep_all b' ks c

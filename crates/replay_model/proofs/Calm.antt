@@ -6,8 +6,8 @@ use Rattle.event_machine.specs.Cell.{Cell}
 use Rattle.event_machine.specs.Habit.{Habit}
 use Rattle.event_machine.specs.Machine.{IsTarget}
 use Rattle.event_machine.specs.MayMove.{of_input, of_target}
-use Rattle.four_state.specs.Vector.{same_bit}
-use Rattle.four_state.specs.declared.bit.Bit.{Bit}
+use Rattle.design_model.specs.four_state.Vector.{same_bit}
+use Rattle.design_model.specs.four_state.declared.bit.Bit.{Bit}
 use Rattle.design_model.specs.declared.point.Point.{Point}
 use Rattle.design_model.specs.Design.{Design, Thing, a_signal, body_at, cell, signal_at, signal_bits, signal_cells}
 use Rattle.design_model.specs.Mentions.{blocking_target}

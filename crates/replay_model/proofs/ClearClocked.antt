@@ -6,7 +6,7 @@ use Rattle.std.proofs.lemmas.Bool.{and_parts, and_left, both_ways, cases_Bool, f
 use Rattle.event_machine.specs.Cell.{Cell, Values, put_all, same_cell}
 use Rattle.event_machine.specs.Habit.{Habit}
 use Rattle.event_machine.specs.Laws.{EarlyLaw}
-use Rattle.four_state.specs.declared.bit.Bit.{Bit}
+use Rattle.design_model.specs.four_state.declared.bit.Bit.{Bit}
 use Rattle.design_model.specs.declared.point.Point.{Point}
 use Rattle.design_model.specs.Design.{Design, In, IsClocked, IsThing, Thing, a_signal, a_word, body_at, cell, cells, process_at, signal_at}
 use Rattle.design_model.specs.Mentions.{body_assigns, has_cell}

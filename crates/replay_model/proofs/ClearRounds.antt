@@ -6,8 +6,8 @@ use Rattle.std.proofs.lemmas.Bool.{and_parts, and_from, and_left, and_right, bot
 use Rattle.event_machine.specs.Cell.{Cell, Values, join, put_all, same_cell}
 use Rattle.event_machine.specs.Habit.{Habit}
 use Rattle.event_machine.specs.Machine.{IsCombinational}
-use Rattle.four_state.specs.declared.bit.Bit.{Bit}
-use Rattle.four_state.specs.declared.bit.Bit.TheVariants.{X}
+use Rattle.design_model.specs.four_state.declared.bit.Bit.{Bit}
+use Rattle.design_model.specs.four_state.declared.bit.Bit.TheVariants.{X}
 use Rattle.design_model.specs.declared.point.Point.{Point}
 use Rattle.design_model.specs.Tree.{Process, assign, clocked, comb}
 use Rattle.design_model.specs.Design.{Design, In, IsAssign, IsClocked, IsComb, Thing, a_signal, a_word, body, body_at, cell, cells, is_assign, no_process, owner, process_at, signal_at, signal_bits, signal_cells}

@@ -6,7 +6,7 @@ use Rattle.event_machine.specs.Machine.{IsTarget, output}
 use Rattle.event_machine.specs.Step.{outputs}
 use Rattle.event_machine.specs.Habit.{Habit}
 use Rattle.event_machine.specs.Laws.{EarlyLaw}
-use Rattle.four_state.specs.declared.bit.Bit.{Bit}
+use Rattle.design_model.specs.four_state.declared.bit.Bit.{Bit}
 use Rattle.design_model.specs.Tree.{Stmt}
 use Rattle.design_model.specs.Design.{AreDistinct, Design, In, IsClocked, body_at, cell, process_at, signal_at}
 use Rattle.design_model.specs.Mentions.{body_assigns, body_blocks, body_queues}
@@ -27,7 +27,7 @@ use Rattle.body_replay.specs.KnownBits.{Allows}
 use Rattle.body_replay.specs.Replay.{flush}
 use Rattle.body_replay.specs.Runs.{AreRuns, Runs, seen_of}
 use Rattle.body_replay.specs.Store.{AllowsState, Kept}
-use Rattle.known_state.specs.Join.{join_bit}
+use Rattle.body_replay.specs.known_state.Join.{join_bit}
 use Rattle.replay_model.specs.Sets.{AreFirstSets, Sets}
 use Rattle.replay_model.specs.Tables.{AreTables, Tables}
 use Rattle.replay_model.specs.Step.{Closing, Replay, Working, after_clocked, clean_store, clocked_run, dumped, is_dumped, opened, plain_store, run_all_clean, run_all_weak, run_clean, run_weak}

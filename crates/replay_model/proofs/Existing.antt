@@ -7,7 +7,7 @@ use Rattle.event_machine.specs.Cell.{Cell, Values, WritesCell, same_cell}
 use Rattle.event_machine.specs.Machine.{IsTarget, output}
 use Rattle.event_machine.specs.Step.{outputs}
 use Rattle.event_machine.specs.Habit.{Habit}
-use Rattle.four_state.specs.declared.bit.Bit.{Bit}
+use Rattle.design_model.specs.four_state.declared.bit.Bit.{Bit}
 use Rattle.design_model.specs.declared.design.Signal.{Signal}
 use Rattle.design_model.specs.Design.{Design, In, cell, no_signal, signal_at, signal_cells}
 use Rattle.design_model.specs.Machine.{machine}

@@ -4,7 +4,7 @@ use Rattle.std.specs.List.{list_any}
 use Rattle.std.proofs.lemmas.Bool.{and_parts, and_from, and_right, both_ways, cases_Bool, false_from_ne_true, lt-ltb, not-true, not_from_false, not_from_true, or_right}
 use Rattle.event_machine.specs.Cell.{Cell, Values, join, put_all}
 use Rattle.event_machine.specs.Habit.{Habit}
-use Rattle.four_state.specs.declared.bit.Bit.{Bit}
+use Rattle.design_model.specs.four_state.declared.bit.Bit.{Bit}
 use Rattle.design_model.specs.declared.point.Point.{Point}
 use Rattle.design_model.specs.Tree.{Process, assign, clocked, comb}
 use Rattle.design_model.specs.Design.{AreDistinct, Design, In, IsClocked, IsComb, Thing, a_signal, body_at, cells, is_assign, owner, process_at, signal_at}

@@ -1,11 +1,11 @@
 -- More that is known: what it is told by, reads, visits and leaves open.
 use Rattle.std.proofs.Common.{◌≡◌, ◌≢◌, ◌⊎◌, inl, inr, ⊎_elim, ℕ, Bool, true, false, List, [], ◌∷◌, ◌++◌, map, refl, sym, ap, subst, ◌∙◌, Option, Some, None}
 use Rattle.event_machine.specs.Cell.{Cell, Values}
-use Rattle.four_state.specs.Operators.{matches}
-use Rattle.four_state.specs.Parts.{index}
-use Rattle.four_state.specs.Vector.{truth}
-use Rattle.four_state.specs.declared.bit.Bit.{Bit}
-use Rattle.four_state.specs.declared.bit.Bit.TheVariants.{X}
+use Rattle.design_model.specs.four_state.Operators.{matches}
+use Rattle.design_model.specs.four_state.Parts.{index}
+use Rattle.design_model.specs.four_state.Vector.{truth}
+use Rattle.design_model.specs.four_state.declared.bit.Bit.{Bit}
+use Rattle.design_model.specs.four_state.declared.bit.Bit.TheVariants.{X}
 use Rattle.design_model.specs.Tree.{Stmt, Term}
 use Rattle.design_model.specs.declared.point.Point.{Point}
 use Rattle.design_model.specs.declared.point.Point.TheVariants.{Line as line_point, Logic as logic_point, Toggle as toggle_point, State as state_point, Arc as arc_point, Word as word_point}

@@ -5,7 +5,7 @@ use Rattle.std.proofs.lemmas.Bool.{and_parts, and_from, both_ways, cases_Bool, e
 use Rattle.event_machine.specs.Cell.{Cell, Values, join, put_all}
 use Rattle.event_machine.specs.Habit.{Habit}
 use Rattle.event_machine.specs.Laws.{EarlyLaw}
-use Rattle.four_state.specs.declared.bit.Bit.{Bit}
+use Rattle.design_model.specs.four_state.declared.bit.Bit.{Bit}
 use Rattle.design_model.specs.declared.point.Point.{Point}
 use Rattle.design_model.specs.Design.{Design, In, IsClocked, IsComb, Thing, a_signal, a_word, body_at, cell, cells, owner, process_at, signal_at, thing_bits}
 use Rattle.design_model.specs.Mentions.{blocking_target, body_assigns, body_mentions, has_cell}

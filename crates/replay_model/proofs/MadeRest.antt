@@ -6,7 +6,7 @@ use Rattle.event_machine.proofs.Least.{early_law}
 use Rattle.event_machine.specs.Cell.{Cell, Values, put_all}
 use Rattle.event_machine.specs.Habit.{Habit}
 use Rattle.event_machine.specs.Machine.{IsTarget}
-use Rattle.four_state.specs.declared.bit.Bit.{Bit}
+use Rattle.design_model.specs.four_state.declared.bit.Bit.{Bit}
 use Rattle.design_model.specs.declared.point.Point.{Point}
 use Rattle.design_model.specs.Design.{Design, In, IsClocked, IsComb, Thing, a_signal, body_at, cell, cells, no_process, owner, process_at, signal_at, signal_bits, signal_cells, thing_bits}
 use Rattle.design_model.specs.Mentions.{blocking_target, body_assigns, body_mentions, has_cell}

@@ -6,7 +6,7 @@ use Rattle.event_machine.specs.Cell.{Cell}
 use Rattle.event_machine.specs.Habit.{Habit}
 use Rattle.event_machine.specs.Laws.{EarlyLaw}
 use Rattle.design_model.specs.declared.point.Point.{Point}
-use Rattle.four_state.specs.declared.bit.Bit.{Bit}
+use Rattle.design_model.specs.four_state.declared.bit.Bit.{Bit}
 use Rattle.design_model.specs.Design.{AreDistinct, Design, In, IsClocked, body_at, process_at, signal_at}
 use Rattle.design_model.specs.Mentions.{blocking_target, may_write}
 use Rattle.design_model.specs.Machine.{is_level, machine}

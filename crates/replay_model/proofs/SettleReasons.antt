@@ -7,7 +7,7 @@ use Rattle.std.proofs.Math.Nat.{le-max_left, min-le_left}
 use Rattle.event_machine.specs.Cell.{Cell, Values}
 use Rattle.event_machine.specs.Habit.{Habit}
 use Rattle.event_machine.specs.Laws.{EarlyLaw}
-use Rattle.four_state.specs.declared.bit.Bit.{Bit}
+use Rattle.design_model.specs.four_state.declared.bit.Bit.{Bit}
 use Rattle.design_model.specs.declared.design.Memory.{Memory}
 use Rattle.design_model.specs.declared.point.Point.{Point}
 use Rattle.design_model.specs.Design.{Design, In, no_memory, IsClocked, IsThing, Thing, a_signal, a_word, body_at, cell, cells, is_memory, memory_at, owner, process_at, signal_at, signal_bits, signal_cells, word_cells}

@@ -6,7 +6,7 @@ use Rattle.std.proofs.lemmas.Bool.{and_parts, and_cases, both_ways, cases_Bool, 
 use Rattle.event_machine.specs.Cell.{Cell, Values, put_all, join}
 use Rattle.event_machine.specs.Machine.{output}
 use Rattle.event_machine.specs.Habit.{Habit}
-use Rattle.four_state.specs.declared.bit.Bit.{Bit}
+use Rattle.design_model.specs.four_state.declared.bit.Bit.{Bit}
 use Rattle.design_model.specs.Tree.{Process, Stmt, assign, clocked, comb}
 use Rattle.design_model.specs.Design.{Design, In, IsClocked, IsComb, body, body_at, cell, is_assign, memory_at, owner, process_at, signal_at, signal_cells, thing_bits, word_cells}
 use Rattle.design_model.specs.Mentions.{blocking_target, body_assigns, body_mentions, body_queues}

@@ -4,10 +4,10 @@ use Rattle.std.proofs.lemmas.Bool.{and_from, and_parts, both_ways, false_from_ne
 use Rattle.event_machine.specs.Cell.{Cell, Values}
 use Rattle.event_machine.specs.Habit.{Habit}
 use Rattle.event_machine.specs.Laws.{EarlyLaw}
-use Rattle.four_state.specs.Parts.{within}
-use Rattle.four_state.specs.Vector.{Vector}
-use Rattle.four_state.specs.declared.bit.Bit.{Bit}
-use Rattle.four_state.specs.declared.bit.Bit.TheVariants.{One, Zero}
+use Rattle.design_model.specs.four_state.Parts.{within}
+use Rattle.design_model.specs.four_state.Vector.{Vector}
+use Rattle.design_model.specs.four_state.declared.bit.Bit.{Bit}
+use Rattle.design_model.specs.four_state.declared.bit.Bit.TheVariants.{One, Zero}
 use Rattle.design_model.specs.declared.point.Point.{Point}
 use Rattle.design_model.specs.declared.point.Point.TheVariants.{Line as line_point, Logic as logic_point, Toggle as toggle_point, State as state_point, Arc as arc_point, Word as word_point}
 use Rattle.design_model.specs.Design.{Design, In, IsComb, cell, process_at, signal_at, signal_bits, signal_cells}

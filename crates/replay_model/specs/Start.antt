@@ -1,7 +1,7 @@
 -- The replay of the first closed step, as a function: the dump's values, and what Assigns make of them.
 use Rattle.std.specs.Prelude.{ℕ, Bool, true, false, not, ◌&&◌, if◌then◌else◌, List, [], ◌∷◌, Some, None}
 use Rattle.event_machine.specs.Cell.{Cell, Values}
-use Rattle.four_state.specs.declared.bit.Bit.{Bit}
+use Rattle.design_model.specs.four_state.declared.bit.Bit.{Bit}
 use Rattle.design_model.specs.Design.{Design, body_at, is_assign, process_at, signal_at}
 use Rattle.design_model.specs.Mentions.{blocking_target}
 use Rattle.body_replay.specs.Contract.{Outcome, quiet}

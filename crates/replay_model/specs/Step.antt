@@ -3,9 +3,9 @@
 use Rattle.std.specs.Prelude.{ℕ, Bool, true, false, not, ◌==◌, ◌&&◌, ◌||◌, if◌then◌else◌, nat_lt, List, [], ◌∷◌, ◌++◌, map, length, Option, Some, None}
 use Rattle.std.specs.List.{list_all, list_any, range_with_len}
 use Rattle.event_machine.specs.Cell.{Cell, Values}
-use Rattle.four_state.specs.Vector.{same_bit}
-use Rattle.four_state.specs.declared.bit.Bit.{Bit}
-use Rattle.four_state.specs.declared.bit.Bit.TheVariants.{One, Zero}
+use Rattle.design_model.specs.four_state.Vector.{same_bit}
+use Rattle.design_model.specs.four_state.declared.bit.Bit.{Bit}
+use Rattle.design_model.specs.four_state.declared.bit.Bit.TheVariants.{One, Zero}
 use Rattle.design_model.specs.Tree.{Process, assign, clocked, comb}
 use Rattle.design_model.specs.Design.{Design, body_at, process_at, signal_at, signal_cells}
 use Rattle.design_model.specs.Mentions.{blocking_target, body_assigns, body_mentions, nonblocking_target}
@@ -16,7 +16,7 @@ use Rattle.body_replay.specs.Contract.{Certainty, Outcome, clean, perhaps, quiet
 use Rattle.body_replay.specs.Replay.{flush}
 use Rattle.body_replay.specs.Runs.{Runs, StoreView}
 use Rattle.body_replay.specs.Store.{Kept, KnownWrite}
-use Rattle.known_state.specs.Join.{join_bit}
+use Rattle.body_replay.specs.known_state.Join.{join_bit}
 use Rattle.replay_model.specs.Sets.{Sets}
 use Rattle.design_model.specs.BodyLaws.{all_cells}
 use Rattle.replay_model.specs.Tables.{Tables}

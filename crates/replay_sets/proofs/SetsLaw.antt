@@ -1,16 +1,16 @@
 -- The answers of a step are the sets that the replay asks for.
 use Rattle.std.proofs.Common.{◌≡◌, ◌↔◌, ℕ, true, List, Option, Some, None, refl, subst}
 use Rattle.std.specs.List.{Contains}
-use Rattle.event_machine.specs.Cell.{Cell}
-use Rattle.design_model.specs.Design.{Design, cell}
-use Rattle.design_model.specs.Lawful.{IsLawfulDesign}
-use Rattle.design_model.specs.Shows.{BoundDump}
-use Rattle.design_model.specs.Early.{IsEarlyAt}
-use Rattle.design_model.specs.MayMove.{IsCleanAt}
-use Rattle.early_sets.specs.declared.habit.Habit.{Habit}
-use Rattle.early_sets.specs.WakeState.{WakeState, trigger_of}
-use Rattle.early_sets.specs.Has.{is_in}
-use Rattle.early_sets.proofs.Membership.{is_in_from, is_in_gives}
+use Rattle.wake_laws.specs.event_machine.Cell.{Cell}
+use Rattle.replay_model.specs.design_model.Design.{Design, cell}
+use Rattle.replay_model.specs.design_model.Lawful.{IsLawfulDesign}
+use Rattle.replay_model.specs.design_model.Shows.{BoundDump}
+use Rattle.replay_model.specs.design_model.Early.{IsEarlyAt}
+use Rattle.replay_model.specs.design_model.MayMove.{IsCleanAt}
+use Rattle.wake_laws.specs.early_sets.declared.habit.Habit.{Habit}
+use Rattle.wake_laws.specs.early_sets.WakeState.{WakeState, trigger_of}
+use Rattle.wake_laws.specs.early_sets.Has.{is_in}
+use Rattle.wake_laws.proofs.early_sets.Membership.{is_in_from, is_in_gives}
 use Rattle.wake_laws.specs.Laws.{AreNotes, AreSingle, AreWakes, IsSettled, habit_of}
 use Rattle.wake_laws.specs.OfDesign.{AreTablesOf}
 use Rattle.wake_laws.proofs.EarlyLaw.{early_law}

@@ -1,12 +1,12 @@
 -- The sets of a step as the replay asks for them.
 use Rattle.std.specs.Prelude.{◌≡◌, ◌↔◌, ℕ, List, Some}
 use Rattle.std.specs.List.{Contains}
-use Rattle.design_model.specs.Design.{Design}
-use Rattle.design_model.specs.Shows.{BoundDump}
-use Rattle.early_sets.specs.declared.habit.Habit.{Habit}
-use Rattle.early_sets.specs.Early.{IsEarlyBy}
-use Rattle.early_sets.specs.WakeState.{WakeState, trigger_of, waker_of}
-use Rattle.early_sets.specs.Has.{is_in}
+use Rattle.replay_model.specs.design_model.Design.{Design}
+use Rattle.replay_model.specs.design_model.Shows.{BoundDump}
+use Rattle.wake_laws.specs.early_sets.declared.habit.Habit.{Habit}
+use Rattle.wake_laws.specs.early_sets.Early.{IsEarlyBy}
+use Rattle.wake_laws.specs.early_sets.WakeState.{WakeState, trigger_of, waker_of}
+use Rattle.wake_laws.specs.early_sets.Has.{is_in}
 use Rattle.replay_model.specs.Sets.{AreSets, Sets}
 use Rattle.wake_laws.specs.Laws.{AreNotes, AreSingle, IsSettled, habit_of}
 use Rattle.wake_laws.specs.OfDesign.{AreTablesOf}

@@ -3,11 +3,11 @@ use Rattle.std.proofs.Common.{◌≡◌, ℕ, Bool, true, false, not, ◌&&◌, 
 use Rattle.std.specs.Prelude.{if◌then◌else◌}
 use Rattle.std.proofs.lemmas.Bool.{cases_Bool, false_from_ne_true}
 use Rattle.event_machine.specs.Cell.{Cell, Values}
-use Rattle.four_state.specs.declared.bit.Bit.{Bit}
-use Rattle.design_model.specs.Design.{Design, body_at, is_assign, process_at}
-use Rattle.design_model.specs.Mentions.{blocking_target}
-use Rattle.body_replay.specs.Contract.{quiet}
-use Rattle.body_replay.specs.Runs.{Runs}
+use Rattle.replay_model.specs.four_state.declared.bit.Bit.{Bit}
+use Rattle.replay_model.specs.design_model.Design.{Design, body_at, is_assign, process_at}
+use Rattle.replay_model.specs.design_model.Mentions.{blocking_target}
+use Rattle.replay_model.specs.body_replay.Contract.{quiet}
+use Rattle.replay_model.specs.body_replay.Runs.{Runs}
 use Rattle.replay_model.specs.Start.{Starting, after_first, first_kept, first_store, run_all_first, run_first, started}
 use Rattle.replay_model.specs.Step.{Closing, Working, after_settling, all_run, certainty, clocked_run, is_dumped, is_loose, is_touched, plain_store, run_all_settling, run_settling, settle_start, settled_kept}
 use Rattle.replay_model.specs.Tables.{Tables}

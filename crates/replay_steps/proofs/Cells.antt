@@ -4,12 +4,12 @@ use Rattle.std.specs.Prelude.{nat_lt, nat_le}
 use Rattle.std.proofs.lemmas.Bool.{and_parts, both_ways, eqb-true, lt-ltb, ltb-true, or_cases}
 use Rattle.std.proofs.lemmas.Bool.Decides.{nat_tests}
 use Rattle.event_machine.specs.Cell.{Cell}
-use Rattle.design_model.specs.BodyLaws.{all_cells}
-use Rattle.design_model.specs.Design.{Design, In, body_at, signal_at, signal_cells}
-use Rattle.design_model.specs.Mentions.{any_set, any_set_in, any_set_of, blocking_target, body_blocks, may_write, some_may_write}
-use Rattle.design_model.specs.Shows.{BoundDump, IsDumpOf}
-use Rattle.design_model.specs.Machine.{machine}
-use Rattle.design_model.specs.Tree.{Arms, Stmt, Stmts, Target, Targets, a_stmt, a_target, all_of, arm, bits_of, block, branch, empty, no_arms, no_stmts, no_targets, select, set, several, turns, word_of}
+use Rattle.replay_model.specs.design_model.BodyLaws.{all_cells}
+use Rattle.replay_model.specs.design_model.Design.{Design, In, body_at, signal_at, signal_cells}
+use Rattle.replay_model.specs.design_model.Mentions.{any_set, any_set_in, any_set_of, blocking_target, body_blocks, may_write, some_may_write}
+use Rattle.replay_model.specs.design_model.Shows.{BoundDump, IsDumpOf}
+use Rattle.replay_model.specs.design_model.Machine.{machine}
+use Rattle.replay_model.specs.design_model.Tree.{Arms, Stmt, Stmts, Target, Targets, a_stmt, a_target, all_of, arm, bits_of, block, branch, empty, no_arms, no_stmts, no_targets, select, set, several, turns, word_of}
 use Rattle.replay_model.specs.Step.{is_dumped}
 use Rattle.replay_model.proofs.Clocked.{at_true}
 use Rattle.replay_model.proofs.Existing.{signal_has}

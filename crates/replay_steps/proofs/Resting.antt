@@ -1,11 +1,11 @@
 -- What holds of the replay holds over times that the dump does not list.
 use Rattle.std.proofs.Common.{◌≡◌, ◌<◌, ◌≤◌, ◌+◌, ℕ, zero, suc, List, subst, arith}
 use Rattle.event_machine.specs.Habit.{Habit}
-use Rattle.design_model.specs.Design.{Design}
-use Rattle.design_model.specs.Shows.{BoundDump, IsListed, IsWindow}
-use Rattle.design_model.specs.declared.point.Point.{Point}
-use Rattle.model_laws.specs.Own.{HasOwnWakes}
-use Rattle.body_replay.specs.Runs.{Runs}
+use Rattle.replay_model.specs.design_model.Design.{Design}
+use Rattle.replay_model.specs.design_model.Shows.{BoundDump, IsListed, IsWindow}
+use Rattle.replay_model.specs.design_model.declared.point.Point.{Point}
+use Rattle.replay_model.specs.model_laws.Own.{HasOwnWakes}
+use Rattle.replay_model.specs.body_replay.Runs.{Runs}
 use Rattle.replay_model.specs.Laws.{IsReplayOf}
 use Rattle.replay_model.specs.Stands.{Stands}
 use Rattle.replay_model.specs.Step.{Replay}

@@ -6,10 +6,10 @@ use Rattle.std.proofs.lemmas.Bool.{and_parts, and_from, both_ways, cases_Bool, f
 use Rattle.event_machine.specs.Cell.{Cell}
 use Rattle.event_machine.specs.Habit.{Habit}
 use Rattle.event_machine.specs.MayMove.{of_target}
-use Rattle.design_model.specs.Design.{Design, In, body_at}
-use Rattle.design_model.specs.Mentions.{blocking_target}
-use Rattle.design_model.specs.Shows.{BoundDump}
-use Rattle.body_replay.specs.Runs.{Runs}
+use Rattle.replay_model.specs.design_model.Design.{Design, In, body_at}
+use Rattle.replay_model.specs.design_model.Mentions.{blocking_target}
+use Rattle.replay_model.specs.design_model.Shows.{BoundDump}
+use Rattle.replay_model.specs.body_replay.Runs.{Runs}
 use Rattle.replay_model.specs.Laws.{closing_at}
 use Rattle.replay_model.specs.Sets.{AreSets, Sets}
 use Rattle.replay_model.specs.Step.{Closing, Replay, Working, after_settling, all_run, certainty, clocked_run, is_dumped, is_loose, is_touched, opened, plain_store, run_all_clean, run_all_settling, run_all_weak, run_settling, settle_start, settled_kept}

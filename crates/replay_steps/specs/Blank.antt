@@ -1,10 +1,10 @@
 -- What is known outside the design: nothing.
 use Rattle.std.specs.Prelude.{◌≡◌, ℕ, Bool, true, None}
 use Rattle.event_machine.specs.Cell.{Cell}
-use Rattle.design_model.specs.BodyLaws.{all_cells}
-use Rattle.design_model.specs.Design.{Design, In, body_at}
-use Rattle.design_model.specs.Mentions.{blocking_target}
-use Rattle.body_replay.specs.Store.{Kept}
+use Rattle.replay_model.specs.design_model.BodyLaws.{all_cells}
+use Rattle.replay_model.specs.design_model.Design.{Design, In, body_at}
+use Rattle.replay_model.specs.design_model.Mentions.{blocking_target}
+use Rattle.replay_model.specs.body_replay.Store.{Kept}
 use Rattle.replay_model.specs.Step.{is_dumped}
 
 -- the cell is one of a signal or memory of the design

@@ -1,10 +1,10 @@
 -- What a step leaves as it was, where it has Assigns and Combs alone.
 use Rattle.std.specs.Prelude.{◌≡◌, ℕ, true, false, Some, None, if◌then◌else◌, []}
 use Rattle.event_machine.specs.Cell.{Cell}
-use Rattle.design_model.specs.Design.{body_at}
-use Rattle.design_model.specs.Mentions.{blocking_target}
+use Rattle.replay_model.specs.design_model.Design.{body_at}
+use Rattle.replay_model.specs.design_model.Mentions.{blocking_target}
 use Rattle.replay_model.specs.Step.{Closing, Working, is_dumped, is_loose, is_touched, with_dump}
-use Rattle.body_replay.specs.Store.{Kept}
+use Rattle.replay_model.specs.body_replay.Store.{Kept}
 
 -- what was known at the start of the step, and unknown what is to be made anew
 abbrev pub loosened : Closing → Kept

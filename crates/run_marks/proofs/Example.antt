@@ -15,7 +15,7 @@ use Rattle.mark_laws.specs.Marked.{AreVerdicts}
 use Rattle.mark_laws.specs.Numbered.{verdict_view}
 use Rattle.point_marks.specs.declared.verdict.Verdict.{Verdict}
 use Rattle.point_marks.specs.declared.verdict.Verdict.TheVariants.{Hit, Missed, Undetermined}
-use Rattle.replay_model.specs.Marks.{IsVerdict, Marking, markings_by}
+use Rattle.mark_laws.specs.replay_model.Marks.{IsVerdict, Marking, markings_by}
 use Rattle.run_marks.specs.Reported.{AreNotesOf, HasReported, IsRightStart, IsSpotOf}
 use Rattle.run_marks.specs.Example.{IsReportExample, IsSpotExample, doubt_note, hit_note, new_start, other_note, write_note}
 

@@ -22,7 +22,7 @@ use Rattle.point_marks.specs.Marking.{with_doubt}
 use Rattle.point_marks.specs.declared.verdict.Doubt.{Doubt}
 use Rattle.point_marks.specs.declared.verdict.Verdict.{Verdict}
 use Rattle.point_marks.specs.declared.verdict.Verdict.TheVariants.{Hit}
-use Rattle.replay_model.specs.Marks.{IsKeyOf, Marking, marking_by, markings_by, of_process}
+use Rattle.mark_laws.specs.replay_model.Marks.{IsKeyOf, Marking, marking_by, markings_by, of_process}
 use Rattle.block_runs.specs.Notes.{note_of}
 use Rattle.block_runs.specs.declared.notes.Doubt.{Doubt as RunDoubt}
 use Rattle.term_replay.specs.Noted.{spot_of}

@@ -14,7 +14,7 @@ use Rattle.design_model.specs.Points.{IsBlock}
 use Rattle.design_model.specs.declared.point.Point.TheVariants.{Word}
 use Rattle.mark_laws.specs.Marked.{AreVerdicts}
 use Rattle.point_marks.specs.declared.verdict.Verdict.{Verdict}
-use Rattle.replay_model.specs.Marks.{Marking, markings_by}
+use Rattle.mark_laws.specs.replay_model.Marks.{Marking, markings_by}
 
 -- the visit of a word that is written, or read
 abbrev pub word_visit : ℕ → ℕ → Bool → Visit

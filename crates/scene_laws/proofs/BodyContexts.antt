@@ -1,12 +1,12 @@
 -- Each term that the run of a body evaluates is in its context.
 use Rattle.std.proofs.Common.{Bool, List, [], ap, arith, inl, inr, max, refl, sym, subst, true, ℕ, ⊎_elim, ◌&&◌, ◌++◌, ◌∙◌, ◌∷◌, ◌≡◌, ◌≤◌, ◌⊎◌, nat_le, nat_lt, length}
 use Rattle.std.proofs.lemmas.Bool.{and_parts}
-use Rattle.design_model.specs.Design.{Design, In, is_memory}
-use Rattle.design_model.specs.Tree.{Arms, Stmt, Stmts, Target, Targets, Term, Terms, a_stmt, a_target, a_term, all_of, arm, bits_of, block, branch, empty, no_arms, no_stmts, no_targets, no_terms, select, set, several, turns, word_of}
-use Rattle.design_model.specs.Assignment.{target_width}
-use Rattle.design_model.specs.Shape.{all_signed_of, are_bodies, are_shaped, are_targets, is_alone, is_arms, is_body, is_shaped, is_target, own_sign, own_width, widest, widest_of}
-use Rattle.term_replay.specs.Stands.{IsInContext}
-use Rattle.term_replay.proofs.Contexts.{alone}
+use Rattle.body_calls.specs.design_model.Design.{Design, In, is_memory}
+use Rattle.body_calls.specs.design_model.Tree.{Arms, Stmt, Stmts, Target, Targets, Term, Terms, a_stmt, a_target, a_term, all_of, arm, bits_of, block, branch, empty, no_arms, no_stmts, no_targets, no_terms, select, set, several, turns, word_of}
+use Rattle.body_calls.specs.design_model.Assignment.{target_width}
+use Rattle.body_calls.specs.design_model.Shape.{all_signed_of, are_bodies, are_shaped, are_targets, is_alone, is_arms, is_body, is_shaped, is_target, own_sign, own_width, widest, widest_of}
+use Rattle.body_calls.specs.term_replay.Stands.{IsInContext}
+use Rattle.body_calls.proofs.term_replay.Contexts.{alone}
 use Rattle.scene_laws.specs.Contexts.{AreArms, AreLabels}
 use Rattle.scene_laws.specs.Laws.{InContexts, all_indexes_of, all_run_terms, arms_run_terms, each_of, indexes_of, run_terms}
 

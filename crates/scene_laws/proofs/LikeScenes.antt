@@ -1,14 +1,14 @@
 -- Scenes that are alike, and what terms give on them.
 use Rattle.std.proofs.Common.{Bool, List, Option, ap, ap₂, false, length, map, nat_lt, refl, subst, sym, ℕ, ◌&&◌, ◌∙◌, ◌≡◌}
-use Rattle.known_state.specs.Partly.{Partly, is_whole}
-use Rattle.design_model.specs.Design.{Design, signal_cells}
-use Rattle.design_model.specs.Tree.{Term}
-use Rattle.body_replay.specs.KnownBits.{all_sure}
-use Rattle.body_replay.specs.Store.{Kept, known_value}
-use Rattle.body_replay.specs.Replay.{blame_of, first_read, term_marks}
-use Rattle.body_replay.proofs.Answered.{same_sure}
-use Rattle.term_replay.specs.Noted.{marks_of}
-use Rattle.term_replay.specs.Stands.{Scene, Stands, first_after}
+use Rattle.body_calls.specs.known_state.Partly.{Partly, is_whole}
+use Rattle.body_calls.specs.design_model.Design.{Design, signal_cells}
+use Rattle.body_calls.specs.design_model.Tree.{Term}
+use Rattle.body_calls.specs.body_replay.KnownBits.{all_sure}
+use Rattle.body_calls.specs.body_replay.Store.{Kept, known_value}
+use Rattle.body_calls.specs.body_replay.Replay.{blame_of, first_read, term_marks}
+use Rattle.body_calls.proofs.body_replay.Answered.{same_sure}
+use Rattle.body_calls.specs.term_replay.Noted.{marks_of}
+use Rattle.body_calls.specs.term_replay.Stands.{Scene, Stands, first_after}
 use Rattle.body_calls.specs.Lvalues.{Like, is_sure_signal}
 use Rattle.scene_laws.specs.Laws.{SameTerm, TermsAlike}
 use Rattle.scene_laws.proofs.LikeTerms.{LikeBlames, term_like}

@@ -4,27 +4,27 @@ use Rattle.std.proofs.lemmas.Bool.{true≢false}
 use Rattle.std.specs.Prelude.{nat_le, slice_index_or}
 use Rattle.std.specs.List.{range_with_len}
 use borrow.Author.Tests.{leb-true}
-use Rattle.four_state.specs.declared.operator.Binary.{Binary}
-use Rattle.four_state.specs.declared.operator.Binary.TheVariants.{BitwiseAnd, BitwiseOr, LogicalAnd, LogicalOr}
-use Rattle.four_state.specs.declared.bit.Bit.{Bit}
-use Rattle.four_state.specs.declared.bit.Bit.TheVariants.{X}
-use Rattle.four_state.specs.declared.truth.Truth.{Truth}
-use Rattle.four_state.specs.declared.truth.Truth.TheVariants.{False, Strange, True}
-use Rattle.four_state.specs.Vector.{fill}
-use Rattle.four_state.specs.Parts.{index}
-use Rattle.four_state.specs.Arithmetic.{natural}
-use Rattle.known_state.specs.Join.{joined}
-use Rattle.point_words.specs.declared.node_case.NodeCase.{NodeCase}
-use Rattle.point_words.specs.declared.node_case.NodeCase.TheVariants.{BothFalse, BothTrue, FalseTrue, LeftFalse, LeftTrue, RightFalse, RightTrue, TrueFalse, ValueFalse, ValueTrue}
-use Rattle.design_model.specs.declared.design.Memory.{Memory}
-use Rattle.design_model.specs.Design.{Design, cell, memory_at, no_memory, signal_cells, word_cells}
-use Rattle.design_model.specs.Tree.{Head, Term, Terms, a_term, binary, bit, choice, concat, no_terms, number, part, repeat, sign, signal, slide, unary, word}
-use Rattle.design_model.specs.Value.{head, named_word, offset_option, part_width, range_of, slide_offset}
-use Rattle.body_replay.specs.KnownBits.{KnownBits, all_sure, both, copies_partly, extend_partly, known_truth, on_whole, select_option, sure, whole_bits, unknown}
-use Rattle.body_replay.specs.Store.{Kept, choice_of, choice_partly, join_words, known_joined, known_value, may_name, option_kept, read_word, words}
-use Rattle.body_replay.specs.Replay.{Blames, Mark, Spot, ask, blame_of, blame_of_all, case_mark, case_marks, choice_blame, doubted, first_of, first_read, first_reads, four_known, named_mark, node_marks, note, one_case, perhaps_marks, term_marks, terms_marks, two_known, undecided, word_blame, word_marks, word_read}
-use Rattle.body_replay.proofs.BlamedTerms.{cases_sure}
-use Rattle.body_replay.proofs.Unsure.{all_sure_sure, append_unsure, ask_none, binary_unsure, choice_unsure, copies_unsure, extend_unsure, false_unsure, known_truth_none, not_unsure, select_unsure, whole_none, whole_unsure, true_unsure, unary_unsure}
+use Rattle.body_calls.specs.four_state.declared.operator.Binary.{Binary}
+use Rattle.body_calls.specs.four_state.declared.operator.Binary.TheVariants.{BitwiseAnd, BitwiseOr, LogicalAnd, LogicalOr}
+use Rattle.body_calls.specs.four_state.declared.bit.Bit.{Bit}
+use Rattle.body_calls.specs.four_state.declared.bit.Bit.TheVariants.{X}
+use Rattle.body_calls.specs.four_state.declared.truth.Truth.{Truth}
+use Rattle.body_calls.specs.four_state.declared.truth.Truth.TheVariants.{False, Strange, True}
+use Rattle.body_calls.specs.four_state.Vector.{fill}
+use Rattle.body_calls.specs.four_state.Parts.{index}
+use Rattle.body_calls.specs.four_state.Arithmetic.{natural}
+use Rattle.body_calls.specs.known_state.Join.{joined}
+use Rattle.body_calls.specs.point_words.declared.node_case.NodeCase.{NodeCase}
+use Rattle.body_calls.specs.point_words.declared.node_case.NodeCase.TheVariants.{BothFalse, BothTrue, FalseTrue, LeftFalse, LeftTrue, RightFalse, RightTrue, TrueFalse, ValueFalse, ValueTrue}
+use Rattle.body_calls.specs.design_model.declared.design.Memory.{Memory}
+use Rattle.body_calls.specs.design_model.Design.{Design, cell, memory_at, no_memory, signal_cells, word_cells}
+use Rattle.body_calls.specs.design_model.Tree.{Head, Term, Terms, a_term, binary, bit, choice, concat, no_terms, number, part, repeat, sign, signal, slide, unary, word}
+use Rattle.body_calls.specs.design_model.Value.{head, named_word, offset_option, part_width, range_of, slide_offset}
+use Rattle.body_calls.specs.body_replay.KnownBits.{KnownBits, all_sure, both, copies_partly, extend_partly, known_truth, on_whole, select_option, sure, whole_bits, unknown}
+use Rattle.body_calls.specs.body_replay.Store.{Kept, choice_of, choice_partly, join_words, known_joined, known_value, may_name, option_kept, read_word, words}
+use Rattle.body_calls.specs.body_replay.Replay.{Blames, Mark, Spot, ask, blame_of, blame_of_all, case_mark, case_marks, choice_blame, doubted, first_of, first_read, first_reads, four_known, named_mark, node_marks, note, one_case, perhaps_marks, term_marks, terms_marks, two_known, undecided, word_blame, word_marks, word_read}
+use Rattle.body_calls.proofs.body_replay.BlamedTerms.{cases_sure}
+use Rattle.body_calls.proofs.body_replay.Unsure.{all_sure_sure, append_unsure, ask_none, binary_unsure, choice_unsure, copies_unsure, extend_unsure, false_unsure, known_truth_none, not_unsure, select_unsure, whole_none, whole_unsure, true_unsure, unary_unsure}
 
 pub ap₃ : {A B C D : Type 0} (f : A → B → C → D) {a a' : A} {b b' : B} {c c' : C} → a ≡ a' → b ≡ b' → c ≡ c' → f a b c ≡ f a' b' c'
 ap₃ f {a' = a'} {b = b} {c = c} p q r = ap (λ x. f x b c) p ∙ ap₂ (f a') q r

@@ -2,16 +2,16 @@
 use Rattle.std.proofs.Common.{Bool, List, None, Option, Some, [], ap, ap₂, false, if◌then◌else◌, length, map, nat_lt, refl, sym, true, ℕ, ◌&&◌, ◌||◌, ◌==◌, ◌∙◌, ◌∷◌, ◌≡◌}
 use Rattle.std.proofs.lemmas.Bool.{and_parts, false≢true}
 use Rattle.std.specs.List.{list_all}
-use Rattle.event_machine.specs.Cell.{Cell}
-use Rattle.four_state.specs.declared.bit.Bit.{Bit}
-use Rattle.known_state.proofs.Cases.{same_bit_eq}
-use Rattle.known_state.specs.Join.{join_bit}
-use Rattle.design_model.specs.Design.{Design, signal_cells}
-use Rattle.body_replay.specs.KnownBits.{all_sure}
-use Rattle.body_replay.specs.Store.{Kept}
-use Rattle.body_replay.specs.Replay.{State, join_blame, join_kept, joined_states, same_kept}
-use Rattle.body_replay.proofs.Frames.{join_self}
-use Rattle.term_replay.specs.Stands.{Scene}
+use Rattle.body_calls.specs.event_machine.Cell.{Cell}
+use Rattle.body_calls.specs.four_state.declared.bit.Bit.{Bit}
+use Rattle.body_calls.proofs.known_state.Cases.{same_bit_eq}
+use Rattle.body_calls.specs.known_state.Join.{join_bit}
+use Rattle.body_calls.specs.design_model.Design.{Design, signal_cells}
+use Rattle.body_calls.specs.body_replay.KnownBits.{all_sure}
+use Rattle.body_calls.specs.body_replay.Store.{Kept}
+use Rattle.body_calls.specs.body_replay.Replay.{State, join_blame, join_kept, joined_states, same_kept}
+use Rattle.body_calls.proofs.body_replay.Frames.{join_self}
+use Rattle.body_calls.specs.term_replay.Stands.{Scene}
 use Rattle.body_calls.specs.Lvalues.{Like, is_sure_signal}
 use Rattle.body_calls.specs.Ways.{joined_scene}
 use Rattle.scene_laws.specs.At.{scene_of}

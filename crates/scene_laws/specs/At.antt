@@ -1,9 +1,9 @@
 -- Where the run of a body is: what the store knows, what is queued and what is noted, against the state of the definition.
 use Rattle.std.specs.Prelude.{◌≡◌, ◌++◌, ◌∷◌, ℕ, List, [], Option}
-use Rattle.design_model.specs.Design.{Design}
-use Rattle.body_replay.specs.Store.{KnownWrite}
-use Rattle.body_replay.specs.Replay.{Mark, State}
-use Rattle.term_replay.specs.Stands.{Scene}
+use Rattle.body_calls.specs.design_model.Design.{Design}
+use Rattle.body_calls.specs.body_replay.Store.{KnownWrite}
+use Rattle.body_calls.specs.body_replay.Replay.{Mark, State}
+use Rattle.body_calls.specs.term_replay.Stands.{Scene}
 use Rattle.body_calls.specs.Lvalues.{Like}
 
 -- all queued writes, in order

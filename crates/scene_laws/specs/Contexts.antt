@@ -1,8 +1,8 @@
 -- The labels and arms of a case statement in their context (IEEE 1364-2001, clause 9.5).
 use Rattle.std.specs.Prelude.{◌≡◌, ◌≤◌, ℕ, Bool, true}
-use Rattle.design_model.specs.Design.{Design}
-use Rattle.design_model.specs.Tree.{Arms, Terms}
-use Rattle.design_model.specs.Shape.{are_shaped, is_arms, widest, widest_of}
+use Rattle.body_calls.specs.design_model.Design.{Design}
+use Rattle.body_calls.specs.design_model.Tree.{Arms, Terms}
+use Rattle.body_calls.specs.design_model.Shape.{are_shaped, is_arms, widest, widest_of}
 
 -- labels of this width and sign, none of which is wider alone
 pub record AreLabels (d : Design) (w : ℕ) (s : Bool) (ts : Terms) : Type 0 where

@@ -1,12 +1,12 @@
 -- What scenes that are alike have in common, and the contexts of the terms that the run of a body evaluates.
 use Rattle.std.specs.Prelude.{◌≡◌, ◌∷◌, ◌++◌, ℕ, List, [], true, Option}
-use Rattle.known_state.specs.Partly.{Partly}
-use Rattle.design_model.specs.Design.{Design, In}
-use Rattle.design_model.specs.Tree.{Arms, Stmt, Stmts, Target, Targets, Term, Terms, a_stmt, a_target, a_term, all_of, arm, bits_of, block, branch, empty, no_arms, no_stmts, no_targets, no_terms, select, set, several, turns, word_of}
-use Rattle.design_model.specs.Shape.{is_body}
-use Rattle.body_replay.specs.Replay.{State, joined_states}
-use Rattle.term_replay.specs.Noted.{marks_of}
-use Rattle.term_replay.specs.Stands.{IsInContext, Scene, Stands, first_after}
+use Rattle.body_calls.specs.known_state.Partly.{Partly}
+use Rattle.body_calls.specs.design_model.Design.{Design, In}
+use Rattle.body_calls.specs.design_model.Tree.{Arms, Stmt, Stmts, Target, Targets, Term, Terms, a_stmt, a_target, a_term, all_of, arm, bits_of, block, branch, empty, no_arms, no_stmts, no_targets, no_terms, select, set, several, turns, word_of}
+use Rattle.body_calls.specs.design_model.Shape.{is_body}
+use Rattle.body_calls.specs.body_replay.Replay.{State, joined_states}
+use Rattle.body_calls.specs.term_replay.Noted.{marks_of}
+use Rattle.body_calls.specs.term_replay.Stands.{IsInContext, Scene, Stands, first_after}
 use Rattle.body_calls.specs.Lvalues.{Like}
 use Rattle.body_calls.specs.Ways.{joined_scene}
 use Rattle.scene_laws.specs.At.{scene_of}

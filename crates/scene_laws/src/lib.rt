@@ -4,6 +4,10 @@
 
 ghost use Rattle.scene_laws.specs.Laws.{InContexts, JoinsAlike, TermsAlike};
 
+pub use body_calls::{
+    Access, Bodies, Lvalue, Notes, Progress, Reads, Spot, TermHead, evaluate, fitted, note_words,
+};
+
 /// The terms of a body do not tell scenes apart that differ only in the blames of signals of which all bits are sure, and each
 /// of them has the width and the sign that its context gives it (IEEE 1364-2001, clauses 4.4 and 4.5). The two branches of
 /// an undecided test are joined as the definition of a run joins them.

@@ -18,8 +18,8 @@ use Rattle.cover_points.specs.declared.listing.Points.{Points}
 use Rattle.design_model.specs.Design.{Design, In, no_instance}
 use Rattle.design_model.specs.declared.design.Instance.{Instance}
 use Rattle.instance_paths.specs.Rooted.{IsRooted, IsUnder}
-use Rattle.point_table.specs.Collected.{IsCollected}
-use Rattle.point_table.specs.Rows.{row_at}
+use Rattle.verdict_laws.specs.point_table.Collected.{IsCollected}
+use Rattle.verdict_laws.specs.point_table.Rows.{row_at}
 use Rattle.score_tables.specs.Head.{HasHead, no_instance_row, row_of}
 
 Contains-map : {X Y : Type 0} (f : X → Y) (xs : List X) (x : X) → Contains xs x → Contains (map f xs) (f x)

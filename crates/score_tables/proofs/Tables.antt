@@ -13,15 +13,15 @@ use Rattle.design_points.specs.Counted.{AreAllPoints}
 use Rattle.design_points.proofs.Counts.{no_machines}
 use Rattle.event_machine.specs.Habit.{Habit}
 use Rattle.instance_paths.specs.Rooted.{IsRooted}
-use Rattle.mark_laws.specs.Marked.{AreVerdicts}
+use Rattle.verdict_laws.specs.mark_laws.Marked.{AreVerdicts}
 use Rattle.point_marks.specs.declared.verdict.Verdict.{Verdict}
 use Rattle.point_marks.specs.declared.verdict.Verdict.TheVariants.{Hit, Missed, Undetermined}
-use Rattle.point_table.specs.Collected.{IsCollected}
-use Rattle.point_table.specs.Verdicts.{AreShown, IsOfDesign}
-use Rattle.replay_model.specs.Step.{Replay}
-use Rattle.table_laws.proofs.Listing.{lists_points}
-use Rattle.table_laws.proofs.Tables.{collected_is}
-use Rattle.table_laws.specs.Written.{IsWritten, IsWrittenMachine, IsWrittenVerdict}
+use Rattle.verdict_laws.specs.point_table.Collected.{IsCollected}
+use Rattle.verdict_laws.specs.point_table.Verdicts.{AreShown, IsOfDesign}
+use Rattle.verdict_laws.specs.replay_model.Step.{Replay}
+use Rattle.verdict_laws.proofs.table_laws.Listing.{lists_points}
+use Rattle.verdict_laws.proofs.table_laws.Tables.{collected_is}
+use Rattle.verdict_laws.specs.table_laws.Written.{IsWritten, IsWrittenMachine, IsWrittenVerdict}
 use Rattle.verdict_laws.proofs.NoStep.{no_reasons, no_sound}
 use Rattle.verdict_laws.proofs.Rows.{reasoned_table, sound_table}
 use Rattle.verdict_laws.proofs.Written.{written}

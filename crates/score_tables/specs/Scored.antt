@@ -7,11 +7,11 @@ use Rattle.cover_points.specs.declared.listing.Points.{Points}
 use Rattle.design_model.specs.Design.{Design}
 use Rattle.design_model.specs.Shows.{BoundDump, IsListed}
 use Rattle.event_machine.specs.Habit.{Habit}
-use Rattle.mark_laws.specs.Marked.{AreVerdicts}
+use Rattle.verdict_laws.specs.mark_laws.Marked.{AreVerdicts}
 use Rattle.point_marks.specs.declared.verdict.Verdict.{Verdict}
-use Rattle.replay_model.specs.Laws.{AreReasonedVerdicts, AreSoundVerdicts}
-use Rattle.replay_model.specs.Step.{Replay}
-use Rattle.table_laws.specs.Rows.{ListsPoints}
+use Rattle.verdict_laws.specs.replay_model.Laws.{AreReasonedVerdicts, AreSoundVerdicts}
+use Rattle.verdict_laws.specs.replay_model.Step.{Replay}
+use Rattle.verdict_laws.specs.table_laws.Rows.{ListsPoints}
 use Rattle.verdict_laws.specs.Reasoned.{IsReasoned}
 use Rattle.verdict_laws.specs.Sound.{IsSound}
 use Rattle.score_tables.specs.Head.{HasHead}

@@ -3,7 +3,7 @@ ghost use Rattle.cover_points.specs.declared.listing.Points.{Points};
 ghost use Rattle.design_model.specs.Design.{Design};
 ghost use Rattle.design_model.specs.Shows.{BoundDump, IsWindow};
 ghost use Rattle.event_machine.specs.Habit.{Habit};
-ghost use Rattle.mark_laws.specs.Marked.{AreVerdicts};
+ghost use Rattle.verdict_laws.specs.mark_laws.Marked.{AreVerdicts};
 ghost use Rattle.point_marks.specs.declared.verdict.Verdict.{Verdict};
 ghost use Rattle.score_tables.specs.Scored.{AreScored};
 

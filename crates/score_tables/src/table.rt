@@ -6,7 +6,7 @@ ghost use Rattle.design_model.specs.View.{design_view};
 ghost use Rattle.design_points.specs.Counted.{AreAllPoints};
 ghost use Rattle.event_machine.specs.Habit.{Habit};
 ghost use Rattle.instance_paths.specs.Rooted.{IsRooted};
-ghost use Rattle.table_laws.specs.Written.{IsWritten};
+ghost use Rattle.verdict_laws.specs.table_laws.Written.{IsWritten};
 ghost use Rattle.score_tables.specs.Scored.{AreScored, HasSmallTimes, IsScoreTable};
 
 use cov_host::{Name, NoMemory, Sequence};
@@ -14,8 +14,8 @@ use cover_marks::Marks;
 use cover_points::Points;
 use coverage_db::Db;
 use design_model::Design;
-use point_table::collect;
 use std::alloc::Global;
+use verdict_laws::collect;
 
 /// The table of a design, which was read from these sources and has these points, with the verdicts of its marks.
 pub fn score_table(

@@ -13,25 +13,25 @@ use Rattle.design_model.proofs.BodyLaws.{settled_signals_law}
 use Rattle.body_replay.specs.Contract.{Certainty, Outcome, outcome}
 use Rattle.body_replay.specs.Runs.{AreRuns, StoreView, own_store, runs_of}
 use Rattle.body_replay.specs.Store.{Kept}
-use Rattle.term_replay.specs.Stands.{Scene}
-use Rattle.body_calls.specs.Own.{IsOwn, is_in}
-use Rattle.body_calls.specs.Rooms.{Rooms}
-use Rattle.body_calls.specs.Under.{kept_with}
-use Rattle.scene_laws.specs.At.{flat}
-use Rattle.open_tests.specs.Weights.{HasRoomFor, logs, queues}
-use Rattle.body_store.specs.declared.store.Store.{Store}
-use Rattle.body_store.specs.Bodies.{around_of, queued_of, rooms_of}
-use Rattle.body_store.specs.Held.{HoldsStore}
-use Rattle.body_store.specs.Made.{unblamed}
-use Rattle.body_store.specs.Owned.{IsBlank}
-use Rattle.body_store.specs.Scenes.{scene_of}
-use Rattle.body_store.specs.Views.{hides, kept_scene, under_of}
-use Rattle.body_store.proofs.ViewLaws.{under_here}
+use Rattle.block_runs.specs.term_replay.Stands.{Scene}
+use Rattle.block_runs.specs.body_calls.Own.{IsOwn, is_in}
+use Rattle.block_runs.specs.body_calls.Rooms.{Rooms}
+use Rattle.block_runs.specs.body_calls.Under.{kept_with}
+use Rattle.store_knowledge.specs.scene_laws.At.{flat}
+use Rattle.store_knowledge.specs.open_tests.Weights.{HasRoomFor, logs, queues}
+use Rattle.store_knowledge.specs.body_store.declared.store.Store.{Store}
+use Rattle.store_knowledge.specs.body_store.Bodies.{around_of, queued_of, rooms_of}
+use Rattle.store_knowledge.specs.body_store.Held.{HoldsStore}
+use Rattle.store_knowledge.specs.body_store.Made.{unblamed}
+use Rattle.store_knowledge.specs.body_store.Owned.{IsBlank}
+use Rattle.store_knowledge.specs.body_store.Scenes.{scene_of}
+use Rattle.store_knowledge.specs.body_store.Views.{hides, kept_scene, under_of}
+use Rattle.store_knowledge.proofs.body_store.ViewLaws.{under_here}
 use Rattle.block_runs.specs.Met.{met, outcome_on}
 use Rattle.block_runs.specs.Notes.{way_of}
 use Rattle.block_runs.specs.declared.certainty.Certainty.{Certainty as CodeCertainty}
 use Rattle.process_targets.proofs.Settled.{settled_law}
-use Rattle.replay_model.specs.Step.{plain_store}
+use Rattle.replay_steps.specs.replay_model.Step.{plain_store}
 use Rattle.replay_steps.proofs.Cells.{drives_cells}
 use Rattle.store_knowledge.specs.Knows.{Knows}
 use Rattle.store_knowledge.proofs.Known.{own_known, view_known}

@@ -9,9 +9,9 @@ use Rattle.design_model.proofs.Execution.{each_fails, each_gives}
 use Rattle.body_replay.specs.Contract.{Certainty, Store, clean, outcome, perhaps, quiet, shown_of, weak, weak_queue, weak_queue_in, weak_queue_of}
 use Rattle.body_replay.specs.Replay.{Mode, State, clean_run, run_set, started}
 use Rattle.body_replay.proofs.Induction.{Closed, run_holds}
-use Rattle.assignments.specs.Takes.{set_queues}
-use Rattle.open_tests.specs.Weights.{queues, weigh_all, weigh_arms}
-use Rattle.scene_laws.specs.At.{flat}
+use Rattle.block_runs.specs.assignments.Takes.{set_queues}
+use Rattle.store_knowledge.specs.open_tests.Weights.{queues, weigh_all, weigh_arms}
+use Rattle.store_knowledge.specs.scene_laws.At.{flat}
 
 -- the assignment is a nonblocking one
 abbrev pub is_queued : Bool → Target → Term → Bool

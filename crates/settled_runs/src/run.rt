@@ -5,18 +5,17 @@ ghost use Rattle.design_model.specs.Mentions.{body_assigns};
 ghost use Rattle.design_model.specs.View.{design_view};
 ghost use Rattle.body_replay.specs.Runs.{runs_of};
 ghost use Rattle.body_replay.specs.Store.{Kept};
-ghost use Rattle.body_calls.specs.Own.{is_in};
+ghost use Rattle.block_runs.specs.body_calls.Own.{is_in};
 ghost use Rattle.block_runs.specs.Notes.{AddsNotes, way_of};
-ghost use Rattle.replay_model.specs.Step.{plain_store};
+ghost use Rattle.replay_steps.specs.replay_model.Step.{plain_store};
 ghost use Rattle.store_knowledge.specs.Knows.{Knows};
 
-use assignments::Piece;
-use block_runs::{BlockNotes, Certainty, run_body};
+use block_runs::{BlockNotes, Certainty, Piece, run_body};
 use body_replay::runs_lawful;
-use body_store::Store;
 use design_model::Design;
 use std::sync::ledger::Ledger;
 use step_counts::Steps;
+use store_knowledge::Store;
 use value_store::Queue;
 
 /// Runs the body of the Assign or Comb with this number, which is one step. `written` are the signals that it assigns;

@@ -12,14 +12,14 @@ use Rattle.four_state.proofs.Places.{is_set-above}
 use Rattle.four_state.specs.declared.bit.Bit.{Bit}
 use Rattle.known_state.specs.Partly.{Partly}
 use Rattle.design_model.specs.Design.{Design, cell, signal_at, signal_cells}
-use Rattle.body_replay.specs.KnownBits.{KnownBits}
-use Rattle.body_replay.specs.Store.{Kept}
-use Rattle.body_store.specs.Owned.{IsBlank}
-use Rattle.body_store.proofs.Rows.{row_at, row_is}
+use Rattle.step_values.specs.body_replay.KnownBits.{KnownBits}
+use Rattle.step_values.specs.body_replay.Store.{Kept}
+use Rattle.step_values.specs.body_store.Owned.{IsBlank}
+use Rattle.step_values.proofs.body_store.Rows.{row_at, row_is}
 use Rattle.process_targets.specs.Targets.{has_bit}
 use Rattle.process_targets.specs.declared.bits.Bits.{Bits}
-use Rattle.store_knowledge.specs.Knows.{with_bits}
-use Rattle.store_knowledge.proofs.Cells.{out_of_cells}
+use Rattle.step_values.specs.store_knowledge.Knows.{with_bits}
+use Rattle.step_values.proofs.store_knowledge.Cells.{out_of_cells}
 use Rattle.step_values.specs.Loose.{has_code, uncoded}
 use Rattle.step_values.specs.Vectors.{FitsSignals, StepVectors, vector_at}
 use Rattle.step_values.proofs.Aside.{set_there, set_wide}

@@ -1,11 +1,11 @@
 -- What is kept and what was made of the targets of a process after its run, one after the other.
 use Rattle.std.proofs.Common.{◌≡◌, ℕ, ◌+◌, ◌<◌, ◌==◌, Bool, false, List, [], length, map, take, get_or, Option, refl, ap, subst, ◌∙◌}
 use Rattle.design_model.specs.Design.{Design, signal_cells}
-use Rattle.body_replay.specs.Store.{Kept}
-use Rattle.body_store.specs.declared.store.Store.{Store}
+use Rattle.step_values.specs.body_replay.Store.{Kept}
+use Rattle.step_values.specs.body_store.declared.store.Store.{Store}
 use Rattle.process_targets.specs.Targets.{IsOnce, has_bit, names, row_has}
 use Rattle.process_targets.specs.declared.bits.Bits.{Bits}
-use Rattle.store_knowledge.specs.Knows.{Knows}
+use Rattle.step_values.specs.store_knowledge.Knows.{Knows}
 use Rattle.step_values.specs.Vectors.{StepVectors}
 use Rattle.step_values.proofs.Tests.{row_more}
 use Rattle.settled_targets.specs.Returned.{Returns, remade, returned}

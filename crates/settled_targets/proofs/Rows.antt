@@ -7,7 +7,7 @@ use Rattle.event_machine.specs.Cell.{Cell}
 use Rattle.four_state.specs.Masks.{is_set}
 use Rattle.four_state.specs.declared.bit.Bit.{Bit}
 use Rattle.design_model.specs.Design.{In}
-use Rattle.body_replay.specs.Store.{Kept}
+use Rattle.step_values.specs.body_replay.Store.{Kept}
 use Rattle.process_targets.specs.Targets.{IsOnce, has_bit, names, row_has}
 use Rattle.process_targets.specs.declared.bits.Bits.{Bits}
 use Rattle.step_values.specs.Loose.{has_code}

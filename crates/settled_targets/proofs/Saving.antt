@@ -5,12 +5,12 @@ use Rattle.std.proofs.lemmas.Bool.{cases_eq}
 use Rattle.std.proofs.lemmas.List.{get_or-set_other, get_or-set_same}
 use Rattle.known_state.specs.Partly.{Partly}
 use Rattle.design_model.specs.Design.{Design}
-use Rattle.body_replay.specs.Store.{Kept}
-use Rattle.value_store.specs.Signals.{no_value}
-use Rattle.body_store.specs.declared.store.Store.{Store}
+use Rattle.step_values.specs.body_replay.Store.{Kept}
+use Rattle.step_values.specs.value_store.Signals.{no_value}
+use Rattle.step_values.specs.body_store.declared.store.Store.{Store}
 use Rattle.process_targets.specs.Placed.{no_bits}
 use Rattle.process_targets.specs.declared.bits.Bits.{Bits}
-use Rattle.store_knowledge.specs.Knows.{Knows}
+use Rattle.step_values.specs.store_knowledge.Knows.{Knows}
 use Rattle.step_values.specs.Vectors.{vector_at}
 use Rattle.settled_targets.specs.Saved.{AreSaved, IsSaved}
 

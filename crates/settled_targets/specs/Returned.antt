@@ -2,12 +2,12 @@
 use Rattle.std.specs.Prelude.{◌≡◌, ◌<◌, ℕ, Bool, true, if◌then◌else◌, List, length, map, Option, None}
 use Rattle.event_machine.specs.Cell.{Cell}
 use Rattle.design_model.specs.Design.{Design, signal_cells}
-use Rattle.body_replay.specs.KnownBits.{KnownBits}
-use Rattle.body_replay.specs.Store.{Kept}
-use Rattle.body_store.specs.declared.store.Store.{Store}
+use Rattle.step_values.specs.body_replay.KnownBits.{KnownBits}
+use Rattle.step_values.specs.body_replay.Store.{Kept}
+use Rattle.step_values.specs.body_store.declared.store.Store.{Store}
 use Rattle.process_targets.specs.Targets.{has_bit}
 use Rattle.process_targets.specs.declared.bits.Bits.{Bits}
-use Rattle.store_knowledge.specs.Knows.{Knows}
+use Rattle.step_values.specs.store_knowledge.Knows.{Knows}
 use Rattle.step_values.specs.Loose.{has_code, uncoded}
 use Rattle.step_values.specs.Vectors.{FitsSignals, StepVectors, vector_at}
 

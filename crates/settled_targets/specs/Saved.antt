@@ -2,8 +2,8 @@
 use Rattle.std.specs.Prelude.{◌≡◌, ◌<◌, ◌≤◌, ℕ, Bool, if◌then◌else◌, List, length, map, slice_index_or, None}
 use Rattle.known_state.specs.Partly.{Partly}
 use Rattle.design_model.specs.Design.{Design, signal_cells}
-use Rattle.body_replay.specs.Store.{Kept}
-use Rattle.body_store.specs.Owned.{IsBlank}
+use Rattle.step_values.specs.body_replay.Store.{Kept}
+use Rattle.step_values.specs.body_store.Owned.{IsBlank}
 use Rattle.process_targets.specs.Placed.{no_bits}
 use Rattle.process_targets.specs.declared.bits.Bits.{Bits}
 use Rattle.step_values.specs.Vectors.{vector_at}

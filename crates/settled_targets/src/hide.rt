@@ -4,16 +4,15 @@ ghost use Rattle.std.specs.Prelude.{◌≡◌, ◌==◌, ◌<◌, length};
 ghost use Rattle.std.specs.List.{All};
 ghost use Rattle.design_model.specs.Design.{Design};
 ghost use Rattle.design_model.specs.View.{design_view};
-ghost use Rattle.body_replay.specs.Store.{Kept};
+ghost use Rattle.step_values.specs.body_replay.Store.{Kept};
 ghost use Rattle.process_targets.specs.Rows.{IsInside};
 ghost use Rattle.process_targets.specs.Targets.{names};
-ghost use Rattle.store_knowledge.specs.Knows.{Knows};
+ghost use Rattle.step_values.specs.store_knowledge.Knows.{Knows};
 ghost use Rattle.settled_targets.specs.Saved.{hiding};
 
-use body_store::Store;
 use known_state::Known;
 use process_targets::Bits;
-use store_knowledge::{keep_signal, known_signal};
+use step_values::{Store, keep_signal, known_signal};
 
 /// Nothing is known any more of the signals of these targets, whole. It takes time for the targets.
 pub fn hide_targets(store: &mut Store, targets: &[Bits])

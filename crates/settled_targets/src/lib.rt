@@ -13,3 +13,4 @@ mod saved;
 
 pub use hide::hide_targets;
 pub use saved::SavedValues;
+pub use step_values::{StepValues, is_coded, put_dump};

@@ -5,22 +5,20 @@ ghost use Rattle.std.specs.List.{All};
 ghost use Rattle.four_state.specs.Masks.{is_set};
 ghost use Rattle.design_model.specs.Design.{Design, signal_cells};
 ghost use Rattle.design_model.specs.View.{design_view};
-ghost use Rattle.body_replay.specs.Store.{Kept};
+ghost use Rattle.step_values.specs.body_replay.Store.{Kept};
 ghost use Rattle.bit_changes.specs.Changes.{bit_at};
 ghost use Rattle.process_targets.specs.Rows.{IsInside};
 ghost use Rattle.process_targets.specs.Targets.{IsOnce, has_bit, names, row_has};
-ghost use Rattle.store_knowledge.specs.Knows.{Knows};
+ghost use Rattle.step_values.specs.store_knowledge.Knows.{Knows};
 ghost use Rattle.step_values.specs.Vectors.{FitsSignals, vector_at};
 ghost use Rattle.settled_targets.specs.Returned.{IsMadeOf, Returns};
 ghost use Rattle.settled_targets.specs.Saved.{AreSaved, IsSaved};
 
 use crate::SavedValues;
 use bit_changes::{forgotten, merged};
-use body_store::Store;
 use known_state::Known;
 use process_targets::Bits;
-use step_values::{StepValues, is_coded};
-use store_knowledge::{keep_signal, known_signal};
+use step_values::{StepValues, Store, is_coded, keep_signal, known_signal};
 
 impl SavedValues {
     /// The saved values take the place of what the run left of the signals of these targets. Of each bit that the process

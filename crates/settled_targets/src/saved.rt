@@ -2,21 +2,20 @@ ghost use Rattle.std.specs.Prelude.{◌≡◌, ◌<◌, ◌≤◌, ℕ, IfOk, le
 ghost use Rattle.std.specs.List.{All};
 ghost use Rattle.design_model.specs.Design.{Design};
 ghost use Rattle.design_model.specs.View.{design_view};
-ghost use Rattle.body_replay.specs.Store.{Kept};
+ghost use Rattle.step_values.specs.body_replay.Store.{Kept};
 ghost use Rattle.index_sets.specs.Rows.{row_at};
 ghost use Rattle.process_targets.specs.Rows.{IsInside};
-ghost use Rattle.store_knowledge.specs.Knows.{Knows};
+ghost use Rattle.step_values.specs.store_knowledge.Knows.{Knows};
 ghost use Rattle.step_values.specs.Vectors.{vector_at};
 ghost use Rattle.settled_targets.specs.Saved.{AreSaved};
 
-use body_store::Store;
 use cov_host::NoMemory;
 use index_sets::Rows;
 use known_state::Known;
 use process_targets::Bits;
 use std::alloc::Global;
 use std::marker::Model;
-use store_knowledge::known_signal;
+use step_values::{Store, known_signal};
 
 /// What was kept of the signals that a process writes, before it runs: a vector for each of its targets, in order.
 ///

@@ -6,10 +6,10 @@ use Rattle.std.proofs.lemmas.List.Elements.{All-head, All-tail}
 use Rattle.design_model.specs.Design.{In, IsComb, body_at, process_at}
 use Rattle.design_model.specs.Mentions.{body_mentions}
 use Rattle.design_model.specs.Tree.{Process, assign, clocked, comb}
-use Rattle.body_calls.specs.Own.{is_in}
+use Rattle.body_store.specs.body_calls.Own.{is_in}
 use Rattle.body_replay.specs.Contract.{Certainty}
 use Rattle.index_sets.specs.Rows.{row_at}
-use Rattle.replay_model.specs.Step.{Closing, Working, acts, dump_changes, is_clean_way, is_comb, sees_change}
+use Rattle.step_parts.specs.replay_model.Step.{Closing, Working, acts, dump_changes, is_clean_way, is_comb, sees_change}
 use Rattle.wake_bits.specs.Laws.{IsWakeOf}
 use Rattle.wake_bits.specs.declared.wakes.Wake.{Wake}
 use Rattle.step_parts.specs.AtStep.{AreActed}

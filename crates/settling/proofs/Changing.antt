@@ -13,15 +13,15 @@ use Rattle.body_replay.specs.KnownBits.{KnownBits}
 use Rattle.body_replay.specs.Store.{Kept}
 use Rattle.body_store.proofs.Rows.{row_at}
 use Rattle.bit_changes.specs.Changes as b
-use Rattle.replay_model.specs.Step.{Closing, Working, first_unsure, has_changed, is_still, surely_differ, surely_same, wake_cells}
+use Rattle.step_parts.specs.replay_model.Step.{Closing, Working, first_unsure, has_changed, is_still, surely_differ, surely_same, wake_cells}
 use Rattle.known_state.specs.Partly.{Partly}
 use Rattle.design_model.specs.View.{design_view}
 use Rattle.early_sets.specs.Has.{is_in}
 use Rattle.early_sets.specs.WakeState.{WakeState}
 use Rattle.body_store.specs.declared.store.Store.{Store}
-use Rattle.store_knowledge.specs.Knows.{Knows}
-use Rattle.step_values.specs.Vectors.{StepVectors, vector_at}
-use Rattle.step_values.proofs.Forgets.{here}
+use Rattle.settled_runs.specs.store_knowledge.Knows.{Knows}
+use Rattle.settled_targets.specs.step_values.Vectors.{StepVectors, vector_at}
+use Rattle.settled_targets.proofs.step_values.Forgets.{here}
 use Rattle.wake_bits.specs.Laws.{IsWakeOf}
 use Rattle.wake_bits.specs.declared.wakes.Wake.{Wake}
 use Rattle.settling.specs.Wakes.{HasState, things_of}

@@ -10,15 +10,15 @@ use Rattle.design_model.specs.Tree.{Process, assign, clocked, comb}
 use Rattle.body_replay.specs.Contract.{Outcome, quiet}
 use Rattle.body_replay.specs.Runs.{AreRuns, runs_of}
 use Rattle.body_store.specs.declared.store.Store.{Store}
-use Rattle.process_targets.specs.Rows.{AreTargets}
-use Rattle.process_targets.specs.Targets.{names, row_has}
-use Rattle.process_targets.specs.declared.bits.Bits.{Bits}
-use Rattle.replay_model.specs.Start.{Starting, after_first, run_first}
-use Rattle.replay_model.specs.Step.{is_comb, plain_store, settled_kept}
-use Rattle.replay_model.specs.Tables.{Tables}
-use Rattle.store_knowledge.specs.Knows.{Knows}
-use Rattle.step_values.specs.Loose.{has_code}
-use Rattle.step_values.specs.Vectors.{StepVectors}
+use Rattle.settled_runs.specs.process_targets.Rows.{AreTargets}
+use Rattle.settled_runs.specs.process_targets.Targets.{names, row_has}
+use Rattle.settled_runs.specs.process_targets.declared.bits.Bits.{Bits}
+use Rattle.step_parts.specs.replay_model.Start.{Starting, after_first, run_first}
+use Rattle.step_parts.specs.replay_model.Step.{is_comb, plain_store, settled_kept}
+use Rattle.step_parts.specs.replay_model.Tables.{Tables}
+use Rattle.settled_runs.specs.store_knowledge.Knows.{Knows}
+use Rattle.settled_targets.specs.step_values.Loose.{has_code}
+use Rattle.settled_targets.specs.step_values.Vectors.{StepVectors}
 use Rattle.settled_targets.specs.Returned.{Returns}
 use Rattle.settled_targets.specs.Saved.{AreSaved}
 use Rattle.settling.specs.First.{AtFirst}

@@ -9,8 +9,8 @@ use Rattle.event_machine.specs.Cell.{Cell}
 use Rattle.four_state.specs.Masks.{is_set}
 use Rattle.four_state.proofs.Places.{is_set-and, is_set-zero, same_from_places}
 use Rattle.design_model.specs.Design.{Design, cell, signal_at}
-use Rattle.process_targets.proofs.Masks.{mask_inside}
-use Rattle.replay_model.specs.Step.{wake_cells}
+use Rattle.settled_runs.proofs.process_targets.Masks.{mask_inside}
+use Rattle.step_parts.specs.replay_model.Step.{wake_cells}
 use Rattle.wake_bits.specs.Laws.{IsWakeOf}
 use Rattle.wake_bits.specs.declared.wakes.Wake.{Wake}
 use Rattle.wake_bits.proofs.Cells.{each_wake_law, some_wake_law}

@@ -16,15 +16,15 @@ use Rattle.body_replay.specs.Runs.{AreRuns, Runs, runs_of}
 use Rattle.body_store.specs.declared.store.Store.{Store}
 use Rattle.early_sets.specs.WakeState.{WakeState}
 use Rattle.index_sets.specs.Rows.{row_at}
-use Rattle.process_targets.specs.Rows.{AreTargets}
-use Rattle.process_targets.specs.Targets.{names, row_has}
-use Rattle.process_targets.specs.declared.bits.Bits.{Bits}
-use Rattle.process_targets.proofs.Processes.{process_is}
-use Rattle.replay_model.specs.Step.{Closing, Working, acts, after_settling, certainty, is_comb, is_touched, kept_target, plain_store, run_settling, settled_kept}
-use Rattle.replay_steps.proofs.Settling.{run_still}
-use Rattle.store_knowledge.specs.Knows.{Knows}
-use Rattle.step_values.specs.Starts.{HasValues}
-use Rattle.step_values.specs.Vectors.{StepVectors, vector_at}
+use Rattle.settled_runs.specs.process_targets.Rows.{AreTargets}
+use Rattle.settled_runs.specs.process_targets.Targets.{names, row_has}
+use Rattle.settled_runs.specs.process_targets.declared.bits.Bits.{Bits}
+use Rattle.settled_runs.proofs.process_targets.Processes.{process_is}
+use Rattle.step_parts.specs.replay_model.Step.{Closing, Working, acts, after_settling, certainty, is_comb, is_touched, kept_target, plain_store, run_settling, settled_kept}
+use Rattle.settled_runs.proofs.replay_steps.Settling.{run_still}
+use Rattle.settled_runs.specs.store_knowledge.Knows.{Knows}
+use Rattle.settled_targets.specs.step_values.Starts.{HasValues}
+use Rattle.settled_targets.specs.step_values.Vectors.{StepVectors, vector_at}
 use Rattle.settled_targets.specs.Returned.{Returns}
 use Rattle.settled_targets.specs.Saved.{AreSaved}
 use Rattle.wake_bits.specs.declared.wakes.Wake.{Wake}

@@ -15,15 +15,15 @@ use Rattle.design_model.proofs.BodyLaws.{settled_signals_law}
 use Rattle.body_replay.specs.Contract.{Certainty, Outcome}
 use Rattle.body_replay.specs.Runs.{AreRuns, runs_of}
 use Rattle.body_replay.specs.Store.{Kept}
-use Rattle.process_targets.specs.Laws.{WritesSignals}
-use Rattle.process_targets.specs.Rows.{AreTargets, IsInside}
-use Rattle.process_targets.specs.Targets.{names, row_has}
-use Rattle.process_targets.specs.declared.bits.Bits.{Bits}
-use Rattle.process_targets.proofs.Settled.{settled_law}
-use Rattle.replay_model.specs.Step.{is_comb, is_dumped, plain_store, settled_kept}
-use Rattle.replay_steps.proofs.Cells.{drives_cells}
-use Rattle.store_knowledge.proofs.Cells.{out_of_cells}
-use Rattle.step_values.specs.Loose.{has_code}
+use Rattle.settled_runs.specs.process_targets.Laws.{WritesSignals}
+use Rattle.settled_runs.specs.process_targets.Rows.{AreTargets, IsInside}
+use Rattle.settled_runs.specs.process_targets.Targets.{names, row_has}
+use Rattle.settled_runs.specs.process_targets.declared.bits.Bits.{Bits}
+use Rattle.settled_runs.proofs.process_targets.Settled.{settled_law}
+use Rattle.step_parts.specs.replay_model.Step.{is_comb, is_dumped, plain_store, settled_kept}
+use Rattle.settled_runs.proofs.replay_steps.Cells.{drives_cells}
+use Rattle.settled_runs.proofs.store_knowledge.Cells.{out_of_cells}
+use Rattle.settled_targets.specs.step_values.Loose.{has_code}
 use Rattle.settled_targets.specs.Returned.{holding, remade, returned}
 use Rattle.settled_targets.specs.Saved.{hiding}
 use Rattle.settled_targets.proofs.Rows.{unnamed}

@@ -2,10 +2,10 @@
 use Rattle.std.specs.Prelude.{◌≡◌, ◌<◌, ℕ, Bool, true, length}
 use Rattle.design_model.specs.Design.{Design}
 use Rattle.body_store.specs.declared.store.Store.{Store}
-use Rattle.replay_model.specs.Start.{Starting}
-use Rattle.replay_model.specs.Step.{known_bits}
-use Rattle.store_knowledge.specs.Knows.{Knows}
-use Rattle.step_values.specs.Vectors.{FitsSignals, StepVectors, vector_at}
+use Rattle.step_parts.specs.replay_model.Start.{Starting}
+use Rattle.step_parts.specs.replay_model.Step.{known_bits}
+use Rattle.settled_runs.specs.store_knowledge.Knows.{Knows}
+use Rattle.settled_targets.specs.step_values.Vectors.{FitsSignals, StepVectors, vector_at}
 
 -- the store knows what is kept, and of the bound signals the vectors are what Assigns have made
 pub record AtFirst (d : Design) (bound : ℕ → Bool) (w : Starting) (x : Store) (v : StepVectors) : Type 0 where

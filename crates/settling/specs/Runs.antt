@@ -3,19 +3,19 @@ use Rattle.std.specs.Prelude.{◌≡◌, ◌<◌, ◌&&◌, ◌||◌, ℕ, Bool,
 use Rattle.std.specs.List.{All, list_any}
 use Rattle.design_model.specs.Design.{Design, In, IsClocked, body_at, process_at}
 use Rattle.design_model.specs.Mentions.{body_assigns, body_mentions}
-use Rattle.body_calls.specs.Own.{is_in}
+use Rattle.body_store.specs.body_calls.Own.{is_in}
 use Rattle.body_replay.specs.Contract.{Certainty, Outcome}
 use Rattle.body_replay.specs.Runs.{runs_of}
 use Rattle.body_store.specs.declared.store.Store.{Store}
 use Rattle.early_sets.specs.WakeState.{WakeState}
 use Rattle.index_sets.specs.Rows.{row_at}
-use Rattle.process_targets.specs.Rows.{AreTargetRows}
-use Rattle.process_targets.specs.declared.bits.Bits.{Bits}
-use Rattle.replay_model.specs.Step.{Closing, Working, certainty, dump_changes, is_clean_way, plain_store, settled_kept}
-use Rattle.replay_steps.specs.Settling.{MoveTargets}
+use Rattle.settled_runs.specs.process_targets.Rows.{AreTargetRows}
+use Rattle.settled_runs.specs.process_targets.declared.bits.Bits.{Bits}
+use Rattle.step_parts.specs.replay_model.Step.{Closing, Working, certainty, dump_changes, is_clean_way, plain_store, settled_kept}
+use Rattle.settled_runs.specs.replay_steps.Settling.{MoveTargets}
 use Rattle.step_parts.specs.AtStep.{AreActed}
-use Rattle.step_values.specs.Loose.{has_code}
-use Rattle.step_values.specs.Vectors.{StepVectors}
+use Rattle.settled_targets.specs.step_values.Loose.{has_code}
+use Rattle.settled_targets.specs.step_values.Vectors.{StepVectors}
 use Rattle.wake_bits.specs.declared.wakes.Wake.{Wake}
 use Rattle.settling.specs.Wakes.{HasState, IsWakeRow}
 

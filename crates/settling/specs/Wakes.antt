@@ -5,10 +5,10 @@ use Rattle.design_model.specs.Mentions.{blocking_target, body_mentions}
 use Rattle.early_sets.specs.Has.{is_in}
 use Rattle.early_sets.specs.WakeState.{WakeState}
 use Rattle.body_store.specs.declared.store.Store.{Store}
-use Rattle.replay_model.specs.Step.{Closing, Working}
-use Rattle.replay_steps.specs.Settling.{IsStillAt}
-use Rattle.step_values.specs.Starts.{HasValues}
-use Rattle.step_values.specs.Vectors.{StepVectors}
+use Rattle.step_parts.specs.replay_model.Step.{Closing, Working}
+use Rattle.settled_runs.specs.replay_steps.Settling.{IsStillAt}
+use Rattle.settled_targets.specs.step_values.Starts.{HasValues}
+use Rattle.settled_targets.specs.step_values.Vectors.{StepVectors}
 use Rattle.wake_bits.specs.Wakes.{AreWakes}
 use Rattle.wake_bits.specs.declared.wakes.Wake.{Wake}
 

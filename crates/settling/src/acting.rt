@@ -3,15 +3,15 @@
 ghost use Rattle.std.specs.Prelude.{◌≡◌, ◌<◌, ◌&&◌, ◌||◌, if◌then◌else◌, length, not, slice_set};
 ghost use Rattle.std.specs.List.{All};
 ghost use Rattle.design_model.specs.View.{process_view};
-ghost use Rattle.body_calls.specs.Own.{is_in};
-ghost use Rattle.block_runs.specs.Notes.{way_of};
-ghost use Rattle.replay_model.specs.Step.{is_clean_way, is_comb as is_comb_of};
+ghost use Rattle.body_store.specs.body_calls.Own.{is_in};
+ghost use Rattle.settled_runs.specs.block_runs.Notes.{way_of};
+ghost use Rattle.step_parts.specs.replay_model.Step.{is_clean_way, is_comb as is_comb_of};
 ghost use Rattle.settling.specs.Runs.{acts_by, sees_by};
 
 use crate::settled::is_comb;
-use block_runs::Certainty;
 use design_model::Process;
 use index_sets::IndexSet;
+use settled_runs::Certainty;
 use wake_bits::Wake;
 
 /// Whether what a run of this certainty makes holds, in a step in which these signals have changed: of an Assign it does, and of a

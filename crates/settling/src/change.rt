@@ -6,19 +6,18 @@ ghost use Rattle.design_model.specs.Design.{Design};
 ghost use Rattle.design_model.specs.View.{design_view};
 ghost use Rattle.body_replay.specs.Store.{Kept};
 ghost use Rattle.early_sets.specs.WakeState.{state_of};
-ghost use Rattle.replay_model.specs.Step.{Closing, Working, certainty as certainty_of, first_unsure as first_unsure_of, has_changed as has_changed_of, is_still};
-ghost use Rattle.block_runs.specs.Notes.{way_of};
-ghost use Rattle.store_knowledge.specs.Knows.{Knows};
-ghost use Rattle.step_values.specs.Vectors.{FitsSignals};
+ghost use Rattle.step_parts.specs.replay_model.Step.{Closing, Working, certainty as certainty_of, first_unsure as first_unsure_of, has_changed as has_changed_of, is_still};
+ghost use Rattle.settled_runs.specs.block_runs.Notes.{way_of};
+ghost use Rattle.settled_runs.specs.store_knowledge.Knows.{Knows};
+ghost use Rattle.settled_targets.specs.step_values.Vectors.{FitsSignals};
 ghost use Rattle.wake_bits.specs.Laws.{IsWakeOf};
 ghost use Rattle.settling.specs.Wakes.{HasState, IsWakeRow, things_of};
 
 use bit_changes::{differing, unsteady};
-use block_runs::Certainty;
 use body_store::Store;
 use early_sets::Wakes;
-use step_values::StepValues;
-use store_knowledge::known_signal;
+use settled_runs::{Certainty, known_signal};
+use settled_targets::StepValues;
 use wake_bits::Wake;
 
 /// How sure it is that a process acts in the step that ends at this time: surely, where a bit that wakes it has surely

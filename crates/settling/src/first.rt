@@ -9,22 +9,22 @@ ghost use Rattle.design_model.specs.View.{design_view};
 ghost use Rattle.body_replay.specs.Runs.{runs_of};
 ghost use Rattle.body_replay.specs.Store.{Kept};
 ghost use Rattle.index_sets.specs.Rows.{row_at};
-ghost use Rattle.replay_model.specs.Start.{Starting, run_first as run_first_of};
-ghost use Rattle.replay_model.specs.Tables.{Tables};
-ghost use Rattle.store_knowledge.specs.Knows.{Knows};
-ghost use Rattle.step_values.specs.Loose.{has_code};
-ghost use Rattle.step_values.specs.Vectors.{FitsSignals};
+ghost use Rattle.step_parts.specs.replay_model.Start.{Starting, run_first as run_first_of};
+ghost use Rattle.step_parts.specs.replay_model.Tables.{Tables};
+ghost use Rattle.settled_runs.specs.store_knowledge.Knows.{Knows};
+ghost use Rattle.settled_targets.specs.step_values.Loose.{has_code};
+ghost use Rattle.settled_targets.specs.step_values.Vectors.{FitsSignals};
 ghost use Rattle.settling.specs.First.{AtFirst};
 ghost use Rattle.settling.specs.Runs.{HasRows};
 
 use crate::settled::run_saved;
 use crate::{ProcessRows, Scratch};
-use block_runs::{BlockNotes, Certainty, Doubt};
 use body_replay::runs_lawful;
 use body_store::Store;
+use settled_runs::{BlockNotes, Certainty, Doubt};
+use settled_targets::StepValues;
 use std::sync::ledger::Ledger;
 use step_counts::Steps;
-use step_values::StepValues;
 use term_replay::Spot;
 
 /// Runs an Assign in the first step, which is one step. What it makes of the signals that the dump does not have is kept

@@ -1,11 +1,11 @@
 //! What the runs of processes take.
 
-use assignments::Piece;
 use design_model::Design;
 use early_sets::Wakes;
 use index_sets::{IndexSet, Rows};
-use process_targets::Bits;
+use settled_runs::Bits;
 use settled_targets::SavedValues;
+use step_parts::Piece;
 use value_store::Queue;
 use wake_bits::Wake;
 

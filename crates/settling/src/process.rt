@@ -4,24 +4,24 @@ ghost use Rattle.design_model.specs.Lawful.{IsLawfulDesign};
 ghost use Rattle.design_model.specs.View.{design_view};
 ghost use Rattle.body_replay.specs.Contract.{Note};
 ghost use Rattle.body_replay.specs.Store.{Kept};
-ghost use Rattle.block_runs.specs.Notes.{AddsNotes};
+ghost use Rattle.settled_runs.specs.block_runs.Notes.{AddsNotes};
 ghost use Rattle.early_sets.specs.WakeState.{state_of};
 ghost use Rattle.index_sets.specs.Rows.{row_at};
-ghost use Rattle.replay_model.specs.Step.{Closing, Working, is_touched, run_settling};
-ghost use Rattle.store_knowledge.specs.Knows.{Knows};
-ghost use Rattle.step_values.specs.Vectors.{FitsSignals};
+ghost use Rattle.step_parts.specs.replay_model.Step.{Closing, Working, is_touched, run_settling};
+ghost use Rattle.settled_runs.specs.store_knowledge.Knows.{Knows};
+ghost use Rattle.settled_targets.specs.step_values.Vectors.{FitsSignals};
 ghost use Rattle.settling.specs.Runs.{AtPoint, HasRows, IsStepOf, outcome_at};
 
 use crate::acting::{is_kept, result_holds};
 use crate::change::certainty;
 use crate::settled::run_saved;
 use crate::{Found, ProcessRows, Scratch};
-use block_runs::BlockNotes;
 use body_replay::runs_lawful;
 use body_store::Store;
+use settled_runs::BlockNotes;
+use settled_targets::StepValues;
 use std::sync::ledger::Ledger;
 use step_counts::Steps;
-use step_values::StepValues;
 
 /// Runs an Assign or Comb that watches something that may move, which is one step. What it makes of the signals that the dump
 /// does not have is kept where it is ordered, and else nothing is known of that; what it makes of the others is what was made of them

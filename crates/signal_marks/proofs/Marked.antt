@@ -6,9 +6,9 @@ use Rattle.std.proofs.lemmas.Nat.Bits.{shr_and_one}
 use Rattle.four_state.specs.Masks.{is_set}
 use Rattle.four_state.proofs.Places.{is_set-zero}
 use Rattle.design_model.specs.declared.design.Signal.{Signal}
-use Rattle.cover_points.specs.Visits.{IsVisitOf}
-use Rattle.cover_points.specs.declared.listing.Points.{Points}
-use Rattle.cover_points.specs.declared.visit.Visit.{Visit}
+use Rattle.cover_marks.specs.cover_points.Visits.{IsVisitOf}
+use Rattle.cover_marks.specs.cover_points.declared.listing.Points.{Points}
+use Rattle.cover_marks.specs.cover_points.declared.visit.Visit.{Visit}
 use Rattle.cover_marks.specs.Marks.{AreMarksOf}
 use Rattle.cover_marks.specs.declared.marks.Marks.{Marks}
 use Rattle.point_marks.specs.declared.verdict.Verdict.{Verdict}

@@ -8,9 +8,9 @@ use Rattle.four_state.specs.declared.bit.Bit.{Bit}
 use Rattle.four_state.proofs.Places.{is_set-and, is_set-not, is_set-or, is_set-zero}
 use Rattle.design_model.specs.Design.{Design, signal_at}
 use Rattle.design_model.specs.declared.design.Signal.{Signal}
-use Rattle.cover_points.specs.Visits.{IsVisitOf}
-use Rattle.cover_points.specs.declared.listing.Points.{Points}
-use Rattle.cover_points.specs.declared.visit.Visit.TheVariants.{Toggle}
+use Rattle.cover_marks.specs.cover_points.Visits.{IsVisitOf}
+use Rattle.cover_marks.specs.cover_points.declared.listing.Points.{Points}
+use Rattle.cover_marks.specs.cover_points.declared.visit.Visit.TheVariants.{Toggle}
 use Rattle.point_marks.specs.Marking.{with_doubt}
 use Rattle.point_marks.specs.declared.verdict.Doubt.{Doubt}
 use Rattle.point_marks.specs.declared.verdict.Verdict.{Verdict}

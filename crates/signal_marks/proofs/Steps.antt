@@ -3,9 +3,9 @@ use Rattle.std.proofs.Common.{◌≡◌, ◌∙◌, ℕ, ◌+◌, ◌-◌, ◌<�
 use Rattle.std.proofs.lemmas.Bool.{true≢false}
 use Rattle.four_state.specs.Masks.{is_set}
 use Rattle.design_model.specs.declared.design.Signal.{Signal}
-use Rattle.cover_points.specs.Visits.{IsVisitOf}
-use Rattle.cover_points.specs.declared.listing.Points.{Points}
-use Rattle.cover_points.specs.declared.visit.Visit.TheVariants.{Toggle}
+use Rattle.cover_marks.specs.cover_points.Visits.{IsVisitOf}
+use Rattle.cover_marks.specs.cover_points.declared.listing.Points.{Points}
+use Rattle.cover_marks.specs.cover_points.declared.visit.Visit.TheVariants.{Toggle}
 use Rattle.point_marks.specs.declared.verdict.Verdict.{Verdict}
 use Rattle.bit_changes.specs.declared.toggles.Toggles.{Toggles}
 use Rattle.signal_marks.specs.declared.places.Toggling.{Toggling}

@@ -4,9 +4,9 @@ use Rattle.four_state.specs.Masks.{is_set}
 use Rattle.four_state.specs.declared.bit.Bit.{Bit}
 use Rattle.design_model.specs.Design.{Design, signal_at}
 use Rattle.design_model.specs.declared.design.Signal.{Signal}
-use Rattle.cover_points.specs.Visits.{IsVisitOf}
-use Rattle.cover_points.specs.declared.listing.Points.{Points}
-use Rattle.cover_points.specs.declared.visit.Visit.TheVariants.{Toggle}
+use Rattle.cover_marks.specs.cover_points.Visits.{IsVisitOf}
+use Rattle.cover_marks.specs.cover_points.declared.listing.Points.{Points}
+use Rattle.cover_marks.specs.cover_points.declared.visit.Visit.TheVariants.{Toggle}
 use Rattle.point_marks.specs.declared.verdict.Verdict.{Verdict}
 use Rattle.point_marks.specs.declared.verdict.Verdict.TheVariants.{Hit, Missed}
 use Rattle.bit_changes.specs.Changes.{bit_at, may_fall, may_rise, surely_falls, surely_rises}

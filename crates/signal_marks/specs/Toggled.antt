@@ -2,10 +2,10 @@
 use Rattle.std.specs.Prelude.{◌≡◌, ◌<◌, ◌≤◌, ◌+◌, ◌-◌, ◌^◌, if◌then◌else◌, nat_le, ℕ, Bool, true, false, List, Option, Some, None, length, slice_index_or, slice_set}
 use Rattle.four_state.specs.Masks.{is_set}
 use Rattle.design_model.specs.declared.design.Signal.{Signal}
-use Rattle.cover_points.specs.Visits.{IsVisitOf}
-use Rattle.cover_points.specs.declared.listing.Points.{Points}
-use Rattle.cover_points.specs.declared.visit.Visit.{Visit}
-use Rattle.cover_points.specs.declared.visit.Visit.TheVariants.{Toggle}
+use Rattle.cover_marks.specs.cover_points.Visits.{IsVisitOf}
+use Rattle.cover_marks.specs.cover_points.declared.listing.Points.{Points}
+use Rattle.cover_marks.specs.cover_points.declared.visit.Visit.{Visit}
+use Rattle.cover_marks.specs.cover_points.declared.visit.Visit.TheVariants.{Toggle}
 use Rattle.point_marks.specs.Marking.{with_doubt}
 use Rattle.point_marks.specs.declared.verdict.Verdict.{Verdict}
 use Rattle.point_marks.specs.declared.verdict.Verdict.TheVariants.{Hit, Missed}

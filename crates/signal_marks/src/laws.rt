@@ -4,7 +4,7 @@ ghost use Rattle.std.specs.Prelude.{◌≡◌, ◌≤◌, ◌<◌, ℕ, List, fa
 ghost use Rattle.design_model.specs.Design.{Design, cell, signal_at};
 ghost use Rattle.design_model.specs.Points.{toggle_cell};
 ghost use Rattle.bit_changes.specs.declared.toggles.Toggles.{Toggles};
-ghost use Rattle.cover_points.specs.declared.listing.Points.{Points};
+ghost use Rattle.cover_marks.specs.cover_points.declared.listing.Points.{Points};
 ghost use Rattle.point_marks.specs.Marking.{with_doubt};
 ghost use Rattle.point_marks.specs.declared.verdict.Doubt.{Doubt};
 ghost use Rattle.point_marks.specs.declared.verdict.Verdict.{Verdict};

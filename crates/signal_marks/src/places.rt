@@ -2,15 +2,14 @@
 
 ghost use Rattle.std.specs.Prelude.{◌≡◌, ◌≤◌, ℕ, None, Some};
 ghost use Rattle.four_state.specs.Masks.{is_set};
-ghost use Rattle.cover_points.specs.Visits.{IsVisitOf};
-ghost use Rattle.cover_points.specs.declared.listing.Points.{Points as ThePoints};
-ghost use Rattle.cover_points.specs.declared.visit.Visit.TheVariants.{Toggle};
+ghost use Rattle.cover_marks.specs.cover_points.Visits.{IsVisitOf};
+ghost use Rattle.cover_marks.specs.cover_points.declared.listing.Points.{Points as ThePoints};
+ghost use Rattle.cover_marks.specs.cover_points.declared.visit.Visit.TheVariants.{Toggle};
 ghost use Rattle.cover_marks.specs.Marks.{AreMarksOf};
 ghost use Rattle.signal_marks.specs.Toggled.{IsIndexed, ListsToggles, MarksBit, MarksPlaces};
 
 use crate::index::index_at;
-use cover_marks::Marks;
-use cover_points::Visit;
+use cover_marks::{Marks, Visit};
 use design_model::Signal;
 
 /// Bits of a signal that toggle in one direction.

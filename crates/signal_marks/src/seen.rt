@@ -1,7 +1,7 @@
 //! The toggle points that are marked already, as masks.
 
 ghost use Rattle.std.specs.Prelude.{◌≡◌, ◌≤◌, ◌<◌, IfOk, List, false, length};
-ghost use Rattle.cover_points.specs.declared.listing.Points.{Points as ThePoints};
+ghost use Rattle.cover_marks.specs.cover_points.declared.listing.Points.{Points as ThePoints};
 ghost use Rattle.cover_marks.specs.Marks.{AreMarksOf};
 ghost use Rattle.design_model.specs.Design.{Design, signal_at};
 ghost use Rattle.point_marks.specs.declared.verdict.Verdict.{Verdict};

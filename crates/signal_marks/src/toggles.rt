@@ -1,7 +1,7 @@
 //! The toggle points of a signal.
 
 ghost use Rattle.std.specs.Prelude.{◌≡◌, ◌≤◌, false};
-ghost use Rattle.cover_points.specs.declared.listing.Points.{Points as ThePoints};
+ghost use Rattle.cover_marks.specs.cover_points.declared.listing.Points.{Points as ThePoints};
 ghost use Rattle.cover_marks.specs.Marks.{AreMarksOf};
 ghost use Rattle.signal_marks.specs.Toggled.{IsIndexed, ListsBoth, MarksToggles};
 

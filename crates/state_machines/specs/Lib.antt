@@ -4,3 +4,4 @@ pub mod Entries
 pub mod Lookups
 pub mod Values
 pub mod Same
+pub use Rattle.design_model.specs as design_model

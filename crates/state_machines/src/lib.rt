@@ -12,6 +12,7 @@ mod names;
 mod same;
 mod states;
 
+pub use design_model::{Design, Instance};
 pub use machine::{
     InstanceMachine, MachineFault, machine_in, signal_named, state_value, state_values,
 };

@@ -5,29 +5,26 @@ ghost use Rattle.design_model.specs.Design.{Design, nowhere};
 ghost use Rattle.design_model.specs.Shape.{are_bodies, is_body};
 ghost use Rattle.design_model.specs.Tree as t;
 ghost use Rattle.design_model.specs.View.{arms_of, stmt_view, stmts_of, term_view, terms_of};
-ghost use Rattle.body_replay.specs.Replay.{State, decide, run as run_of, run_all as run_all_of, run_arms as run_arms_of, run_default as run_default_of};
+ghost use Rattle.value_store.specs.body_replay.Replay.{State, decide, run as run_of, run_all as run_all_of, run_arms as run_arms_of, run_default as run_default_of};
 ghost use Rattle.value_store.specs.Rooms.{arm_view};
-ghost use Rattle.body_calls.specs.Rooms.{Leaves};
-ghost use Rattle.scene_laws.specs.At.{IsState};
-ghost use Rattle.assignments.specs.Takes.{HasRoom};
-ghost use Rattle.assignments.specs.Widths.{HasWidths};
+ghost use Rattle.open_tests.specs.body_calls.Rooms.{Leaves};
+ghost use Rattle.case_labels.specs.scene_laws.At.{IsState};
+ghost use Rattle.open_tests.specs.assignments.Takes.{HasRoom};
+ghost use Rattle.open_tests.specs.assignments.Widths.{HasWidths};
 ghost use Rattle.open_tests.specs.Views.{else_view};
 ghost use Rattle.open_tests.specs.Weights.{HasRoomFor, HasRoomForAll, LeavesBy, LeavesByAll, all_logs, all_queues, arm_logs, arm_queues, arms_logs, arms_queues, default_logs, default_queues, logs, queues};
 ghost use Rattle.known_state.specs.Partly.{is_whole};
 ghost use Rattle.design_model.specs.Execution.{is_default};
-ghost use Rattle.body_calls.specs.Ways.{Around};
-ghost use Rattle.scene_laws.specs.Contexts.{AreArms, AreLabels};
+ghost use Rattle.open_tests.specs.body_calls.Ways.{Around};
+ghost use Rattle.case_labels.specs.scene_laws.Contexts.{AreArms, AreLabels};
 ghost use Rattle.open_tests.specs.Arms.{IsAfter, arm_of, opened_by};
 ghost use Rattle.open_tests.specs.Open.{AreSecond};
 
-use assignments::{Piece, assign};
-use body_calls::Bodies;
 use case_labels::{matched, within};
 use design_model::{CaseArm, Stmt, StmtForm, Term};
 use four_state::CaseKind;
 use known_state::{Known, Maybe};
-use open_tests::{AfterArm, end_tests};
-use term_replay::{Notes, Progress, Spot, evaluate};
+use open_tests::{AfterArm, Bodies, Notes, Piece, Progress, Spot, assign, end_tests, evaluate};
 use value_store::Queue;
 
 /// Runs a statement on what the store knows. What is returned is the blame of the first read of the run that was not wholly

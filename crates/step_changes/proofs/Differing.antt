@@ -6,7 +6,7 @@ use Rattle.event_machine.specs.Cell.{Cell, Values}
 use Rattle.four_state.specs.Vector.{same_bit}
 use Rattle.four_state.specs.declared.bit.Bit.{Bit}
 use Rattle.four_state.specs.declared.bit.Bit.TheVariants.{X}
-use Rattle.design_model.proofs.Lawful.{same_bit_is, same_bit_self}
+use Rattle.step_values.proofs.design_model.Lawful.{same_bit_is, same_bit_self}
 
 abbrev rest : List Bit → List Bit
 rest [] = []

@@ -11,24 +11,24 @@ use Rattle.event_machine.specs.Told.{IsMovingInput}
 use Rattle.four_state.specs.Vector.{Vector}
 use Rattle.four_state.specs.declared.bit.Bit.{Bit}
 use Rattle.four_state.specs.declared.bit.Bit.TheVariants.{X}
-use Rattle.design_model.specs.Design.{Design, cell, process_at, signal_at, signal_bits}
-use Rattle.design_model.specs.Machine.{machine}
-use Rattle.design_model.specs.MayMove.{told_at}
-use Rattle.design_model.specs.Shows.{BoundDump}
-use Rattle.design_model.proofs.AssignLaws.{has_bit}
+use Rattle.step_values.specs.design_model.Design.{Design, cell, process_at, signal_at, signal_bits}
+use Rattle.step_values.specs.design_model.Machine.{machine}
+use Rattle.step_values.specs.design_model.MayMove.{told_at}
+use Rattle.step_values.specs.design_model.Shows.{BoundDump}
+use Rattle.step_values.proofs.design_model.AssignLaws.{has_bit}
 use Rattle.code_values.specs.Values.{AddsChanged, IsChanged, Values, value_of}
 use Rattle.early_sets.specs.WakeState.{WakeState, can_wake_by, first_signal, trigger_by, trigger_of, waker_of}
 use Rattle.early_sets.specs.declared.habit.Habit.{Habit}
 use Rattle.index_sets.specs.Rows.{row_at}
-use Rattle.replay_model.specs.Sets.{AreSets}
-use Rattle.replay_sets.specs.SetsOf.{sets_of}
+use Rattle.process_order.specs.replay_model.Sets.{AreSets}
+use Rattle.step_wakes.specs.replay_sets.SetsOf.{sets_of}
 use Rattle.step_values.specs.Dumped.{coded_value}
 use Rattle.step_values.specs.Loose.{has_code}
 use Rattle.step_values.proofs.Dumps.{bits_in}
 use Rattle.step_wakes.specs.Step.{AreChanges, IsOfDesign, StepSets}
 use Rattle.step_wakes.specs.declared.step.SignalChange.{SignalChange}
-use Rattle.wake_laws.specs.Laws.{HasNoWriters, IsChangedInput, habit_of}
-use Rattle.wake_laws.specs.OfDesign.{AreTablesOf}
+use Rattle.step_wakes.specs.wake_laws.Laws.{HasNoWriters, IsChangedInput, habit_of}
+use Rattle.step_wakes.specs.wake_laws.OfDesign.{AreTablesOf}
 use Rattle.step_changes.specs.Changes.{AreChangedSignals, AreSignalsOf, IsDue, change_by, lowest, none_early}
 use Rattle.step_changes.proofs.Differing.{apart_at, first_at, same_at}
 use Rattle.step_changes.proofs.Woken.{no_events}

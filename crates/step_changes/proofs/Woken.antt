@@ -7,11 +7,11 @@ use Rattle.event_machine.specs.Cell.{Cell}
 use Rattle.event_machine.specs.Habit.{Habit}
 use Rattle.event_machine.specs.Machine.{Edge}
 use Rattle.event_machine.specs.MayMove.{of_input, of_target}
-use Rattle.design_model.specs.Design.{Design, In, IsClocked, cell, no_process, no_signal, process_at, signal_at}
-use Rattle.design_model.specs.Machine.{events_of, lists_edge}
-use Rattle.design_model.specs.MayMove.{MayMoveAt}
-use Rattle.design_model.specs.Shows.{BoundDump}
-use Rattle.design_model.specs.Tree.{Process, assign, clocked, comb}
+use Rattle.step_values.specs.design_model.Design.{Design, In, IsClocked, cell, no_process, no_signal, process_at, signal_at}
+use Rattle.step_values.specs.design_model.Machine.{events_of, lists_edge}
+use Rattle.step_values.specs.design_model.MayMove.{MayMoveAt}
+use Rattle.step_values.specs.design_model.Shows.{BoundDump}
+use Rattle.step_values.specs.design_model.Tree.{Process, assign, clocked, comb}
 use Rattle.early_sets.specs.Has.{is_in}
 use Rattle.early_sets.specs.Reached.{MayWakeBy, Reached}
 use Rattle.early_sets.specs.Rounds.{HasMoves}
@@ -19,11 +19,11 @@ use Rattle.early_sets.specs.WakeState.{WakeState, edges_at, nothing_left}
 use Rattle.early_sets.proofs.Membership.{is_in_from, is_in_gives}
 use Rattle.index_sets.specs.Rows.{row_at}
 use Rattle.process_order.proofs.Distinct.{contains_in, in_contains, in_left, in_right}
-use Rattle.replay_model.specs.Sets.{AreSets}
-use Rattle.replay_model.specs.Tables.{AreTables, Tables}
-use Rattle.replay_model.proofs.Bits.{any_in, in_any}
-use Rattle.replay_sets.specs.SetsOf.{sets_of}
-use Rattle.wake_laws.specs.OfDesign.{AreTablesOf}
+use Rattle.process_order.specs.replay_model.Sets.{AreSets}
+use Rattle.process_order.specs.replay_model.Tables.{AreTables, Tables}
+use Rattle.process_order.proofs.replay_model.Bits.{any_in, in_any}
+use Rattle.step_wakes.specs.replay_sets.SetsOf.{sets_of}
+use Rattle.step_wakes.specs.wake_laws.OfDesign.{AreTablesOf}
 use Rattle.step_changes.specs.Changes.{WokenLaw}
 
 -- what is no Clocked lists no edge

@@ -5,23 +5,23 @@ use Rattle.event_machine.specs.Habit.{Habit}
 use Rattle.four_state.specs.Vector.{Vector}
 use Rattle.four_state.specs.declared.bit.Bit.{Bit}
 use Rattle.four_state.specs.declared.bit.Bit.TheVariants.{X}
-use Rattle.design_model.specs.Design.{Design, In, IsClocked, process_at}
-use Rattle.design_model.specs.Lawful.{IsLawfulDesign}
-use Rattle.design_model.specs.Shows.{BoundDump}
+use Rattle.step_values.specs.design_model.Design.{Design, In, IsClocked, process_at}
+use Rattle.step_values.specs.design_model.Lawful.{IsLawfulDesign}
+use Rattle.step_values.specs.design_model.Shows.{BoundDump}
 use Rattle.code_values.specs.Values.{IsChanged, Values, value_of}
 use Rattle.early_sets.specs.Has.{is_in}
 use Rattle.early_sets.specs.Rounds.{HasMoves}
 use Rattle.early_sets.specs.WakeState.{WakeState}
 use Rattle.index_sets.specs.Rows.{row_at}
-use Rattle.replay_model.specs.Sets.{AreSets}
-use Rattle.replay_model.specs.Tables.{AreTables, Tables}
-use Rattle.replay_sets.specs.SetsOf.{sets_of}
+use Rattle.process_order.specs.replay_model.Sets.{AreSets}
+use Rattle.process_order.specs.replay_model.Tables.{AreTables, Tables}
+use Rattle.step_wakes.specs.replay_sets.SetsOf.{sets_of}
 use Rattle.step_values.specs.Dumped.{AreDumped, coded_value}
 use Rattle.step_values.specs.Loose.{has_code}
 use Rattle.step_wakes.specs.Step.{IsOfDesign, flag_at}
 use Rattle.step_wakes.specs.declared.step.SignalChange.{SignalChange}
-use Rattle.wake_laws.specs.Laws.{HasNoWriters}
-use Rattle.wake_laws.specs.OfDesign.{AreTablesOf}
+use Rattle.step_wakes.specs.wake_laws.Laws.{HasNoWriters}
+use Rattle.step_wakes.specs.wake_laws.OfDesign.{AreTablesOf}
 
 -- the rows have for each code the signals that have it
 abbrev pub AreSignalsOf : List (Option ℕ) → List (List ℕ) → Type 0

@@ -1,14 +1,14 @@
 ghost use Rattle.std.specs.Prelude.{◌≡◌, ◌<◌, ◌≤◌, ℕ, Bool, List, length, true};
-ghost use Rattle.design_model.specs.Design.{Design};
-ghost use Rattle.design_model.specs.Shows.{BoundDump};
+ghost use Rattle.step_values.specs.design_model.Design.{Design};
+ghost use Rattle.step_values.specs.design_model.Shows.{BoundDump};
 ghost use Rattle.early_sets.specs.Rounds.{HasMoves};
 ghost use Rattle.early_sets.specs.WakeState.{state_of};
 ghost use Rattle.early_sets.specs.declared.habit.Habit.{Habit};
-ghost use Rattle.replay_model.specs.Sets.{AreSets};
-ghost use Rattle.replay_sets.specs.SetsOf.{sets_of};
+ghost use Rattle.process_order.specs.replay_model.Sets.{AreSets};
+ghost use Rattle.step_wakes.specs.replay_sets.SetsOf.{sets_of};
 ghost use Rattle.step_values.specs.Loose.{has_code};
 ghost use Rattle.step_wakes.specs.Step.{IsOfDesign};
-ghost use Rattle.wake_laws.specs.Laws.{habit_of};
+ghost use Rattle.step_wakes.specs.wake_laws.Laws.{habit_of};
 ghost use Rattle.step_changes.specs.Changes.{AreChangedSignals, AreSignalsOf, IsDue, none_early};
 
 use crate::changes::note_changes;

@@ -13,19 +13,19 @@ use Rattle.design_model.specs.Design.{In, body_at, cell, signal_at, signal_bits}
 use Rattle.design_model.specs.Mentions.{blocking_target}
 use Rattle.design_model.proofs.Lawful.{same_bit_self}
 use Rattle.design_model.proofs.TargetCells.{target_cells_law}
-use Rattle.body_store.specs.declared.store.Store.{Store}
+use Rattle.step_changes.specs.body_store.declared.store.Store.{Store}
 use Rattle.dump_check.specs.Checks.{AgreesAt, IsFirstDifference, last_of_each, made_of, no_value as nothing_made}
 use Rattle.dump_check.specs.declared.order.Difference.{Difference}
 use Rattle.index_sets.specs.Rows.{row_at}
-use Rattle.process_order.proofs.Distinct.{in_right}
-use Rattle.process_targets.specs.Targets.{row_has}
-use Rattle.process_targets.specs.declared.bits.Bits.{Bits}
-use Rattle.replay_model.specs.Step.{Closing, all_run, contradicts, is_dumped, is_touched, known_bits, surely_differ}
-use Rattle.step_values.specs.Vectors.{StepVectors}
-use Rattle.step_values.proofs.Dumps.{bits_in}
+use Rattle.step_changes.proofs.process_order.Distinct.{in_right}
+use Rattle.step_changes.specs.process_targets.Targets.{row_has}
+use Rattle.step_changes.specs.process_targets.declared.bits.Bits.{Bits}
+use Rattle.step_changes.specs.replay_model.Step.{Closing, all_run, contradicts, is_dumped, is_touched, known_bits, surely_differ}
+use Rattle.step_changes.specs.step_values.Vectors.{StepVectors}
+use Rattle.step_changes.proofs.step_values.Dumps.{bits_in}
 use Rattle.still_check.proofs.Bits.{allowed, differ_of, differs}
 use Rattle.step_changes.proofs.Found.{code_of}
-use Rattle.value_store.specs.Signals.{no_value}
+use Rattle.step_changes.specs.value_store.Signals.{no_value}
 use Rattle.step_check.specs.Laws.{AgreeLaw, DifferLaw, HasRun}
 use Rattle.step_check.proofs.Lists.{all_in, checked_has, flat_in, has_checked, in_flat, in_last, last_in}
 

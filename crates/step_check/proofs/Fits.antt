@@ -11,11 +11,11 @@ use Rattle.known_state.specs.Partly.{Partly}
 use Rattle.design_model.specs.Design.{Design}
 use Rattle.dump_check.specs.Checks.{FitsAt, last_of_each, no_value as nothing_made}
 use Rattle.index_sets.specs.Rows.{row_at}
-use Rattle.process_order.proofs.Distinct.{contains_in, in_contains}
-use Rattle.step_values.specs.Dumped.{AreDumped}
-use Rattle.step_values.specs.Vectors.{FitsSignals, StepVectors}
-use Rattle.step_values.proofs.Dumps.{bits_in, said_width}
-use Rattle.value_store.specs.Signals.{no_value}
+use Rattle.step_changes.proofs.process_order.Distinct.{contains_in, in_contains}
+use Rattle.step_changes.specs.step_values.Dumped.{AreDumped}
+use Rattle.step_changes.specs.step_values.Vectors.{FitsSignals, StepVectors}
+use Rattle.step_changes.proofs.step_values.Dumps.{bits_in, said_width}
+use Rattle.step_changes.specs.value_store.Signals.{no_value}
 use Rattle.step_check.proofs.Lists.{flat_in, last_in}
 
 fit : (d : Design) (new : Values Bit) (codes : List (Option ℕ)) (last : List (Option Vector)) (v : StepVectors) (s : ℕ) → FitsSignals d v → AreDumped d codes last new → s < length d.signals → FitsAt codes last v.made s

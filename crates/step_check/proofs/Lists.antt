@@ -14,12 +14,12 @@ use Rattle.four_state.proofs.Places.{is_set-zero, same_from_places}
 use Rattle.design_model.specs.Design.{Design, In, cell, signal_at}
 use Rattle.dump_check.specs.Checks.{last_of_each}
 use Rattle.index_sets.specs.Rows.{row_at}
-use Rattle.process_order.proofs.Distinct.{in_either, in_left, in_right}
-use Rattle.process_targets.specs.Rows.{IsInside}
-use Rattle.process_targets.specs.Targets.{row_has}
-use Rattle.process_targets.specs.declared.bits.Bits.{Bits}
-use Rattle.replay_model.proofs.Bits.{any_in, in_any, none_in}
-use Rattle.step_values.specs.Loose.{has_code}
+use Rattle.step_changes.proofs.process_order.Distinct.{in_either, in_left, in_right}
+use Rattle.step_changes.specs.process_targets.Rows.{IsInside}
+use Rattle.step_changes.specs.process_targets.Targets.{row_has}
+use Rattle.step_changes.specs.process_targets.declared.bits.Bits.{Bits}
+use Rattle.step_changes.proofs.replay_model.Bits.{any_in, in_any, none_in}
+use Rattle.step_changes.specs.step_values.Loose.{has_code}
 use Rattle.step_check.specs.Checks.{AreCheckRows, checked, is_checked}
 
 pub all_in : {A : Type 0} (P : A → Type 0) (xs : List A) (x : A) → All P xs → In x xs → P x

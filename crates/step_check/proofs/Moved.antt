@@ -13,14 +13,14 @@ use Rattle.design_model.specs.Machine.{is_level, machine}
 use Rattle.design_model.specs.MayMove.{IsSingleAt, MayMoveAt, told_at}
 use Rattle.design_model.specs.Mentions.{blocking_target}
 use Rattle.design_model.specs.Shows.{BoundDump}
-use Rattle.body_replay.specs.Runs.{Runs}
-use Rattle.process_order.proofs.Distinct.{in_left, in_right}
-use Rattle.process_targets.proofs.Settled.{settled_law}
-use Rattle.replay_model.specs.Sets.{AreSets, Sets}
-use Rattle.replay_model.specs.Step.{Replay}
-use Rattle.replay_model.specs.Tables.{AreTables, Tables}
-use Rattle.replay_model.proofs.Bits.{in_any}
-use Rattle.replay_model.proofs.Targets.{queues_assigns, queues_from}
+use Rattle.step_changes.specs.body_replay.Runs.{Runs}
+use Rattle.step_changes.proofs.process_order.Distinct.{in_left, in_right}
+use Rattle.step_changes.proofs.process_targets.Settled.{settled_law}
+use Rattle.step_changes.specs.replay_model.Sets.{AreSets, Sets}
+use Rattle.step_changes.specs.replay_model.Step.{Replay}
+use Rattle.step_changes.specs.replay_model.Tables.{AreTables, Tables}
+use Rattle.step_changes.proofs.replay_model.Bits.{in_any}
+use Rattle.step_changes.proofs.replay_model.Targets.{queues_assigns, queues_from}
 use Rattle.step_changes.proofs.Woken.{no_edge, none_clocked}
 use Rattle.step_check.specs.Laws.{MovesLaw}
 

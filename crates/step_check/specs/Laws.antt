@@ -8,22 +8,22 @@ use Rattle.design_model.specs.Design.{Design, In, body_at, signal_at}
 use Rattle.design_model.specs.Lawful.{IsLawfulDesign}
 use Rattle.design_model.specs.Mentions.{blocking_target}
 use Rattle.design_model.specs.Shows.{BoundDump}
-use Rattle.body_replay.specs.Runs.{Runs}
-use Rattle.body_store.specs.declared.store.Store.{Store}
+use Rattle.step_changes.specs.body_replay.Runs.{Runs}
+use Rattle.step_changes.specs.body_store.declared.store.Store.{Store}
 use Rattle.dump_check.specs.Checks.{AgreesAt, IsFirstDifference, last_of_each}
 use Rattle.dump_check.specs.declared.order.Difference.{Difference}
 use Rattle.index_sets.specs.Rows.{row_at}
-use Rattle.process_targets.specs.Rows.{AreTargetRows}
-use Rattle.process_targets.specs.declared.bits.Bits.{Bits}
-use Rattle.replay_model.specs.Laws.{closing_at}
-use Rattle.replay_model.specs.Sets.{AreSets, Sets}
-use Rattle.replay_model.specs.Step.{Closing, Replay, all_run, contradicts, is_touched}
-use Rattle.replay_model.specs.Tables.{AreTables, Tables}
-use Rattle.replay_steps.specs.Settling.{IsDumpStill, IsStillAt, MoveTargets}
-use Rattle.step_values.specs.Dumped.{AreDumped}
-use Rattle.step_values.specs.Loose.{has_code}
-use Rattle.step_values.specs.Starts.{HasValues}
-use Rattle.step_values.specs.Vectors.{StepVectors}
+use Rattle.step_changes.specs.process_targets.Rows.{AreTargetRows}
+use Rattle.step_changes.specs.process_targets.declared.bits.Bits.{Bits}
+use Rattle.step_changes.specs.replay_model.Laws.{closing_at}
+use Rattle.step_changes.specs.replay_model.Sets.{AreSets, Sets}
+use Rattle.step_changes.specs.replay_model.Step.{Closing, Replay, all_run, contradicts, is_touched}
+use Rattle.step_changes.specs.replay_model.Tables.{AreTables, Tables}
+use Rattle.step_changes.specs.replay_steps.Settling.{IsDumpStill, IsStillAt, MoveTargets}
+use Rattle.step_changes.specs.step_values.Dumped.{AreDumped}
+use Rattle.step_changes.specs.step_values.Loose.{has_code}
+use Rattle.step_changes.specs.step_values.Starts.{HasValues}
+use Rattle.step_changes.specs.step_values.Vectors.{StepVectors}
 use Rattle.step_check.specs.Checks.{AreCheckRows}
 
 -- what may move is an input, or a target of a process that watches something that may move

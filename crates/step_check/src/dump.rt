@@ -5,13 +5,13 @@ ghost use Rattle.four_state.specs.declared.bit.Bit.{Bit};
 ghost use Rattle.design_model.specs.Design.{Design};
 ghost use Rattle.dump_check.specs.Checks.{AgreesAt, IsFirstDifference, last_of_each};
 ghost use Rattle.index_sets.specs.Rows.{row_at};
-ghost use Rattle.step_values.specs.Dumped.{AreDumped};
-ghost use Rattle.step_values.specs.Vectors.{FitsSignals};
+ghost use Rattle.step_changes.specs.step_values.Dumped.{AreDumped};
+ghost use Rattle.step_changes.specs.step_values.Vectors.{FitsSignals};
 
 use code_values::CodeValues;
 use dump_check::{CheckOrder, Difference};
 use index_sets::Rows;
-use step_values::StepValues;
+use step_changes::StepValues;
 
 /// The first signal of which the processes that ran made something else than what the dump says, in a bit that is sure, in the
 /// order in which the last process of each has run. `checks` has the signals that each process has checked, `codes` the code of

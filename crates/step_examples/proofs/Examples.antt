@@ -8,7 +8,7 @@ use Rattle.four_state.specs.Masks.{is_set}
 use Rattle.four_state.proofs.Places.{is_set-zero}
 use Rattle.code_values.specs.Values.{IsChanged}
 use Rattle.index_sets.specs.Rows.{row_at}
-use Rattle.step_changes.specs.Changes.{lowest}
+use Rattle.step_check.specs.step_changes.Changes.{lowest}
 use Rattle.step_check.specs.Checks.{checked}
 use Rattle.settling.specs.Runs.{HasRows}
 use Rattle.step_examples.specs.Rows.{IsActingExample, IsChangeExample, IsCheckExample, IsLeftExample, IsRowsExample, IsWakeExample, bare, code_list, row, values}

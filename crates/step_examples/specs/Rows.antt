@@ -9,13 +9,13 @@ use Rattle.body_replay.specs.Store.{Kept}
 use Rattle.code_values.specs.Values.{Values}
 use Rattle.process_targets.specs.Targets.{names, row_has}
 use Rattle.process_targets.specs.declared.bits.Bits.{Bits}
-use Rattle.settled_targets.specs.Returned.{remade, returned}
-use Rattle.settled_targets.specs.Saved.{hiding}
+use Rattle.settling.specs.settled_targets.Returned.{remade, returned}
+use Rattle.settling.specs.settled_targets.Saved.{hiding}
 use Rattle.settling.specs.Runs.{HasRows, acts_by, sees_by}
-use Rattle.step_changes.specs.Changes.{AreChangedSignals, change_by, lowest}
+use Rattle.step_check.specs.step_changes.Changes.{AreChangedSignals, change_by, lowest}
 use Rattle.step_check.specs.Checks.{AreCheckRows, checked}
-use Rattle.wake_bits.specs.Wakes.{IsWake}
-use Rattle.wake_bits.specs.declared.wakes.Wake.{Wake}
+use Rattle.settling.specs.wake_bits.Wakes.{IsWake}
+use Rattle.settling.specs.wake_bits.declared.wakes.Wake.{Wake}
 
 -- bits 0 and 1 of signal 2, bit 1 of signal 3, and no bits of signal 4
 abbrev pub row : List Bits

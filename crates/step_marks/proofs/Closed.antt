@@ -1,6 +1,6 @@
 -- The parts of the code after a step.
-use Rattle.replay_model.specs.Step.{all_run}
-use Rattle.mark_laws.proofs.Signals.{signals_marked}
+use Rattle.step_parts.specs.replay_model.Step.{all_run}
+use Rattle.step_parts.proofs.mark_laws.Signals.{signals_marked}
 use Rattle.toggle_laws.proofs.Turns.{all_follow}
 use Rattle.step_marks.specs.Marked.{ClosedLaw}
 

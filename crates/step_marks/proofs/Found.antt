@@ -10,21 +10,21 @@ use Rattle.std.proofs.Math.Nat.{max-eq_left, min-eq_right}
 use Rattle.known_state.specs.Partly.{Partly}
 use Rattle.bit_changes.specs.declared.toggles.Toggles.{Toggles}
 use Rattle.body_replay.specs.Store.{Kept}
-use Rattle.body_store.specs.declared.store.Store.{Store}
+use Rattle.step_parts.specs.body_store.declared.store.Store.{Store}
 use Rattle.cover_marks.specs.declared.marks.Marks.{Marks}
-use Rattle.cover_points.proofs.Pieces.{test_at}
-use Rattle.cover_points.specs.Listed.{IsPointList}
-use Rattle.cover_points.specs.declared.listing.Points.{Points}
+use Rattle.cover_marks.proofs.cover_points.Pieces.{test_at}
+use Rattle.cover_marks.specs.cover_points.Listed.{IsPointList}
+use Rattle.cover_marks.specs.cover_points.declared.listing.Points.{Points}
 use Rattle.design_model.specs.Design.{Design, cell, no_signal, signal_at, signal_cells}
 use Rattle.design_model.specs.Lawful.{IsLawfulDesign, is_signal, span}
 use Rattle.design_model.specs.View.{design_view}
 use Rattle.design_model.specs.declared.design.Signal.{Signal}
 use Rattle.point_marks.specs.declared.verdict.Verdict.{Verdict}
-use Rattle.replay_model.specs.Step.{Closing, all_run}
+use Rattle.step_parts.specs.replay_model.Step.{Closing, all_run}
 use Rattle.signal_marks.specs.Seen.{MarksChange}
 use Rattle.signal_marks.specs.Toggled.{IsIndexed, ListsBoth}
-use Rattle.step_values.specs.Vectors.{FitsSignals, StepVectors, vector_at}
-use Rattle.store_knowledge.specs.Knows.{Knows}
+use Rattle.step_parts.specs.step_values.Vectors.{FitsSignals, StepVectors, vector_at}
+use Rattle.step_parts.specs.store_knowledge.Knows.{Knows}
 use Rattle.toggle_laws.specs.Turns.{IsMarkable, MarksMoved}
 use Rattle.toggle_laws.proofs.Lists.{markable}
 use Rattle.toggle_laws.proofs.Places.{shaped}

@@ -4,16 +4,16 @@ use Rattle.std.proofs.lemmas.Bool.{eq-eqb, eqb-true, false≢true}
 use Rattle.std.proofs.lemmas.List.{get_or_past, take_more}
 use Rattle.four_state.specs.declared.bit.Bit.{Bit}
 use Rattle.bit_changes.specs.declared.toggles.Toggles.{Toggles}
-use Rattle.body_calls.specs.Own.{is_in}
-use Rattle.body_store.specs.declared.store.Store.{Store}
+use Rattle.step_parts.specs.body_calls.Own.{is_in}
+use Rattle.step_parts.specs.body_store.declared.store.Store.{Store}
 use Rattle.cover_marks.specs.declared.marks.Marks.{Marks}
-use Rattle.cover_points.specs.declared.listing.Points.{Points}
+use Rattle.cover_marks.specs.cover_points.declared.listing.Points.{Points}
 use Rattle.design_model.specs.Design.{no_signal, signal_at}
 use Rattle.design_model.specs.declared.design.Signal.{Signal}
 use Rattle.point_marks.specs.declared.verdict.Verdict.{Verdict}
-use Rattle.replay_model.specs.Step.{Closing, all_run, known_bits}
+use Rattle.step_parts.specs.replay_model.Step.{Closing, all_run, known_bits}
 use Rattle.signal_marks.specs.Seen.{MarksChange}
-use Rattle.step_values.specs.Vectors.{StepVectors, vector_at}
+use Rattle.step_parts.specs.step_values.Vectors.{StepVectors, vector_at}
 use Rattle.toggle_laws.specs.Turns.{MarksInTurn, MarksMoved}
 use Rattle.toggle_laws.proofs.Turns.{one_more}
 use Rattle.step_marks.specs.Marked.{IsOver, IsSeenAfter}

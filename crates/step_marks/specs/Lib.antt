@@ -1,1 +1,2 @@
 pub mod Marked
+pub use Rattle.toggle_laws.specs as toggle_laws

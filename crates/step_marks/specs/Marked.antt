@@ -1,20 +1,20 @@
 -- The marks of a step once its processes have run.
 use Rattle.std.specs.Prelude.{◌≡◌, ℕ, Bool, true, List, []}
 use Rattle.bit_changes.specs.declared.toggles.Toggles.{Toggles}
-use Rattle.body_calls.specs.Own.{is_in}
-use Rattle.body_store.specs.declared.store.Store.{Store}
+use Rattle.step_parts.specs.body_calls.Own.{is_in}
+use Rattle.step_parts.specs.body_store.declared.store.Store.{Store}
 use Rattle.cover_marks.specs.Marks.{AreMarksOf}
 use Rattle.cover_marks.specs.declared.marks.Marks.{Marks}
-use Rattle.cover_points.specs.Listed.{IsPointList, points_of}
-use Rattle.cover_points.specs.Visits.{AreOnce}
-use Rattle.cover_points.specs.declared.listing.Points.{Points}
+use Rattle.cover_marks.specs.cover_points.Listed.{IsPointList, points_of}
+use Rattle.cover_marks.specs.cover_points.Visits.{AreOnce}
+use Rattle.cover_marks.specs.cover_points.declared.listing.Points.{Points}
 use Rattle.design_model.specs.Lawful.{IsLawfulDesign}
-use Rattle.early_sets.specs.WakeState.{WakeState}
-use Rattle.replay_model.specs.Step.{Closing, all_run, closed}
+use Rattle.step_parts.specs.early_sets.WakeState.{WakeState}
+use Rattle.step_parts.specs.replay_model.Step.{Closing, all_run, closed}
 use Rattle.signal_marks.specs.Seen.{AreSeen}
 use Rattle.step_parts.specs.AtStep.{AtRest, AtStep}
-use Rattle.step_values.specs.Starts.{HasValues}
-use Rattle.step_values.specs.Vectors.{StepVectors}
+use Rattle.step_parts.specs.step_values.Starts.{HasValues}
+use Rattle.step_parts.specs.step_values.Vectors.{StepVectors}
 use Rattle.toggle_laws.specs.Turns.{MarksInTurn}
 
 -- the processes of the step have run, these may move, and the masks say no more than the marks of the points of the design

@@ -2,24 +2,22 @@
 
 ghost use Rattle.std.specs.Prelude.{◌≡◌, ◌<◌, ◌^◌, ◌∷◌, [], length};
 ghost use Rattle.cover_marks.specs.Marks.{AreMarksOf};
-ghost use Rattle.cover_points.specs.Listed.{IsPointList};
-ghost use Rattle.cover_points.specs.declared.listing.Points.{Points as ThePoints};
+ghost use Rattle.cover_marks.specs.cover_points.Listed.{IsPointList};
+ghost use Rattle.cover_marks.specs.cover_points.declared.listing.Points.{Points as ThePoints};
 ghost use Rattle.design_model.specs.Design.{Design as TheDesign};
 ghost use Rattle.design_model.specs.Lawful.{IsLawfulDesign};
 ghost use Rattle.design_model.specs.View.{design_view};
 ghost use Rattle.body_replay.specs.Store.{Kept};
-ghost use Rattle.replay_model.specs.Step.{Closing};
-ghost use Rattle.step_values.specs.Vectors.{FitsSignals};
-ghost use Rattle.store_knowledge.specs.Knows.{Knows};
+ghost use Rattle.step_parts.specs.replay_model.Step.{Closing};
+ghost use Rattle.step_parts.specs.step_values.Vectors.{FitsSignals};
+ghost use Rattle.step_parts.specs.store_knowledge.Knows.{Knows};
 ghost use Rattle.toggle_laws.specs.Turns.{MarksInTurn, MarksMoved};
 ghost use Rattle.step_marks.specs.Marked.{IsOver, IsSeenAfter};
 
-use body_store::Store;
 use cover_marks::Marks;
 use design_model::{Design, Signal};
 use signal_marks::SignalMarks;
-use step_values::StepValues;
-use store_knowledge::known_signal;
+use step_parts::{StepValues, Store, known_signal};
 
 /// Marks the toggles, over the step that ends at this time, of the signals that may move: `moves`, in which memories are passed
 /// over. `seen` has what is marked already. It takes time for what may move, and for the bits of each signal of which a

@@ -2,18 +2,18 @@
 use Rattle.std.proofs.Common.{◌≡◌, ◌≢◌, ◌<◌, ◌++◌, ℕ, Bool, true, false, List, [], ◌∷◌, length, refl, sym, ap, subst, ◌∙◌, inl, inr, append_assoc}
 use Rattle.std.proofs.lemmas.List.{append-nil}
 use Rattle.std.specs.Prelude.{if◌then◌else◌}
-use Rattle.cover_points.specs.Listed.{points_of}
-use Rattle.cover_points.specs.Visits.{point_at}
-use Rattle.cover_points.specs.declared.listing.Points.{Points}
-use Rattle.design_model.specs.Design.{Design}
-use Rattle.design_model.specs.declared.point.Point.{Point}
+use Rattle.mark_laws.specs.cover_points.Listed.{points_of}
+use Rattle.mark_laws.specs.cover_points.Visits.{point_at}
+use Rattle.mark_laws.specs.cover_points.declared.listing.Points.{Points}
+use Rattle.signal_marks.specs.design_model.Design.{Design}
+use Rattle.signal_marks.specs.design_model.declared.point.Point.{Point}
 use Rattle.mark_laws.specs.Marked.{AreVerdicts, verdict_at}
 use Rattle.mark_laws.specs.Numbered.{verdict_view}
-use Rattle.point_marks.specs.declared.verdict.Verdict.{Verdict}
-use Rattle.point_marks.specs.declared.verdict.Verdict.TheVariants as marks
-use Rattle.replay_model.specs.Marks.{IsHitMarked, IsKeyOf, IsUnmarked, IsVerdict, Marking}
-use Rattle.replay_model.specs.Step.{Closing, Working, after_settling, all_run, certainty, clocked_run, is_touched, plain_store, run_all_settling, run_settling, settle_start, settled_kept}
-use Rattle.replay_steps.proofs.Settling.{clocked_none}
+use Rattle.signal_marks.specs.point_marks.declared.verdict.Verdict.{Verdict}
+use Rattle.signal_marks.specs.point_marks.declared.verdict.Verdict.TheVariants as marks
+use Rattle.mark_laws.specs.replay_model.Marks.{IsHitMarked, IsKeyOf, IsUnmarked, IsVerdict, Marking}
+use Rattle.mark_laws.specs.replay_model.Step.{Closing, Working, after_settling, all_run, certainty, clocked_run, is_touched, plain_store, run_all_settling, run_settling, settle_start, settled_kept}
+use Rattle.step_changes.proofs.replay_steps.Settling.{clocked_none}
 use Rattle.step_parts.specs.Laws.{NotedLaw, SeenLaw}
 
 -- ---- the runs

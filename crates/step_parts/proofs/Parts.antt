@@ -1,8 +1,8 @@
 -- The parts of the code as the first process runs.
 use Rattle.std.proofs.Common.{sym, ap, subst, ◌∙◌}
 use Rattle.mark_laws.specs.Marked.{AreVerdicts}
-use Rattle.replay_model.specs.Step.{Working}
-use Rattle.replay_steps.proofs.Settling.{clocked_none, start_still}
+use Rattle.mark_laws.specs.replay_model.Step.{Working}
+use Rattle.step_changes.proofs.replay_steps.Settling.{clocked_none, start_still}
 use Rattle.step_parts.specs.Laws.{StartLaw}
 
 pub starts : StartLaw

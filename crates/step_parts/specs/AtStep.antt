@@ -1,20 +1,20 @@
 -- The parts of the code beside the replay, between steps and within a step.
 use Rattle.std.specs.Prelude.{◌≡◌, ℕ, Bool, false, List, slice_index_or}
-use Rattle.bit_changes.specs.declared.toggles.Toggles.{Toggles}
-use Rattle.body_store.specs.declared.store.Store.{Store}
-use Rattle.cover_marks.specs.Marks.{AreMarksOf}
-use Rattle.cover_marks.specs.declared.marks.Marks.{Marks}
-use Rattle.cover_points.specs.declared.listing.Points.{Points}
-use Rattle.design_model.specs.Design.{Design, IsComb, process_at}
-use Rattle.early_sets.specs.Has.{is_in}
-use Rattle.early_sets.specs.WakeState.{WakeState}
+use Rattle.signal_marks.specs.bit_changes.declared.toggles.Toggles.{Toggles}
+use Rattle.step_changes.specs.body_store.declared.store.Store.{Store}
+use Rattle.signal_marks.specs.cover_marks.Marks.{AreMarksOf}
+use Rattle.signal_marks.specs.cover_marks.declared.marks.Marks.{Marks}
+use Rattle.mark_laws.specs.cover_points.declared.listing.Points.{Points}
+use Rattle.signal_marks.specs.design_model.Design.{Design, IsComb, process_at}
+use Rattle.step_changes.specs.early_sets.Has.{is_in}
+use Rattle.step_changes.specs.early_sets.WakeState.{WakeState}
 use Rattle.mark_laws.specs.Marked.{AreVerdicts}
-use Rattle.replay_model.specs.Step.{Closing, Replay, Working}
-use Rattle.replay_steps.specs.Settling.{IsStillAt}
+use Rattle.mark_laws.specs.replay_model.Step.{Closing, Replay, Working}
+use Rattle.step_changes.specs.replay_steps.Settling.{IsStillAt}
 use Rattle.signal_marks.specs.Seen.{AreSeen}
-use Rattle.step_values.specs.Starts.{HasValues}
-use Rattle.step_values.specs.Vectors.{StepVectors}
-use Rattle.store_knowledge.specs.Knows.{Knows}
+use Rattle.step_changes.specs.step_values.Starts.{HasValues}
+use Rattle.step_changes.specs.step_values.Vectors.{StepVectors}
+use Rattle.step_changes.specs.store_knowledge.Knows.{Knows}
 
 -- the flag of a process, false where there is none
 abbrev pub flag_at : List Bool → ℕ → Bool

@@ -1,28 +1,28 @@
 -- A closing step that is due, and what holds once it has begun.
 use Rattle.std.specs.Prelude.{◌≡◌, ◌++◌, ℕ, Bool, suc, true, filter, List, [], length, Option}
 use Rattle.event_machine.specs.Cell.{Cell}
-use Rattle.bit_changes.specs.declared.toggles.Toggles.{Toggles}
-use Rattle.body_replay.specs.Runs.{Runs}
-use Rattle.body_store.specs.declared.store.Store.{Store}
-use Rattle.code_values.specs.Values.{Values}
-use Rattle.cover_marks.specs.declared.marks.Marks.{Marks}
-use Rattle.cover_points.specs.declared.listing.Points.{Points}
-use Rattle.design_model.specs.Design.{Design}
-use Rattle.design_model.specs.Shows.{BoundDump}
+use Rattle.signal_marks.specs.bit_changes.declared.toggles.Toggles.{Toggles}
+use Rattle.step_changes.specs.body_replay.Runs.{Runs}
+use Rattle.step_changes.specs.body_store.declared.store.Store.{Store}
+use Rattle.step_changes.specs.code_values.Values.{Values}
+use Rattle.signal_marks.specs.cover_marks.declared.marks.Marks.{Marks}
+use Rattle.mark_laws.specs.cover_points.declared.listing.Points.{Points}
+use Rattle.signal_marks.specs.design_model.Design.{Design}
+use Rattle.signal_marks.specs.design_model.Shows.{BoundDump}
 use Rattle.dump_check.specs.declared.order.Difference.{Difference}
-use Rattle.early_sets.specs.WakeState.{WakeState}
-use Rattle.early_sets.specs.declared.habit.Habit.{Habit}
-use Rattle.replay_model.specs.Laws.{closing_at}
-use Rattle.replay_model.specs.Sets.{AreFirstSets}
-use Rattle.replay_model.specs.Step.{Closing, Replay, clocked_run, contradicts, is_touched, settle_start}
-use Rattle.replay_model.specs.Tables.{AreTables, Tables}
-use Rattle.replay_sets.specs.SetsOf.{sets_of}
-use Rattle.replay_steps.specs.Settling.{IsDumpStill}
+use Rattle.step_changes.specs.early_sets.WakeState.{WakeState}
+use Rattle.step_changes.specs.early_sets.declared.habit.Habit.{Habit}
+use Rattle.mark_laws.specs.replay_model.Laws.{closing_at}
+use Rattle.mark_laws.specs.replay_model.Sets.{AreFirstSets}
+use Rattle.mark_laws.specs.replay_model.Step.{Closing, Replay, clocked_run, contradicts, is_touched, settle_start}
+use Rattle.mark_laws.specs.replay_model.Tables.{AreTables, Tables}
+use Rattle.step_changes.specs.replay_sets.SetsOf.{sets_of}
+use Rattle.step_changes.specs.replay_steps.Settling.{IsDumpStill}
 use Rattle.run_order.specs.Ranked.{AreRanksOf}
 use Rattle.step_changes.specs.Changes.{IsDue, none_early}
-use Rattle.step_values.specs.Laws.{KnowsDump}
-use Rattle.step_values.specs.Vectors.{StepVectors}
-use Rattle.wake_laws.specs.Laws.{habit_of}
+use Rattle.step_changes.specs.step_values.Laws.{KnowsDump}
+use Rattle.step_changes.specs.step_values.Vectors.{StepVectors}
+use Rattle.step_changes.specs.wake_laws.Laws.{habit_of}
 use Rattle.step_parts.specs.AtStep.{AtRest, AtStep}
 
 -- a step of a dump that is to be closed: by these runs of bodies and tables, from what the replay knows at time t to the time after it

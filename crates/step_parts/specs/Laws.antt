@@ -1,20 +1,20 @@
 -- A step from its start to its end.
 use Rattle.std.specs.Prelude.{◌≡◌, ◌++◌, ℕ, Bool, List, []}
-use Rattle.bit_changes.specs.declared.toggles.Toggles.{Toggles}
-use Rattle.body_store.specs.declared.store.Store.{Store}
-use Rattle.cover_marks.specs.declared.marks.Marks.{Marks}
-use Rattle.cover_points.specs.declared.listing.Points.{Points}
-use Rattle.design_model.specs.Design.{Design}
-use Rattle.early_sets.specs.Has.{is_in}
-use Rattle.early_sets.specs.WakeState.{WakeState}
+use Rattle.signal_marks.specs.bit_changes.declared.toggles.Toggles.{Toggles}
+use Rattle.step_changes.specs.body_store.declared.store.Store.{Store}
+use Rattle.signal_marks.specs.cover_marks.declared.marks.Marks.{Marks}
+use Rattle.mark_laws.specs.cover_points.declared.listing.Points.{Points}
+use Rattle.signal_marks.specs.design_model.Design.{Design}
+use Rattle.step_changes.specs.early_sets.Has.{is_in}
+use Rattle.step_changes.specs.early_sets.WakeState.{WakeState}
 use Rattle.mark_laws.specs.Marked.{AreVerdicts}
-use Rattle.point_marks.specs.declared.verdict.Verdict.{Verdict}
-use Rattle.replay_model.specs.Marks.{Marking}
-use Rattle.replay_model.specs.Step.{Closing, all_run, clocked_run, settle_start}
-use Rattle.replay_steps.specs.Settling.{IsDumpStill, MoveTargets}
+use Rattle.signal_marks.specs.point_marks.declared.verdict.Verdict.{Verdict}
+use Rattle.mark_laws.specs.replay_model.Marks.{Marking}
+use Rattle.mark_laws.specs.replay_model.Step.{Closing, all_run, clocked_run, settle_start}
+use Rattle.step_changes.specs.replay_steps.Settling.{IsDumpStill, MoveTargets}
 use Rattle.signal_marks.specs.Seen.{AreSeen}
-use Rattle.step_values.specs.Starts.{HasValues}
-use Rattle.step_values.specs.Vectors.{StepVectors}
+use Rattle.step_changes.specs.step_values.Starts.{HasValues}
+use Rattle.step_changes.specs.step_values.Vectors.{StepVectors}
 use Rattle.step_parts.specs.AtStep.{AtRest, AtStep}
 
 -- where the dump's values are put in and none of them contradicts, the parts of the code are those with which the first process runs

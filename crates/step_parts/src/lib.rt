@@ -10,6 +10,10 @@
 
 ghost use Rattle.step_parts.specs.Laws.{NotedLaw, SeenLaw, StartLaw};
 
+pub use step_changes::{
+    Piece, SignalChange, StepValues, Store, find_moves, known_signal, wakes_of,
+};
+
 /// Where the dump's values are put in and none of them contradicts, the parts are those with which the first process runs.
 pub fn start_law()
     ensures { StartLaw }

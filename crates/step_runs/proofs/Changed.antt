@@ -12,21 +12,21 @@ use Rattle.design_model.specs.Mentions.{blocking_target, body_mentions}
 use Rattle.design_model.specs.Shows.{BoundDump}
 use Rattle.design_model.proofs.Lawful.{same_bit_is, same_bit_self}
 use Rattle.model_laws.proofs.Cells.{in_signal}
-use Rattle.body_calls.specs.Own.{is_in}
+use Rattle.settling.specs.body_calls.Own.{is_in}
 use Rattle.body_replay.specs.Runs.{runs_of}
 use Rattle.code_values.specs.Values.{Values}
 use Rattle.early_sets.specs.WakeState.{WakeState}
 use Rattle.early_sets.proofs.Membership.{is_in_from, is_in_gives}
 use Rattle.index_sets.specs.Rows.{row_at}
-use Rattle.replay_model.specs.Step.{Replay, surely_differ}
-use Rattle.replay_model.proofs.Bits.{any_in, in_any}
-use Rattle.replay_model.proofs.Settling.{level_mentioned}
-use Rattle.replay_steps.proofs.Settling.{targets_move}
-use Rattle.step_changes.specs.Changes.{AreChangedSignals, IsDue}
-use Rattle.step_changes.proofs.Differing.{apart_at, same_at}
-use Rattle.step_changes.proofs.Found.{agree, code_of, coded_by, differ}
-use Rattle.step_values.specs.Laws.{KnowsDump}
-use Rattle.wake_bits.specs.Wakes.{AreWakes}
+use Rattle.settling.specs.replay_model.Step.{Replay, surely_differ}
+use Rattle.settling.proofs.replay_model.Bits.{any_in, in_any}
+use Rattle.settling.proofs.replay_model.Settling.{level_mentioned}
+use Rattle.settling.proofs.replay_steps.Settling.{targets_move}
+use Rattle.settling.specs.step_changes.Changes.{AreChangedSignals, IsDue}
+use Rattle.settling.proofs.step_changes.Differing.{apart_at, same_at}
+use Rattle.settling.proofs.step_changes.Found.{agree, code_of, coded_by, differ}
+use Rattle.settling.specs.step_values.Laws.{KnowsDump}
+use Rattle.settling.specs.wake_bits.Wakes.{AreWakes}
 use Rattle.step_runs.specs.Laws.{StepsLaw}
 
 -- two bits that are not the same differ

@@ -7,19 +7,19 @@ use Rattle.std.proofs.lemmas.Bool.{false_from_ne_true}
 use Rattle.std.proofs.lemmas.Bool.Decides.{nat_tests}
 use Rattle.std.proofs.lemmas.List.{get_or_default, length-append}
 use Rattle.std.proofs.lemmas.List.Elements.{filter-append}
-use Rattle.body_store.specs.declared.store.Store.{Store}
-use Rattle.cover_marks.specs.declared.marks.Marks.{Marks}
-use Rattle.cover_points.specs.Visits.{AreApart, AreOnce}
-use Rattle.cover_points.specs.declared.listing.Points.{Points}
+use Rattle.settling.specs.body_store.declared.store.Store.{Store}
+use Rattle.run_marks.specs.cover_marks.declared.marks.Marks.{Marks}
+use Rattle.run_marks.specs.cover_points.Visits.{AreApart, AreOnce}
+use Rattle.run_marks.specs.cover_points.declared.listing.Points.{Points}
 use Rattle.design_model.specs.Design.{In}
 use Rattle.early_sets.specs.WakeState.{WakeState}
-use Rattle.process_order.proofs.Distinct.{in_contains, in_filter, in_right}
-use Rattle.replay_model.specs.Step.{Closing, Working, all_run, clocked_run, is_touched, run_all_settling, run_settling, settle_start}
-use Rattle.replay_steps.proofs.Settling.{filtered}
+use Rattle.settling.proofs.process_order.Distinct.{in_contains, in_filter, in_right}
+use Rattle.settling.specs.replay_model.Step.{Closing, Working, all_run, clocked_run, is_touched, run_all_settling, run_settling, settle_start}
+use Rattle.settling.proofs.replay_steps.Settling.{filtered}
 use Rattle.run_order.specs.Ranked.{AreRanksOf}
-use Rattle.step_values.specs.Vectors.{StepVectors}
-use Rattle.step_parts.specs.AtStep.{AtStep}
-use Rattle.wake_bits.specs.declared.wakes.Wake.{Wake}
+use Rattle.settling.specs.step_values.Vectors.{StepVectors}
+use Rattle.settling.specs.step_parts.AtStep.{AtStep}
+use Rattle.settling.specs.wake_bits.declared.wakes.Wake.{Wake}
 use Rattle.settling.specs.Runs.{IsStepOf}
 use Rattle.step_runs.specs.Runs.{IsRunOf, is_before, is_ordered}
 

@@ -3,23 +3,23 @@ use Rattle.std.proofs.Common.{◌≡◌, ℕ, Bool, true, ◌++◌, List, [], re
 use Rattle.body_replay.specs.Contract.{Note}
 use Rattle.body_replay.specs.Runs.{Runs, own_store, runs_of}
 use Rattle.body_replay.specs.Contract.{Certainty, Store as ModelStore, outcome}
-use Rattle.body_store.specs.declared.store.Store.{Store}
-use Rattle.cover_marks.specs.Marks.{AreMarksOf}
-use Rattle.cover_marks.specs.declared.marks.Marks.{Marks}
-use Rattle.cover_points.specs.Visits.{AreApart, AreOnce}
-use Rattle.cover_points.specs.declared.listing.Points.{Points}
+use Rattle.settling.specs.body_store.declared.store.Store.{Store}
+use Rattle.run_marks.specs.cover_marks.Marks.{AreMarksOf}
+use Rattle.run_marks.specs.cover_marks.declared.marks.Marks.{Marks}
+use Rattle.run_marks.specs.cover_points.Visits.{AreApart, AreOnce}
+use Rattle.run_marks.specs.cover_points.declared.listing.Points.{Points}
 use Rattle.design_model.specs.Design.{Design, body_at}
 use Rattle.design_model.specs.Lawful.{IsLawfulDesign}
 use Rattle.early_sets.specs.WakeState.{WakeState}
-use Rattle.mark_laws.specs.Marked.{AreVerdicts}
-use Rattle.replay_model.specs.Marks.{Marking, markings_by}
-use Rattle.replay_model.specs.Step.{Closing, Working, certainty, is_touched, plain_store, run_settling, settled_kept}
+use Rattle.run_marks.specs.mark_laws.Marked.{AreVerdicts}
+use Rattle.settling.specs.replay_model.Marks.{Marking, markings_by}
+use Rattle.settling.specs.replay_model.Step.{Closing, Working, certainty, is_touched, plain_store, run_settling, settled_kept}
 use Rattle.run_marks.specs.Reported.{AreNotesOf, HasReported, RunStart}
 use Rattle.run_marks.proofs.Reports.{none_reported}
 use Rattle.settling.specs.Runs.{AtPoint, outcome_at}
 use Rattle.settling.proofs.Stepping.{touched_is}
-use Rattle.step_parts.specs.AtStep.{AtStep}
-use Rattle.step_values.specs.Vectors.{StepVectors}
+use Rattle.settling.specs.step_parts.AtStep.{AtStep}
+use Rattle.settling.specs.step_values.Vectors.{StepVectors}
 
 -- the parts except the marks
 pub at_point : (st : Closing) (ps : Points) (w : Working) (x : Store) (v : StepVectors) (sets : WakeState) (flags : List Bool) (m : Marks) → AtStep st ps w x v sets flags m → AtPoint st w x v sets flags

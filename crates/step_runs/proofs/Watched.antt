@@ -7,11 +7,11 @@ use Rattle.std.proofs.lemmas.List.Elements.{All-from_get_or, Contains-get_or}
 use Rattle.design_model.specs.Design.{Design, In, process_at}
 use Rattle.design_model.specs.Lawful.{IsLawfulDesign}
 use Rattle.index_sets.specs.Rows.{row_at}
-use Rattle.process_order.proofs.Distinct.{contains_in}
-use Rattle.replay_model.specs.Tables.{AreTables, Tables}
-use Rattle.wake_bits.specs.Wakes.{AreWakeRows}
-use Rattle.wake_bits.specs.declared.wakes.Wake.{Wake}
-use Rattle.wake_bits.proofs.Mentioned.{level_below}
+use Rattle.settling.proofs.process_order.Distinct.{contains_in}
+use Rattle.settling.specs.replay_model.Tables.{AreTables, Tables}
+use Rattle.settling.specs.wake_bits.Wakes.{AreWakeRows}
+use Rattle.settling.specs.wake_bits.declared.wakes.Wake.{Wake}
+use Rattle.settling.proofs.wake_bits.Mentioned.{level_below}
 use Rattle.step_runs.specs.Laws.{RowsLaw}
 
 -- in place of what a process does not watch

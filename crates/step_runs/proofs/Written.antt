@@ -7,8 +7,8 @@ use Rattle.design_model.specs.Mentions.{body_assigns}
 use Rattle.design_model.specs.Tree.{Process, assign, clocked, comb}
 use Rattle.design_model.specs.View.{design_view, process_view}
 use Rattle.design_model.specs.declared.design.Design.{Design}
-use Rattle.design_wakes.proofs.Tables.{names_row}
-use Rattle.process_order.proofs.Driven.{driven_is}
+use Rattle.settling.proofs.design_wakes.Tables.{names_row}
+use Rattle.settling.proofs.process_order.Driven.{driven_is}
 use Rattle.step_runs.specs.Rows.{AreWrittenRows, written_names}
 
 names_are : (x : ℕ) (p : Process) → (IsClocked p → ⊥) → list_any (λ y. y == x) (written_names p) ≡ body_assigns x (body p)

@@ -8,16 +8,16 @@ use Rattle.body_replay.specs.Runs.{runs_of}
 use Rattle.code_values.specs.Values.{Values}
 use Rattle.early_sets.specs.WakeState.{WakeState}
 use Rattle.index_sets.specs.Rows.{row_at}
-use Rattle.process_targets.specs.Rows.{AreTargetRows}
-use Rattle.process_targets.specs.declared.bits.Bits.{Bits}
-use Rattle.replay_model.specs.Laws.{closing_at}
-use Rattle.replay_model.specs.Sets.{AreSets, Sets}
-use Rattle.replay_model.specs.Step.{Replay}
-use Rattle.replay_model.specs.Tables.{AreTables, Tables}
-use Rattle.step_changes.specs.Changes.{AreChangedSignals, IsDue}
-use Rattle.step_values.specs.Laws.{KnowsDump}
-use Rattle.wake_bits.specs.Wakes.{AreWakeRows}
-use Rattle.wake_bits.specs.declared.wakes.Wake.{Wake}
+use Rattle.settling.specs.process_targets.Rows.{AreTargetRows}
+use Rattle.settling.specs.process_targets.declared.bits.Bits.{Bits}
+use Rattle.settling.specs.replay_model.Laws.{closing_at}
+use Rattle.settling.specs.replay_model.Sets.{AreSets, Sets}
+use Rattle.settling.specs.replay_model.Step.{Replay}
+use Rattle.settling.specs.replay_model.Tables.{AreTables, Tables}
+use Rattle.settling.specs.step_changes.Changes.{AreChangedSignals, IsDue}
+use Rattle.settling.specs.step_values.Laws.{KnowsDump}
+use Rattle.settling.specs.wake_bits.Wakes.{AreWakeRows}
+use Rattle.settling.specs.wake_bits.declared.wakes.Wake.{Wake}
 use Rattle.settling.specs.Runs.{HasRows, IsStepOf}
 use Rattle.step_runs.specs.Rows.{AreWrittenRows}
 

@@ -3,7 +3,7 @@ use Rattle.std.specs.Prelude.{◌≡◌, ◌++◌, ℕ, true, false, List, lengt
 use Rattle.design_model.specs.Design.{Design, IsClocked, body, body_at, process_at}
 use Rattle.design_model.specs.Mentions.{body_assigns}
 use Rattle.design_model.specs.Tree.{Process}
-use Rattle.body_calls.specs.Own.{is_in}
+use Rattle.settling.specs.body_calls.Own.{is_in}
 use Rattle.index_sets.specs.Rows.{row_at}
 use Rattle.process_names.specs.Assigned.{assigned}
 

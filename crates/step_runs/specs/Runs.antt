@@ -1,11 +1,11 @@
 -- The runs of a closing step, in the order of a wake list.
 use Rattle.std.specs.Prelude.{◌≡◌, ◌++◌, ℕ, Bool, false, filter, List, length, nat_lt, slice_index_or, Option, Some, None}
-use Rattle.cover_points.specs.Visits.{AreApart, AreOnce}
-use Rattle.cover_points.specs.declared.listing.Points.{Points}
+use Rattle.run_marks.specs.cover_points.Visits.{AreApart, AreOnce}
+use Rattle.run_marks.specs.cover_points.declared.listing.Points.{Points}
 use Rattle.design_model.specs.Design.{In}
-use Rattle.replay_model.specs.Step.{Closing, is_touched}
+use Rattle.settling.specs.replay_model.Step.{Closing, is_touched}
 use Rattle.run_order.specs.Ranked.{AreRanksOf}
-use Rattle.wake_bits.specs.declared.wakes.Wake.{Wake}
+use Rattle.settling.specs.wake_bits.declared.wakes.Wake.{Wake}
 use Rattle.settling.specs.Runs.{IsStepOf}
 
 -- a place is below a number

@@ -13,4 +13,5 @@ mod runs;
 
 pub use laws::{order_example, rows_law, steps_law, written_example};
 pub use rows::written_rows;
+pub use run_marks::MarkNotes;
 pub use runs::run_all;

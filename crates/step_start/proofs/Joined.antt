@@ -10,39 +10,39 @@ use Rattle.design_model.specs.Design.{Design, In, signal_at}
 use Rattle.design_model.specs.MayMove.{MayMoveAt}
 use Rattle.design_model.specs.Shows.{BoundDump}
 use Rattle.design_model.proofs.Lawful.{same_bit_is, same_bit_self}
-use Rattle.body_calls.specs.Own.{is_in}
+use Rattle.body_store.specs.body_calls.Own.{is_in}
 use Rattle.body_store.specs.declared.store.Store.{Store}
 use Rattle.code_values.specs.Values.{IsChanged, Values}
 use Rattle.dump_check.specs.declared.order.Difference.{Difference}
 use Rattle.early_sets.specs.Rounds.{HasMoves}
 use Rattle.early_sets.specs.WakeState.{WakeState}
 use Rattle.early_sets.specs.declared.habit.Habit.{Habit}
-use Rattle.process_order.proofs.Distinct.{in_contains}
+use Rattle.step_parts.proofs.process_order.Distinct.{in_contains}
 use Rattle.process_targets.specs.Rows.{AreTargetRows}
 use Rattle.process_targets.specs.declared.bits.Bits.{Bits}
 use Rattle.process_targets.proofs.Settled.{settled_law}
-use Rattle.replay_model.specs.Sets.{AreSets}
-use Rattle.replay_model.specs.Step.{Closing, clocked_run, is_touched, settle_start}
-use Rattle.replay_sets.specs.SetsOf.{sets_of}
-use Rattle.replay_steps.specs.Settling.{IsDumpStill, MoveTargets}
-use Rattle.replay_steps.proofs.Settling.{targets_move}
+use Rattle.step_parts.specs.replay_model.Sets.{AreSets}
+use Rattle.step_parts.specs.replay_model.Step.{Closing, clocked_run, is_touched, settle_start}
+use Rattle.step_parts.specs.replay_sets.SetsOf.{sets_of}
+use Rattle.step_parts.specs.replay_steps.Settling.{IsDumpStill, MoveTargets}
+use Rattle.step_parts.proofs.replay_steps.Settling.{targets_move}
 use Rattle.run_order.specs.Ranked.{AreRanksOf}
-use Rattle.step_changes.specs.Changes.{AreChangedSignals, IsDue, none_early}
-use Rattle.step_changes.proofs.Found.{coded_by}
-use Rattle.step_changes.proofs.Woken.{none_clocked, woken_are}
+use Rattle.step_parts.specs.step_changes.Changes.{AreChangedSignals, IsDue, none_early}
+use Rattle.step_parts.proofs.step_changes.Found.{coded_by}
+use Rattle.step_parts.proofs.step_changes.Woken.{none_clocked, woken_are}
 use Rattle.step_parts.specs.Due.{Due, HasBegun, IsContradicted, IsDueStep, step_of}
 use Rattle.step_parts.proofs.Parts.{starts}
-use Rattle.step_values.specs.Dumped.{AreDumped}
-use Rattle.step_values.specs.Loose.{has_code}
-use Rattle.step_values.specs.Starts.{HasValues, IsStartOf}
-use Rattle.step_values.specs.Vectors.{StepVectors}
-use Rattle.step_values.proofs.Bound.{still_known}
+use Rattle.still_check.specs.step_values.Dumped.{AreDumped}
+use Rattle.still_check.specs.step_values.Loose.{has_code}
+use Rattle.still_check.specs.step_values.Starts.{HasValues, IsStartOf}
+use Rattle.still_check.specs.step_values.Vectors.{StepVectors}
+use Rattle.still_check.proofs.step_values.Bound.{still_known}
 use Rattle.still_check.specs.Laws.{AreUnchanged, InputsStay, KnowsBound}
 use Rattle.still_check.specs.Stays.{IsAtStart, IsLeastMoved, Stays}
 use Rattle.still_check.proofs.Still.{moved, stays}
-use Rattle.store_knowledge.specs.Knows.{Knows}
-use Rattle.wake_laws.specs.Laws.{habit_of}
-use Rattle.wake_laws.specs.OfDesign.{AreTablesOf}
+use Rattle.step_parts.specs.store_knowledge.Knows.{Knows}
+use Rattle.step_parts.specs.wake_laws.Laws.{habit_of}
+use Rattle.step_parts.specs.wake_laws.OfDesign.{AreTablesOf}
 use Rattle.wake_list.specs.Members.{has}
 use Rattle.step_start.proofs.Members.{are_listed, woken_of}
 

@@ -14,12 +14,12 @@ use Rattle.early_sets.proofs.Membership.{is_in_from}
 use Rattle.index_sets.specs.Rows.{row_at}
 use Rattle.process_targets.specs.Rows.{AreTargetRows, IsInside}
 use Rattle.process_targets.specs.declared.bits.Bits.{Bits}
-use Rattle.replay_model.proofs.Bits.{any_in, in_any}
-use Rattle.step_changes.specs.Changes.{AreChangedSignals}
-use Rattle.step_changes.proofs.Found.{coded_by}
-use Rattle.step_values.specs.Dumped.{HaveCodes}
-use Rattle.step_values.specs.Laws.{AreListed}
-use Rattle.step_values.specs.Loose.{HaveRows, has_code}
+use Rattle.step_parts.proofs.replay_model.Bits.{any_in, in_any}
+use Rattle.step_parts.specs.step_changes.Changes.{AreChangedSignals}
+use Rattle.step_parts.proofs.step_changes.Found.{coded_by}
+use Rattle.still_check.specs.step_values.Dumped.{HaveCodes}
+use Rattle.still_check.specs.step_values.Laws.{AreListed}
+use Rattle.still_check.specs.step_values.Loose.{HaveRows, has_code}
 use Rattle.wake_list.specs.Members.{has}
 
 -- something holds of all items where it holds of each that is in the list

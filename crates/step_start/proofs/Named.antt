@@ -9,15 +9,15 @@ use Rattle.code_values.specs.Values.{Values}
 use Rattle.design_model.specs.Design.{Design}
 use Rattle.dump_check.specs.declared.order.Difference.{Difference}
 use Rattle.early_sets.specs.WakeState.{WakeState}
-use Rattle.process_order.proofs.Distinct.{in_contains}
-use Rattle.replay_model.specs.Step.{Closing}
-use Rattle.replay_sets.specs.SetsOf.{sets_of}
-use Rattle.step_changes.specs.Changes.{AreChangedSignals, none_early}
-use Rattle.step_changes.proofs.Found.{coded_by}
-use Rattle.step_values.specs.Dumped.{AreDumped}
-use Rattle.step_values.specs.Loose.{has_code}
+use Rattle.step_parts.proofs.process_order.Distinct.{in_contains}
+use Rattle.step_parts.specs.replay_model.Step.{Closing}
+use Rattle.step_parts.specs.replay_sets.SetsOf.{sets_of}
+use Rattle.step_parts.specs.step_changes.Changes.{AreChangedSignals, none_early}
+use Rattle.step_parts.proofs.step_changes.Found.{coded_by}
+use Rattle.still_check.specs.step_values.Dumped.{AreDumped}
+use Rattle.still_check.specs.step_values.Loose.{has_code}
 use Rattle.still_check.specs.Stays.{IsAtStart, IsLeastMoved}
-use Rattle.store_knowledge.specs.Knows.{Knows}
+use Rattle.step_parts.specs.store_knowledge.Knows.{Knows}
 
 -- some step with these parts
 abbrev some_step : Design → Kept → WakeState → CellValues Bit → Closing

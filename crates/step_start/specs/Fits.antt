@@ -6,9 +6,9 @@ use Rattle.design_model.specs.Lawful.{IsLawfulDesign}
 use Rattle.early_sets.specs.WakeState.{state_of}
 use Rattle.process_targets.specs.Rows.{AreTargetRows}
 use Rattle.run_order.specs.Ranked.{AreRanksOf}
-use Rattle.step_changes.specs.Changes.{AreSignalsOf}
-use Rattle.step_values.specs.Loose.{has_code}
-use Rattle.step_values.specs.Vectors.{FitsSignals}
+use Rattle.step_parts.specs.step_changes.Changes.{AreSignalsOf}
+use Rattle.still_check.specs.step_values.Loose.{has_code}
+use Rattle.still_check.specs.step_values.Vectors.{FitsSignals}
 use Rattle.step_start.specs.declared.room.StepRoom.{StepRoom}
 use Rattle.step_start.specs.declared.room.StepTables.{StepTables}
 

@@ -1,1 +1,3 @@
 pub mod Fits
+pub use Rattle.step_parts.specs as step_parts
+pub use Rattle.still_check.specs as still_check

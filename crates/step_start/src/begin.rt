@@ -5,12 +5,12 @@ ghost use Rattle.design_model.specs.Design.{Design};
 ghost use Rattle.design_model.specs.View.{design_view};
 ghost use Rattle.body_replay.specs.Store.{Kept};
 ghost use Rattle.early_sets.specs.WakeState.{state_of};
-ghost use Rattle.step_changes.specs.Changes.{AreChangedSignals};
+ghost use Rattle.step_parts.specs.step_changes.Changes.{AreChangedSignals};
 ghost use Rattle.step_parts.specs.Due.{Due, HasBegun, IsContradicted, IsDueStep, step_of};
-ghost use Rattle.step_values.specs.Dumped.{AreDumped};
+ghost use Rattle.still_check.specs.step_values.Dumped.{AreDumped};
 ghost use Rattle.still_check.specs.Stays.{IsLeastMoved};
-ghost use Rattle.step_wakes.specs.Step.{IsOfDesign};
-ghost use Rattle.store_knowledge.specs.Knows.{Knows};
+ghost use Rattle.step_parts.specs.step_wakes.Step.{IsOfDesign};
+ghost use Rattle.step_parts.specs.store_knowledge.Knows.{Knows};
 ghost use Rattle.step_start.specs.Fits.{FitsStep};
 
 use crate::values::begin_values;
@@ -18,7 +18,7 @@ use crate::{StepRoom, StepTables};
 use body_store::Store;
 use code_values::CodeValues;
 use dump_check::Difference;
-use step_changes::find_moves;
+use step_parts::find_moves;
 use still_check::first_moved;
 
 /// Begins the step from the last closed one to the values that the dump gave last. Where a signal has moved that may not, it is

@@ -2,8 +2,8 @@ use early_sets::Wakes;
 use index_sets::{IndexSet, Rows};
 use process_targets::Bits;
 use run_order::RunOrder;
-use step_values::StepValues;
-use step_wakes::SignalChange;
+use step_parts::SignalChange;
+use still_check::StepValues;
 use value_store::Queue;
 use wake_list::WakeList;
 

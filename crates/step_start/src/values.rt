@@ -6,19 +6,19 @@ ghost use Rattle.four_state.specs.declared.bit.Bit.{Bit};
 ghost use Rattle.design_model.specs.Design.{Design};
 ghost use Rattle.design_model.specs.View.{design_view};
 ghost use Rattle.body_replay.specs.Store.{Kept};
-ghost use Rattle.replay_model.specs.Step.{Closing, clocked_run, settle_start};
-ghost use Rattle.step_values.specs.Dumped.{AreDumped, HaveCodes};
-ghost use Rattle.step_values.specs.Loose.{HaveRows, some_row_has};
-ghost use Rattle.step_values.specs.Loosens.{Loosens};
-ghost use Rattle.step_values.specs.Starts.{HasValues, IsStartOf};
-ghost use Rattle.step_values.specs.Vectors.{FitsSignals};
-ghost use Rattle.store_knowledge.specs.Knows.{Knows};
+ghost use Rattle.step_parts.specs.replay_model.Step.{Closing, clocked_run, settle_start};
+ghost use Rattle.still_check.specs.step_values.Dumped.{AreDumped, HaveCodes};
+ghost use Rattle.still_check.specs.step_values.Loose.{HaveRows, some_row_has};
+ghost use Rattle.still_check.specs.step_values.Loosens.{Loosens};
+ghost use Rattle.still_check.specs.step_values.Starts.{HasValues, IsStartOf};
+ghost use Rattle.still_check.specs.step_values.Vectors.{FitsSignals};
+ghost use Rattle.step_parts.specs.store_knowledge.Knows.{Knows};
 
 use body_store::Store;
 use code_values::CodeValues;
 use index_sets::Rows;
 use process_targets::Bits;
-use step_values::{StepValues, put_dump};
+use still_check::{StepValues, put_dump};
 
 /// What is known of the signals that may move is set aside, what the woken processes may write is made unknown, and the dump's
 /// values of the signals that have changed are put in. It takes no memory, and time for what may move, the targets of the

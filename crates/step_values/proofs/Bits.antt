@@ -10,10 +10,10 @@ use Rattle.four_state.specs.Masks.{is_set}
 use Rattle.four_state.specs.declared.bit.Bit.{Bit}
 use Rattle.known_state.specs.Partly.{Partly}
 use Rattle.design_model.specs.Design.{Design, cell, signal_at, signal_cells}
-use Rattle.body_replay.specs.KnownBits.{KnownBits}
-use Rattle.body_replay.specs.Store.{Kept}
-use Rattle.body_store.specs.Owned.{IsBlank}
-use Rattle.body_store.proofs.Rows.{row_at, row_is}
+use Rattle.store_knowledge.specs.body_replay.KnownBits.{KnownBits}
+use Rattle.store_knowledge.specs.body_replay.Store.{Kept}
+use Rattle.store_knowledge.specs.body_store.Owned.{IsBlank}
+use Rattle.store_knowledge.proofs.body_store.Rows.{row_at, row_is}
 use Rattle.process_targets.specs.Targets.{has_bit}
 use Rattle.process_targets.specs.declared.bits.Bits.{Bits}
 use Rattle.store_knowledge.specs.Knows.{with_bits}

@@ -10,8 +10,8 @@ use Rattle.four_state.specs.declared.bit.Bit.{Bit}
 use Rattle.design_model.specs.Design.{Design, a_signal, cell, signal_at, signal_bits, signal_cells}
 use Rattle.design_model.proofs.Definite.{bound_clear_law}
 use Rattle.design_model.proofs.Lawful.{same_bit_is, same_bit_self}
-use Rattle.body_replay.specs.Store.{Kept}
-use Rattle.body_store.proofs.Rows.{row_at}
+use Rattle.store_knowledge.specs.body_replay.Store.{Kept}
+use Rattle.store_knowledge.proofs.body_store.Rows.{row_at}
 use Rattle.code_values.specs.Values.{value_of}
 use Rattle.step_values.specs.Dumped.{AreDumped}
 use Rattle.step_values.specs.Laws.{BoundLaw, StillLaw}

@@ -12,10 +12,10 @@ use Rattle.event_machine.specs.Cell.{Cell, Values}
 use Rattle.four_state.specs.Vector.{Vector}
 use Rattle.four_state.specs.declared.bit.Bit.{Bit}
 use Rattle.design_model.specs.Design.{Design, cell, signal_at, signal_bits, signal_cells}
-use Rattle.body_replay.specs.Store.{Kept}
-use Rattle.body_calls.specs.Own.{is_in}
-use Rattle.body_store.specs.Owned.{IsBlank}
-use Rattle.body_store.proofs.Rows.{row_at}
+use Rattle.store_knowledge.specs.body_replay.Store.{Kept}
+use Rattle.store_knowledge.specs.body_calls.Own.{is_in}
+use Rattle.store_knowledge.specs.body_store.Owned.{IsBlank}
+use Rattle.store_knowledge.proofs.body_store.Rows.{row_at}
 use Rattle.store_knowledge.specs.Knows.{with_bits}
 use Rattle.store_knowledge.proofs.Cells.{out_of_cells}
 use Rattle.step_values.specs.Dumped.{AreDumped, coded_value, dumped_of, putting}

@@ -10,8 +10,8 @@ use Rattle.four_state.specs.Masks.{is_set}
 use Rattle.known_state.specs.Partly.{Partly}
 use Rattle.design_model.specs.Design.{Design, cell, signal_at, signal_cells}
 use Rattle.design_model.specs.View.{design_view}
-use Rattle.body_replay.specs.Store.{Kept}
-use Rattle.body_store.specs.declared.store.Store.{Store}
+use Rattle.store_knowledge.specs.body_replay.Store.{Kept}
+use Rattle.store_knowledge.specs.body_store.declared.store.Store.{Store}
 use Rattle.index_sets.specs.Rows.{row_at}
 use Rattle.process_targets.specs.Rows.{IsInside}
 use Rattle.process_targets.specs.Targets.{has_bit, row_has}

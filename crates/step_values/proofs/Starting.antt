@@ -11,14 +11,14 @@ use Rattle.four_state.specs.Masks.{is_set}
 use Rattle.four_state.specs.Vector.{Vector}
 use Rattle.design_model.specs.Design.{Design, In, body_at, signal_at, signal_cells}
 use Rattle.design_model.specs.Mentions.{blocking_target}
-use Rattle.body_calls.specs.Own.{is_in}
-use Rattle.body_store.specs.Owned.{IsBlank}
-use Rattle.body_store.specs.declared.store.Store.{Store}
+use Rattle.store_knowledge.specs.body_calls.Own.{is_in}
+use Rattle.store_knowledge.specs.body_store.Owned.{IsBlank}
+use Rattle.store_knowledge.specs.body_store.declared.store.Store.{Store}
 use Rattle.index_sets.specs.Rows.{row_at}
 use Rattle.process_targets.specs.Rows.{IsInside}
 use Rattle.process_targets.specs.Targets.{row_has}
 use Rattle.process_targets.specs.declared.bits.Bits.{Bits}
-use Rattle.replay_model.specs.Step.{Closing, clocked_run, is_loose, settle_start}
+use Rattle.replay_steps.specs.replay_model.Step.{Closing, clocked_run, is_loose, settle_start}
 use Rattle.replay_steps.specs.Settling.{loosened}
 use Rattle.replay_steps.proofs.Settling.{loose_is, starts_settled}
 use Rattle.store_knowledge.specs.Knows.{Knows}

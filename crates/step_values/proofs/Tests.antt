@@ -5,7 +5,7 @@ use Rattle.std.proofs.lemmas.Bool.{eqb-true}
 use Rattle.std.proofs.lemmas.List.Folds.{list_any_more}
 use Rattle.event_machine.specs.Cell.{Cell}
 use Rattle.four_state.specs.Masks.{is_set}
-use Rattle.body_replay.specs.Store.{Kept}
+use Rattle.store_knowledge.specs.body_replay.Store.{Kept}
 use Rattle.index_sets.specs.Rows.{row_at}
 use Rattle.process_targets.specs.Targets.{has_bit, row_has}
 use Rattle.process_targets.specs.declared.bits.Bits.{Bits}

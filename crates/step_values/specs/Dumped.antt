@@ -5,8 +5,8 @@ use Rattle.event_machine.specs.Cell.{Values}
 use Rattle.four_state.specs.Vector.{Vector}
 use Rattle.four_state.specs.declared.bit.Bit.{Bit}
 use Rattle.design_model.specs.Design.{Design, signal_at, signal_bits}
-use Rattle.body_replay.specs.Store.{Kept}
-use Rattle.body_calls.specs.Own.{is_in}
+use Rattle.store_knowledge.specs.body_replay.Store.{Kept}
+use Rattle.store_knowledge.specs.body_calls.Own.{is_in}
 use Rattle.code_values.specs.Values.{value_of}
 use Rattle.step_values.specs.Loose.{has_code}
 

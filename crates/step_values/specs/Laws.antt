@@ -6,12 +6,12 @@ use Rattle.four_state.specs.Vector.{Vector}
 use Rattle.four_state.specs.declared.bit.Bit.{Bit}
 use Rattle.design_model.specs.Design.{Design}
 use Rattle.design_model.specs.Shows.{BindsSignals, BoundDump, IsShown}
-use Rattle.body_replay.specs.Store.{Kept}
-use Rattle.body_calls.specs.Own.{is_in}
+use Rattle.store_knowledge.specs.body_replay.Store.{Kept}
+use Rattle.store_knowledge.specs.body_calls.Own.{is_in}
 use Rattle.code_values.specs.Values.{value_of}
-use Rattle.replay_model.specs.Stands.{AreKnown}
-use Rattle.replay_model.specs.Step.{Replay, is_dumped}
-use Rattle.replay_model.specs.Tables.{Tables}
+use Rattle.replay_steps.specs.replay_model.Stands.{AreKnown}
+use Rattle.replay_steps.specs.replay_model.Step.{Replay, is_dumped}
+use Rattle.replay_steps.specs.replay_model.Tables.{Tables}
 use Rattle.step_values.specs.Dumped.{AreDumped}
 use Rattle.step_values.specs.Loose.{has_code}
 

@@ -3,7 +3,7 @@ use Rattle.std.specs.Prelude.{◌<◌, ◌&&◌, ℕ, Bool, not, if◌then◌els
 use Rattle.std.specs.List.{All, list_any}
 use Rattle.event_machine.specs.Cell.{Cell}
 use Rattle.design_model.specs.Design.{Design}
-use Rattle.body_replay.specs.Store.{Kept}
+use Rattle.store_knowledge.specs.body_replay.Store.{Kept}
 use Rattle.index_sets.specs.Rows.{row_at}
 use Rattle.process_targets.specs.Rows.{IsInside}
 use Rattle.process_targets.specs.Targets.{row_has}

@@ -2,8 +2,8 @@
 use Rattle.std.specs.Prelude.{◌≡◌, ◌<◌, ℕ, Bool, true, List, length, map, Option}
 use Rattle.event_machine.specs.Cell.{Cell}
 use Rattle.design_model.specs.Design.{Design, signal_cells}
-use Rattle.body_replay.specs.Store.{Kept}
-use Rattle.body_store.specs.declared.store.Store.{Store}
+use Rattle.store_knowledge.specs.body_replay.Store.{Kept}
+use Rattle.store_knowledge.specs.body_store.declared.store.Store.{Store}
 use Rattle.store_knowledge.specs.Knows.{Knows}
 use Rattle.step_values.specs.Loose.{forgetting, has_code, uncoded}
 use Rattle.step_values.specs.Vectors.{FitsSignals, StepVectors, vector_at}

@@ -7,9 +7,9 @@ use Rattle.design_model.specs.Mentions.{blocking_target}
 use Rattle.process_targets.specs.Targets.{row_has}
 use Rattle.process_targets.specs.declared.bits.Bits.{Bits}
 use Rattle.index_sets.specs.Rows.{row_at}
-use Rattle.body_calls.specs.Own.{is_in}
-use Rattle.body_store.specs.declared.store.Store.{Store}
-use Rattle.replay_model.specs.Step.{Closing, Working, is_dumped, is_touched, known_bits}
+use Rattle.store_knowledge.specs.body_calls.Own.{is_in}
+use Rattle.store_knowledge.specs.body_store.declared.store.Store.{Store}
+use Rattle.replay_steps.specs.replay_model.Step.{Closing, Working, is_dumped, is_touched, known_bits}
 use Rattle.store_knowledge.specs.Knows.{Knows}
 use Rattle.step_values.specs.Dumped.{AreDumped}
 use Rattle.step_values.specs.Loose.{has_code}

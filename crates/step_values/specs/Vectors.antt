@@ -3,10 +3,10 @@ use Rattle.std.specs.Prelude.{◌≡◌, ◌<◌, ℕ, true, List, length, map, 
 use Rattle.known_state.specs.Partly.{Partly}
 use Rattle.design_model.specs.Design.{Design, no_signal, signal_cells}
 use Rattle.design_model.specs.declared.design.Signal.{Signal}
-use Rattle.body_replay.specs.Store.{Kept}
-use Rattle.body_calls.specs.Own.{is_in}
-use Rattle.value_store.specs.Signals.{no_value}
-use Rattle.body_store.specs.declared.store.Store.{Store}
+use Rattle.store_knowledge.specs.body_replay.Store.{Kept}
+use Rattle.store_knowledge.specs.body_calls.Own.{is_in}
+use Rattle.store_knowledge.specs.value_store.Signals.{no_value}
+use Rattle.store_knowledge.specs.body_store.declared.store.Store.{Store}
 use Rattle.store_knowledge.specs.Knows.{Knows}
 
 -- the vectors, by the number of a signal

@@ -3,10 +3,10 @@
 ghost use Rattle.std.specs.Prelude.{◌≡◌, ◌≤◌, length};
 ghost use Rattle.design_model.specs.Design.{Design};
 ghost use Rattle.design_model.specs.View.{design_view};
-ghost use Rattle.body_replay.specs.Store.{Kept};
+ghost use Rattle.store_knowledge.specs.body_replay.Store.{Kept};
 ghost use Rattle.event_machine.specs.Cell.{Values};
 ghost use Rattle.four_state.specs.declared.bit.Bit.{Bit};
-ghost use Rattle.replay_model.specs.Step.{Closing, clocked_run, settle_start};
+ghost use Rattle.replay_steps.specs.replay_model.Step.{Closing, clocked_run, settle_start};
 ghost use Rattle.store_knowledge.specs.Knows.{Knows};
 ghost use Rattle.step_values.specs.Dumped.{AreDumped, HaveCodes};
 ghost use Rattle.step_values.specs.Loose.{HaveRows};
@@ -14,10 +14,10 @@ ghost use Rattle.step_values.specs.Starts.{HasValues, IsStartOf};
 ghost use Rattle.step_values.specs.Vectors.{FitsSignals};
 
 use crate::{StepValues, put_dump};
-use body_store::Store;
 use code_values::CodeValues;
 use index_sets::Rows;
 use process_targets::Bits;
+use store_knowledge::Store;
 
 impl StepValues {
     /// A step begins: what is known of the signals that may move is set aside, what the woken processes may write is made

@@ -5,16 +5,15 @@ ghost use Rattle.event_machine.specs.Cell.{Values};
 ghost use Rattle.four_state.specs.declared.bit.Bit.{Bit};
 ghost use Rattle.design_model.specs.Design.{Design};
 ghost use Rattle.design_model.specs.View.{design_view};
-ghost use Rattle.body_replay.specs.Store.{Kept};
+ghost use Rattle.store_knowledge.specs.body_replay.Store.{Kept};
 ghost use Rattle.store_knowledge.specs.Knows.{Knows};
 ghost use Rattle.step_values.specs.Dumped.{AreDumped, HaveCodes, dumped_of, putting};
 ghost use Rattle.step_values.specs.Loose.{has_code};
 
-use body_store::Store;
 use code_values::CodeValues;
 use four_state::Four;
 use known_state::Known;
-use store_knowledge::keep_signal;
+use store_knowledge::{Store, keep_signal};
 
 /// Puts in what the dump says of these signals. `codes` has the code of each signal. It takes constant time for each.
 pub fn put_dump(store: &mut Store, changed: &[usize], codes: &[Option<u32>], values: &CodeValues)

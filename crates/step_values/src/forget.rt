@@ -4,7 +4,7 @@ ghost use Rattle.std.specs.Prelude.{◌≡◌};
 ghost use Rattle.std.specs.List.{All};
 ghost use Rattle.design_model.specs.Design.{Design};
 ghost use Rattle.design_model.specs.View.{design_view};
-ghost use Rattle.body_replay.specs.Store.{Kept};
+ghost use Rattle.store_knowledge.specs.body_replay.Store.{Kept};
 ghost use Rattle.process_targets.specs.Rows.{IsInside};
 ghost use Rattle.process_targets.specs.Targets.{has_bit, row_has};
 ghost use Rattle.store_knowledge.specs.Knows.{Knows};
@@ -14,10 +14,9 @@ ghost use Rattle.step_values.specs.Vectors.{FitsSignals};
 
 use crate::StepValues;
 use bit_changes::forgotten;
-use body_store::Store;
 use index_sets::Rows;
 use process_targets::Bits;
-use store_knowledge::{keep_signal, known_signal};
+use store_knowledge::{Store, keep_signal, known_signal};
 
 impl StepValues {
     /// What a woken process may write is to be made anew: nothing is known of it, where the dump does not have the signal, and

@@ -3,7 +3,7 @@
 ghost use Rattle.std.specs.Prelude.{◌≤◌, IfOk, length};
 ghost use Rattle.std.specs.List.{All};
 ghost use Rattle.design_model.specs.View.{design_view};
-ghost use Rattle.value_store.specs.Signals.{HasWidth};
+ghost use Rattle.store_knowledge.specs.value_store.Signals.{HasWidth};
 ghost use Rattle.step_values.specs.Vectors.{AreWide, FitsSignals};
 
 use crate::StepValues;

@@ -1,18 +1,17 @@
 ghost use Rattle.std.specs.Prelude.{◌≡◌, ◌<◌, ◌^◌, ℕ, length, map, slice_set};
 ghost use Rattle.design_model.specs.Design.{Design, signal_cells};
 ghost use Rattle.design_model.specs.View.{design_view};
-ghost use Rattle.body_replay.specs.Store.{Kept};
+ghost use Rattle.store_knowledge.specs.body_replay.Store.{Kept};
 ghost use Rattle.process_targets.specs.Targets.{has_bit};
 ghost use Rattle.store_knowledge.specs.Knows.{Knows};
 ghost use Rattle.step_values.specs.Loose.{forgetting};
 ghost use Rattle.step_values.specs.Vectors.{AreOpened, FitsSignals, IsSetAside, vector_at};
 
 use bit_changes::forgotten;
-use body_store::Store;
 use known_state::Known;
 use process_targets::Bits;
 use std::marker::Model;
-use store_knowledge::known_signal;
+use store_knowledge::{Store, known_signal};
 
 /// What is set aside of each signal in a step. It says something of the signals that may move in the step alone.
 ///

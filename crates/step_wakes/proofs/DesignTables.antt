@@ -19,8 +19,8 @@ use Rattle.design_targets.specs.Written.{IsShapedProcess, written}
 use Rattle.design_targets.proofs.Targets.{blocking_law, nonblocking_law, within_law}
 use Rattle.design_wakes.specs.Tables.{IsEdgeTable, IsLevelTable}
 use Rattle.design_wakes.proofs.Tables.{names_row}
-use Rattle.index_sets.specs.Rows.{row_at}
-use Rattle.wake_laws.specs.OfDesign.{AreTablesOf, HasCell}
+use Rattle.early_sets.specs.index_sets.Rows.{row_at}
+use Rattle.replay_sets.specs.wake_laws.OfDesign.{AreTablesOf, HasCell}
 use Rattle.wake_tables.specs.Table.{IsEventTable, IsTable}
 use Rattle.wake_tables.specs.declared.tables.WakeTables.{WakeTables}
 

@@ -7,7 +7,7 @@ use Rattle.design_model.specs.Design.{Design}
 use Rattle.early_sets.specs.Sizes.{AreWriters}
 use Rattle.early_sets.specs.WakeState.{WakeState}
 use Rattle.step_wakes.specs.Step.{IsOfDesign, flag_at, is_given, is_missing}
-use Rattle.wake_laws.specs.OfDesign.{AreTablesOf}
+use Rattle.replay_sets.specs.wake_laws.OfDesign.{AreTablesOf}
 use Rattle.wake_tables.specs.declared.tables.WakeTables.{WakeTables}
 
 -- what is so of one success, by three facts of it

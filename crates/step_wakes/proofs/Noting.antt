@@ -24,10 +24,10 @@ use Rattle.early_sets.specs.Settled.{HasSettled}
 use Rattle.early_sets.specs.WakeState.{WakeState, is_told, own_edges}
 use Rattle.early_sets.proofs.Membership.{is_in_from, is_in_gives}
 use Rattle.replay_sets.proofs.SetsLaw.{sets_law}
-use Rattle.wake_laws.specs.Laws.{AreNotes, IsChangedInput, IsRoundOf}
-use Rattle.wake_laws.specs.OfDesign.{AreTablesOf, AreWritersOf}
-use Rattle.wake_laws.proofs.MovesLaw.{moves_by, reached_below}
-use Rattle.wake_laws.proofs.RoundsLaw.{has_moves, rounds_law}
+use Rattle.replay_sets.specs.wake_laws.Laws.{AreNotes, IsChangedInput, IsRoundOf}
+use Rattle.replay_sets.specs.wake_laws.OfDesign.{AreTablesOf, AreWritersOf}
+use Rattle.replay_sets.proofs.wake_laws.MovesLaw.{moves_by, reached_below}
+use Rattle.replay_sets.proofs.wake_laws.RoundsLaw.{has_moves, rounds_law}
 use Rattle.step_wakes.specs.Step.{AreChanges, IsOfDesign, StepSets, flag_at, is_given, is_missing}
 use Rattle.step_wakes.specs.declared.step.SignalChange.{SignalChange}
 

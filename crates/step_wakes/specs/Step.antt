@@ -7,10 +7,10 @@ use Rattle.design_model.specs.Shows.{BoundDump}
 use Rattle.early_sets.specs.declared.habit.Habit.{Habit}
 use Rattle.early_sets.specs.Rounds.{round_at, writer_at}
 use Rattle.early_sets.specs.WakeState.{WakeState, is_told, trigger_of}
-use Rattle.replay_model.specs.Sets.{AreSets}
+use Rattle.replay_sets.specs.replay_model.Sets.{AreSets}
 use Rattle.replay_sets.specs.SetsOf.{AreChosen, sets_of}
-use Rattle.wake_laws.specs.Laws.{IsChangedInput, IsFirstSingle, IsRoundOf, habit_of}
-use Rattle.wake_laws.specs.OfDesign.{AreTablesOf}
+use Rattle.replay_sets.specs.wake_laws.Laws.{IsChangedInput, IsFirstSingle, IsRoundOf, habit_of}
+use Rattle.replay_sets.specs.wake_laws.OfDesign.{AreTablesOf}
 use Rattle.step_wakes.specs.declared.step.SignalChange.{SignalChange}
 
 -- the flag of a signal, false where there is none

@@ -4,7 +4,7 @@ ghost use Rattle.design_model.specs.View.{design_view};
 ghost use Rattle.early_sets.specs.Sizes.{AreWriters};
 ghost use Rattle.early_sets.specs.WakeState.{state_of};
 ghost use Rattle.step_wakes.specs.Step.{IsOfDesign};
-ghost use Rattle.wake_laws.specs.Laws.{HasNoWriters};
+ghost use Rattle.replay_sets.specs.wake_laws.Laws.{HasNoWriters};
 
 use crate::inputs::{given_inputs, missing_inputs};
 use crate::tables::tables_of;

@@ -3,7 +3,7 @@
 ghost use Rattle.std.specs.Prelude.{IfOk};
 ghost use Rattle.design_model.specs.Lawful.{IsLawfulDesign};
 ghost use Rattle.design_model.specs.View.{design_view};
-ghost use Rattle.wake_laws.specs.OfDesign.{AreTablesOf};
+ghost use Rattle.replay_sets.specs.wake_laws.OfDesign.{AreTablesOf};
 
 use cov_host::NoMemory;
 use design_model::Design;

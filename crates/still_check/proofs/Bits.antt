@@ -5,9 +5,9 @@ use Rattle.std.proofs.lemmas.Bool.{and_parts, false≢true}
 use Rattle.event_machine.specs.Cell.{Cell, Values}
 use Rattle.four_state.specs.declared.bit.Bit.{Bit}
 use Rattle.design_model.proofs.Lawful.{same_bit_is, same_bit_self}
-use Rattle.body_replay.specs.Store.{Kept}
+use Rattle.step_values.specs.body_replay.Store.{Kept}
 use Rattle.known_state.specs.Partly.{allows_bit, allows_bits}
-use Rattle.replay_model.specs.Step.{surely_differ}
+use Rattle.step_values.specs.replay_model.Step.{surely_differ}
 
 module _ (k : Kept) (new : Values Bit) (f : ℕ → Cell) where
   -- each bit of a row is allowed

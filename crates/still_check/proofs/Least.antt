@@ -4,7 +4,7 @@ use Rattle.std.proofs.lemmas.List.{take_more}
 use Rattle.std.proofs.lemmas.List.Elements.{All-push, All-weaker}
 use Rattle.design_model.specs.Design.{In}
 use Rattle.dump_check.specs.declared.order.Difference.{Difference}
-use Rattle.replay_model.specs.Step.{Closing}
+use Rattle.step_values.specs.replay_model.Step.{Closing}
 use Rattle.still_check.specs.Stays.{IsLeastMoved, IsLesser, IsMovedOr, Stays}
 
 in_left : (x : ℕ) (xs ys : List ℕ) → In x xs → In x (xs ++ ys)

@@ -4,10 +4,10 @@ use Rattle.std.proofs.lemmas.Bool.{both_ways}
 use Rattle.four_state.specs.Vector.{Vector}
 use Rattle.known_state.specs.Partly.{Partly, allows_bits}
 use Rattle.design_model.specs.Design.{signal_cells}
-use Rattle.body_store.specs.declared.store.Store.{Store}
+use Rattle.step_values.specs.body_store.declared.store.Store.{Store}
 use Rattle.early_sets.specs.Has.{is_in}
 use Rattle.early_sets.specs.WakeState.{WakeState}
-use Rattle.replay_model.specs.Step.{Closing}
+use Rattle.step_values.specs.replay_model.Step.{Closing}
 use Rattle.step_values.specs.Dumped.{dumped_of}
 use Rattle.step_values.specs.Loose.{has_code}
 use Rattle.step_values.proofs.Dumps.{said, value_bits}

@@ -8,13 +8,13 @@ use Rattle.std.proofs.lemmas.List.Elements.{All-head, All-tail}
 use Rattle.event_machine.specs.Cell.{Cell}
 use Rattle.design_model.specs.Design.{body_at, cell, signal_at, signal_bits}
 use Rattle.design_model.specs.Mentions.{blocking_target}
-use Rattle.body_calls.specs.Own.{is_in}
+use Rattle.step_values.specs.body_calls.Own.{is_in}
 use Rattle.known_state.specs.Partly.{allows_bit, allows_bits}
-use Rattle.replay_model.specs.Step.{Closing, Working, after_settling, all_run, certainty, clocked_run, is_dumped, is_loose, is_touched, known_bits, plain_store, run_all_settling, run_settling, settle_start, settled_kept, surely_differ}
-use Rattle.replay_model.proofs.Bits.{any_in}
-use Rattle.replay_model.proofs.Clocked.{at_false}
-use Rattle.replay_steps.specs.Settling.{MoveTargets}
-use Rattle.replay_steps.proofs.Settling.{starts_settled}
+use Rattle.step_values.specs.replay_model.Step.{Closing, Working, after_settling, all_run, certainty, clocked_run, is_dumped, is_loose, is_touched, known_bits, plain_store, run_all_settling, run_settling, settle_start, settled_kept, surely_differ}
+use Rattle.step_values.proofs.replay_model.Bits.{any_in}
+use Rattle.step_values.proofs.replay_model.Clocked.{at_false}
+use Rattle.step_values.specs.replay_steps.Settling.{MoveTargets}
+use Rattle.step_values.proofs.replay_steps.Settling.{starts_settled}
 use Rattle.still_check.specs.Laws.{MovedLaw, StaysLaw}
 use Rattle.still_check.specs.Stays.{Stays}
 use Rattle.still_check.proofs.Bits.{allowed, allows_own, differ_of, differs, exact}

@@ -3,10 +3,10 @@ use Rattle.std.specs.Prelude.{◌≡◌, ℕ, true, false, List, [], Some}
 use Rattle.event_machine.specs.Cell.{Cell}
 use Rattle.four_state.specs.declared.bit.Bit.{Bit}
 use Rattle.design_model.specs.Design.{signal_at}
-use Rattle.body_calls.specs.Own.{is_in}
+use Rattle.step_values.specs.body_calls.Own.{is_in}
 use Rattle.dump_check.specs.declared.order.Difference.{Difference}
-use Rattle.replay_model.specs.Step.{Closing, contradicts, is_dumped}
-use Rattle.replay_steps.specs.Settling.{IsDumpStill, MoveTargets}
+use Rattle.step_values.specs.replay_model.Step.{Closing, contradicts, is_dumped}
+use Rattle.step_values.specs.replay_steps.Settling.{IsDumpStill, MoveTargets}
 use Rattle.still_check.specs.Stays.{IsMoved, Stays}
 use Rattle.std.specs.List.{All}
 

@@ -4,13 +4,13 @@ use Rattle.std.specs.List.{All}
 use Rattle.four_state.specs.Vector.{Vector}
 use Rattle.known_state.specs.Partly.{allows_bits}
 use Rattle.design_model.specs.Design.{In, signal_bits}
-use Rattle.body_store.specs.declared.store.Store.{Store}
+use Rattle.step_values.specs.body_store.declared.store.Store.{Store}
 use Rattle.dump_check.specs.declared.order.Difference.{Difference}
 use Rattle.early_sets.specs.Has.{is_in}
 use Rattle.early_sets.specs.WakeState.{WakeState}
-use Rattle.replay_model.specs.Step.{Closing, known_bits}
+use Rattle.step_values.specs.replay_model.Step.{Closing, known_bits}
 use Rattle.step_values.specs.Dumped.{AreDumped}
-use Rattle.store_knowledge.specs.Knows.{Knows}
+use Rattle.step_values.specs.store_knowledge.Knows.{Knows}
 
 -- the store, the sets and the values of codes are those of a step that is to be closed
 pub record IsAtStart (st : Closing) (x : Store) (sets : WakeState) (codes : List (Option ℕ)) (values : List (Option Vector)) : Type 0 where

@@ -10,3 +10,4 @@ mod moved;
 
 pub use laws::{moved_law, stays_law};
 pub use moved::first_moved;
+pub use step_values::{StepValues, put_dump};

@@ -5,20 +5,19 @@ ghost use Rattle.event_machine.specs.Cell.{Values};
 ghost use Rattle.four_state.specs.declared.bit.Bit.{Bit};
 ghost use Rattle.design_model.specs.Design.{Design};
 ghost use Rattle.design_model.specs.View.{design_view};
-ghost use Rattle.body_replay.specs.Store.{Kept};
+ghost use Rattle.step_values.specs.body_replay.Store.{Kept};
 ghost use Rattle.early_sets.specs.WakeState.{state_of};
-ghost use Rattle.replay_model.specs.Step.{Closing};
+ghost use Rattle.step_values.specs.replay_model.Step.{Closing};
 ghost use Rattle.step_values.specs.Dumped.{AreDumped, HaveCodes, dumped_of};
 ghost use Rattle.step_values.specs.Loose.{has_code};
-ghost use Rattle.store_knowledge.specs.Knows.{Knows};
+ghost use Rattle.step_values.specs.store_knowledge.Knows.{Knows};
 ghost use Rattle.still_check.specs.Stays.{IsAtStart, IsLeastMoved, IsLesser, IsMovedOr};
 
-use body_store::Store;
 use code_values::CodeValues;
 use dump_check::Difference;
 use early_sets::Wakes;
 use four_state::Four;
-use store_knowledge::known_signal;
+use step_values::{Store, known_signal};
 
 /// The signal with the least number of which the dump says another value than what is known, though it may not move, with both
 /// values. `changed` are the signals of which the value has changed, and `codes` has the code of each signal. It takes no

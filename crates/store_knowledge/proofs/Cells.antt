@@ -7,14 +7,14 @@ use Rattle.std.proofs.lemmas.Bool.{eqb-true}
 use Rattle.std.proofs.lemmas.Bool.Decides.{nat_tests}
 use Rattle.std.proofs.lemmas.List.{get_or_past}
 use Rattle.std.proofs.lemmas.Bool.{cases_lt}
-use Rattle.event_machine.specs.Cell.{Cell}
-use Rattle.design_model.specs.BodyLaws.{all_cells}
-use Rattle.design_model.specs.Design.{Design, In, cell, signal_at, signal_cells}
-use Rattle.body_replay.specs.KnownBits.{KnownBits}
-use Rattle.body_replay.specs.Store.{Kept, keep_all, writes_of}
-use Rattle.body_replay.proofs.BlamedTerms.{cell_of_signal}
-use Rattle.body_replay.proofs.Frames.{missed}
-use Rattle.body_replay.proofs.Stored.{signal_stored}
+use Rattle.body_store.specs.event_machine.Cell.{Cell}
+use Rattle.body_store.specs.design_model.BodyLaws.{all_cells}
+use Rattle.body_store.specs.design_model.Design.{Design, In, cell, signal_at, signal_cells}
+use Rattle.body_store.specs.body_replay.KnownBits.{KnownBits}
+use Rattle.body_store.specs.body_replay.Store.{Kept, keep_all, writes_of}
+use Rattle.body_store.proofs.body_replay.BlamedTerms.{cell_of_signal}
+use Rattle.body_store.proofs.body_replay.Frames.{missed}
+use Rattle.body_store.proofs.body_replay.Stored.{signal_stored}
 use Rattle.body_store.specs.Owned.{IsBlank}
 use Rattle.body_store.proofs.Inside.{inside_misses, inside_whole, is_below}
 use Rattle.body_store.proofs.Rows.{row_at}

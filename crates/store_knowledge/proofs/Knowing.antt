@@ -1,12 +1,12 @@
 -- What a store knows, and what it knows once a signal has other bits.
 use Rattle.std.proofs.Common.{◌≡◌, ℕ, ◌<◌, [], length, map, sym, ap, ap₂, subst, ◌∙◌}
 use Rattle.known_state.specs.Partly.{Partly}
-use Rattle.design_model.specs.Design.{Design, body_at, signal_at, signal_cells}
-use Rattle.design_model.specs.View.{design_view}
-use Rattle.body_replay.specs.KnownBits.{KnownBits}
-use Rattle.body_replay.specs.Replay.{Blames}
-use Rattle.body_replay.specs.Store.{Kept, keep_all, writes_of}
-use Rattle.value_store.specs.Held.{IsSignal}
+use Rattle.body_store.specs.design_model.Design.{Design, body_at, signal_at, signal_cells}
+use Rattle.body_store.specs.design_model.View.{design_view}
+use Rattle.body_store.specs.body_replay.KnownBits.{KnownBits}
+use Rattle.body_store.specs.body_replay.Replay.{Blames}
+use Rattle.body_store.specs.body_replay.Store.{Kept, keep_all, writes_of}
+use Rattle.body_store.specs.value_store.Held.{IsSignal}
 use Rattle.open_tests.specs.Weights.{HasRoomFor}
 use Rattle.body_store.specs.declared.store.Store.{Store}
 use Rattle.body_store.specs.Bodies.{around_of, rooms_of}

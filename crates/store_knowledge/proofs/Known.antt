@@ -1,11 +1,11 @@
 -- What follows for a store from what it knows.
 use Rattle.std.proofs.Common.{◌≡◌, ℕ, Bool, false, refl, sym, ap, ap₂, subst, ◌∙◌}
 use Rattle.std.proofs.Math.Path.{fun_ext}
-use Rattle.design_model.specs.Design.{Design}
-use Rattle.design_model.specs.View.{design_view}
-use Rattle.body_replay.specs.Runs.{StoreView}
-use Rattle.body_replay.specs.Store.{Kept}
-use Rattle.body_calls.specs.Own.{IsOwn}
+use Rattle.body_store.specs.design_model.Design.{Design}
+use Rattle.body_store.specs.design_model.View.{design_view}
+use Rattle.body_store.specs.body_replay.Runs.{StoreView}
+use Rattle.body_store.specs.body_replay.Store.{Kept}
+use Rattle.body_store.specs.body_calls.Own.{IsOwn}
 use Rattle.body_store.specs.declared.store.Store.{Store}
 use Rattle.body_store.specs.Held.{HoldsStore}
 use Rattle.body_store.specs.Made.{unblamed}

@@ -1,9 +1,9 @@
 -- What a store knows of the cells of a design between the runs of blocks.
 use Rattle.std.specs.Prelude.{◌≡◌, ◌<◌, ◌==◌, ℕ, false, if◌then◌else◌, [], length}
-use Rattle.design_model.specs.Design.{Design, body_at}
-use Rattle.design_model.specs.View.{design_view}
-use Rattle.body_replay.specs.KnownBits.{KnownBits}
-use Rattle.body_replay.specs.Store.{Kept}
+use Rattle.body_store.specs.design_model.Design.{Design, body_at}
+use Rattle.body_store.specs.design_model.View.{design_view}
+use Rattle.body_store.specs.body_replay.KnownBits.{KnownBits}
+use Rattle.body_store.specs.body_replay.Store.{Kept}
 use Rattle.open_tests.specs.Weights.{HasRoomFor}
 use Rattle.body_store.specs.declared.store.Store.{Store}
 use Rattle.body_store.specs.Bodies.{around_of, queued_of, rooms_of}

@@ -1,10 +1,10 @@
 -- What follows for a store from what it knows.
 use Rattle.std.specs.Prelude.{◌≡◌, ◌<◌, ℕ, false, [], length}
-use Rattle.design_model.specs.Design.{Design, body_at}
-use Rattle.design_model.specs.View.{design_view}
-use Rattle.body_replay.specs.Store.{Kept}
+use Rattle.body_store.specs.design_model.Design.{Design, body_at}
+use Rattle.body_store.specs.design_model.View.{design_view}
+use Rattle.body_store.specs.body_replay.Store.{Kept}
 use Rattle.open_tests.specs.Weights.{HasRoomFor}
-use Rattle.body_calls.specs.Own.{IsOwn}
+use Rattle.body_store.specs.body_calls.Own.{IsOwn}
 use Rattle.body_store.specs.declared.store.Store.{Store}
 use Rattle.body_store.specs.Bodies.{around_of, queued_of, rooms_of}
 use Rattle.body_store.specs.Held.{HoldsStore, ReadsStore}

@@ -8,5 +8,7 @@
 mod laws;
 mod signals;
 
+pub use body_store::Store;
 pub use laws::{knows_law, new_store_law};
+pub use open_tests::Piece;
 pub use signals::{keep_signal, known_signal};

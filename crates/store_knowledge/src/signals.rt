@@ -1,9 +1,9 @@
 //! What is known of a signal.
 
 ghost use Rattle.std.specs.Prelude.{◌≡◌, ◌<◌, length, map};
-ghost use Rattle.design_model.specs.Design.{Design, signal_at, signal_cells};
-ghost use Rattle.design_model.specs.View.{design_view};
-ghost use Rattle.body_replay.specs.Store.{Kept};
+ghost use Rattle.body_store.specs.design_model.Design.{Design, signal_at, signal_cells};
+ghost use Rattle.body_store.specs.design_model.View.{design_view};
+ghost use Rattle.body_store.specs.body_replay.Store.{Kept};
 ghost use Rattle.store_knowledge.specs.Knows.{Knows, with_bits};
 
 use body_store::Store;

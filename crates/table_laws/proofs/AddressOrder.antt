@@ -4,13 +4,13 @@ use Rattle.std.specs.declared.cmp.Ordering.{Ordering}
 use Rattle.std.specs.declared.cmp.Ordering.TheVariants.{Less, Equal, Greater}
 use Rattle.std.specs.Ordering.{nat_cmp, ordering_then}
 use Rattle.coverage_db.specs.Order.{address_cmp, bytes_cmp, index_cmp as option_cmp, rise_cmp, write_cmp}
-use Rattle.cover_points.specs.MachinePoints.{first_name, machine_cmp, machine_of, second_name}
-use Rattle.cover_points.specs.Order.{case_rank, index_cmp, line_cmp, node_cmp, second_rank, thing_instance, thing_name}
-use Rattle.cover_points.specs.declared.machine_point.MachinePoint.{MachinePoint}
-use Rattle.cover_points.specs.declared.machine_point.MachinePoint.TheVariants.{Arc, State}
-use Rattle.cover_points.specs.declared.points.IndexPoint.{IndexPoint}
-use Rattle.design_machines.specs.Machines.{machine_at}
-use Rattle.design_machines.specs.declared.machine.Machine.{Machine}
+use Rattle.point_table.specs.cover_points.MachinePoints.{first_name, machine_cmp, machine_of, second_name}
+use Rattle.point_table.specs.cover_points.Order.{case_rank, index_cmp, line_cmp, node_cmp, second_rank, thing_instance, thing_name}
+use Rattle.point_table.specs.cover_points.declared.machine_point.MachinePoint.{MachinePoint}
+use Rattle.point_table.specs.cover_points.declared.machine_point.MachinePoint.TheVariants.{Arc, State}
+use Rattle.point_table.specs.cover_points.declared.points.IndexPoint.{IndexPoint}
+use Rattle.point_table.specs.design_machines.Machines.{machine_at}
+use Rattle.point_table.specs.design_machines.declared.machine.Machine.{Machine}
 use Rattle.design_model.specs.declared.design.Instance.{Instance}
 use Rattle.point_words.specs.Words.{node_case_rank}
 use Rattle.point_words.specs.declared.node_case.NodeCase.{NodeCase}
@@ -18,8 +18,8 @@ use Rattle.point_words.specs.declared.node_case.NodeCase.TheVariants.{ValueFalse
 use Rattle.point_table.specs.Addresses.{index_if, line_address, machine_address, node_address, toggle_address, word_address}
 use Rattle.point_table.specs.Rows.{path_cmp, place_at}
 use Rattle.design_model.specs.Design.{Design, memory_at, signal_at}
-use Rattle.text_points.specs.declared.points.LinePoint.{LinePoint}
-use Rattle.text_points.specs.declared.points.NodePoint.{NodePoint}
+use Rattle.point_table.specs.text_points.declared.points.LinePoint.{LinePoint}
+use Rattle.point_table.specs.text_points.declared.points.NodePoint.{NodePoint}
 
 then_assoc : (a b c : Ordering) → ordering_then a (ordering_then b c) ≡ ordering_then (ordering_then a b) c
 then_assoc Less b c = refl

@@ -14,7 +14,7 @@ use Rattle.point_words.specs.declared.node_case.NodeCase.{NodeCase}
 use Rattle.point_words.specs.declared.node_case.NodeCase.TheVariants.{ValueFalse, ValueTrue, LeftFalse, RightFalse, LeftTrue, RightTrue, BothFalse, FalseTrue, TrueFalse, BothTrue}
 use Rattle.point_words.specs.declared.operator.Operator.{Operator}
 use Rattle.point_words.specs.declared.operator.Operator.TheVariants.{Value}
-use Rattle.text_points.specs.Operators.{binary_operator, operator_of, unary_operator}
+use Rattle.point_table.specs.text_points.Operators.{binary_operator, operator_of, unary_operator}
 
 -- operators with one text are one
 pub same_operator : (a b : Operator) → operator_text a ≡ operator_text b → a ≡ b

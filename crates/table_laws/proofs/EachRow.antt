@@ -6,16 +6,16 @@ use Rattle.coverage_db.specs.declared.address.Address.{Address}
 use Rattle.coverage_db.specs.declared.db.Db.{Db}
 use Rattle.coverage_db.specs.declared.db.DbInstance.{DbInstance}
 use Rattle.coverage_db.specs.declared.db.DbPoint.{DbPoint}
-use Rattle.cover_points.specs.Listed.{IsPointList, points_of}
-use Rattle.cover_points.specs.MachinePoints.{machine_view}
-use Rattle.cover_points.specs.Texts.{line_view, node_view}
-use Rattle.cover_points.specs.Things.{toggle_view, word_view}
-use Rattle.cover_points.specs.Visits.{no_point}
-use Rattle.cover_points.specs.declared.listing.Points.{Points}
-use Rattle.cover_points.specs.declared.machine_point.MachinePoint.{MachinePoint}
-use Rattle.cover_points.specs.declared.machine_point.MachinePoint.TheVariants.{Arc, State}
-use Rattle.cover_points.specs.declared.points.IndexPoint.{IndexPoint}
-use Rattle.design_machines.specs.Machines.{machine_at}
+use Rattle.point_table.specs.cover_points.Listed.{IsPointList, points_of}
+use Rattle.point_table.specs.cover_points.MachinePoints.{machine_view}
+use Rattle.point_table.specs.cover_points.Texts.{line_view, node_view}
+use Rattle.point_table.specs.cover_points.Things.{toggle_view, word_view}
+use Rattle.point_table.specs.cover_points.Visits.{no_point}
+use Rattle.point_table.specs.cover_points.declared.listing.Points.{Points}
+use Rattle.point_table.specs.cover_points.declared.machine_point.MachinePoint.{MachinePoint}
+use Rattle.point_table.specs.cover_points.declared.machine_point.MachinePoint.TheVariants.{Arc, State}
+use Rattle.point_table.specs.cover_points.declared.points.IndexPoint.{IndexPoint}
+use Rattle.point_table.specs.design_machines.Machines.{machine_at}
 use Rattle.design_model.specs.Design.{Design, In, memory_at, process_at, signal_at}
 use Rattle.design_model.specs.Lawful.{IsLawfulDesign, instance_of}
 use Rattle.design_model.specs.Points.{StateNames}
@@ -28,8 +28,8 @@ use Rattle.table_laws.proofs.Subjects.{line_is, machine_is, node_is, toggle_is, 
 use Rattle.table_laws.proofs.Tables.{addresses_is, all_addresses, points_number}
 use Rattle.table_laws.specs.Rows.{IsAddressOf, ListsEach}
 use Rattle.table_laws.specs.Written.{IsWritten, IsWrittenMachine}
-use Rattle.text_points.specs.declared.points.LinePoint.{LinePoint}
-use Rattle.text_points.specs.declared.points.NodePoint.{NodePoint}
+use Rattle.point_table.specs.text_points.declared.points.LinePoint.{LinePoint}
+use Rattle.point_table.specs.text_points.declared.points.NodePoint.{NodePoint}
 
 zip_map : {X A B : Type 0} (R : A → B → Type 0) (f : X → A) (g : X → B) (xs : List X) → ((x : X) → In x xs → R (f x) (g x)) → AllZip R (map f xs) (map g xs)
 zip_map R f g [] h = tt

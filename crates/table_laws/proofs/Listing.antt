@@ -12,10 +12,10 @@ use Rattle.coverage_db.specs.declared.address.Subject.TheVariants as subject
 use Rattle.coverage_db.specs.declared.db.Db.{Db}
 use Rattle.coverage_db.specs.declared.db.DbInstance.{DbInstance}
 use Rattle.coverage_db.specs.declared.db.DbPoint.{DbPoint}
-use Rattle.cover_points.specs.Listed.{IsPointList, points_of}
-use Rattle.cover_points.specs.Visits.{no_point, point_at}
-use Rattle.cover_points.specs.declared.listing.Points.{Points}
-use Rattle.cover_points.proofs.Members.{in_at, in_contains}
+use Rattle.point_table.specs.cover_points.Listed.{IsPointList, points_of}
+use Rattle.point_table.specs.cover_points.Visits.{no_point, point_at}
+use Rattle.point_table.specs.cover_points.declared.listing.Points.{Points}
+use Rattle.point_table.proofs.cover_points.Members.{in_at, in_contains}
 use Rattle.design_model.specs.Design.{Design}
 use Rattle.design_model.specs.Lawful.{IsLawfulDesign}
 use Rattle.design_model.specs.Points.{IsPoint, StateNames}

@@ -14,7 +14,7 @@ use Rattle.std.proofs.lemmas.Map.Keys.{IsDistinct-IsPermutation, IsDistinct-from
 use Rattle.coverage_db.specs.Order.{bytes_cmp}
 use Rattle.coverage_db.specs.Table.{Rises}
 use Rattle.coverage_db.specs.declared.db.DbInstance.{DbInstance}
-use Rattle.cover_points.proofs.Members.{same_bytes, same_place}
+use Rattle.point_table.proofs.cover_points.Members.{same_bytes, same_place}
 use Rattle.design_model.specs.Design.{AreDistinct, no_instance}
 use Rattle.design_model.specs.declared.design.Instance.{Instance}
 use Rattle.point_table.specs.Rows.{ArePlaces, IsPathOrder, instance_at, path_cmp, place_at, row_at}

@@ -9,19 +9,19 @@ use Rattle.std.proofs.lemmas.Bool.Decides.{nat_tests}
 use Rattle.std.proofs.lemmas.List.{get_or_past}
 use Rattle.coverage_db.specs.Order.{bytes_cmp, index_cmp as option_cmp}
 use Rattle.coverage_db.specs.Table.{IsIdentifier, IsSubject}
-use Rattle.cover_points.specs.Listed.{IsPointList}
-use Rattle.cover_points.specs.MachinePoints.{machine_of, machine_view}
-use Rattle.cover_points.specs.Order.{thing_instance, thing_name}
-use Rattle.cover_points.specs.Texts.{line_view, node_view}
-use Rattle.cover_points.specs.Things.{toggle_view, word_view}
-use Rattle.cover_points.specs.declared.listing.Points.{Points}
-use Rattle.cover_points.specs.declared.machine_point.MachinePoint.{MachinePoint}
-use Rattle.cover_points.specs.declared.machine_point.MachinePoint.TheVariants.{Arc, State}
-use Rattle.cover_points.specs.declared.points.IndexPoint.{IndexPoint}
-use Rattle.cover_points.proofs.Members.{both_equal, in_at, in_left, in_map_back, in_right, same_bytes, same_place}
-use Rattle.cover_points.proofs.NamedOnce.{one_signal}
-use Rattle.cover_points.proofs.Pieces.{instance_there, test_at}
-use Rattle.design_machines.specs.Machines.{machine_at, no_machine}
+use Rattle.point_table.specs.cover_points.Listed.{IsPointList}
+use Rattle.point_table.specs.cover_points.MachinePoints.{machine_of, machine_view}
+use Rattle.point_table.specs.cover_points.Order.{thing_instance, thing_name}
+use Rattle.point_table.specs.cover_points.Texts.{line_view, node_view}
+use Rattle.point_table.specs.cover_points.Things.{toggle_view, word_view}
+use Rattle.point_table.specs.cover_points.declared.listing.Points.{Points}
+use Rattle.point_table.specs.cover_points.declared.machine_point.MachinePoint.{MachinePoint}
+use Rattle.point_table.specs.cover_points.declared.machine_point.MachinePoint.TheVariants.{Arc, State}
+use Rattle.point_table.specs.cover_points.declared.points.IndexPoint.{IndexPoint}
+use Rattle.point_table.proofs.cover_points.Members.{both_equal, in_at, in_left, in_map_back, in_right, same_bytes, same_place}
+use Rattle.point_table.proofs.cover_points.NamedOnce.{one_signal}
+use Rattle.point_table.proofs.cover_points.Pieces.{instance_there, test_at}
+use Rattle.point_table.specs.design_machines.Machines.{machine_at, no_machine}
 use Rattle.design_model.specs.declared.design.Instance.{Instance}
 use Rattle.design_model.specs.declared.design.Memory.{Memory}
 use Rattle.design_model.specs.Design.{Design, In, is_memory, memory_at, no_instance, no_memory, no_process, no_signal, process_at, signal_at}
@@ -36,10 +36,10 @@ use Rattle.point_table.specs.Rows.{path_cmp}
 use Rattle.point_words.specs.Words.{can_have, operator_text}
 use Rattle.table_laws.proofs.Cases.{case_of, same_operator}
 use Rattle.table_laws.specs.Written.{IsWritten, IsWrittenMachine}
-use Rattle.text_points.proofs.OperatorTexts.{text_is}
-use Rattle.text_points.specs.Operators.{operator_of}
-use Rattle.text_points.specs.declared.points.LinePoint.{LinePoint}
-use Rattle.text_points.specs.declared.points.NodePoint.{NodePoint}
+use Rattle.point_table.proofs.text_points.OperatorTexts.{text_is}
+use Rattle.point_table.specs.text_points.Operators.{operator_of}
+use Rattle.point_table.specs.text_points.declared.points.LinePoint.{LinePoint}
+use Rattle.point_table.specs.text_points.declared.points.NodePoint.{NodePoint}
 
 nodes_have : (a : NodeAt) (t : Term) (ts : List Term) → In t ts → In a (node_at (head t).node t) → In a (nodes_in ts)
 nodes_have a t [] h i = absurd h

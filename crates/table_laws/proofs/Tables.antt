@@ -16,15 +16,15 @@ use Rattle.coverage_db.specs.declared.address.Address.{Address}
 use Rattle.coverage_db.specs.declared.db.Db.{Db}
 use Rattle.coverage_db.specs.declared.db.DbInstance.{DbInstance}
 use Rattle.coverage_db.specs.declared.db.DbPoint.{DbPoint}
-use Rattle.cover_points.specs.Listed.{IsPointList, points_of}
-use Rattle.cover_points.specs.MachinePoints.{machine_cmp}
-use Rattle.cover_points.specs.Order.{index_cmp, line_cmp, node_cmp}
-use Rattle.cover_points.specs.declared.listing.Points.{Points}
-use Rattle.cover_points.specs.declared.listing.TheConstants.{MOST_POINTS}
-use Rattle.cover_points.specs.declared.machine_point.MachinePoint.{MachinePoint}
-use Rattle.cover_points.specs.declared.machine_point.MachinePoint.TheVariants.{Arc, State}
-use Rattle.cover_points.proofs.Members.{in_append, in_at, in_contains, in_map, in_map_back}
-use Rattle.design_machines.specs.declared.machine.Machine.{Machine}
+use Rattle.point_table.specs.cover_points.Listed.{IsPointList, points_of}
+use Rattle.point_table.specs.cover_points.MachinePoints.{machine_cmp}
+use Rattle.point_table.specs.cover_points.Order.{index_cmp, line_cmp, node_cmp}
+use Rattle.point_table.specs.cover_points.declared.listing.Points.{Points}
+use Rattle.point_table.specs.cover_points.declared.listing.TheConstants.{MOST_POINTS}
+use Rattle.point_table.specs.cover_points.declared.machine_point.MachinePoint.{MachinePoint}
+use Rattle.point_table.specs.cover_points.declared.machine_point.MachinePoint.TheVariants.{Arc, State}
+use Rattle.point_table.proofs.cover_points.Members.{in_append, in_at, in_contains, in_map, in_map_back}
+use Rattle.point_table.specs.design_machines.declared.machine.Machine.{Machine}
 use Rattle.design_model.specs.Design.{Design, In, is_memory, is_number, memory_at, no_instance, path_in, path_of, signal_at}
 use Rattle.design_model.specs.Lawful.{IsLawfulDesign}
 use Rattle.design_model.specs.Points.{StateNames}

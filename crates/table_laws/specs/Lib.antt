@@ -1,2 +1,3 @@
 pub mod Written
 pub mod Rows
+pub use Rattle.point_table.specs as point_table

@@ -5,9 +5,9 @@ use Rattle.coverage_db.specs.declared.address.Subject.{Subject}
 use Rattle.coverage_db.specs.declared.address.Subject.TheVariants as subject
 use Rattle.coverage_db.specs.declared.db.Db.{Db}
 use Rattle.coverage_db.specs.declared.db.DbInstance.{DbInstance}
-use Rattle.cover_points.specs.Listed.{points_of}
-use Rattle.cover_points.specs.Visits.{point_at}
-use Rattle.cover_points.specs.declared.listing.Points.{Points}
+use Rattle.point_table.specs.cover_points.Listed.{points_of}
+use Rattle.point_table.specs.cover_points.Visits.{point_at}
+use Rattle.point_table.specs.cover_points.declared.listing.Points.{Points}
 use Rattle.design_model.specs.Design.{Design, memory_at, process_at, signal_at}
 use Rattle.design_model.specs.Lawful.{instance_of}
 use Rattle.design_model.specs.Points.{IsPoint, StateNames}

@@ -1,7 +1,7 @@
 -- What the text of a table asks of a design and its sources, of its state machines, and of the verdicts of its points.
 use Rattle.std.specs.Prelude.{◌≡◌, ◌<◌, ◌≤◌, ◌^◌, ℕ, true, List, length, All, IsTrue, ⊤}
 use Rattle.coverage_db.specs.Table.{IsIdentifier, IsNumber, IsSourceLine, is_file_name, is_path, is_state}
-use Rattle.design_machines.specs.declared.machine.Machine.{Machine}
+use Rattle.point_table.specs.design_machines.declared.machine.Machine.{Machine}
 use Rattle.design_model.specs.Design.{Design, In, is_number, process_at}
 use Rattle.design_model.specs.declared.design.Instance.{Instance}
 use Rattle.design_model.specs.declared.design.Memory.{Memory}

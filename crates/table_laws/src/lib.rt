@@ -9,9 +9,9 @@
 ghost use Rattle.std.specs.Prelude.{◌≤◌, ◌∷◌, [], ℕ, List, All, codes, length};
 ghost use Rattle.coverage_db.specs.Table.{IsTable};
 ghost use Rattle.coverage_db.specs.declared.db.Db.{Db};
-ghost use Rattle.cover_points.specs.Listed.{IsPointList, points_of};
-ghost use Rattle.cover_points.specs.declared.listing.Points.{Points};
-ghost use Rattle.cover_points.specs.declared.listing.TheConstants.{MOST_POINTS};
+ghost use Rattle.point_table.specs.cover_points.Listed.{IsPointList, points_of};
+ghost use Rattle.point_table.specs.cover_points.declared.listing.Points.{Points};
+ghost use Rattle.point_table.specs.cover_points.declared.listing.TheConstants.{MOST_POINTS};
 ghost use Rattle.design_model.specs.Design.{Design};
 ghost use Rattle.design_model.specs.FlipFlop.{flip_flop};
 ghost use Rattle.design_model.specs.Lawful.{IsLawfulDesign};
@@ -21,6 +21,8 @@ ghost use Rattle.point_table.specs.Collected.{AreListed, IsCollected};
 ghost use Rattle.point_table.specs.Verdicts.{AreShown};
 ghost use Rattle.table_laws.specs.Rows.{ListsEach, ListsPoints};
 ghost use Rattle.table_laws.specs.Written.{IsWritten, IsWrittenMachine, IsWrittenVerdict};
+
+pub use point_table::collect;
 
 /// The points of a lawful design that are collected with these verdicts are a table that has a text. Each state machine has
 /// names that a text can have, as those that are named by words.

@@ -1,7 +1,7 @@
 -- A constant has its value, whatever is known.
 use Rattle.std.proofs.Common.{◌≡◌, ◌∙◌, ℕ, true, ◌&&◌, ◌++◌, ◌∷◌, [], List, Option, if◌then◌else◌, Some, refl, sym, ap, ap₂}
 use Rattle.std.proofs.lemmas.Bool.{and_parts, false≢true}
-use Rattle.event_machine.specs.Cell.{Values}
+use Rattle.design_model.specs.event_machine.Cell.{Values}
 use Rattle.four_state.specs.declared.bit.Bit.{Bit}
 use Rattle.four_state.specs.Arithmetic.{natural}
 use Rattle.four_state.specs.Operators.{binary_value, choice_value, unary_value}

@@ -3,7 +3,7 @@ use Rattle.std.proofs.Common.{◌≡◌, ◌∙◌, ℕ, zero, suc, ◌+◌, Boo
 use Rattle.std.specs.List.{range_with_len}
 use Rattle.std.specs.Option.{unwrap_or}
 use Rattle.std.proofs.lemmas.List.{map-append}
-use Rattle.point_words.specs.declared.node_case.NodeCase.{NodeCase}
+use Rattle.design_model.specs.point_words.declared.node_case.NodeCase.{NodeCase}
 use Rattle.known_state.specs.declared.maybe.Maybe.{Maybe}
 use Rattle.known_state.specs.declared.maybe.Maybe.TheVariants.{Yes, No, Unsure}
 use Rattle.body_replay.specs.KnownBits.{both}

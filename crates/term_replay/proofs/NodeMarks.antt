@@ -7,7 +7,7 @@ use Rattle.four_state.specs.declared.operator.Binary.TheVariants.{Multiply, Divi
 use Rattle.known_state.specs.Partly.{Partly}
 use Rattle.design_model.specs.Tree as t
 use Rattle.design_model.specs.Value.{head}
-use Rattle.point_words.specs.declared.node_case.NodeCase.{NodeCase}
+use Rattle.design_model.specs.point_words.declared.node_case.NodeCase.{NodeCase}
 use Rattle.body_replay.specs.KnownBits.{KnownBits, both}
 use Rattle.body_replay.specs.Store.{known_value}
 use Rattle.body_replay.specs.Replay.{Mark, Mode, ask, blame_of, case_mark, case_marks, doubted, four_known, known_cases, node, node_marks, two_known, undecided}

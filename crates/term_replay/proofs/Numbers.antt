@@ -23,8 +23,8 @@ use Rattle.known_state.proofs.Allowed.{are_sure_whole}
 use Rattle.design_model.specs.Tree as t
 use Rattle.body_replay.specs.KnownBits.{KnownBits, both, binary_partly, choose_partly, extend_partly, fits, known_truth, sure, unary_partly, unknown}
 use Rattle.body_replay.specs.Store.{choice_of, known_value}
-use Rattle.point_words.specs.declared.node_case.NodeCase.{NodeCase}
-use Rattle.point_words.specs.declared.node_case.NodeCase.TheVariants.{ValueFalse, ValueTrue, LeftFalse, RightFalse, LeftTrue, RightTrue, BothFalse, FalseTrue, TrueFalse, BothTrue}
+use Rattle.design_model.specs.point_words.declared.node_case.NodeCase.{NodeCase}
+use Rattle.design_model.specs.point_words.declared.node_case.NodeCase.TheVariants.{ValueFalse, ValueTrue, LeftFalse, RightFalse, LeftTrue, RightTrue, BothFalse, FalseTrue, TrueFalse, BothTrue}
 use Rattle.body_replay.specs.Replay.{Mark, ask, ask_of, case_mark, case_marks, hit, may_be_zero, node, two_known, undecided}
 use Rattle.body_replay.proofs.Exact.{binary_exact, extend_exact, fits_exact, sure_length, truth_exact, unary_exact}
 use Rattle.term_replay.specs.Noted.{own_cases}

@@ -1,7 +1,7 @@
 -- What a sink of notes takes.
 use Rattle.std.specs.Prelude.{ℕ, List, [], ◌∷◌, ◌++◌, map, Option}
 use Rattle.four_state.specs.declared.truth.Truth.TheVariants.{True, False}
-use Rattle.point_words.specs.declared.node_case.NodeCase.TheVariants.{ValueFalse, ValueTrue, LeftFalse, RightFalse, LeftTrue, RightTrue, BothFalse, BothTrue}
+use Rattle.design_model.specs.point_words.declared.node_case.NodeCase.TheVariants.{ValueFalse, ValueTrue, LeftFalse, RightFalse, LeftTrue, RightTrue, BothFalse, BothTrue}
 use Rattle.design_model.specs.Tree.{Term, Terms, number, signal, word, bit, part, slide, unary, binary, choice, concat, repeat, sign}
 use Rattle.design_model.specs.Value.{head}
 use Rattle.body_replay.specs.KnownBits.{KnownBits}

@@ -5,8 +5,8 @@ use Rattle.four_state.specs.Vector.{Vector}
 use Rattle.four_state.specs.declared.operator.Binary.{Binary}
 use Rattle.four_state.specs.declared.operator.Binary.TheVariants.{BitwiseAnd, BitwiseOr, LogicalAnd, LogicalOr}
 use Rattle.known_state.specs.Partly.{Partly, whole_of}
-use Rattle.point_words.specs.declared.node_case.NodeCase.{NodeCase}
-use Rattle.point_words.specs.declared.node_case.NodeCase.TheVariants.{LeftFalse, RightFalse, LeftTrue, RightTrue, BothFalse, FalseTrue, TrueFalse, BothTrue}
+use Rattle.design_model.specs.point_words.declared.node_case.NodeCase.{NodeCase}
+use Rattle.design_model.specs.point_words.declared.node_case.NodeCase.TheVariants.{LeftFalse, RightFalse, LeftTrue, RightTrue, BothFalse, FalseTrue, TrueFalse, BothTrue}
 use Rattle.body_replay.specs.Replay.{Mark, case_mark}
 use Rattle.design_model.specs.declared.tree.Term.{Term}
 use Rattle.term_replay.specs.declared.head.TermHead.{TermHead}

@@ -2,7 +2,7 @@
 
 ghost use Rattle.std.specs.Prelude.{◌≡◌, ◌==◌, ◌&&◌, ◌∷◌, [], ℕ, Option, if◌then◌else◌};
 ghost use Rattle.four_state.specs.declared.truth.Truth.TheVariants as truth;
-ghost use Rattle.point_words.specs.declared.node_case.NodeCase.TheVariants as cases;
+ghost use Rattle.design_model.specs.point_words.declared.node_case.NodeCase.TheVariants as cases;
 ghost use Rattle.body_replay.specs.Replay.{ask, case_mark, case_marks, node_marks, one_case, two_case, two_known, four_known};
 ghost use Rattle.term_replay.specs.Noted.{Adds, in_this, own_cases, and_cases, or_cases};
 ghost use Rattle.term_replay.specs.Questions.{answer_of, blame_in};

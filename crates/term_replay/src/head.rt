@@ -1,7 +1,6 @@
 ghost use Rattle.std.specs.Prelude.{◌≡◌};
 
-use cov_host::Place;
-use design_model::Term;
+use design_model::{Place, Term};
 
 /// What a term has beside its form.
 #[derive(Clone, Copy, Debug, PartialEq, Eq)]

@@ -27,6 +27,7 @@ pub use cases::{note_own, note_two};
 pub use evaluation::{Evaluated, Progress, evaluate};
 pub use fit::{fitted, number, sign, signal};
 pub use head::TermHead;
+pub use known_state::Known;
 pub use memory::{may_name, note_words, word};
 pub use notes::{Access, Notes, Spot};
 pub use operate::{binary, choice, unary};

@@ -2,17 +2,17 @@
 use Rattle.std.proofs.Common.{◌≡◌, ℕ, ◌+◌, ◌-◌, ◌<◌, ◌≤◌, Bool, true, false, if◌then◌else◌, nat_le, List, length, min, max, refl, sym, ap, subst, arith}
 use Rattle.std.proofs.lemmas.Bool.Decides.{nat_tests}
 use Rattle.std.proofs.Math.Nat.{max-eq_left, max-eq_right, min-eq_left, min-eq_right}
-use Rattle.cover_points.proofs.Pieces.{test_at}
-use Rattle.cover_points.specs.Listed.{IsPointList, points_of}
-use Rattle.cover_points.specs.Visits.{no_point, visit_of}
-use Rattle.cover_points.specs.declared.listing.Points.{Points}
+use Rattle.mark_laws.proofs.cover_points.Pieces.{test_at}
+use Rattle.mark_laws.specs.cover_points.Listed.{IsPointList, points_of}
+use Rattle.mark_laws.specs.cover_points.Visits.{no_point, visit_of}
+use Rattle.mark_laws.specs.cover_points.declared.listing.Points.{Points}
 use Rattle.design_model.specs.Design.{Design, no_signal, signal_at}
 use Rattle.design_model.specs.declared.design.Signal.{Signal}
 use Rattle.design_model.specs.declared.point.Point.TheVariants as point
 use Rattle.design_model.specs.Lawful.{IsLawfulDesign, is_signal, span}
 use Rattle.design_model.specs.Points.{IsWithin, StateNames}
 use Rattle.signal_marks.specs.Toggled.{index_at}
-use Rattle.state_machines.proofs.Members.{place_of}
+use Rattle.signal_marks.proofs.state_machines.Members.{place_of}
 use Rattle.toggle_laws.specs.Turns.{IsMarkable}
 use Rattle.toggle_laws.proofs.Places.{IsShaped, index_so, shaped, span_zero}
 

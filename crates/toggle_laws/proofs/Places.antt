@@ -8,7 +8,7 @@ use Rattle.design_model.specs.declared.design.Signal.{Signal}
 use Rattle.design_model.specs.Lawful.{IsLawfulDesign, is_signal, span}
 use Rattle.design_model.specs.Points.{IsWithin, toggle_cell}
 use Rattle.signal_marks.specs.Toggled.{index_at}
-use Rattle.cover_points.proofs.Pieces.{test_at}
+use Rattle.mark_laws.proofs.cover_points.Pieces.{test_at}
 use Rattle.signal_marks.proofs.Indexes.{cell_at}
 
 -- the bit at this place is the one with the index

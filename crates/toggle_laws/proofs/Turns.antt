@@ -6,7 +6,7 @@ use Rattle.std.proofs.lemmas.List.{get_or-map}
 use Rattle.std.proofs.lemmas.List.FromFn.{get_or-map-range_with_len, length-map-range_with_len}
 use Rattle.four_state.specs.declared.bit.Bit.{Bit}
 use Rattle.four_state.specs.declared.bit.Bit.TheVariants.{One, Zero}
-use Rattle.body_replay.specs.Store.{Kept}
+use Rattle.mark_laws.specs.body_replay.Store.{Kept}
 use Rattle.bit_changes.specs.Changes.{bit_at, may_fall, may_rise, surely_falls, surely_rises}
 use Rattle.bit_changes.specs.Changes as changes
 use Rattle.design_model.specs.Design.{Design, cell, signal_at, signal_cells}
@@ -14,14 +14,14 @@ use Rattle.design_model.specs.Lawful.{IsLawfulDesign}
 use Rattle.design_model.specs.Points.{IsPoint, toggle_cell}
 use Rattle.design_model.specs.declared.point.Point.{Point}
 use Rattle.design_model.specs.declared.point.Point.TheVariants as point
-use Rattle.cover_points.specs.Listed.{IsPointList, points_of}
-use Rattle.cover_points.specs.Visits.{IsVisitOf, no_point, point_at, visit_of}
-use Rattle.cover_points.specs.declared.listing.Points.{Points}
-use Rattle.cover_points.specs.declared.visit.Visit.TheVariants.{Line, Node, Read, Toggle, Write}
-use Rattle.cover_points.proofs.Members.{in_at}
+use Rattle.mark_laws.specs.cover_points.Listed.{IsPointList, points_of}
+use Rattle.mark_laws.specs.cover_points.Visits.{IsVisitOf, no_point, point_at, visit_of}
+use Rattle.mark_laws.specs.cover_points.declared.listing.Points.{Points}
+use Rattle.mark_laws.specs.cover_points.declared.visit.Visit.TheVariants.{Line, Node, Read, Toggle, Write}
+use Rattle.mark_laws.proofs.cover_points.Members.{in_at}
 use Rattle.point_marks.specs.declared.verdict.Verdict.{Verdict}
 use Rattle.point_marks.specs.declared.verdict.Verdict.TheVariants.{Hit, Missed, Undetermined}
-use Rattle.replay_model.specs.Step.{Closing, all_run, bit_may_be, from_bit, known_bits, mark_toggle, point_notes, surely_same, tell, to_bit}
+use Rattle.mark_laws.specs.replay_model.Step.{Closing, all_run, bit_may_be, from_bit, known_bits, mark_toggle, point_notes, surely_same, tell, to_bit}
 use Rattle.mark_laws.specs.Signals.{FollowNotes, with_notes}
 use Rattle.signal_marks.specs.Toggled.{index_at, toggled, verdict_of}
 use Rattle.toggle_laws.specs.Turns.{AreMoves, MarksInTurn, MarksMoved}

@@ -1,11 +1,11 @@
 -- The toggle points of signals that are marked one signal after the other.
 use Rattle.std.specs.Prelude.{◌≡◌, ◌<◌, ◌≤◌, ◌==◌, ℕ, false, List, [], ◌∷◌, length}
 use Rattle.std.specs.List.{list_any}
-use Rattle.cover_points.specs.declared.listing.Points.{Points}
+use Rattle.mark_laws.specs.cover_points.declared.listing.Points.{Points}
 use Rattle.design_model.specs.Design.{signal_at}
 use Rattle.design_model.specs.declared.design.Signal.{Signal}
 use Rattle.point_marks.specs.declared.verdict.Verdict.{Verdict}
-use Rattle.replay_model.specs.Step.{Closing, all_run, known_bits}
+use Rattle.mark_laws.specs.replay_model.Step.{Closing, all_run, known_bits}
 use Rattle.signal_marks.specs.Seen.{MarksChange}
 use Rattle.signal_marks.specs.Toggled.{ListsBoth}
 

@@ -7,14 +7,14 @@
 #![tactic(auto)]
 
 ghost use Rattle.std.specs.Prelude.{◌<◌, ◌++◌, ◌∷◌, [], ℕ, List, length};
-ghost use Rattle.cover_points.specs.Listed.{IsPointList};
-ghost use Rattle.cover_points.specs.declared.listing.Points.{Points};
+ghost use Rattle.mark_laws.specs.cover_points.Listed.{IsPointList};
+ghost use Rattle.mark_laws.specs.cover_points.declared.listing.Points.{Points};
 ghost use Rattle.design_model.specs.Design.{Design, signal_at};
 ghost use Rattle.design_model.specs.Lawful.{IsLawfulDesign};
 ghost use Rattle.design_model.specs.Points.{StateNames};
 ghost use Rattle.mark_laws.specs.Signals.{FollowNotes};
 ghost use Rattle.point_marks.specs.declared.verdict.Verdict.{Verdict};
-ghost use Rattle.replay_model.specs.Step.{Closing};
+ghost use Rattle.mark_laws.specs.replay_model.Step.{Closing};
 ghost use Rattle.toggle_laws.specs.Turns.{AreMoves, IsMarkable, MarksInTurn, MarksMoved};
 
 /// The toggle points of the signals that may move are marked, in turn: each verdict follows what the step reports of its

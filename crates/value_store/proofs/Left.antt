@@ -1,18 +1,18 @@
 -- What the writes of an evaluated target leave of its signal.
 use Rattle.std.proofs.Common.{◌≡◌, ℕ, zero, suc, ◌≤◌, Bool, true, false, if◌then◌else◌, List, [], ◌∷◌, ◌++◌, length, map, is_some, replicate, ℤ, pos, ◌+ℤ◌, neg_ℤ, Option, Some, None, refl, sym, ap, ap₂, ◌∙◌, arith}
 use Rattle.std.proofs.lemmas.Bool.{and_parts, false≢true}
-use Rattle.event_machine.specs.Cell.{Cell}
+use Rattle.body_replay.specs.event_machine.Cell.{Cell}
 use Rattle.four_state.specs.declared.bit.Bit.{Bit}
 use Rattle.four_state.specs.declared.bit.Bit.TheVariants.{Zero}
 use Rattle.four_state.specs.Parts.{index, within}
 use Rattle.four_state.specs.Vector.{same_bit}
-use Rattle.known_state.specs.Partly.{Partly, are_sure, filled, is_whole}
-use Rattle.known_state.specs.Join.{join_bit, joined}
-use Rattle.known_state.proofs.Allowed.{whole_filled}
-use Rattle.known_state.proofs.Cases.{both_true}
-use Rattle.design_model.specs.Design.{Design, signal_at, signal_cells}
-use Rattle.design_model.specs.Value.{offset_option}
-use Rattle.design_model.specs.Assignment.{signal_range}
+use Rattle.body_replay.specs.known_state.Partly.{Partly, are_sure, filled, is_whole}
+use Rattle.body_replay.specs.known_state.Join.{join_bit, joined}
+use Rattle.body_replay.proofs.known_state.Allowed.{whole_filled}
+use Rattle.body_replay.proofs.known_state.Cases.{both_true}
+use Rattle.body_replay.specs.design_model.Design.{Design, signal_at, signal_cells}
+use Rattle.body_replay.specs.design_model.Value.{offset_option}
+use Rattle.body_replay.specs.design_model.Assignment.{signal_range}
 use Rattle.body_replay.specs.KnownBits.{KnownBits}
 use Rattle.body_replay.specs.Store.{Kept, KnownWrite, keep_all, known_bit_option, perhaps_cell, perhaps_cells, weaken, write_bits}
 use Rattle.body_replay.proofs.Answered.{same_sure}

@@ -9,3 +9,4 @@ pub mod Held
 pub mod Counted
 pub mod Fitted
 pub mod Showing
+pub use Rattle.body_replay.proofs as body_replay

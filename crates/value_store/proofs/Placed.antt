@@ -6,13 +6,13 @@ use Rattle.four_state.specs.declared.bit.Bit.{Bit}
 use Rattle.four_state.specs.declared.bit.Bit.TheVariants.{Zero}
 use Rattle.four_state.specs.Parts.{placed_vector, bits_with, within}
 use Rattle.four_state.specs.Vector.{Vector}
-use Rattle.known_state.specs.Partly.{Partly, allows, allows_bits, same_sign, filled, is_whole, with_blame}
-use Rattle.known_state.specs.Join.{joined}
-use Rattle.known_state.specs.Answers.{IsTight, allow_both}
-use Rattle.known_state.proofs.Allowed.{filled_allowed}
-use Rattle.known_state.proofs.BinaryLaws.{vector_allowed}
+use Rattle.body_replay.specs.known_state.Partly.{Partly, allows, allows_bits, same_sign, filled, is_whole, with_blame}
+use Rattle.body_replay.specs.known_state.Join.{joined}
+use Rattle.body_replay.specs.known_state.Answers.{IsTight, allow_both}
+use Rattle.body_replay.proofs.known_state.Allowed.{filled_allowed}
+use Rattle.body_replay.proofs.known_state.BinaryLaws.{vector_allowed}
 use Rattle.body_replay.proofs.Stored.{known_or_part, known_with, place_answer}
-use Rattle.design_model.specs.declared.design.Range.{Range}
+use Rattle.body_replay.specs.design_model.declared.design.Range.{Range}
 use Rattle.value_store.specs.Parts.{bit_or_old, bits_over, common_bits, placed_bits, part_written, whole_offset, updated}
 
 old_or_part : (q : Option Bit) (ps : List (Option Bit)) (o : Option ℕ) → known_or_part q ps o ≡ bit_or_old q ps o

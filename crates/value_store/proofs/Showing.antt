@@ -3,7 +3,7 @@ use Rattle.std.proofs.Common.{◌≡◌, ℕ, zero, suc, ◌+◌, ◌<◌, ◌==
 use Rattle.std.specs.Option.{unwrap_or}
 use Rattle.std.proofs.lemmas.Bool.{eqb-true, eqb-false}
 use Rattle.std.proofs.lemmas.List.{length-map}
-use Rattle.known_state.specs.Partly.{Partly}
+use Rattle.body_replay.specs.known_state.Partly.{Partly}
 use Rattle.value_store.specs.Signals.{Shape, Signals, hidden_at, kept_at, no_shape, no_value, read_at, shape_at, unknown_from, unknown_of}
 use Rattle.value_store.specs.Slots.{hidden_in, shape_in, signals_in}
 use Rattle.value_store.specs.declared.slot.Slot.{Slot}

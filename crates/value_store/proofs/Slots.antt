@@ -4,10 +4,10 @@ use Rattle.std.specs.List.{All}
 use Rattle.std.proofs.lemmas.List.{drop_more, get_or-append_right, length-map, length-replicate, map-append, map-set, set-get_or, set_at, take_all, take_more}
 use Rattle.std.proofs.lemmas.List.Elements.{All-cons, All-head, All-map, All-push, All-tail, All-weaker}
 use Rattle.std.proofs.lemmas.Bool.{eqb-true}
-use Rattle.known_state.specs.Partly.{Partly}
+use Rattle.body_replay.specs.known_state.Partly.{Partly}
 use Rattle.value_store.specs.Signals.{Signals, Shape, shape_of, unknown_from, unknown_of, unknown_signals}
 use Rattle.value_store.specs.Slots.{IsSlot, blank_of, forgotten, hidden_in, rewound, shape_in, signals_in}
-use Rattle.design_model.specs.declared.design.Signal.{Signal}
+use Rattle.body_replay.specs.design_model.declared.design.Signal.{Signal}
 use Rattle.value_store.specs.declared.slot.Slot.{Slot}
 
 -- a change that a view of a slot does not see

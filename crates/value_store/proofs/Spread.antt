@@ -6,8 +6,8 @@ use Rattle.four_state.specs.declared.bit.Bit.{Bit}
 use Rattle.four_state.specs.declared.operator.CaseKind.TheVariants.{Exact}
 use Rattle.four_state.specs.Vector.{same_bit, fill}
 use Rattle.four_state.specs.Operators.{matches}
-use Rattle.known_state.specs.Partly.{are_sure}
-use Rattle.known_state.proofs.Cases.{same_bit_eq, same_bit_refl}
+use Rattle.body_replay.specs.known_state.Partly.{are_sure}
+use Rattle.body_replay.proofs.known_state.Cases.{same_bit_eq, same_bit_refl}
 use Rattle.value_store.specs.Parts.{common_bit, common_bits}
 
 none_common : (ps : List (Option Bit)) → common_bit None ps ≡ None

@@ -5,3 +5,6 @@ pub mod Parts
 pub mod Held
 pub mod Queue
 pub mod Rooms
+pub use Rattle.body_replay.specs as body_replay
+pub use Rattle.body_replay.specs.design_model as design_model
+pub use Rattle.four_state.specs as four_state

@@ -1,6 +1,6 @@
 -- How a store holds its signals: one slot for each.
 use Rattle.std.specs.Prelude.{◌≤◌, ℕ, ◌+◌, ◌==◌, if◌then◌else◌, List, [], ◌∷◌, map, length, replicate, Option, Some, None}
-use Rattle.known_state.specs.Partly.{Partly}
+use Rattle.body_replay.specs.known_state.Partly.{Partly}
 use Rattle.value_store.specs.Signals.{Signals, Shape, HasShape}
 use Rattle.value_store.specs.declared.slot.Slot.{Slot}
 

@@ -16,6 +16,7 @@ mod room;
 mod signals;
 mod slot;
 
+pub use body_replay::{Memory, Range, Target, Term};
 pub use laws::writes_law;
 pub use logged::log_room;
 pub use queue::Queue;

@@ -1,13 +1,12 @@
 //! What a write leaves of a signal.
 
 ghost use Rattle.std.specs.Prelude.{◌≡◌, ◌<◌, ◌≤◌, ◌^◌, length, replicate};
-ghost use Rattle.known_state.specs.Partly.{with_blame};
+ghost use Rattle.body_replay.specs.known_state.Partly.{with_blame};
 ghost use Rattle.value_store.specs.Parts.{common_bits, part_written, updated};
 
 use crate::offset::part_offset;
-use design_model::Range;
+use body_replay::{Known, Range};
 use four_state::{CaseKind, Four};
-use known_state::Known;
 
 /// The vector with this thing to blame for what is not sure.
 pub(crate) fn blamed(value: &Known, thing: u32) -> Known

@@ -1,6 +1,6 @@
 ghost use Rattle.std.specs.Prelude.{◌≡◌, ◌<◌, ◌++◌, ◌∷◌, [], IfOk, length};
 
-use cov_host::NoMemory;
+use body_replay::NoMemory;
 use std::alloc::Global;
 use std::marker::Model;
 

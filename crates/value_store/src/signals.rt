@@ -1,14 +1,12 @@
 ghost use Rattle.std.specs.Prelude.{◌≡◌, ◌<◌, ◌==◌, ◌≤◌, ◌↔◌, ◌||◌, ℕ, IfOk, IsTrue, None, Some, false, if◌then◌else◌, is_some, length, map, slice_set};
 ghost use Rattle.std.specs.List.{All};
-ghost use Rattle.known_state.specs.Partly.{with_blame};
+ghost use Rattle.body_replay.specs.known_state.Partly.{with_blame};
 ghost use Rattle.value_store.specs.Signals.{HasShape, HasWidth, SameUnder, assigned, hidden_at, kept_at, read_at, shape_at, shape_of, unknown_from, unknown_of, unknown_signals};
 ghost use Rattle.value_store.specs.Parts.{part_written, updated};
 
 use crate::part::{blamed, with_part, with_update};
 use crate::slot::{Slot, forget, rewind};
-use cov_host::NoMemory;
-use design_model::{Range, Signal};
-use known_state::Known;
+use body_replay::{Known, NoMemory, Range, Signal};
 use std::alloc::Global;
 use std::marker::Model;
 

@@ -2,8 +2,7 @@ ghost use Rattle.std.specs.Prelude.{◌≡◌, ◌≤◌, length, map};
 ghost use Rattle.value_store.specs.Signals.{shape_of, unknown_of};
 ghost use Rattle.value_store.specs.Slots.{IsSlot, forgotten, rewound, shape_in};
 
-use design_model::{Range, Signal};
-use known_state::Known;
+use body_replay::{Known, Range, Signal};
 
 /// What is held of a signal.
 #[derive(Clone, Copy)]

@@ -13,7 +13,7 @@ use Rattle.coverage_db.specs.declared.address.Subject.TheVariants.{Line, Logic, 
 use Rattle.coverage_db.specs.declared.db.DbPoint.{DbPoint}
 use Rattle.coverage_db.specs.Order.{address_cmp, bytes_cmp, index_cmp, letter_rank, rise_cmp, rule_cmp, write_cmp}
 use Rattle.coverage_db.specs.Table.{Rises}
-use Rattle.point_table.specs.Verdicts.{no_row}
+use Rattle.table_laws.specs.point_table.Verdicts.{no_row}
 use Rattle.point_words.specs.Words.{node_case_rank}
 
 abbrev index_key : Option ℕ → List ℕ

@@ -6,9 +6,9 @@ use Rattle.design_model.specs.Run.{Run}
 use Rattle.design_model.specs.Shows.{BoundDump, IsWindow}
 use Rattle.design_model.specs.declared.point.Point.{Point}
 use Rattle.event_machine.specs.Habit.{Habit}
-use Rattle.replay_model.specs.Laws.{AreReasonedVerdicts, AreSoundVerdicts}
-use Rattle.replay_model.specs.Marks.{IsVerdict, Hit, Undetermined}
-use Rattle.replay_model.specs.Step.{Replay}
+use Rattle.mark_laws.specs.replay_model.Laws.{AreReasonedVerdicts, AreSoundVerdicts}
+use Rattle.mark_laws.specs.replay_model.Marks.{IsVerdict, Hit, Undetermined}
+use Rattle.mark_laws.specs.replay_model.Step.{Replay}
 
 some_item : {A : Type 0} (before : List A) (x : A) (after : List A) → [] ≡ before ++ x ∷ after → ⊥
 some_item [] x after e = cc

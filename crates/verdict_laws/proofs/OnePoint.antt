@@ -4,17 +4,17 @@ use Rattle.std.specs.List.{All}
 use Rattle.std.proofs.lemmas.List.{get_or_default}
 use Rattle.coverage_db.specs.Table.{IsTable}
 use Rattle.coverage_db.specs.declared.db.Db.{Db}
-use Rattle.cover_points.specs.Listed.{IsPointList, points_of}
-use Rattle.cover_points.specs.Visits.{no_point, point_at}
-use Rattle.cover_points.specs.declared.listing.Points.{Points}
-use Rattle.cover_points.proofs.Members.{in_contains}
+use Rattle.mark_laws.specs.cover_points.Listed.{IsPointList, points_of}
+use Rattle.mark_laws.specs.cover_points.Visits.{no_point, point_at}
+use Rattle.mark_laws.specs.cover_points.declared.listing.Points.{Points}
+use Rattle.mark_laws.proofs.cover_points.Members.{in_contains}
 use Rattle.design_model.specs.Design.{Design}
 use Rattle.design_model.specs.Lawful.{IsLawfulDesign}
 use Rattle.design_model.specs.Points.{IsPoint, StateNames}
 use Rattle.design_model.specs.declared.point.Point.{Point}
-use Rattle.point_table.specs.Collected.{IsCollected}
-use Rattle.point_table.specs.Rows.{row_at}
-use Rattle.point_table.specs.Verdicts.{no_row}
+use Rattle.table_laws.specs.point_table.Collected.{IsCollected}
+use Rattle.table_laws.specs.point_table.Rows.{row_at}
+use Rattle.table_laws.specs.point_table.Verdicts.{no_row}
 use Rattle.table_laws.proofs.EachRow.{lists_each}
 use Rattle.table_laws.proofs.Listing.{one_address}
 use Rattle.table_laws.specs.Rows.{IsAddressOf, ListsEach}

@@ -6,10 +6,10 @@ use Rattle.coverage_db.specs.Table.{IsTable}
 use Rattle.coverage_db.specs.declared.db.Db.{Db}
 use Rattle.coverage_db.specs.declared.db.DbPoint.{DbPoint}
 use Rattle.coverage_db.specs.declared.verdict.DbVerdict.TheVariants as row
-use Rattle.cover_points.specs.Listed.{IsPointList, points_of}
-use Rattle.cover_points.specs.Visits.{no_point, point_at}
-use Rattle.cover_points.specs.declared.listing.Points.{Points}
-use Rattle.cover_points.proofs.Members.{in_at}
+use Rattle.mark_laws.specs.cover_points.Listed.{IsPointList, points_of}
+use Rattle.mark_laws.specs.cover_points.Visits.{no_point, point_at}
+use Rattle.mark_laws.specs.cover_points.declared.listing.Points.{Points}
+use Rattle.mark_laws.proofs.cover_points.Members.{in_at}
 use Rattle.design_model.specs.Design.{Design, In}
 use Rattle.design_model.specs.Lawful.{IsLawfulDesign}
 use Rattle.design_model.specs.Points.{IsHit, StateNames}
@@ -21,11 +21,11 @@ use Rattle.mark_laws.specs.Marked.{AreVerdicts, verdict_at}
 use Rattle.mark_laws.specs.Numbered.{verdict_view}
 use Rattle.point_marks.specs.declared.verdict.Verdict.{Verdict}
 use Rattle.point_marks.specs.declared.verdict.Verdict.TheVariants.{Hit, Missed, Undetermined}
-use Rattle.point_table.specs.Collected.{IsCollected}
-use Rattle.point_table.specs.Verdicts.{AreShown, no_row, row_verdict}
-use Rattle.replay_model.specs.Laws.{AreReasonedVerdicts, AreSoundVerdicts}
-use Rattle.replay_model.specs.Marks.{IsHitMarked, IsUnmarked, IsVerdict, Marking}
-use Rattle.replay_model.specs.Step.{Replay}
+use Rattle.table_laws.specs.point_table.Collected.{IsCollected}
+use Rattle.table_laws.specs.point_table.Verdicts.{AreShown, no_row, row_verdict}
+use Rattle.mark_laws.specs.replay_model.Laws.{AreReasonedVerdicts, AreSoundVerdicts}
+use Rattle.mark_laws.specs.replay_model.Marks.{IsHitMarked, IsUnmarked, IsVerdict, Marking}
+use Rattle.mark_laws.specs.replay_model.Step.{Replay}
 use Rattle.table_laws.specs.Rows.{IsAddressOf, ListsEach}
 use Rattle.table_laws.specs.Written.{IsWritten, IsWrittenMachine}
 use Rattle.verdict_laws.specs.Sound.{IsShownBy, IsSound, IsSoundRow, Says}

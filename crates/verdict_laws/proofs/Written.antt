@@ -2,10 +2,10 @@
 use Rattle.std.proofs.Common.{◌<◌, ◌^◌, ℕ, List, length, subst, arith, lt-ltb}
 use Rattle.std.specs.List.{All}
 use Rattle.std.proofs.lemmas.List.{get_or_default}
-use Rattle.cover_points.specs.Listed.{IsPointList, points_of}
-use Rattle.cover_points.specs.Visits.{no_point, point_at}
-use Rattle.cover_points.specs.declared.listing.Points.{Points}
-use Rattle.cover_points.proofs.Members.{in_at}
+use Rattle.mark_laws.specs.cover_points.Listed.{IsPointList, points_of}
+use Rattle.mark_laws.specs.cover_points.Visits.{no_point, point_at}
+use Rattle.mark_laws.specs.cover_points.declared.listing.Points.{Points}
+use Rattle.mark_laws.proofs.cover_points.Members.{in_at}
 use Rattle.design_model.specs.Design.{Design}
 use Rattle.design_model.specs.Lawful.{IsLawfulDesign}
 use Rattle.design_model.specs.Points.{IsPoint, StateNames}
@@ -16,9 +16,9 @@ use Rattle.mark_laws.specs.Marked.{AreVerdicts, verdict_at}
 use Rattle.mark_laws.specs.Numbered.{verdict_view}
 use Rattle.point_marks.specs.declared.verdict.Verdict.{Verdict}
 use Rattle.point_marks.specs.declared.verdict.Verdict.TheVariants.{Hit, Missed, Undetermined}
-use Rattle.replay_model.specs.Laws.{AreReasonedVerdicts}
-use Rattle.replay_model.specs.Marks.{IsVerdict}
-use Rattle.replay_model.specs.Step.{Replay}
+use Rattle.mark_laws.specs.replay_model.Laws.{AreReasonedVerdicts}
+use Rattle.mark_laws.specs.replay_model.Marks.{IsVerdict}
+use Rattle.mark_laws.specs.replay_model.Step.{Replay}
 use Rattle.table_laws.specs.Written.{IsWrittenVerdict}
 use Rattle.verdict_laws.proofs.Numbers.{doubt_number, window_before}
 

@@ -13,9 +13,9 @@ ghost use Rattle.coverage_db.specs.declared.db.Db.{Db};
 ghost use Rattle.coverage_db.specs.declared.db.DbInstance.{DbInstance};
 ghost use Rattle.coverage_db.specs.declared.db.DbPoint.{DbPoint};
 ghost use Rattle.coverage_db.specs.declared.verdict.DbVerdict.TheVariants as verdict;
-ghost use Rattle.cover_points.specs.Listed.{IsPointList, points_of};
-ghost use Rattle.cover_points.specs.Visits.{point_at};
-ghost use Rattle.cover_points.specs.declared.listing.Points.{Points};
+ghost use Rattle.mark_laws.specs.cover_points.Listed.{IsPointList, points_of};
+ghost use Rattle.mark_laws.specs.cover_points.Visits.{point_at};
+ghost use Rattle.mark_laws.specs.cover_points.declared.listing.Points.{Points};
 ghost use Rattle.design_model.specs.Design.{Design};
 ghost use Rattle.design_model.specs.Lawful.{IsLawfulDesign};
 ghost use Rattle.design_model.specs.Points.{IsHit, IsPoint, StateNames};
@@ -25,14 +25,16 @@ ghost use Rattle.design_model.specs.declared.point.Point.{Point};
 ghost use Rattle.event_machine.specs.Habit.{Habit};
 ghost use Rattle.mark_laws.specs.Marked.{AreVerdicts};
 ghost use Rattle.point_marks.specs.declared.verdict.Verdict.{Verdict};
-ghost use Rattle.point_table.specs.Collected.{IsCollected};
-ghost use Rattle.point_table.specs.Verdicts.{AreShown, no_row};
-ghost use Rattle.replay_model.specs.Laws.{AreReasonedVerdicts, AreSoundVerdicts};
-ghost use Rattle.replay_model.specs.Step.{Replay};
+ghost use Rattle.table_laws.specs.point_table.Collected.{IsCollected};
+ghost use Rattle.table_laws.specs.point_table.Verdicts.{AreShown, no_row};
+ghost use Rattle.mark_laws.specs.replay_model.Laws.{AreReasonedVerdicts, AreSoundVerdicts};
+ghost use Rattle.mark_laws.specs.replay_model.Step.{Replay};
 ghost use Rattle.table_laws.specs.Rows.{IsAddressOf};
 ghost use Rattle.table_laws.specs.Written.{IsWritten, IsWrittenMachine, IsWrittenVerdict};
 ghost use Rattle.verdict_laws.specs.Reasoned.{IsReachedPoint, IsReasoned, IsReasonedRow};
 ghost use Rattle.verdict_laws.specs.Sound.{IsShownBy, IsSound, IsSoundRow};
+
+pub use table_laws::collect;
 
 /// A row of a table names one point of the design, that of its own number.
 pub fn one_point_law()

@@ -11,7 +11,7 @@ use Rattle.four_state.proofs.Places.{is_set-and, is_set-not}
 use Rattle.design_model.specs.BodyLaws.{all_cells, word_indexes, words_cells}
 use Rattle.design_model.specs.Design.{Design, body_at, cell, signal_at, signal_cells}
 use Rattle.design_model.specs.Mentions.{blocking_target}
-use Rattle.replay_model.specs.Step.{not_assigned, wake_cells}
+use Rattle.process_order.specs.replay_model.Step.{not_assigned, wake_cells}
 use Rattle.wake_bits.specs.Laws.{EachWakeLaw, IsWakeOf, SomeWakeLaw}
 use Rattle.wake_bits.specs.declared.wakes.Wake.{Wake}
 

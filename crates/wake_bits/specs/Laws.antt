@@ -5,7 +5,7 @@ use Rattle.event_machine.specs.Cell.{Cell}
 use Rattle.four_state.specs.Masks.{is_set}
 use Rattle.design_model.specs.Design.{Design, body_at, cell, signal_at}
 use Rattle.design_model.specs.Mentions.{blocking_target, body_mentions}
-use Rattle.replay_model.specs.Step.{wake_cells}
+use Rattle.process_order.specs.replay_model.Step.{wake_cells}
 use Rattle.wake_bits.specs.Wakes.{IsWake}
 use Rattle.wake_bits.specs.declared.wakes.Wake.{Wake}
 

@@ -13,7 +13,7 @@ use Rattle.design_model.specs.Shows.{BoundDump}
 use Rattle.design_model.specs.Early.{IsEarlyAt}
 use Rattle.design_model.specs.MayMove.{IsCleanAt, told_at}
 use Rattle.design_model.proofs.Assigns.{machine_lawful}
-use Rattle.index_sets.specs.Rows.{row_at}
+use Rattle.early_sets.specs.index_sets.Rows.{row_at}
 use Rattle.wake_laws.specs.OfDesign.{AreTablesOf}
 use Rattle.early_sets.specs.declared.habit.Habit.{Habit}
 use Rattle.early_sets.specs.declared.habit.Habit.TheVariants.{Free, Late}

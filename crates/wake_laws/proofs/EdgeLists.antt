@@ -4,7 +4,7 @@ use Rattle.std.specs.List.{list_all, list_any}
 use Rattle.std.proofs.lemmas.Bool.{and_from, and_parts, eqb-true, false≢true, or_cases, or_left, or_right}
 use Rattle.event_machine.specs.Machine.{Edge as MachineEdge}
 use Rattle.event_machine.specs.Cell.{Cell}
-use Rattle.four_state.specs.declared.edge.Edge.{Edge}
+use Rattle.design_model.specs.four_state.declared.edge.Edge.{Edge}
 use Rattle.design_model.specs.Tree.{Process, assign, clocked, comb}
 use Rattle.design_model.specs.Design.{In, cell}
 use Rattle.design_model.specs.Machine.{events_of, is_level, lists_edge, same_edge}

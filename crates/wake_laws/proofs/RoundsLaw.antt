@@ -11,7 +11,7 @@ use Rattle.design_model.specs.MayMove.{told_at}
 use Rattle.design_model.specs.RoundLaws.{read_by}
 use Rattle.design_model.specs.Shows.{BoundDump}
 use Rattle.design_model.proofs.FiniteRounds.{growing_law}
-use Rattle.wake_tables.specs.declared.tables.WakeTables.{WakeTables}
+use Rattle.early_sets.specs.wake_tables.declared.tables.WakeTables.{WakeTables}
 use Rattle.early_sets.specs.declared.edges.Edges.{Edges}
 use Rattle.early_sets.specs.Edges.{any_edges}
 use Rattle.early_sets.specs.Has.{is_in}

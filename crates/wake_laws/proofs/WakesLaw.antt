@@ -4,14 +4,14 @@ use Rattle.std.specs.List.{Contains, list_all}
 use Rattle.std.proofs.lemmas.Bool.{and_from, and_parts, both_ways, cases_Bool, cases_eq, false≢true, ne_eqb, not_from_false, not-true}
 use Rattle.event_machine.specs.Cell.{Cell}
 use Rattle.event_machine.specs.Machine.{Edge as MachineEdge, Negedge, Posedge}
-use Rattle.four_state.specs.declared.edge.Edge.{Edge}
-use Rattle.four_state.specs.declared.edge.Edge.TheVariants.{Neg, Pos}
+use Rattle.design_model.specs.four_state.declared.edge.Edge.{Edge}
+use Rattle.design_model.specs.four_state.declared.edge.Edge.TheVariants.{Neg, Pos}
 use Rattle.design_model.specs.Design.{Design, In, cell, process_at}
 use Rattle.design_model.specs.Lawful.{IsLawfulDesign}
 use Rattle.design_model.specs.Machine.{events_of, machine, same_edge}
 use Rattle.design_model.specs.Shows.{BoundDump}
 use Rattle.design_model.specs.MayMove.{CanWakeAt, CanWakeSome, IsCleanAt, IsSingleAt, told_at}
-use Rattle.index_sets.specs.Rows.{row_at}
+use Rattle.early_sets.specs.index_sets.Rows.{row_at}
 use Rattle.wake_laws.specs.OfDesign.{AreTablesOf}
 use Rattle.early_sets.specs.Edges.{may_be}
 use Rattle.wake_laws.specs.Laws.{AreNotes, AreSingle, AreWakes, IsSettled, WakesLaw}

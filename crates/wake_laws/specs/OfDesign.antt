@@ -6,8 +6,8 @@ use Rattle.event_machine.specs.Machine.{IsTarget, Posedge, Negedge}
 use Rattle.design_model.specs.Design.{Design, body_at, cell, process_at}
 use Rattle.design_model.specs.Machine.{events_of, is_event_signal, is_level, lists_edge, machine}
 use Rattle.design_model.specs.Once.{names_once}
-use Rattle.index_sets.specs.Rows.{row_at}
-use Rattle.wake_tables.specs.declared.tables.WakeTables.{WakeTables}
+use Rattle.early_sets.specs.index_sets.Rows.{row_at}
+use Rattle.early_sets.specs.wake_tables.declared.tables.WakeTables.{WakeTables}
 
 -- a test of cells holds of some cell of thing x
 abbrev pub HasCell : (Cell → Bool) → ℕ → Type 0

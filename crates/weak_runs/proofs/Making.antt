@@ -1,7 +1,7 @@
 -- Parts of a body in the weak way, one after the other.
 use Rattle.std.proofs.Common.{List, [], ap, append-nil, append_assoc, arith, false, refl, sym, ℕ, ◌+◌, ◌++◌, ◌∙◌, ◌∷◌, ◌≡◌, ◌≤◌}
-use Rattle.body_replay.specs.Store.{KnownWrite, keep_all, weaken}
-use Rattle.body_replay.proofs.Writes.{keep_append}
+use Rattle.value_store.specs.body_replay.Store.{KnownWrite, keep_all, weaken}
+use Rattle.value_store.proofs.body_replay.Writes.{keep_append}
 use Rattle.weak_runs.specs.Makes.{At, IsOutside, Makes, kept_at}
 
 pub weaken_append : (ws vs : List KnownWrite) → weaken (ws ++ vs) ≡ weaken ws ++ weaken vs

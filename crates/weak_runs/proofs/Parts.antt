@@ -5,15 +5,15 @@ use Rattle.design_model.specs.Assignment.{target_width}
 use Rattle.design_model.specs.Design.{Design, nowhere}
 use Rattle.design_model.specs.Tree.{Target, Term, sign}
 use Rattle.design_model.specs.Value.{head}
-use Rattle.body_replay.specs.Contract.{unread, weak_set}
-use Rattle.body_replay.specs.KnownBits.{KnownBits, extend_partly}
-use Rattle.body_replay.specs.Store.{known_value, known_writes, set_bits, weaken}
+use Rattle.value_store.specs.body_replay.Contract.{unread, weak_set}
+use Rattle.value_store.specs.body_replay.KnownBits.{KnownBits, extend_partly}
+use Rattle.value_store.specs.body_replay.Store.{known_value, known_writes, set_bits, weaken}
 use Rattle.term_replay.specs.Stands.{Scene}
 use Rattle.term_replay.proofs.Contexts.{length-value}
-use Rattle.assignments.specs.Pieces.{AllTake, ArePieces, pieces_writes, widths}
-use Rattle.assignments.specs.Takes.{set_queues}
-use Rattle.assignments.specs.declared.piece.Piece.{Piece}
-use Rattle.assignments.proofs.AllParts.{each_one, pieces_width, takes_are, writes_are}
+use Rattle.open_tests.specs.assignments.Pieces.{AllTake, ArePieces, pieces_writes, widths}
+use Rattle.open_tests.specs.assignments.Takes.{set_queues}
+use Rattle.open_tests.specs.assignments.declared.piece.Piece.{Piece}
+use Rattle.open_tests.proofs.assignments.AllParts.{each_one, pieces_width, takes_are, writes_are}
 use Rattle.weak_runs.specs.Makes.{At, IsOutside, Makes}
 use Rattle.weak_runs.specs.Unread.{unread_scene}
 use Rattle.weak_runs.proofs.Making.{makes_none}

@@ -9,11 +9,11 @@ use Rattle.four_state.specs.Parts.{index}
 use Rattle.known_state.specs.Join.{joined}
 use Rattle.design_model.specs.Design.{Design, memory_at, word_cells}
 use Rattle.design_model.specs.Value.{named_word}
-use Rattle.body_replay.specs.Contract.{unread}
-use Rattle.body_replay.specs.KnownBits.{KnownBits, on_whole, sure, unknown, whole_bits}
-use Rattle.body_replay.specs.Replay.{Mark, Spot, doubted, in_mode, named_mark, perhaps_marks}
-use Rattle.body_replay.specs.Store.{Kept, join_words, kept_word, may_name, option_kept, read_word, words}
-use Rattle.body_replay.proofs.Operators.{fill_length, map_length, numbers_length}
+use Rattle.value_store.specs.body_replay.Contract.{unread}
+use Rattle.value_store.specs.body_replay.KnownBits.{KnownBits, on_whole, sure, unknown, whole_bits}
+use Rattle.value_store.specs.body_replay.Replay.{Mark, Spot, doubted, in_mode, named_mark, perhaps_marks}
+use Rattle.value_store.specs.body_replay.Store.{Kept, join_words, kept_word, may_name, option_kept, read_word, words}
+use Rattle.value_store.proofs.body_replay.Operators.{fill_length, map_length, numbers_length}
 use Rattle.term_replay.specs.Words.{marks_of_words}
 use Rattle.weak_runs.specs.Unread.{has_marks}
 

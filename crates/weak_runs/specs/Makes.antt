@@ -1,6 +1,6 @@
 -- What the weak run of a part of a body does.
 use Rattle.std.specs.Prelude.{◌≡◌, ◌≤◌, ◌+◌, ◌++◌, ℕ, List, []}
-use Rattle.body_replay.specs.Store.{KnownWrite, keep_all}
+use Rattle.value_store.specs.body_replay.Store.{KnownWrite, keep_all}
 use Rattle.term_replay.specs.Stands.{Scene}
 use Rattle.body_calls.specs.Own.{IsOwn}
 use Rattle.body_calls.specs.Rooms.{Rooms}

@@ -1,7 +1,7 @@
 -- What is read where nothing is known.
 use Rattle.std.specs.Prelude.{Bool, true, false, List, [], ◌∷◌}
-use Rattle.body_replay.specs.Contract.{unread}
-use Rattle.body_replay.specs.Replay.{Mark}
+use Rattle.value_store.specs.body_replay.Contract.{unread}
+use Rattle.value_store.specs.body_replay.Replay.{Mark}
 use Rattle.term_replay.specs.Stands.{Scene}
 
 -- the same design, of which nothing is known; thing 0 is to blame, and no memory is written

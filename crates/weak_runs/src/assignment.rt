@@ -6,20 +6,20 @@ ghost use Rattle.design_model.specs.Shape.{is_body};
 ghost use Rattle.design_model.specs.Tree as t;
 ghost use Rattle.design_model.specs.Value.{head};
 ghost use Rattle.design_model.specs.View.{target_view, term_view};
-ghost use Rattle.body_replay.specs.Contract.{unread, weak_set};
-ghost use Rattle.body_replay.specs.KnownBits.{extend_partly};
-ghost use Rattle.body_replay.specs.Store.{known_value, weaken};
-ghost use Rattle.assignments.specs.Pieces.{AllTake, ArePieces, pieces_writes, widths};
-ghost use Rattle.assignments.specs.Takes.{set_queues};
-ghost use Rattle.assignments.specs.Widths.{HasWidths};
+ghost use Rattle.value_store.specs.body_replay.Contract.{unread, weak_set};
+ghost use Rattle.value_store.specs.body_replay.KnownBits.{extend_partly};
+ghost use Rattle.value_store.specs.body_replay.Store.{known_value, weaken};
+ghost use Rattle.open_tests.specs.assignments.Pieces.{AllTake, ArePieces, pieces_writes, widths};
+ghost use Rattle.open_tests.specs.assignments.Takes.{set_queues};
+ghost use Rattle.open_tests.specs.assignments.Widths.{HasWidths};
 ghost use Rattle.weak_runs.specs.Makes.{IsOutside, Makes, at};
 ghost use Rattle.weak_runs.specs.Unread.{unread_scene};
 
 use crate::unread::{Unnoted, Unread};
-use assignments::{Piece, at_width, cut, locate, queue_pieces, total_width};
 use body_calls::Blocks;
 use design_model::{Target, Term};
 use known_state::Known;
+use open_tests::{Piece, at_width, cut, locate, queue_pieces, total_width};
 use term_replay::{Progress, Reads, evaluate};
 use value_store::Queue;
 

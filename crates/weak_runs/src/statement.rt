@@ -4,17 +4,17 @@ ghost use Rattle.std.specs.Prelude.{Bool, [], ◌+◌, ◌++◌, ◌≡◌, ◌�
 ghost use Rattle.design_model.specs.Design.{body};
 ghost use Rattle.design_model.specs.Shape.{are_bodies, is_arms, is_body};
 ghost use Rattle.design_model.specs.View.{arms_of, process_view, stmt_view, stmts_of};
-ghost use Rattle.body_replay.specs.Contract.{weak_queue, weak_queue_in, weak_queue_of, weak_writes, weak_writes_in, weak_writes_of};
+ghost use Rattle.value_store.specs.body_replay.Contract.{weak_queue, weak_queue_in, weak_queue_of, weak_writes, weak_writes_in, weak_writes_of};
 ghost use Rattle.value_store.specs.Rooms.{arm_view};
-ghost use Rattle.assignments.specs.Widths.{HasWidths};
+ghost use Rattle.open_tests.specs.assignments.Widths.{HasWidths};
 ghost use Rattle.open_tests.specs.Views.{else_view};
 ghost use Rattle.open_tests.specs.Weights.{all_queues, arms_queues, queues};
 ghost use Rattle.weak_runs.specs.Makes.{IsOutside, Makes, at};
 
 use crate::assignment::assign;
-use assignments::Piece;
 use body_calls::Blocks;
 use design_model::{CaseArm, Process, Stmt, StmtForm};
+use open_tests::Piece;
 use value_store::Queue;
 
 /// Makes all assignments of the body of a process, each of which may not be made, whatever the body reads: the blocking ones

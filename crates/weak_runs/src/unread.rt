@@ -2,7 +2,7 @@
 
 ghost use Rattle.std.specs.Prelude.{◌≡◌};
 ghost use Rattle.term_replay.specs.Words.{IsOf, marks_of_words};
-ghost use Rattle.body_replay.specs.Replay.{word_read};
+ghost use Rattle.value_store.specs.body_replay.Replay.{word_read};
 ghost use Rattle.design_model.specs.declared.design.Memory.{Memory};
 ghost use Rattle.weak_runs.specs.Unread.{has_marks};
 

@@ -7,12 +7,12 @@ use Rattle.std.specs.List.{All}
 use Rattle.std.proofs.lemmas.Bool.{cases_eq, cases_lt, eqb-true, false≢true}
 use Rattle.std.proofs.lemmas.List.{append-nil, get_or_past, set-get_or}
 use Rattle.std.proofs.lemmas.List.Elements.{All-append, All-head, All-nil, All-push, All-tail, All-weaker}
-use Rattle.four_state.specs.declared.bit.Bit.{Bit}
+use Rattle.memory_rebuild.specs.four_state.declared.bit.Bit.{Bit}
 use Rattle.known_state.specs.Partly.{Partly, are_sure, with_blame}
 use Rattle.known_state.specs.Join.{joined}
-use Rattle.body_replay.specs.KnownBits.{KnownBits, is_whole, on_whole, unknown, whole_bits}
-use Rattle.body_replay.specs.Store.{is_word}
-use Rattle.body_replay.proofs.Answered.{same_sure}
+use Rattle.memory_rebuild.specs.body_replay.KnownBits.{KnownBits, is_whole, on_whole, unknown, whole_bits}
+use Rattle.memory_rebuild.specs.body_replay.Store.{is_word}
+use Rattle.memory_rebuild.proofs.body_replay.Answered.{same_sure}
 use Rattle.memory_rebuild.specs.declared.shape.Shape.{Shape}
 use Rattle.memory_rebuild.specs.Words.{HaveWidth, IsIndex, KnownWords, count, least, may_be, named_by, word_after, word_at}
 use Rattle.memory_rebuild.proofs.Joins.{length-joined, unknown_joined}

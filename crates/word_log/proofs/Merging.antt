@@ -3,7 +3,7 @@ use Rattle.std.proofs.Common.{◌≡◌, ℕ, ◌==◌, ◌&&◌, ◌||◌, Bool
 use Rattle.std.specs.List.{All}
 use Rattle.std.proofs.lemmas.Bool.{and_parts, eqb-true, false≢true}
 use Rattle.known_state.specs.Join.{joined}
-use Rattle.body_replay.specs.KnownBits.{KnownBits}
+use Rattle.memory_rebuild.specs.body_replay.KnownBits.{KnownBits}
 use Rattle.word_log.specs.declared.entry.OverwrittenWord.{OverwrittenWord}
 use Rattle.word_log.specs.declared.memory.StoredMemory.{StoredMemory}
 use Rattle.word_log.specs.Entries.{Fits, Joined, Reading, Seen, is_of, is_word_at, names, put, undo}

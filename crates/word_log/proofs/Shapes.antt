@@ -4,8 +4,8 @@ use Rattle.std.specs.List.{All}
 use Rattle.std.proofs.lemmas.Bool.{cases_eq, eqb-true, false≢true}
 use Rattle.std.proofs.lemmas.List.{ext_get_or, get_or-map, length-map}
 use Rattle.std.proofs.lemmas.List.Elements.{All-head, All-tail, All-weaker}
-use Rattle.design_model.specs.Design.{no_memory}
-use Rattle.body_replay.specs.KnownBits.{KnownBits, unknown}
+use Rattle.write_log.specs.design_model.Design.{no_memory}
+use Rattle.memory_rebuild.specs.body_replay.KnownBits.{KnownBits, unknown}
 use Rattle.memory_rebuild.specs.declared.shape.Shape.{Shape}
 use Rattle.memory_rebuild.specs.Words.{KnownWords, count, least, word_at}
 use Rattle.word_log.specs.declared.entry.OverwrittenWord.{OverwrittenWord}

@@ -5,7 +5,7 @@ use Rattle.std.specs.Option.{unwrap_or}
 use Rattle.std.proofs.Math.Seq.{take-length}
 use Rattle.std.proofs.lemmas.List.{drop-append-le, drop_all, drop_at, length-drop, length-take-le, take-append-drop, take-append-le, take_all, take_at, take_rest}
 use Rattle.std.proofs.lemmas.List.Elements.{All-drop}
-use Rattle.body_replay.specs.KnownBits.{KnownBits}
+use Rattle.memory_rebuild.specs.body_replay.KnownBits.{KnownBits}
 use Rattle.write_log.specs.Rooms.{AreTests}
 use Rattle.write_log.specs.declared.entry.Test.{Test}
 use Rattle.word_log.specs.declared.entry.OverwrittenWord.{OverwrittenWord}

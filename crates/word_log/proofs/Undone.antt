@@ -4,7 +4,7 @@ use Rattle.std.specs.List.{All}
 use Rattle.std.proofs.lemmas.Bool.{false≢true}
 use Rattle.std.proofs.lemmas.List.{append-nil, set-get_or, set-set}
 use Rattle.std.proofs.lemmas.List.Elements.{All-head, All-push, All-tail}
-use Rattle.body_replay.specs.KnownBits.{KnownBits, unknown}
+use Rattle.memory_rebuild.specs.body_replay.KnownBits.{KnownBits, unknown}
 use Rattle.memory_rebuild.proofs.Joins.{joined_comm, joined_self}
 use Rattle.word_log.specs.declared.entry.OverwrittenWord.{OverwrittenWord}
 use Rattle.word_log.specs.declared.memory.StoredMemory.{StoredMemory}

@@ -1,7 +1,7 @@
 -- What the entries of a log say of the words of memories, and of which memories were written.
 use Rattle.std.specs.Prelude.{◌≡◌, ◌<◌, ◌==◌, ◌&&◌, ◌||◌, ℕ, Bool, true, false, List, [], ◌∷◌, ◌++◌, length, slice_set}
 use Rattle.known_state.specs.Join.{joined}
-use Rattle.body_replay.specs.KnownBits.{KnownBits}
+use Rattle.memory_rebuild.specs.body_replay.KnownBits.{KnownBits}
 use Rattle.memory_rebuild.specs.Words.{count}
 use Rattle.word_log.specs.declared.entry.OverwrittenWord.{OverwrittenWord}
 use Rattle.word_log.specs.declared.memory.StoredMemory.{StoredMemory}

@@ -2,7 +2,7 @@
 use Rattle.std.specs.Prelude.{◌≡◌, ◌+◌, ◌<◌, ℕ, true, false, List, ◌++◌, length}
 use Rattle.std.specs.List.{All}
 use Rattle.known_state.specs.Partly.{Partly}
-use Rattle.body_replay.specs.KnownBits.{KnownBits, unknown}
+use Rattle.memory_rebuild.specs.body_replay.KnownBits.{KnownBits, unknown}
 use Rattle.memory_rebuild.specs.Words.{count, least, may_be, word_after, word_at}
 use Rattle.word_log.specs.declared.entry.OverwrittenWord.{OverwrittenWord}
 use Rattle.word_log.specs.declared.memory.StoredMemory.{StoredMemory}

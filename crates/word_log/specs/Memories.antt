@@ -1,8 +1,8 @@
 -- Memories of which the words are partly known, in a list by their numbers.
 use Rattle.std.specs.Prelude.{◌≡◌, ℕ, Bool, false, List, length, slice_index_or, slice_set}
-use Rattle.design_model.specs.declared.design.Memory.{Memory}
-use Rattle.design_model.specs.Design.{no_memory}
-use Rattle.body_replay.specs.KnownBits.{KnownBits, unknown}
+use Rattle.write_log.specs.design_model.declared.design.Memory.{Memory}
+use Rattle.write_log.specs.design_model.Design.{no_memory}
+use Rattle.memory_rebuild.specs.body_replay.KnownBits.{KnownBits, unknown}
 use Rattle.memory_rebuild.specs.declared.shape.Shape.{Shape}
 use Rattle.memory_rebuild.specs.Words.{unwritten}
 use Rattle.word_log.specs.declared.memory.StoredMemory.{StoredMemory}

@@ -14,3 +14,4 @@ mod seen;
 pub use entry::OverwrittenWord;
 pub use log::WordLog;
 pub use memory::StoredMemory;
+pub use memory_rebuild::Rebuilt;

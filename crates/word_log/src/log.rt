@@ -1,6 +1,6 @@
 ghost use Rattle.std.specs.Prelude.{◌≡◌, ◌+◌, ◌<◌, ◌≤◌, ◌∷◌, [], ℕ, IfOk, None, Some, List, drop, false, length, slice_set, true};
-ghost use Rattle.design_model.specs.Design.{Design};
-ghost use Rattle.body_replay.specs.Store.{Kept as KeptCells, keep_all, write_word};
+ghost use Rattle.write_log.specs.design_model.Design.{Design};
+ghost use Rattle.memory_rebuild.specs.body_replay.Store.{Kept as KeptCells, keep_all, write_word};
 ghost use Rattle.memory_rebuild.specs.Words.{StandsFor, count};
 ghost use Rattle.write_log.specs.Logs.{is_first, is_inside, is_second};
 ghost use Rattle.word_log.specs.Entries.{IsCommon};

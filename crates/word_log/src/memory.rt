@@ -8,10 +8,10 @@ use crate::OverwrittenWord;
 use crate::joins::common;
 use crate::seen::First;
 use cov_host::NoMemory;
-use design_model::Memory;
 use known_state::Known;
 use memory_rebuild::Rebuilt;
 use std::alloc::Global;
+use write_log::Memory;
 
 /// What a store holds of a memory.
 #[derive(Drop)]

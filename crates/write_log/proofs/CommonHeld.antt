@@ -1,7 +1,7 @@
 -- What both ways leave of a signal, as what is known of its cells.
 use Rattle.std.proofs.Common.{inl, inr, if◌then◌else◌, sym, ap, ◌∙◌}
 use Rattle.known_state.specs.Partly.{are_sure}
-use Rattle.body_replay.proofs.Stored.{other_joined, same_joined}
+use Rattle.value_store.proofs.body_replay.Stored.{other_joined, same_joined}
 use Rattle.write_log.specs.Common.{CommonLaw}
 
 pub common_held : CommonLaw

@@ -4,12 +4,12 @@ use Rattle.std.specs.List.{Contains}
 use Rattle.std.proofs.lemmas.Bool.{eqb-true, false≢true}
 use Rattle.known_state.specs.Partly.{Partly, blame_of, with_blame}
 use Rattle.known_state.specs.Stored.{mask_of_sure}
-use Rattle.four_state.specs.Vector.{same_bit}
-use Rattle.body_replay.proofs.Frames.{join_self}
+use Rattle.value_store.specs.four_state.Vector.{same_bit}
+use Rattle.value_store.proofs.body_replay.Frames.{join_self}
 use Rattle.known_state.specs.Join.{join_bit, joined}
 use Rattle.known_state.proofs.Cases.{same_bit_eq}
-use Rattle.four_state.specs.declared.bit.Bit.{Bit}
-use Rattle.four_state.specs.declared.bit.Bit.TheVariants.{Zero, One, X, Z}
+use Rattle.value_store.specs.four_state.declared.bit.Bit.{Bit}
+use Rattle.value_store.specs.four_state.declared.bit.Bit.TheVariants.{Zero, One, X, Z}
 use Rattle.value_store.specs.Signals.{Signals, read_at}
 use Rattle.write_log.specs.Entries.{IsCommon, Joined, Seen, first_value, has, names}
 use Rattle.write_log.specs.declared.entry.Overwritten.{Overwritten}

@@ -3,3 +3,4 @@ pub mod PutBack
 pub mod Joins
 pub mod Tests
 pub mod CommonHeld
+pub use Rattle.value_store.proofs as value_store

@@ -1,8 +1,8 @@
 -- What the end of an undecided test leaves, as the definition of a run has it.
 use Rattle.std.specs.Prelude.{ℕ}
 use Rattle.known_state.specs.Partly.{Partly}
-use Rattle.design_model.specs.Design.{Design}
-use Rattle.body_replay.specs.Replay.{State, join_blame, join_kept}
+use Rattle.value_store.specs.design_model.Design.{Design}
+use Rattle.value_store.specs.body_replay.Replay.{State, join_blame, join_kept}
 use Rattle.value_store.specs.Held.{IsSignal}
 use Rattle.write_log.specs.Entries.{IsCommon}
 

@@ -11,3 +11,4 @@ mod moves;
 pub use entry::{Overwritten, Test};
 pub use laws::common_law;
 pub use log::Log;
+pub use value_store::{Memory, Queue, Signals, log_room, queue_room};

@@ -18,8 +18,8 @@ use Rattle.flat_design.specs.Processes.{Made, always, continuous, joined_input, 
 use Rattle.flat_design.specs.Scope.{Scope, look_up}
 use Rattle.flat_design.specs.declared.entry.Entry.{Entry}
 use Rattle.flat_design.specs.declared.entry.Entry.TheVariants.{Constant as a_constant, Turn as a_turn, Signal as a_signal, Memory as a_memory, LoopVariable as a_loop_variable, Instance as an_instance, NoConstant as no_constant, Faulty as a_faulty_one}
-use Rattle.flat_laws.proofs.LawfulPaths.{found_in}
-use Rattle.flat_laws.proofs.Members.{in_append}
+use Rattle.design_names.proofs.flat_laws.LawfulPaths.{found_in}
+use Rattle.design_names.proofs.flat_laws.Members.{in_append}
 use Rattle.tree_places.specs.Counted.{module_lines, module_nodes}
 use Rattle.tree_places.specs.Placed.{ArePlacedModules, IsPlaced, IsPlacedForm, IsPlacedNet}
 use Rattle.verilog_tree.specs.declared.item.Named.{Named}

@@ -12,12 +12,12 @@ use Rattle.flat_design.specs.Processes.{process_of}
 use Rattle.flat_design.specs.Scope.{Scope, shape}
 use Rattle.flat_design.specs.Targets.{target}
 use Rattle.flat_design.specs.Terms.{right_side}
-use Rattle.flat_laws.proofs.NodesInText.{among_nodes, nodes_in_text, target_in_text, statement_in_text}
-use Rattle.flat_laws.proofs.Once.{Once}
-use Rattle.flat_laws.proofs.TextLines.{line_number, text_lines, lines_once, lines_in_text}
-use Rattle.flat_laws.proofs.TextNodes.{node_number, text_nodes, nodes_once, two_once, statement_text, statement_once}
+use Rattle.design_names.proofs.flat_laws.NodesInText.{among_nodes, nodes_in_text, target_in_text, statement_in_text}
+use Rattle.design_names.proofs.flat_laws.Once.{Once}
+use Rattle.design_names.proofs.flat_laws.TextLines.{line_number, text_lines, lines_once, lines_in_text}
+use Rattle.design_names.proofs.flat_laws.TextNodes.{node_number, text_nodes, nodes_once, two_once, statement_text, statement_once}
 use Rattle.grammar_rules.proofs.Holds.{AllOf}
-use Rattle.parsed_modules.proofs.Lists.{all_append, all_in}
+use Rattle.design_names.proofs.parsed_modules.Lists.{all_append, all_in}
 use Rattle.tree_places.specs.Placed.{IsPlaced, IsPlacedBody}
 use Rattle.verilog_tree.specs.declared.item.When.{When}
 use Rattle.verilog_tree.specs.declared.item.When.TheVariants.{Star, Names, Edges}

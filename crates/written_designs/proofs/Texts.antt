@@ -6,10 +6,10 @@ use Rattle.design_model.specs.Numbered.{LineAt, NodeAt, unary_text, binary_text}
 use Rattle.flat_design.specs.Loops.{in_some_turn}
 use Rattle.flat_design.specs.Numbering.{bare, condition_nodes, is_counted_condition, lines, nodes, all_nodes, one_if, statement_nodes}
 use Rattle.flat_design.specs.Scope.{Scope, names_thing}
-use Rattle.flat_laws.proofs.TextLines.{text_lines, all_text_lines, item_text_lines}
-use Rattle.flat_laws.proofs.TextNodes.{a_node, node_if, text_nodes, all_text_nodes, condition_text, statement_text, statements_text, items_text}
+use Rattle.design_names.proofs.flat_laws.TextLines.{text_lines, all_text_lines, item_text_lines}
+use Rattle.design_names.proofs.flat_laws.TextNodes.{a_node, node_if, text_nodes, all_text_nodes, condition_text, statement_text, statements_text, items_text}
 use Rattle.grammar_rules.proofs.Holds.{AllOf}
-use Rattle.parsed_modules.proofs.Lists.{all_append}
+use Rattle.design_names.proofs.parsed_modules.Lists.{all_append}
 use Rattle.tree_places.specs.Placed.{IsPlaced, ArePlaced, IsPlacedBody, ArePlacedBodies, ArePlacedArms}
 use Rattle.verilog_tree.specs.Tree.{Expr, literal, identifier, bit_select, part_select, indexed_part, unary_operator, binary_operator, conditional, concatenation, replication, sign_cast, parentheses, Exprs, no_exprs, an_expr, place_of, Statement, sequential_block, if_statement, case_statement, for_loop, assignment, system_task, null_statement, Statements, no_statements, a_statement, CaseItems, no_items, case_item}
 

@@ -17,12 +17,12 @@ use Rattle.design_model.specs.declared.design.Signal.{Signal}
 use Rattle.flat_design.specs.Faults.{answer}
 use Rattle.flat_design.specs.Flat.{elaborated, module_of}
 use Rattle.flat_design.specs.Scope.{Scope}
-use Rattle.flat_laws.proofs.LawfulLimits.{answered_design, base_of}
-use Rattle.flat_laws.proofs.LawfulPaths.{nth_in}
+use Rattle.design_names.proofs.flat_laws.LawfulLimits.{answered_design, base_of}
+use Rattle.design_names.proofs.flat_laws.LawfulPaths.{nth_in}
 use Rattle.grammar_rules.proofs.Holds.{AllOf}
-use Rattle.parsed_modules.specs.Spelled.{AreModules}
-use Rattle.parsed_modules.proofs.Modules.{named_modules}
-use Rattle.point_table.specs.Addresses.{source_line}
+use Rattle.design_names.specs.parsed_modules.Spelled.{AreModules}
+use Rattle.design_names.proofs.parsed_modules.Modules.{named_modules}
+use Rattle.table_laws.specs.point_table.Addresses.{source_line}
 use Rattle.source_places.specs.Lines.{AreCounted, AreOnLines, IsOnLine}
 use Rattle.source_places.proofs.TokenPlaces.{turns_on}
 use Rattle.table_laws.specs.Written.{IsWritten}

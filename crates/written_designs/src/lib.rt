@@ -9,7 +9,7 @@ ghost use Rattle.std.specs.Prelude.{◌≡◌, ◌≤◌, ℕ, List, Ok, All, Is
 ghost use Rattle.coverage_db.specs.Table.{is_file_name};
 ghost use Rattle.design_model.specs.Design.{Design};
 ghost use Rattle.flat_design.specs.Faults.{answer};
-ghost use Rattle.parsed_modules.specs.Spelled.{AreModules};
+ghost use Rattle.design_names.specs.parsed_modules.Spelled.{AreModules};
 ghost use Rattle.table_laws.specs.Written.{IsWritten};
 ghost use Rattle.verilog_lexer.specs.Defines.{DefineText};
 ghost use Rattle.verilog_lexer.specs.Reading.{tokens_of};

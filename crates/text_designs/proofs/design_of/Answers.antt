@@ -1,5 +1,5 @@
 use Rattle.design_model.specs.View.{design_view}
-use Rattle.flat_laws.proofs.LawfulDesigns.{answered_lawful}
+use Rattle.elaborator.proofs.flat_laws.LawfulDesigns.{answered_lawful}
 use Rattle.parsed_modules.proofs.Modules.{modules_of_tokens}
 use Rattle.verilog_lexer.proofs.KeptTokens.{tokens_are_sound}
 use Rattle.text_designs.proofs.design_of.Goals as goal

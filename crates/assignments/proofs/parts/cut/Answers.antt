@@ -1,7 +1,7 @@
 use Rattle.std.proofs.Common.{◌≡◌, ◌∙◌, ◌+◌, ap, arith, drop, of_z, pos, take, to_z, w64}
 use Rattle.std.proofs.lemmas.Int.{ints}
 use Rattle.known_state.specs.Partly.{are_sure}
-use Rattle.body_replay.proofs.Answered.{select_answer}
+use Rattle.value_store.proofs.body_replay.Answered.{select_answer}
 use Rattle.assignments.proofs.Cutting.{cut_bits, cut_sure}
 use Rattle.assignments.proofs.parts.cut.Goals as goal
 

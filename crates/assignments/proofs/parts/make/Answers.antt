@@ -1,5 +1,5 @@
 use Rattle.std.proofs.Common.{◌≡◌, ◌∙◌, ap, sym}
-use Rattle.body_replay.specs.KnownBits.{extend_partly}
+use Rattle.value_store.specs.body_replay.KnownBits.{extend_partly}
 use Rattle.assignments.specs.Pieces.{widths}
 use Rattle.assignments.proofs.Assigned.{made_none, made_width, queued_none, sure_width}
 use Rattle.assignments.proofs.parts.make.Goals as goal

@@ -1,5 +1,5 @@
 use Rattle.std.proofs.Common.{drop}
-use Rattle.term_replay.proofs.Joining.{TellsOn}
+use Rattle.scene_laws.proofs.term_replay.Joining.{TellsOn}
 use Rattle.assignments.specs.Pieces.{AllTake, pieces_marks}
 use Rattle.assignments.proofs.parts.note_written.Given as goal
 

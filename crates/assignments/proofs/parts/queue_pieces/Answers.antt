@@ -1,5 +1,5 @@
 use Rattle.std.proofs.Common.{◌≡◌, ◌∙◌, ◌+◌, ◌-◌, ◌++◌, ◌∷◌, ◌≤◌, ap, ap₂, arith, drop, length, refl, subst, sym, take}
-use Rattle.body_calls.specs.Lvalues.{Takes, if_certain, lvalue_writes}
+use Rattle.scene_laws.specs.body_calls.Lvalues.{Takes, if_certain, lvalue_writes}
 use Rattle.assignments.specs.Pieces.{AllTake, widths}
 use Rattle.assignments.proofs.AllParts.{widths_drop}
 use Rattle.assignments.proofs.Cutting.{cut_length}

@@ -1,8 +1,8 @@
 use Rattle.std.proofs.Common.{◌≡◌, ◌∙◌, ◌+◌, ◌-◌, ◌∷◌, ◌≤◌, [], None, ap, ap₂, arith, drop, length, refl, subst, sym, take, true}
 use Rattle.std.proofs.lemmas.List.{drop_all}
-use Rattle.body_replay.proofs.Answered.{same_sure}
-use Rattle.body_calls.specs.Lvalues.{Takes, written_thing}
-use Rattle.body_calls.specs.Rooms.{takes_in}
+use Rattle.value_store.proofs.body_replay.Answered.{same_sure}
+use Rattle.scene_laws.specs.body_calls.Lvalues.{Takes, written_thing}
+use Rattle.scene_laws.specs.body_calls.Rooms.{takes_in}
 use Rattle.assignments.specs.Pieces.{AllTake, blame_option, widths}
 use Rattle.assignments.proofs.AllParts.{widths_drop}
 use Rattle.assignments.proofs.Cutting.{cut_length}

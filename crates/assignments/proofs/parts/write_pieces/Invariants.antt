@@ -1,5 +1,5 @@
 use Rattle.std.proofs.Common.{◌≡◌, drop, take}
-use Rattle.body_calls.specs.Rooms.{takes_in}
+use Rattle.scene_laws.specs.body_calls.Rooms.{takes_in}
 use Rattle.assignments.specs.Pieces.{AllTake, widths}
 use Rattle.assignments.proofs.Going.{LogsOn, WritesOn}
 use Rattle.assignments.proofs.parts.write_pieces.Given as goal

@@ -2,7 +2,7 @@ use Rattle.std.proofs.Common.{None, ap, subst, sym, ⊎_elim, ◌≡◌}
 use Rattle.design_model.specs.Design.{body}
 use Rattle.design_model.specs.View.{process_view, stmt_view}
 use Rattle.body_replay.specs.Replay.{run}
-use Rattle.scene_laws.specs.At.{IsState}
+use Rattle.assignments.specs.scene_laws.At.{IsState}
 use Rattle.block_runs.proofs.Ways.{at_first}
 use Rattle.block_runs.proofs.process.run_process.Goals as goal
 

@@ -1,7 +1,7 @@
 use Rattle.std.proofs.Common.{[], ◌∷◌, refl, sym, ◌∙◌}
 use Rattle.body_replay.specs.Store.{keep_all}
 use Rattle.body_replay.proofs.Writes.{keep_append}
-use Rattle.scene_laws.specs.At.{flat}
+use Rattle.assignments.specs.scene_laws.At.{flat}
 use Rattle.block_runs.specs.Queue.{QueueLaw}
 use Rattle.block_runs.proofs.queue.queue_law.Goals as goal
 

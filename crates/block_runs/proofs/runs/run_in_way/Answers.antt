@@ -4,7 +4,7 @@ use Rattle.design_model.specs.View.{process_view}
 use Rattle.body_replay.specs.Contract.{Outcome, weak_queue}
 use Rattle.body_replay.specs.Runs.{own_store}
 use Rattle.body_calls.specs.Under.{kept_with}
-use Rattle.scene_laws.specs.At.{flat}
+use Rattle.assignments.specs.scene_laws.At.{flat}
 use Rattle.block_runs.specs.Met.{met}
 use Rattle.block_runs.specs.Notes.{AddsNotes, way_of}
 use Rattle.block_runs.proofs.Ways.{strong_is}

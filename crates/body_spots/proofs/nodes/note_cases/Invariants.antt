@@ -1,5 +1,5 @@
 use Rattle.std.proofs.Common.{drop, map}
-use Rattle.body_replay.specs.Replay.{node}
+use Rattle.value_store.specs.body_replay.Replay.{node}
 use Rattle.body_spots.proofs.Hits.{HitsOn}
 use Rattle.body_spots.proofs.nodes.note_cases.Given as goal
 

@@ -1,7 +1,7 @@
 use Rattle.std.proofs.Common.{◌+◌, ◌*◌, drop, map}
 use Rattle.design_model.specs.View.{arms_of, design_view, stmt_view, stmts_of}
 use Rattle.design_model.specs.declared.tree.Stmt.{size-Stmt}
-use Rattle.body_replay.specs.Contract.{all_spots, arms_spots}
+use Rattle.value_store.specs.body_replay.Contract.{all_spots, arms_spots}
 use Rattle.value_store.specs.Rooms.{arm_view}
 use Rattle.body_spots.proofs.Hits.{HitsOn}
 use Rattle.body_spots.proofs.statements.+statements.Given as goal

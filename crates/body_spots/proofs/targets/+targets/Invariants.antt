@@ -1,7 +1,7 @@
 use Rattle.std.proofs.Common.{◌+◌, ◌*◌, drop, map}
 use Rattle.design_model.specs.View.{design_view, target_view, targets_of}
 use Rattle.design_model.specs.declared.tree.Target.{size-Target}
-use Rattle.body_replay.specs.Contract.{targets_spots}
+use Rattle.value_store.specs.body_replay.Contract.{targets_spots}
 use Rattle.body_spots.proofs.Hits.{HitsOn}
 use Rattle.body_spots.proofs.targets.+targets.Given as goal
 

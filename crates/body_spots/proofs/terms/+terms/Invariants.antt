@@ -1,7 +1,7 @@
 use Rattle.std.proofs.Common.{◌+◌, ◌*◌, drop, map, max}
 use Rattle.design_model.specs.View.{design_view, term_view, terms_of}
 use Rattle.design_model.specs.declared.tree.Term.{size-Term}
-use Rattle.body_replay.specs.Contract.{terms_spots}
+use Rattle.value_store.specs.body_replay.Contract.{terms_spots}
 use Rattle.body_spots.proofs.Hits.{HitsOn}
 use Rattle.body_spots.proofs.terms.+terms.Given as goal
 

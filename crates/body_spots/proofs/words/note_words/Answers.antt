@@ -1,7 +1,7 @@
 use Rattle.std.proofs.Common.{[], ap, arith, map, subst, sym, ◌+◌, ◌-◌, ◌∷◌, ◌≡◌}
 use Rattle.std.specs.List.{range_with_len}
 use Rattle.std.proofs.lemmas.List.FromFn.{map-range_with_len_more}
-use Rattle.body_replay.specs.Replay.{hit}
+use Rattle.value_store.specs.body_replay.Replay.{hit}
 use Rattle.term_replay.specs.Noted.{Adds, access_spot}
 use Rattle.term_replay.proofs.Marking.{adds_same}
 use Rattle.body_spots.proofs.Hits.{hits_then}

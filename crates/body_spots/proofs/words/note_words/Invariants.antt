@@ -1,6 +1,6 @@
 use Rattle.std.proofs.Common.{◌-◌, map}
 use Rattle.std.specs.List.{range_with_len}
-use Rattle.body_replay.specs.Replay.{hit}
+use Rattle.value_store.specs.body_replay.Replay.{hit}
 use Rattle.term_replay.specs.Noted.{Adds, access_spot}
 use Rattle.body_spots.proofs.words.note_words.Given as goal
 

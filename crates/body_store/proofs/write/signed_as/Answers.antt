@@ -1,7 +1,7 @@
 use Rattle.std.proofs.Common.{ap₂, sym, ◌∙◌}
 use Rattle.known_state.specs.Partly.{with_blame}
-use Rattle.term_replay.proofs.Standing.{same_flag}
-use Rattle.value_store.proofs.Left.{joined_self}
+use Rattle.body_calls.proofs.term_replay.Standing.{same_flag}
+use Rattle.write_log.proofs.value_store.Left.{joined_self}
 use Rattle.body_store.proofs.Signs.{new_sign, same_bits}
 use Rattle.body_store.proofs.write.signed_as.Goals as goal
 

@@ -5,7 +5,7 @@ use Rattle.design_model.specs.Shape.{is_body}
 use Rattle.design_model.specs.View.{design_view, process_view}
 use Rattle.assignments.specs.Widths.{HasWidths}
 use Rattle.body_calls.specs.Own.{is_in}
-use Rattle.open_tests.specs.Weights.{HasRoomFor}
+use Rattle.body_rooms.specs.open_tests.Weights.{HasRoomFor}
 use Rattle.body_store.specs.Bodies.{rooms_of}
 use Rattle.body_trials.proofs.Numbers.{assigned_number}
 use Rattle.body_trials.proofs.Ready.{kept_own, read_own}

@@ -3,7 +3,7 @@ use Rattle.known_state.specs.Maybe.{Matches}
 use Rattle.design_model.specs.View.{term_view, terms_of}
 use Rattle.scene_laws.specs.Contexts.{AreLabels}
 use Rattle.scene_laws.proofs.BodyContexts.{first_label, later_labels}
-use Rattle.term_replay.proofs.Contexts.{length-stands}
+use Rattle.scene_laws.proofs.term_replay.Contexts.{length-stands}
 use Rattle.case_labels.proofs.Matching.{MatchesOn, label_width, labels_from, matches_no, matches_unsure, matches_yes}
 use Rattle.case_labels.proofs.labels.matched.Goals.{in-No, in-Unsure}
 use Rattle.case_labels.proofs.labels.matched.Goals as goal

@@ -1,8 +1,8 @@
 use Rattle.std.proofs.Common.{◌++◌, ◌∷◌, [], List, Err, ap, sym, subst, append_assoc}
 use Rattle.std.proofs.lemmas.Bool.{iff_false}
 use Rattle.std.proofs.lemmas.Result.{err_from_is_err_and}
-use Rattle.design_model.specs.View.{design_view}
-use Rattle.design_model.specs.declared.design.Instance.{Instance}
+use Rattle.state_machines.specs.design_model.View.{design_view}
+use Rattle.state_machines.specs.design_model.declared.design.Instance.{Instance}
 use Rattle.state_machines.specs.Seen.{machine_seen}
 use Rattle.design_machines.specs.Machines.{IsOfModule}
 use Rattle.design_machines.proofs.Faults.{handed_on, in_instance}

@@ -1,5 +1,5 @@
 use Rattle.std.proofs.Common.{◌≡◌, ◌++◌, List}
-use Rattle.design_model.specs.View.{design_view}
+use Rattle.state_machines.specs.design_model.View.{design_view}
 use Rattle.design_machines.specs.Machines.{AreMachinesBelow}
 use Rattle.design_machines.specs.declared.machine.Machine.{Machine}
 use Rattle.state_machines.specs.Seen.{machine_seen}

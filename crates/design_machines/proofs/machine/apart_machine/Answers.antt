@@ -1,10 +1,10 @@
 use Rattle.std.proofs.Common.{◌≡◌, ◌<◌, ◌∙◌, List, length, get_or, ap, sym, subst, arith}
 use Rattle.std.proofs.lemmas.List.{get_or_default}
 use Rattle.four_state.specs.Vector.{Vector}
-use Rattle.design_model.specs.Design.{no_signal, signal_at}
-use Rattle.design_model.specs.declared.design.Signal.{Signal}
-use Rattle.design_model.specs.Points.{IsStateValue}
-use Rattle.design_model.specs.View.{design_view}
+use Rattle.state_machines.specs.design_model.Design.{no_signal, signal_at}
+use Rattle.state_machines.specs.design_model.declared.design.Signal.{Signal}
+use Rattle.state_machines.specs.design_model.Points.{IsStateValue}
+use Rattle.state_machines.specs.design_model.View.{design_view}
 use Rattle.design_machines.specs.Machines.{AreApart}
 use Rattle.design_machines.proofs.MachineLists.{widths, zip_length}
 use Rattle.design_machines.proofs.machine.apart_machine.Goals as goal

@@ -1,7 +1,7 @@
 use Rattle.std.proofs.Common.{◌≡◌, ◌<◌, ◌∙◌, ◌+◌, ◌++◌, ◌∷◌, [], Err, length, take, ap, sym, subst, arith}
 use Rattle.std.proofs.lemmas.Result.{err_from_is_err_and}
-use Rattle.design_model.specs.Points.{StateNames}
-use Rattle.design_model.specs.View.{design_view}
+use Rattle.state_machines.specs.design_model.Points.{StateNames}
+use Rattle.state_machines.specs.design_model.View.{design_view}
 use Rattle.state_machines.specs.Seen.{machine_seen}
 use Rattle.design_machines.specs.Faults.{IsFaultOf, IsStateFault}
 use Rattle.design_machines.proofs.Faults.{handed_on, or_later}

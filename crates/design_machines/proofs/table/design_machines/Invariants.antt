@@ -1,5 +1,5 @@
 use Rattle.std.proofs.Common.{take}
-use Rattle.design_model.specs.View.{design_view}
+use Rattle.state_machines.specs.design_model.View.{design_view}
 use Rattle.design_machines.specs.Machines.{AreMachines}
 use Rattle.design_machines.proofs.table.design_machines.Given as goal
 

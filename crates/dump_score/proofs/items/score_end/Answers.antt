@@ -14,9 +14,9 @@ use Rattle.dump_score.proofs.items.score_end.Goals.{In_ok-heard}
 -- what the last word says, and the changes before it that are not wanted
 passed : (c : In_ok-heard) (value : Vector) (is : value ≡ kept_value c.next_of.new.self) (design : Design) (points : Points) (vars : List Var) (instance text : List ℕ) (can : CanEnd c.args.body.now c.args.replay.now design points vars instance text) → Passed c.wanted.result.now can.b (EndStepped (item_by c.in_ok-heard.heard.saying value) text)
 passed c value is design points vars instance text can = elim can.stands [
-    | inl read ↦ end_heard c.wanted.result.now c.in_ok-heard.heard.saying value c.in_ok-heard.heard.used c.next_of.new.self text can.b is (c.in_ok-heard.ensures.ok text can.b read)
-    | inr ended ↦ none_passed c.wanted.result.now can.b _ (end_again (item_by c.in_ok-heard.heard.saying value) text can.b (ap (λ s. item_by s value) (ap saying_in (c.in_ok-heard.ensures.ended text can.b ended).0)) ended.ended.ends)
-  ]
+  | inl read ↦ end_heard c.wanted.result.now c.in_ok-heard.heard.saying value c.in_ok-heard.heard.used c.next_of.new.self text can.b is (c.in_ok-heard.ensures.ok text can.b read)
+  | inr ended ↦ none_passed c.wanted.result.now can.b _ (end_again (item_by c.in_ok-heard.heard.saying value) text can.b (ap (λ s. item_by s value) (ap saying_in (c.in_ok-heard.ensures.ended text can.b ended).0)) ended.ended.ends)
+]
 
 pub returns-in_err-heard-clause-fault : goal.returns-in_err-heard-clause-fault
 returns-in_err-heard-clause-fault c =

@@ -1,7 +1,7 @@
 use Rattle.std.proofs.lemmas.Result.{err_from_is_err_and}
 use Rattle.design_model.specs.View.{design_view}
 use Rattle.event_machine.specs.Habit.{Free}
-use Rattle.shown_dumps.specs.Shown.{bound_dump}
+use Rattle.dump_replay.specs.shown_dumps.Shown.{bound_dump}
 use Rattle.dump_score.proofs.FileLemmas.{header_refuses, nothing_read}
 use Rattle.dump_score.proofs.Opening.{bind_in_file, can_end_binds, end_in_file, open_scoring, opened_bound}
 use Rattle.dump_score.proofs.Scored.{said, scored_file, scored_rises, scored_times}

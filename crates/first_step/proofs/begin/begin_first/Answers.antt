@@ -11,12 +11,12 @@ use Rattle.body_replay.specs.Runs.{runs_of}
 use Rattle.dump_check.specs.Checks.{AgreesAt, IsFirstDifference, last_of_each}
 use Rattle.index_sets.specs.Rows.{row_at}
 use Rattle.process_order.specs.Tables.{tables_of}
-use Rattle.process_targets.specs.Rows.{AreTargetRows}
-use Rattle.replay_model.specs.Start.{all_first}
+use Rattle.settling.specs.process_targets.Rows.{AreTargetRows}
+use Rattle.process_order.specs.replay_model.Start.{all_first}
 use Rattle.settling.specs.First.{AtFirst}
-use Rattle.step_values.specs.Dumped.{AreDumped}
-use Rattle.step_values.specs.Loose.{has_code}
-use Rattle.step_values.specs.Vectors.{FitsSignals}
+use Rattle.settling.specs.step_values.Dumped.{AreDumped}
+use Rattle.settling.specs.step_values.Loose.{has_code}
+use Rattle.settling.specs.step_values.Vectors.{FitsSignals}
 use Rattle.first_step.specs.Begun.{IsFirstOf, assigns}
 use Rattle.first_step.proofs.Assigns.{assigns_few, both_ran, few_listed, last_below, order_below, ran_below}
 use Rattle.first_step.proofs.Checked.{agree, checked_below, differ, found_map, none_map}

@@ -1,8 +1,8 @@
 use Rattle.std.proofs.Common.{◌≡◌, ◌∙◌, ◌&&◌, ap, arith, length, refl, subst, sym}
 use Rattle.std.specs.Prelude.{nat_lt}
 use Rattle.design_model.specs.View.{design_view}
-use Rattle.step_values.specs.Loose.{has_code}
-use Rattle.step_values.specs.Vectors.{FitsSignals}
+use Rattle.settling.specs.step_values.Loose.{has_code}
+use Rattle.settling.specs.step_values.Vectors.{FitsSignals}
 use Rattle.first_step.specs.Begun.{Puts}
 use Rattle.first_step.proofs.Putting.{both_put, more_below, none_below, none_put, same_put}
 use Rattle.first_step.proofs.dump.put_first.Goals as goal

@@ -1,6 +1,6 @@
 use Rattle.std.proofs.Common.{◌≡◌, ◌&&◌}
 use Rattle.std.specs.Prelude.{nat_lt}
-use Rattle.step_values.specs.Loose.{has_code}
+use Rattle.settling.specs.step_values.Loose.{has_code}
 use Rattle.first_step.specs.Begun.{Puts}
 use Rattle.first_step.proofs.dump.put_first.Given as goal
 

@@ -1,6 +1,6 @@
 use Rattle.std.proofs.Common.{◌≡◌, ◌∙◌, ◌<◌, [], ℕ, arith, length, sym, true}
 use Rattle.std.proofs.lemmas.List.Elements.{All-cons, All-nil}
-use Rattle.step_values.specs.Loose.{has_code}
+use Rattle.settling.specs.step_values.Loose.{has_code}
 use Rattle.first_step.proofs.Putting.{no_test, none_put, one_put}
 use Rattle.first_step.proofs.dump.put_signal.Goals as goal
 

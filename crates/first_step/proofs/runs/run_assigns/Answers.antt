@@ -2,7 +2,7 @@ use Rattle.std.proofs.Common.{◌∙◌, ◌++◌, ◌∷◌, [], ap, append-nil
 use Rattle.std.proofs.lemmas.List.{length-append, length-take-le, take_all}
 use Rattle.design_model.specs.View.{design_view}
 use Rattle.body_replay.specs.Runs.{runs_of}
-use Rattle.replay_model.specs.Start.{run_all_first}
+use Rattle.process_order.specs.replay_model.Start.{run_all_first}
 use Rattle.settling.specs.First.{AtFirst}
 use Rattle.first_step.specs.Begun.{assigns}
 use Rattle.first_step.proofs.Assigns.{assigns_few, assigns_more, runs_more}

@@ -5,12 +5,12 @@ use Rattle.design_model.specs.Design.{Design}
 use Rattle.design_model.specs.View.{design_view}
 use Rattle.body_replay.specs.Runs.{runs_of}
 use Rattle.body_replay.specs.Store.{Kept}
-use Rattle.replay_model.specs.Start.{Starting, run_all_first}
-use Rattle.replay_model.specs.Tables.{Tables}
+use Rattle.process_order.specs.replay_model.Start.{Starting, run_all_first}
+use Rattle.process_order.specs.replay_model.Tables.{Tables}
 use Rattle.settling.specs.First.{AtFirst}
-use Rattle.step_values.specs.Loose.{has_code}
-use Rattle.step_values.specs.Vectors.{FitsSignals}
-use Rattle.store_knowledge.specs.Knows.{Knows}
+use Rattle.settling.specs.step_values.Loose.{has_code}
+use Rattle.settling.specs.step_values.Vectors.{FitsSignals}
+use Rattle.settling.specs.store_knowledge.Knows.{Knows}
 use Rattle.first_step.specs.Begun.{assigns}
 use Rattle.first_step.proofs.runs.run_assigns.Given as goal
 

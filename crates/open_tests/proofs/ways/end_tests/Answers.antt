@@ -1,5 +1,5 @@
 use Rattle.std.proofs.Common.{List, arith, subst, sym, ◌-◌, ◌∙◌}
-use Rattle.body_calls.specs.Ways.{Around}
+use Rattle.assignments.specs.body_calls.Ways.{Around}
 use Rattle.open_tests.specs.Open.{AreSecond}
 use Rattle.open_tests.proofs.Closing.{closes_end, closes_further, innermost}
 use Rattle.open_tests.proofs.Weighing.{leaves_then}

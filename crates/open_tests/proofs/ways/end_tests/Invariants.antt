@@ -1,6 +1,6 @@
 use Rattle.std.proofs.Common.{List, ◌≡◌}
-use Rattle.body_calls.specs.Rooms.{Leaves}
-use Rattle.body_calls.specs.Ways.{Around}
+use Rattle.assignments.specs.body_calls.Rooms.{Leaves}
+use Rattle.assignments.specs.body_calls.Ways.{Around}
 use Rattle.open_tests.specs.Open.{AreSecond}
 use Rattle.open_tests.proofs.Closing.{ClosesOn}
 use Rattle.open_tests.proofs.ways.end_tests.Given as goal

@@ -1,7 +1,7 @@
 use Rattle.std.proofs.Common.{◌∙◌, ◌++◌, map, ap}
 use Rattle.std.proofs.lemmas.List.{take_all}
 use Rattle.design_model.specs.View.{process_view}
-use Rattle.process_names.specs.Names.{level_names}
+use Rattle.design_wakes.specs.process_names.Names.{level_names}
 use Rattle.process_order.proofs.RowLemmas.{lists_grow}
 use Rattle.process_order.proofs.names.watch_lists.Goals as goal
 

@@ -1,6 +1,6 @@
 use Rattle.std.proofs.Common.{◌≡◌, map, take}
 use Rattle.design_model.specs.View.{process_view}
-use Rattle.process_names.specs.Names.{level_names}
+use Rattle.design_wakes.specs.process_names.Names.{level_names}
 use Rattle.process_order.specs.Names.{lists_of}
 use Rattle.process_order.proofs.names.watch_lists.Given as goal
 

@@ -4,7 +4,7 @@ use Rattle.std.specs.List.{Contains}
 use Rattle.std.proofs.lemmas.List.{length-map}
 use Rattle.design_model.specs.View.{design_view, process_view}
 use Rattle.index_sets.specs.Rows.{row_at}
-use Rattle.process_names.specs.Names.{level_names}
+use Rattle.design_wakes.specs.process_names.Names.{level_names}
 use Rattle.process_order.specs.Names.{driven_names, lists_of}
 use Rattle.process_order.specs.Needs.{is_bound}
 use Rattle.process_order.specs.Order.{IsRunOrder}

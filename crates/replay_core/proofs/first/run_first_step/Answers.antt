@@ -7,9 +7,9 @@ use Rattle.code_values.specs.Values.{Values}
 use Rattle.dump_check.specs.Checks.{IsDifference}
 use Rattle.first_step.specs.Begun.{IsFirstOf}
 use Rattle.replay_follows.specs.Laws.{first_replay}
-use Rattle.step_values.specs.Dumped.{AreDumped}
-use Rattle.step_values.specs.Vectors.{FitsSignals}
-use Rattle.store_knowledge.specs.Knows.{Knows}
+use Rattle.first_step.specs.step_values.Dumped.{AreDumped}
+use Rattle.first_step.specs.step_values.Vectors.{FitsSignals}
+use Rattle.first_step.specs.store_knowledge.Knows.{Knows}
 use Rattle.replay_core.specs.Made.{made_with, parts_with, subject_of}
 use Rattle.replay_core.proofs.Given.{cells_given}
 use Rattle.replay_core.proofs.Parts.{first_fits, given_cells}

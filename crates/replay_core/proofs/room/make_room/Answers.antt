@@ -4,7 +4,7 @@ use Rattle.design_model.specs.View.{design_view, process_view}
 use Rattle.dump_check.specs.Checks.{Checks}
 use Rattle.early_sets.specs.WakeState.{state_of}
 use Rattle.index_sets.specs.Rows.{row_at}
-use Rattle.step_wakes.specs.Step.{IsOfDesign}
+use Rattle.first_step.specs.step_wakes.Step.{IsOfDesign}
 use Rattle.replay_core.specs.Fits.{FitsRoom}
 use Rattle.replay_core.proofs.room.make_room.Goals as goal
 

@@ -2,7 +2,7 @@ use Rattle.std.proofs.Common.{◌≡◌, ◌∙◌, Bool, ◌++◌, List, drop, 
 use Rattle.std.proofs.Math.Seq.{take-append_seam}
 use Rattle.early_sets.specs.WakeState.{state_of}
 use Rattle.replay_model.specs.Step.{all_run, clocked_run, settle_start}
-use Rattle.step_parts.specs.AtStep.{AtStep}
+use Rattle.step_start.specs.step_parts.AtStep.{AtStep}
 use Rattle.step_runs.specs.Runs.{IsRunOf}
 use Rattle.replay_core.proofs.runs.run_woken.Goals as goal
 

@@ -9,8 +9,8 @@ use Rattle.early_sets.specs.WakeState.{state_of}
 use Rattle.index_sets.specs.Rows.{row_at}
 use Rattle.replay_model.specs.Step.{Closing}
 use Rattle.step_marks.specs.Marked.{IsOver, IsSeenAfter}
-use Rattle.step_values.specs.Dumped.{AreDumped}
-use Rattle.toggle_laws.specs.Turns.{MarksInTurn}
+use Rattle.first_step.specs.step_values.Dumped.{AreDumped}
+use Rattle.step_marks.specs.toggle_laws.Turns.{MarksInTurn}
 use Rattle.replay_core.specs.Closing.{Closes}
 use Rattle.replay_core.specs.Made.{made_with, parts_with}
 use Rattle.replay_core.specs.declared.room.ReplayRoom.{ReplayRoom}

@@ -5,9 +5,9 @@ use Rattle.process_order.specs.Needs.{is_bound}
 use Rattle.process_order.specs.Tables.{tables_of}
 use Rattle.replay_model.specs.Tables.{AreTables}
 use Rattle.run_order.specs.Ranked.{AreRanksOf}
-use Rattle.step_changes.specs.Changes.{AreSignalsOf}
-use Rattle.step_check.specs.Checks.{AreCheckRows}
-use Rattle.step_values.specs.Loose.{has_code}
+use Rattle.first_step.specs.step_changes.Changes.{AreSignalsOf}
+use Rattle.first_step.specs.step_check.Checks.{AreCheckRows}
+use Rattle.first_step.specs.step_values.Loose.{has_code}
 use Rattle.replay_core.specs.Fits.{FitsTables}
 use Rattle.replay_core.proofs.Codes.{bound_is}
 use Rattle.replay_core.proofs.tables.make_tables.Goals as goal

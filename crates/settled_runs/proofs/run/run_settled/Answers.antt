@@ -6,14 +6,14 @@ use Rattle.design_model.specs.Lawful.{IsLawfulDesign}
 use Rattle.design_model.specs.View.{design_view, process_view}
 use Rattle.body_replay.specs.Contract.{Outcome}
 use Rattle.body_replay.specs.Runs.{runs_of}
-use Rattle.scene_laws.specs.At.{flat}
-use Rattle.assignments.proofs.Lawful.{lawful_widths}
-use Rattle.assignments.specs.Widths.{HasWidths}
-use Rattle.open_tests.specs.Weights.{HasRoomFor, queues}
-use Rattle.body_store.specs.Bodies.{queued_of, rooms_of}
+use Rattle.store_knowledge.specs.scene_laws.At.{flat}
+use Rattle.block_runs.proofs.assignments.Lawful.{lawful_widths}
+use Rattle.block_runs.specs.assignments.Widths.{HasWidths}
+use Rattle.store_knowledge.specs.open_tests.Weights.{HasRoomFor, queues}
+use Rattle.store_knowledge.specs.body_store.Bodies.{queued_of, rooms_of}
 use Rattle.block_runs.specs.Notes.{AddsNotes, way_of}
 use Rattle.process_targets.proofs.Processes.{body_is}
-use Rattle.replay_model.specs.Step.{plain_store}
+use Rattle.replay_steps.specs.replay_model.Step.{plain_store}
 use Rattle.settled_runs.proofs.Running.{HasRun, are_numbers, assigned_number, kept_own, outcome_known, read_own, run_known}
 use Rattle.settled_runs.proofs.run.run_settled.Goals as goal
 

@@ -4,7 +4,7 @@ use Rattle.std.proofs.lemmas.List.{length-replicate}
 use Rattle.four_state.specs.declared.bit.Bit.{Bit}
 use Rattle.known_state.specs.Partly.{Partly}
 use Rattle.design_model.specs.Design.{signal_at}
-use Rattle.store_knowledge.specs.Knows.{Knows, with_bits}
+use Rattle.step_values.specs.store_knowledge.Knows.{Knows, with_bits}
 use Rattle.step_values.proofs.Forgets.{known_width}
 use Rattle.settled_targets.proofs.Cells.{bits_hidden}
 use Rattle.settled_targets.proofs.hide.hide_signal.Goals as goal

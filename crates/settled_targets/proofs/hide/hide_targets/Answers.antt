@@ -1,7 +1,7 @@
 use Rattle.std.proofs.Common.{◌∙◌, refl, subst, take, ◌+◌}
 use Rattle.std.proofs.lemmas.List.{take_all}
 use Rattle.process_targets.specs.Targets.{names}
-use Rattle.store_knowledge.specs.Knows.{Knows}
+use Rattle.step_values.specs.store_knowledge.Knows.{Knows}
 use Rattle.settled_targets.specs.Saved.{hiding}
 use Rattle.settled_targets.proofs.Rows.{hiding_more, named_more}
 use Rattle.settled_targets.proofs.hide.hide_targets.Goals as goal

@@ -1,8 +1,8 @@
 use Rattle.std.proofs.Common.{◌≡◌, take}
 use Rattle.design_model.specs.Design.{Design}
-use Rattle.body_replay.specs.Store.{Kept}
+use Rattle.step_values.specs.body_replay.Store.{Kept}
 use Rattle.process_targets.specs.Targets.{names}
-use Rattle.store_knowledge.specs.Knows.{Knows}
+use Rattle.step_values.specs.store_knowledge.Knows.{Knows}
 use Rattle.settled_targets.specs.Saved.{hiding}
 use Rattle.settled_targets.proofs.hide.hide_targets.Given as goal
 

@@ -2,7 +2,7 @@ use Rattle.std.proofs.Common.{◌≡◌, ◌∙◌, ◌<◌, ◌^◌, arith, len
 use Rattle.design_model.specs.Design.{signal_at}
 use Rattle.design_model.specs.View.{design_view}
 use Rattle.process_targets.specs.Rows.{IsInside}
-use Rattle.store_knowledge.specs.Knows.{Knows}
+use Rattle.step_values.specs.store_knowledge.Knows.{Knows}
 use Rattle.step_values.proofs.Forgets.{here, known_width}
 use Rattle.settled_targets.proofs.Cells.{bits_width, coded_apart, made_of_others, result_back, saved_back}
 use Rattle.settled_targets.proofs.put_back.put_back_bits.Goals as goal

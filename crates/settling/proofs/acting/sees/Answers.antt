@@ -1,5 +1,5 @@
 use Rattle.std.proofs.Common.{◌∙◌, ◌&&◌, ap, sym}
-use Rattle.body_calls.specs.Own.{is_in}
+use Rattle.body_store.specs.body_calls.Own.{is_in}
 use Rattle.early_sets.proofs.Membership.{is_in_is}
 use Rattle.settling.proofs.acting.sees.Goals as goal
 

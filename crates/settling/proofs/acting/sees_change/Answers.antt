@@ -2,7 +2,7 @@ use Rattle.std.proofs.Common.{◌∙◌, ◌&&◌, ap, false, sym}
 use Rattle.std.proofs.lemmas.Bool.{or_from}
 use Rattle.std.proofs.lemmas.List.{take_all}
 use Rattle.std.proofs.lemmas.List.Folds.{list_any_at, list_any_more}
-use Rattle.body_calls.specs.Own.{is_in}
+use Rattle.body_store.specs.body_calls.Own.{is_in}
 use Rattle.wake_bits.specs.declared.wakes.Wake.{Wake}
 use Rattle.settling.specs.Runs.{sees_by}
 use Rattle.settling.proofs.acting.sees_change.Goals as goal

@@ -3,7 +3,7 @@ use Rattle.known_state.specs.Partly.{Partly}
 use Rattle.early_sets.specs.Has.{is_in}
 use Rattle.early_sets.specs.WakeState.{state_of}
 use Rattle.early_sets.proofs.Membership.{is_in_is}
-use Rattle.step_values.proofs.Forgets.{known_width}
+use Rattle.settled_targets.proofs.step_values.Forgets.{known_width}
 use Rattle.settling.proofs.Changing.{moved, unmoved}
 use Rattle.settling.proofs.change.changes.Goals as goal
 

@@ -2,7 +2,7 @@ use Rattle.std.proofs.Common.{◌≡◌, ◌∙◌, Bool, true, false, not, ap, 
 use Rattle.std.proofs.lemmas.List.{take_all}
 use Rattle.std.proofs.lemmas.List.Elements.{All-get_or}
 use Rattle.wake_bits.specs.declared.wakes.Wake.{Wake}
-use Rattle.replay_model.specs.Step.{first_unsure}
+use Rattle.step_parts.specs.replay_model.Step.{first_unsure}
 use Rattle.wake_bits.specs.Laws.{IsWakeOf}
 use Rattle.settling.specs.Wakes.{things_of}
 use Rattle.settling.proofs.Changing.{first_found, none_more}

@@ -1,7 +1,7 @@
 use Rattle.std.proofs.Common.{◌≡◌, ℕ, None, take}
 use Rattle.std.specs.List.{All}
 use Rattle.early_sets.specs.WakeState.{state_of}
-use Rattle.replay_model.specs.Step.{Closing, Working, first_unsure}
+use Rattle.step_parts.specs.replay_model.Step.{Closing, Working, first_unsure}
 use Rattle.wake_bits.specs.Laws.{IsWakeOf}
 use Rattle.settling.specs.Wakes.{HasState, things_of}
 use Rattle.settling.proofs.change.first_unsure.Given as goal

@@ -3,7 +3,7 @@ use Rattle.std.specs.List.{list_any}
 use Rattle.std.proofs.lemmas.List.{take_all}
 use Rattle.std.proofs.lemmas.List.Elements.{All-get_or}
 use Rattle.wake_bits.specs.declared.wakes.Wake.{Wake}
-use Rattle.replay_model.specs.Step.{has_changed}
+use Rattle.step_parts.specs.replay_model.Step.{has_changed}
 use Rattle.wake_bits.specs.Laws.{IsWakeOf}
 use Rattle.settling.proofs.Changing.{changed_found, none_changed, some_changed}
 use Rattle.settling.proofs.change.has_changed.Goals as goal

@@ -2,7 +2,7 @@ use Rattle.std.proofs.Common.{◌≡◌, ℕ, false, take}
 use Rattle.std.specs.List.{All, list_any}
 use Rattle.early_sets.specs.WakeState.{state_of}
 use Rattle.wake_bits.specs.declared.wakes.Wake.{Wake}
-use Rattle.replay_model.specs.Step.{Closing, Working, has_changed}
+use Rattle.step_parts.specs.replay_model.Step.{Closing, Working, has_changed}
 use Rattle.wake_bits.specs.Laws.{IsWakeOf}
 use Rattle.settling.specs.Wakes.{HasState}
 use Rattle.settling.proofs.change.has_changed.Given as goal

@@ -4,9 +4,9 @@ use Rattle.design_model.specs.Design.{is_assign, process_at}
 use Rattle.design_model.specs.Lawful.{IsLawfulDesign}
 use Rattle.design_model.specs.View.{design_view}
 use Rattle.index_sets.specs.Rows.{row_at}
-use Rattle.process_targets.specs.Rows.{AreTargets, IsInside}
-use Rattle.process_targets.specs.Targets.{IsOnce, names, row_has}
-use Rattle.step_values.specs.Vectors.{FitsSignals}
+use Rattle.settled_runs.specs.process_targets.Rows.{AreTargets, IsInside}
+use Rattle.settled_runs.specs.process_targets.Targets.{IsOnce, names, row_has}
+use Rattle.settled_targets.specs.step_values.Vectors.{FitsSignals}
 use Rattle.settled_targets.specs.Returned.{Returns}
 use Rattle.settled_targets.specs.Saved.{AreSaved}
 use Rattle.settling.proofs.FirstRuns.{assign_settles, first_after}

@@ -6,13 +6,13 @@ use Rattle.design_model.specs.Design.{Design, IsClocked, process_at}
 use Rattle.design_model.specs.Lawful.{IsLawfulDesign}
 use Rattle.design_model.specs.View.{design_view, process_view}
 use Rattle.body_replay.specs.Contract.{Outcome}
-use Rattle.block_runs.specs.Notes.{AddsNotes, way_of}
+use Rattle.settled_runs.specs.block_runs.Notes.{AddsNotes, way_of}
 use Rattle.early_sets.specs.WakeState.{state_of}
 use Rattle.index_sets.specs.Rows.{row_at}
-use Rattle.process_targets.specs.Rows.{AreTargets, IsInside}
-use Rattle.process_targets.specs.Targets.{IsOnce, names, row_has}
-use Rattle.replay_model.specs.Step.{is_comb, run_settling}
-use Rattle.step_values.specs.Vectors.{FitsSignals}
+use Rattle.settled_runs.specs.process_targets.Rows.{AreTargets, IsInside}
+use Rattle.settled_runs.specs.process_targets.Targets.{IsOnce, names, row_has}
+use Rattle.step_parts.specs.replay_model.Step.{is_comb, run_settling}
+use Rattle.settled_targets.specs.step_values.Vectors.{FitsSignals}
 use Rattle.settled_targets.specs.Returned.{Returns}
 use Rattle.settled_targets.specs.Saved.{AreSaved}
 use Rattle.wake_bits.specs.declared.wakes.Wake.{Wake}

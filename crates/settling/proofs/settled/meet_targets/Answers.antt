@@ -2,10 +2,10 @@ use Rattle.std.proofs.Common.{◌≡◌, ◌∙◌, ap, false, get_or, subst, sy
 use Rattle.design_model.specs.Design.{process_at}
 use Rattle.design_model.specs.View.{design_view}
 use Rattle.index_sets.specs.Rows.{row_at}
-use Rattle.process_targets.specs.Targets.{names}
-use Rattle.process_targets.proofs.Processes.{process_is}
-use Rattle.replay_model.specs.Step.{is_comb}
-use Rattle.store_knowledge.specs.Knows.{Knows}
+use Rattle.settled_runs.specs.process_targets.Targets.{names}
+use Rattle.settled_runs.proofs.process_targets.Processes.{process_is}
+use Rattle.step_parts.specs.replay_model.Step.{is_comb}
+use Rattle.settled_runs.specs.store_knowledge.Knows.{Knows}
 use Rattle.settled_targets.specs.Saved.{hiding}
 use Rattle.settling.proofs.Targets.{hidden_there, shown_there}
 use Rattle.settling.proofs.settled.meet_targets.Goals as goal

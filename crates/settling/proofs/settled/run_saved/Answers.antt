@@ -2,8 +2,8 @@ use Rattle.std.proofs.Common.{◌≡◌, ◌∙◌, ap, subst, sym}
 use Rattle.design_model.specs.Design.{body_at}
 use Rattle.design_model.specs.Mentions.{body_assigns}
 use Rattle.design_model.specs.View.{design_view}
-use Rattle.body_calls.specs.Own.{is_in}
-use Rattle.replay_model.specs.Step.{settled_kept}
+use Rattle.body_store.specs.body_calls.Own.{is_in}
+use Rattle.step_parts.specs.replay_model.Step.{settled_kept}
 use Rattle.settled_targets.specs.Saved.{AreSaved}
 use Rattle.settling.proofs.settled.run_saved.Goals as goal
 

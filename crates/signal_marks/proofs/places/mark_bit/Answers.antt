@@ -1,5 +1,5 @@
 use Rattle.std.proofs.Common.{◌∙◌, None, Some, ap, set, sym}
-use Rattle.cover_points.specs.declared.visit.Visit.TheVariants.{Toggle}
+use Rattle.cover_marks.specs.cover_points.declared.visit.Visit.TheVariants.{Toggle}
 use Rattle.signal_marks.specs.Toggled.{marked_by, verdict_of}
 use Rattle.signal_marks.proofs.Marked.{point_inside}
 use Rattle.signal_marks.proofs.places.mark_bit.Goals as goal

@@ -1,4 +1,4 @@
-use Rattle.cover_points.specs.declared.listing.Points.{Points}
+use Rattle.cover_marks.specs.cover_points.declared.listing.Points.{Points}
 use Rattle.cover_marks.specs.Marks.{AreMarksOf}
 use Rattle.signal_marks.specs.Toggled.{ListsToggles}
 use Rattle.signal_marks.proofs.Marked.{MarksSoFar}

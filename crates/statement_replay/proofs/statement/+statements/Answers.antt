@@ -8,18 +8,18 @@ use Rattle.design_model.specs.Shape.{all_signed_of, are_bodies, is_alone, is_arm
 use Rattle.design_model.specs.Tree as tree
 use Rattle.design_model.specs.View.{arms_of, stmt_view, stmts_of, term_view, terms_of}
 use Rattle.design_model.specs.declared.tree.Stmt.{the_lemmas}
-use Rattle.body_replay.specs.Replay.{reach, run, run_all, run_default}
-use Rattle.term_replay.specs.Questions.{answer_of}
-use Rattle.term_replay.specs.Stands.{IsInContext}
-use Rattle.term_replay.proofs.Contexts.{context_head, length-stands}
+use Rattle.value_store.specs.body_replay.Replay.{reach, run, run_all, run_default}
+use Rattle.open_tests.specs.term_replay.Questions.{answer_of}
+use Rattle.open_tests.specs.term_replay.Stands.{IsInContext}
+use Rattle.open_tests.proofs.term_replay.Contexts.{context_head, length-stands}
 use Rattle.value_store.specs.Queue.{Queue}
 use Rattle.value_store.specs.Rooms.{arm_view}
-use Rattle.body_calls.specs.Rooms.{Leaves, takes_in}
-use Rattle.scene_laws.specs.At.{IsState}
-use Rattle.scene_laws.specs.Contexts.{AreArms, AreLabels}
-use Rattle.scene_laws.proofs.BodyContexts.{first_body, first_labels, in_arms, in_select, later_arms, widest_of_least}
-use Rattle.assignments.specs.Widths.{HasWidths}
-use Rattle.assignments.specs.declared.piece.Piece.{Piece}
+use Rattle.open_tests.specs.body_calls.Rooms.{Leaves, takes_in}
+use Rattle.case_labels.specs.scene_laws.At.{IsState}
+use Rattle.case_labels.specs.scene_laws.Contexts.{AreArms, AreLabels}
+use Rattle.case_labels.proofs.scene_laws.BodyContexts.{first_body, first_labels, in_arms, in_select, later_arms, widest_of_least}
+use Rattle.open_tests.specs.assignments.Widths.{HasWidths}
+use Rattle.open_tests.specs.assignments.declared.piece.Piece.{Piece}
 use Rattle.open_tests.specs.Arms.{opened_by}
 use Rattle.open_tests.specs.Open.{AreSecond}
 use Rattle.open_tests.specs.Views.{else_view}

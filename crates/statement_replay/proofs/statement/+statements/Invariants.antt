@@ -4,10 +4,10 @@ use Rattle.design_model.specs.Shape.{are_bodies}
 use Rattle.design_model.specs.View.{arms_of, stmt_view, stmts_of}
 use Rattle.design_model.specs.declared.tree.CaseArm.{size-CaseArm}
 use Rattle.design_model.specs.declared.tree.Stmt.{size-Stmt}
-use Rattle.body_replay.specs.Replay.{Mode, State, run_default}
+use Rattle.value_store.specs.body_replay.Replay.{Mode, State, run_default}
 use Rattle.value_store.specs.Rooms.{arm_view}
-use Rattle.body_calls.specs.Rooms.{takes_in}
-use Rattle.scene_laws.specs.Contexts.{AreArms}
+use Rattle.open_tests.specs.body_calls.Rooms.{takes_in}
+use Rattle.case_labels.specs.scene_laws.Contexts.{AreArms}
 use Rattle.open_tests.specs.Open.{AreSecond}
 use Rattle.open_tests.specs.Weights.{default_logs, default_queues}
 use Rattle.open_tests.proofs.Cases.{ArmsOn, ArmsSpend}

@@ -1,7 +1,7 @@
 use Rattle.std.proofs.Common.{◌∙◌, ◌<◌, map, sym, subst, arith}
 use Rattle.std.specs.List.{All}
 use Rattle.early_sets.specs.WakeState.{state_of}
-use Rattle.wake_laws.proofs.RoundsLaw.{has_moves}
+use Rattle.step_wakes.proofs.wake_laws.RoundsLaw.{has_moves}
 use Rattle.step_wakes.specs.Step.{StepSets}
 use Rattle.step_wakes.specs.declared.step.SignalChange.{SignalChange}
 use Rattle.step_changes.specs.Changes.{AreChangedSignals, change_by}

@@ -1,7 +1,7 @@
 use Rattle.std.proofs.Common.{◌≡◌, ◌∙◌, ◌≤◌, length, map, sym, ap, subst, arith}
 use Rattle.std.proofs.lemmas.List.{length-map}
 use Rattle.std.proofs.lemmas.Result.{IfOk-weaker}
-use Rattle.process_order.specs.Names.{lists_of}
+use Rattle.step_changes.specs.process_order.Names.{lists_of}
 use Rattle.step_check.specs.Checks.{AreCheckRows}
 use Rattle.step_check.proofs.Lists.{all_rows}
 use Rattle.step_check.proofs.rows.check_rows.Goals as goal

@@ -1,6 +1,6 @@
 use Rattle.std.proofs.Common.{◌≡◌, ℕ, ◌<◌, length}
 use Rattle.index_sets.specs.Rows.{row_at}
-use Rattle.process_order.specs.Names.{lists_of}
+use Rattle.step_changes.specs.process_order.Names.{lists_of}
 use Rattle.step_check.specs.Checks.{checked}
 use Rattle.step_check.proofs.rows.check_rows.Given as goal
 

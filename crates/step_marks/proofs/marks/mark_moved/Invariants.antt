@@ -1,7 +1,7 @@
 use Rattle.std.proofs.Common.{◌≡◌, length, take}
 use Rattle.cover_marks.specs.Marks.{AreMarksOf}
-use Rattle.cover_points.specs.declared.listing.Points.{Points}
-use Rattle.replay_model.specs.Step.{Closing}
+use Rattle.cover_marks.specs.cover_points.declared.listing.Points.{Points}
+use Rattle.step_parts.specs.replay_model.Step.{Closing}
 use Rattle.toggle_laws.specs.Turns.{MarksInTurn}
 use Rattle.step_marks.specs.Marked.{IsOver, IsSeenAfter}
 use Rattle.step_marks.proofs.marks.mark_moved.Given as goal

@@ -1,7 +1,7 @@
 use Rattle.std.proofs.Common.{◌∙◌, map, ap}
 use Rattle.std.proofs.lemmas.List.{take_all}
 use Rattle.design_model.specs.View.{process_view}
-use Rattle.design_targets.proofs.Lists.{lists_grow}
+use Rattle.settling.proofs.design_targets.Lists.{lists_grow}
 use Rattle.step_runs.specs.Rows.{written_names}
 use Rattle.step_runs.proofs.rows.written_lists.Goals as goal
 

@@ -1,14 +1,14 @@
 use Rattle.std.proofs.Common.{◌≡◌, ℕ, ◌+◌, ◌<◌, ◌≤◌, ◌++◌, length, map}
 use Rattle.std.specs.List.{All}
 use Rattle.body_replay.specs.Store.{Kept}
-use Rattle.cover_marks.specs.Marks.{AreMarksOf}
+use Rattle.run_marks.specs.cover_marks.Marks.{AreMarksOf}
 use Rattle.design_model.specs.Design.{Design, IsClocked, process_at}
 use Rattle.design_model.specs.View.{design_view}
 use Rattle.early_sets.specs.WakeState.{state_of}
-use Rattle.replay_model.specs.Step.{Closing, clocked_run, settle_start}
-use Rattle.step_parts.specs.AtStep.{AtStep}
-use Rattle.step_values.specs.Vectors.{FitsSignals}
-use Rattle.store_knowledge.specs.Knows.{Knows}
+use Rattle.settling.specs.replay_model.Step.{Closing, clocked_run, settle_start}
+use Rattle.settling.specs.step_parts.AtStep.{AtStep}
+use Rattle.settling.specs.step_values.Vectors.{FitsSignals}
+use Rattle.settling.specs.store_knowledge.Knows.{Knows}
 use Rattle.step_runs.specs.Runs.{IsRunOf, is_ordered}
 use Rattle.step_runs.proofs.Listed.{HasLed}
 use Rattle.step_runs.proofs.runs.run_all.Given as goal

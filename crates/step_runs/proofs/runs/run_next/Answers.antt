@@ -3,7 +3,7 @@ use Rattle.design_model.specs.Lawful.{IsLawfulDesign}
 use Rattle.design_model.specs.View.{design_view}
 use Rattle.early_sets.specs.WakeState.{state_of}
 use Rattle.step_runs.proofs.Marking.{at_point, same_marks, same_points, step_after}
-use Rattle.cover_marks.specs.Marks.{AreMarksOf}
+use Rattle.run_marks.specs.cover_marks.Marks.{AreMarksOf}
 use Rattle.step_runs.proofs.runs.run_next.Goals as goal
 
 pub returns-clause-points : goal.returns-clause-points

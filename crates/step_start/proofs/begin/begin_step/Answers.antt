@@ -5,15 +5,15 @@ use Rattle.body_store.proofs.Lawful.{premises}
 use Rattle.early_sets.specs.WakeState.{state_of}
 use Rattle.run_order.specs.Ranked.{AreRanksOf}
 use Rattle.process_targets.specs.Rows.{AreTargetRows}
-use Rattle.step_changes.specs.Changes.{AreChangedSignals, AreSignalsOf}
+use Rattle.step_parts.specs.step_changes.Changes.{AreChangedSignals, AreSignalsOf}
 use Rattle.step_parts.specs.Due.{IsDueStep, step_of}
-use Rattle.step_values.specs.Dumped.{AreDumped, HaveCodes}
-use Rattle.step_values.specs.Loose.{HaveRows, has_code}
+use Rattle.still_check.specs.step_values.Dumped.{AreDumped, HaveCodes}
+use Rattle.still_check.specs.step_values.Loose.{HaveRows, has_code}
 use Rattle.still_check.specs.Stays.{IsLeastMoved}
 use Rattle.step_start.proofs.Joined.{begun, contradicted, least}
 use Rattle.step_start.proofs.Members.{have_codes, have_rows}
 use Rattle.step_start.proofs.Named.{named}
-use Rattle.store_knowledge.specs.Knows.{Knows}
+use Rattle.step_parts.specs.store_knowledge.Knows.{Knows}
 use Rattle.step_start.proofs.begin.begin_step.Goals as goal
 
 -- ---- what the calls ask

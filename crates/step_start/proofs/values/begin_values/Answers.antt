@@ -1,9 +1,9 @@
 use Rattle.std.proofs.Common.{subst, sym}
-use Rattle.step_values.specs.Dumped.{AreDumped, HaveCodes}
-use Rattle.step_values.specs.Loose.{HaveRows}
-use Rattle.step_values.specs.Vectors.{FitsSignals}
-use Rattle.step_values.proofs.Forgets.{here}
-use Rattle.step_values.proofs.Starting.{has_values}
+use Rattle.still_check.specs.step_values.Dumped.{AreDumped, HaveCodes}
+use Rattle.still_check.specs.step_values.Loose.{HaveRows}
+use Rattle.still_check.specs.step_values.Vectors.{FitsSignals}
+use Rattle.still_check.proofs.step_values.Forgets.{here}
+use Rattle.still_check.proofs.step_values.Starting.{has_values}
 use Rattle.step_start.proofs.values.begin_values.Goals as goal
 
 pub loosen_woken-requires-clause-fits : goal.loosen_woken-requires-clause-fits

@@ -1,9 +1,9 @@
 use Rattle.std.proofs.Common.{[], refl, subst}
 use Rattle.std.proofs.lemmas.List.{take_all}
 use Rattle.process_targets.specs.Targets.{row_has}
-use Rattle.step_values.specs.Loose.{some_row_has}
-use Rattle.step_values.specs.Loosens.{Loosens}
-use Rattle.step_values.proofs.Forgets.{nothing_yet, rows_step}
+use Rattle.still_check.specs.step_values.Loose.{some_row_has}
+use Rattle.still_check.specs.step_values.Loosens.{Loosens}
+use Rattle.still_check.proofs.step_values.Forgets.{nothing_yet, rows_step}
 use Rattle.step_start.proofs.values.loosen_woken.Goals as goal
 
 pub loop-process-init : goal.loop-process-init

@@ -1,6 +1,6 @@
 use Rattle.std.proofs.Common.{take}
-use Rattle.step_values.specs.Loose.{some_row_has}
-use Rattle.step_values.specs.Loosens.{Loosens}
+use Rattle.still_check.specs.step_values.Loose.{some_row_has}
+use Rattle.still_check.specs.step_values.Loosens.{Loosens}
 use Rattle.step_start.proofs.values.loosen_woken.Given as goal
 
 -- the rows of the processes so far are made unknown

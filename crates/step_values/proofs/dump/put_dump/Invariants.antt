@@ -2,7 +2,7 @@ use Rattle.std.proofs.Common.{◌≡◌, take}
 use Rattle.event_machine.specs.Cell.{Values}
 use Rattle.four_state.specs.declared.bit.Bit.{Bit}
 use Rattle.design_model.specs.Design.{Design}
-use Rattle.body_replay.specs.Store.{Kept}
+use Rattle.store_knowledge.specs.body_replay.Store.{Kept}
 use Rattle.store_knowledge.specs.Knows.{Knows}
 use Rattle.step_values.specs.Dumped.{AreDumped, putting}
 use Rattle.step_values.proofs.dump.put_dump.Given as goal

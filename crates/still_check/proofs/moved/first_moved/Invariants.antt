@@ -1,6 +1,6 @@
 use Rattle.std.proofs.Common.{take}
 use Rattle.early_sets.specs.WakeState.{state_of}
-use Rattle.replay_model.specs.Step.{Closing}
+use Rattle.step_values.specs.replay_model.Step.{Closing}
 use Rattle.still_check.specs.Stays.{IsAtStart, IsLeastMoved}
 use Rattle.still_check.proofs.moved.first_moved.Given as goal
 

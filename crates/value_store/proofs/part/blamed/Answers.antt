@@ -1,5 +1,5 @@
 use Rattle.std.proofs.Common.{ap, ◌∙◌}
-use Rattle.known_state.specs.Partly.{with_blame}
+use Rattle.body_replay.specs.known_state.Partly.{with_blame}
 use Rattle.value_store.proofs.Left.{joined_self}
 use Rattle.value_store.proofs.part.blamed.Goals as goal
 

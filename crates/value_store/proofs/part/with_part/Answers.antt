@@ -1,8 +1,8 @@
 use Rattle.std.proofs.Common.{◌≡◌, ◌≤◌, true, Some, None, length, ap, arith, refl, sym, if◌then◌else◌, ◌∙◌, ℤ, neg_ℤ, rules, w64, to_z, of_z, SFits}
 use Rattle.std.proofs.lemmas.Int.{ints}
 use Rattle.four_state.specs.Parts.{index}
-use Rattle.known_state.specs.Partly.{is_whole}
-use Rattle.design_model.specs.Value.{offset_option}
+use Rattle.body_replay.specs.known_state.Partly.{is_whole}
+use Rattle.body_replay.specs.design_model.Value.{offset_option}
 use Rattle.value_store.specs.Parts.{bits_over, placed_bits, whole_offset}
 use Rattle.value_store.proofs.Placed.{placed_is, written_placed}
 use Rattle.value_store.proofs.part.with_part.Goals as goal

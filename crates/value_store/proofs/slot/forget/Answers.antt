@@ -1,5 +1,5 @@
 use Rattle.std.proofs.Common.{◌≡◌, ◌+◌, ◌++◌, ◌<◌, ℕ, Bool, None, length, replicate, drop, take, get_or, set, subst, sym, ap₂, arith, ◌∙◌}
-use Rattle.known_state.specs.Partly.{Partly}
+use Rattle.body_replay.specs.known_state.Partly.{Partly}
 use Rattle.value_store.specs.Slots.{blank_of, forgotten}
 use Rattle.value_store.specs.declared.slot.Slot.{Slot}
 use Rattle.value_store.proofs.Slots.{forgotten_more}

@@ -1,6 +1,6 @@
 use Rattle.std.proofs.Common.{◌≡◌, ◌∙◌, length, sym, ap, subst, arith}
 use Rattle.std.specs.List.{Contains}
-use Rattle.early_sets.proofs.Membership.{is_in_from, is_in_gives}
+use Rattle.process_order.proofs.early_sets.Membership.{is_in_from, is_in_gives}
 use Rattle.design_model.specs.View.{design_view, process_view}
 use Rattle.process_names.specs.Laws.{has}
 use Rattle.wake_bits.specs.Mentions.{mentioned_names}

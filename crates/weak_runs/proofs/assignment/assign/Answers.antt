@@ -2,9 +2,9 @@ use Rattle.std.proofs.Common.{None, ap, length, subst, sym, ◌∙◌, ◌≤◌
 use Rattle.std.proofs.lemmas.Bool.{and_parts}
 use Rattle.design_model.specs.Shape.{is_target}
 use Rattle.design_model.specs.View.{target_view, term_view}
-use Rattle.assignments.specs.Pieces.{AllTake, widths}
-use Rattle.assignments.proofs.AllParts.{pieces_take_them, pieces_width}
-use Rattle.assignments.proofs.Assigned.{set_narrow}
+use Rattle.open_tests.specs.assignments.Pieces.{AllTake, widths}
+use Rattle.open_tests.proofs.assignments.AllParts.{pieces_take_them, pieces_width}
+use Rattle.open_tests.proofs.assignments.Assigned.{set_narrow}
 use Rattle.weak_runs.specs.Makes.{at}
 use Rattle.weak_runs.specs.Unread.{unread_scene}
 use Rattle.weak_runs.proofs.Parts.{count_is, makes_set}

@@ -1,7 +1,7 @@
 use Rattle.std.proofs.Common.{ap, sym, ◌∙◌, ◌≡◌}
-use Rattle.body_replay.specs.KnownBits.{extend_partly}
-use Rattle.assignments.specs.Pieces.{widths}
-use Rattle.assignments.proofs.Assigned.{made_width}
+use Rattle.value_store.specs.body_replay.KnownBits.{extend_partly}
+use Rattle.open_tests.specs.assignments.Pieces.{widths}
+use Rattle.open_tests.proofs.assignments.Assigned.{made_width}
 use Rattle.weak_runs.specs.Makes.{at}
 use Rattle.weak_runs.proofs.Parts.{makes_no_parts}
 use Rattle.weak_runs.proofs.assignment.make_weakly.Goals as goal

@@ -1,6 +1,6 @@
 use Rattle.std.proofs.Common.{ap, arith, length}
 use Rattle.design_model.specs.View.{target_view, term_view}
-use Rattle.assignments.proofs.Assigned.{set_narrow}
+use Rattle.open_tests.proofs.assignments.Assigned.{set_narrow}
 use Rattle.weak_runs.proofs.assignment.unread_value.Goals as goal
 
 pub locate-first-requires-clause-room : goal.locate-first-requires-clause-room

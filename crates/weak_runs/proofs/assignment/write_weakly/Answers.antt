@@ -1,13 +1,13 @@
 use Rattle.std.proofs.Common.{◌≡◌, ◌∙◌, ◌+◌, ◌-◌, ◌++◌, ◌∷◌, ◌≤◌, [], ap, ap₂, append-nil, arith, drop, length, refl, subst, sym, take}
 use Rattle.std.proofs.lemmas.List.{drop_all}
-use Rattle.body_replay.specs.Store.{keep_all, weaken}
+use Rattle.value_store.specs.body_replay.Store.{keep_all, weaken}
 use Rattle.body_calls.specs.Lvalues.{Takes, lvalue_writes}
 use Rattle.body_calls.specs.Rooms.{Rooms}
 use Rattle.body_calls.specs.Under.{kept_with}
-use Rattle.assignments.specs.Pieces.{AllTake, pieces_writes, widths}
-use Rattle.assignments.proofs.AllParts.{widths_drop}
-use Rattle.assignments.proofs.Cutting.{cut_length}
-use Rattle.assignments.proofs.Going.{pieces_from, rest_bits}
+use Rattle.open_tests.specs.assignments.Pieces.{AllTake, pieces_writes, widths}
+use Rattle.open_tests.proofs.assignments.AllParts.{widths_drop}
+use Rattle.open_tests.proofs.assignments.Cutting.{cut_length}
+use Rattle.open_tests.proofs.assignments.Going.{pieces_from, rest_bits}
 use Rattle.weak_runs.specs.Makes.{at}
 use Rattle.weak_runs.proofs.Making.{GoesOn, goes_end, goes_further, weaken_append}
 use Rattle.weak_runs.proofs.assignment.write_weakly.Goals as goal

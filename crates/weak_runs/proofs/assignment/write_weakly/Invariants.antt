@@ -1,6 +1,6 @@
 use Rattle.std.proofs.Common.{◌≡◌, [], drop, take}
-use Rattle.body_replay.specs.Store.{weaken}
-use Rattle.assignments.specs.Pieces.{AllTake, pieces_writes, widths}
+use Rattle.value_store.specs.body_replay.Store.{weaken}
+use Rattle.open_tests.specs.assignments.Pieces.{AllTake, pieces_writes, widths}
 use Rattle.weak_runs.specs.Makes.{at}
 use Rattle.weak_runs.proofs.Making.{GoesOn}
 use Rattle.weak_runs.proofs.assignment.write_weakly.Given as goal

@@ -5,9 +5,9 @@ use Rattle.design_model.specs.Shape.{all_signed_of, are_bodies, are_shaped, is_a
 use Rattle.design_model.specs.Tree as tree
 use Rattle.design_model.specs.View.{arms_of, stmt_view, stmts_of, term_view, terms_of}
 use Rattle.design_model.specs.declared.tree.Stmt.{the_lemmas}
-use Rattle.body_replay.specs.Contract.{weak_queue, weak_queue_in, weak_queue_of, weak_writes, weak_writes_in, weak_writes_of}
+use Rattle.value_store.specs.body_replay.Contract.{weak_queue, weak_queue_in, weak_queue_of, weak_writes, weak_writes_in, weak_writes_of}
 use Rattle.value_store.specs.Rooms.{arm_view}
-use Rattle.scene_laws.proofs.BodyContexts.{in_arms}
+use Rattle.open_tests.proofs.scene_laws.BodyContexts.{in_arms}
 use Rattle.open_tests.specs.Views.{else_view}
 use Rattle.open_tests.specs.Weights.{all_queues, arms_queues, queues}
 use Rattle.open_tests.proofs.Cases.{arms_from}

@@ -2,7 +2,7 @@ use Rattle.std.proofs.Common.{◌≡◌, ◌+◌, ◌*◌, Bool, drop, map, max,
 use Rattle.design_model.specs.Shape.{are_bodies, is_arms}
 use Rattle.design_model.specs.View.{arms_of, stmt_view, stmts_of}
 use Rattle.design_model.specs.declared.tree.Stmt.{size-Stmt}
-use Rattle.body_replay.specs.Contract.{weak_queue_in, weak_queue_of, weak_writes_in, weak_writes_of}
+use Rattle.value_store.specs.body_replay.Contract.{weak_queue_in, weak_queue_of, weak_writes_in, weak_writes_of}
 use Rattle.value_store.specs.Rooms.{arm_view}
 use Rattle.open_tests.specs.Weights.{all_queues, arms_queues}
 use Rattle.weak_runs.specs.Makes.{at}

@@ -2,7 +2,7 @@ use Rattle.std.proofs.Common.{◌≡◌, ◌+◌, ◌<◌, ◌++◌, ◌∷◌, 
 use Rattle.std.specs.List.{All}
 use Rattle.std.proofs.lemmas.List.{take_more}
 use Rattle.std.proofs.lemmas.List.Elements.{All-nil, All-push, All-take}
-use Rattle.body_replay.specs.KnownBits.{KnownBits}
+use Rattle.memory_rebuild.specs.body_replay.KnownBits.{KnownBits}
 use Rattle.word_log.specs.declared.entry.OverwrittenWord.{OverwrittenWord}
 use Rattle.word_log.specs.declared.memory.StoredMemory.{StoredMemory}
 use Rattle.word_log.specs.Entries.{Fits, Joined, Seen, flags, words}

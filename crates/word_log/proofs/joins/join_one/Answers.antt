@@ -1,7 +1,7 @@
 use Rattle.std.proofs.Common.{◌≡◌, ◌==◌, ◌&&◌, ◌||◌, Bool, true, false, if◌then◌else◌, List, ℕ, ap, get_or, length, refl, set, subst, sym, ◌∙◌}
 use Rattle.std.proofs.lemmas.List.{get_or_default}
 use Rattle.known_state.specs.Join.{joined}
-use Rattle.body_replay.specs.KnownBits.{KnownBits}
+use Rattle.memory_rebuild.specs.body_replay.KnownBits.{KnownBits}
 use Rattle.memory_rebuild.proofs.Joins.{length-joined}
 use Rattle.word_log.specs.declared.entry.OverwrittenWord.{OverwrittenWord}
 use Rattle.word_log.specs.declared.memory.StoredMemory.{StoredMemory}

@@ -1,7 +1,7 @@
 use Rattle.std.proofs.Common.{◌≡◌, ◌+◌, ◌<◌, ◌≤◌, ◌++◌, ℕ, List, ap, ap₂, drop, is_some, length, map, refl, subst, sym, take, arith, ◌∙◌}
 use Rattle.design_model.specs.Design.{signal_at}
 use Rattle.design_model.specs.View.{design_view}
-use Rattle.value_store.specs.Signals.{read_at}
+use Rattle.write_log.specs.value_store.Signals.{read_at}
 use Rattle.write_log.specs.Logs.{around, innermost, left_of, reads_of}
 use Rattle.word_log.specs.declared.memory.StoredMemory.{StoredMemory}
 use Rattle.word_log.specs.Entries.{IsCommon}

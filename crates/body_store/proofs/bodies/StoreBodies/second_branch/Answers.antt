@@ -1,6 +1,6 @@
 use Rattle.std.proofs.Common.{◌≡◌, ◌+◌, ◌≤◌, ◌++◌, ◌∷◌, Some, true, List, ap, ap₂, drop, is_some, length, map, refl, subst, sym, take, arith, ◌∙◌}
 use Rattle.std.proofs.Math.Path.{fun_ext}
-use Rattle.value_store.specs.Signals.{read_at}
+use Rattle.write_log.specs.value_store.Signals.{read_at}
 use Rattle.write_log.specs.Logs.{around, innermost, reads_of}
 use Rattle.word_log.specs.declared.memory.StoredMemory.{StoredMemory}
 use Rattle.word_log.specs.Logs as w

@@ -1,5 +1,5 @@
 use Rattle.design_model.specs.View.{design_view}
-use Rattle.value_store.specs.Signals.{read_at}
+use Rattle.write_log.specs.value_store.Signals.{read_at}
 use Rattle.body_store.specs.Fitting.{memory_in}
 use Rattle.body_store.proofs.Fit.{reads_signal}
 use Rattle.body_store.proofs.reads.StoreReads.signal.Goals as goal

@@ -1,7 +1,7 @@
 use Rattle.std.proofs.Common.{◌-◌, subst, sym}
 use Rattle.design_model.specs.View.{design_view}
-use Rattle.memory_rebuild.specs.Words.{StandsFor}
-use Rattle.value_store.specs.Signals.{read_at}
+use Rattle.word_log.specs.memory_rebuild.Words.{StandsFor}
+use Rattle.write_log.specs.value_store.Signals.{read_at}
 use Rattle.body_store.specs.Fitting.{memory_in}
 use Rattle.body_store.specs.Scenes.{kept_by, signal_count}
 use Rattle.body_store.proofs.Fit.{memory_stands}

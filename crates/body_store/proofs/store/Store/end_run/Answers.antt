@@ -1,8 +1,8 @@
 use Rattle.std.proofs.Common.{◌<◌, ◌≤◌, ap, get_or, length, subst, sym, take, ◌∙◌, arith}
 use Rattle.std.proofs.lemmas.List.{take_all, take_more}
 use Rattle.design_model.specs.View.{design_view}
-use Rattle.body_replay.specs.Replay.{Blames}
-use Rattle.body_replay.specs.Store.{Kept}
+use Rattle.body_calls.specs.body_replay.Replay.{Blames}
+use Rattle.body_calls.specs.body_replay.Store.{Kept}
 use Rattle.body_store.specs.Ended.{ended, settled}
 use Rattle.body_store.specs.Held.{HoldsStore}
 use Rattle.body_store.proofs.Ending.{ended_more}

@@ -1,7 +1,7 @@
 use Rattle.std.proofs.Common.{◌≡◌, [], take}
 use Rattle.design_model.specs.View.{design_view}
-use Rattle.body_replay.specs.Replay.{Blames}
-use Rattle.body_replay.specs.Store.{Kept}
+use Rattle.body_calls.specs.body_replay.Replay.{Blames}
+use Rattle.body_calls.specs.body_replay.Store.{Kept}
 use Rattle.body_store.specs.Bodies.{around_of, rooms_of}
 use Rattle.body_store.specs.Ended.{ended}
 use Rattle.body_store.specs.Held.{HoldsStore}

@@ -1,7 +1,7 @@
 use Rattle.std.proofs.Common.{◌≡◌, ◌+◌, ◌<◌, ap, arith, get_or, length, refl, set, subst, sym, ◌∙◌}
 use Rattle.std.proofs.lemmas.List.{get_or_default}
 use Rattle.design_model.specs.Design.{no_memory}
-use Rattle.memory_rebuild.specs.Words.{unwritten}
+use Rattle.word_log.specs.memory_rebuild.Words.{unwritten}
 use Rattle.word_log.specs.declared.memory.StoredMemory.{StoredMemory}
 use Rattle.body_store.specs.Fitting.{FitsDesign, FitsWords, memory_in}
 use Rattle.body_store.specs.Made.{shape_of}

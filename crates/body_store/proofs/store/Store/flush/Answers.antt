@@ -2,7 +2,7 @@ use Rattle.std.proofs.Common.{◌≡◌, ◌-◌, ap₂, ◌∙◌}
 use Rattle.std.proofs.Common.{◌<◌, ◌≤◌, ap, get_or, length, subst, take, ◌∙◌, arith}
 use Rattle.std.proofs.lemmas.List.{take_all}
 use Rattle.design_model.specs.View.{design_view}
-use Rattle.body_replay.specs.Store.{Kept, keep_all}
+use Rattle.body_calls.specs.body_replay.Store.{Kept, keep_all}
 use Rattle.body_calls.specs.Rooms.{Rooms}
 use Rattle.body_store.specs.Bodies.{queued_of}
 use Rattle.body_store.specs.Held.{HoldsStore}

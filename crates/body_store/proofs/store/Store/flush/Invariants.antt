@@ -1,6 +1,6 @@
 use Rattle.std.proofs.Common.{◌≡◌, [], take}
 use Rattle.design_model.specs.View.{design_view}
-use Rattle.body_replay.specs.Store.{Kept, keep_all}
+use Rattle.body_calls.specs.body_replay.Store.{Kept, keep_all}
 use Rattle.body_store.specs.Bodies.{around_of, rooms_of}
 use Rattle.body_store.specs.Held.{HoldsStore}
 use Rattle.body_store.specs.Made.{unblamed}

@@ -1,10 +1,10 @@
 use Rattle.std.proofs.Common.{◌≡◌, ◌+◌, ◌<◌, ◌≤◌, ap, arith, length, map, ne_eqb, refl, subst, sym, ◌∙◌, ⊎_elim}
 use Rattle.std.proofs.lemmas.Bool.{cases_eq}
 use Rattle.design_model.specs.View.{design_view}
-use Rattle.memory_rebuild.specs.Words.{KnownWords, StandsFor, unwritten}
-use Rattle.memory_rebuild.proofs.Laws.{unwritten_stands}
-use Rattle.value_store.specs.Held.{HoldsSignals}
-use Rattle.value_store.specs.Signals.{shape_of, unknown_from, unknown_signals}
+use Rattle.word_log.specs.memory_rebuild.Words.{KnownWords, StandsFor, unwritten}
+use Rattle.word_log.proofs.memory_rebuild.Laws.{unwritten_stands}
+use Rattle.write_log.specs.value_store.Held.{HoldsSignals}
+use Rattle.write_log.specs.value_store.Signals.{shape_of, unknown_from, unknown_signals}
 use Rattle.body_store.specs.Made.{nothing}
 use Rattle.body_store.specs.Veils.{kept_words}
 use Rattle.body_store.proofs.Blank.{unknown_holds}

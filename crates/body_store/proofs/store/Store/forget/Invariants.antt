@@ -1,5 +1,5 @@
 use Rattle.std.proofs.Common.{◌≡◌, ℕ, ◌<◌, ◌≤◌, length}
-use Rattle.memory_rebuild.specs.Words.{unwritten}
+use Rattle.word_log.specs.memory_rebuild.Words.{unwritten}
 use Rattle.body_store.specs.Fitting.{memory_in}
 use Rattle.body_store.specs.Veils.{kept_words}
 use Rattle.body_store.proofs.store.Store.forget.Given as goal

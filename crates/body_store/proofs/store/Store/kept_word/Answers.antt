@@ -1,6 +1,6 @@
 use Rattle.std.proofs.Common.{length, subst, sym}
 use Rattle.design_model.specs.View.{design_view}
-use Rattle.memory_rebuild.specs.Words.{StandsFor}
+use Rattle.word_log.specs.memory_rebuild.Words.{StandsFor}
 use Rattle.body_store.specs.Veils.{kept_memory}
 use Rattle.body_store.proofs.Between.{held_words}
 use Rattle.body_store.proofs.store.Store.kept_word.Goals as goal

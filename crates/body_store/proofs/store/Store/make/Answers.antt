@@ -1,6 +1,6 @@
 use Rattle.std.proofs.Common.{subst, sym}
 use Rattle.design_model.specs.View.{design_view}
-use Rattle.body_replay.specs.Store.{keep_all}
+use Rattle.body_calls.specs.body_replay.Store.{keep_all}
 use Rattle.body_calls.specs.Lvalues.{if_certain, lvalue_writes}
 use Rattle.body_store.specs.Held.{HoldsStore}
 use Rattle.body_store.specs.Made.{unblamed}

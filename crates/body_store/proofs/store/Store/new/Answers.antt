@@ -1,7 +1,7 @@
 use Rattle.std.proofs.Common.{◌≡◌, ◌+◌, ◌-◌, [], ap, ap₂, arith, is_some, min, length, map, subst, sym, ◌∙◌}
 use Rattle.design_model.specs.View.{design_view, process_view}
-use Rattle.value_store.specs.Rooms.{as_usize, processes_queued}
-use Rattle.value_store.specs.Signals.{hidden_at, shape_of, unknown_signals}
+use Rattle.write_log.specs.value_store.Rooms.{as_usize, processes_queued}
+use Rattle.write_log.specs.value_store.Signals.{hidden_at, shape_of, unknown_signals}
 use Rattle.write_log.specs.Logs.{around, reads_of}
 use Rattle.std.proofs.Math.Nat.{min-eq_left}
 use Rattle.word_log.specs.Logs as w

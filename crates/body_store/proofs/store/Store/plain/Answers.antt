@@ -1,7 +1,7 @@
 use Rattle.std.proofs.Common.{◌≡◌, ℕ, ◌<◌, ◌≤◌, [], if◌then◌else◌, ap, ap₂, arith, get_or, length, subst, sym, ◌∙◌}
 use Rattle.std.proofs.lemmas.List.{take_all}
 use Rattle.design_model.specs.View.{design_view}
-use Rattle.value_store.specs.Signals.{kept_at, read_at}
+use Rattle.write_log.specs.value_store.Signals.{kept_at, read_at}
 use Rattle.write_log.specs.Entries.{has}
 use Rattle.word_log.specs.Logs as w
 use Rattle.write_log.specs.Logs.{around, reads_of}

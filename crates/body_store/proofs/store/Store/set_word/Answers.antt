@@ -1,10 +1,10 @@
 use Rattle.std.proofs.Common.{◌≡◌, ◌-◌, ◌<◌, ap, length, subst, sym, ◌∙◌}
 use Rattle.design_model.specs.Design.{memory_at}
 use Rattle.design_model.specs.View.{design_view}
-use Rattle.body_replay.specs.KnownBits.{KnownBits}
-use Rattle.body_replay.specs.Store.{keep_all, write_word}
-use Rattle.memory_rebuild.specs.Words.{StandsFor, cell_writes}
-use Rattle.value_store.specs.Held.{HoldsSignals, itself}
+use Rattle.body_calls.specs.body_replay.KnownBits.{KnownBits}
+use Rattle.body_calls.specs.body_replay.Store.{keep_all, write_word}
+use Rattle.word_log.specs.memory_rebuild.Words.{StandsFor, cell_writes}
+use Rattle.write_log.specs.value_store.Held.{HoldsSignals, itself}
 use Rattle.body_calls.specs.Lvalues.{if_certain}
 use Rattle.body_store.specs.Held.{HoldsMemories}
 use Rattle.body_store.specs.Made.{unblamed}

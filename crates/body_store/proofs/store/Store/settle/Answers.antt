@@ -2,7 +2,7 @@ use Rattle.std.proofs.Common.{◌≡◌, ◌+◌, ◌-◌, ◌<◌, ◌≤◌, f
 use Rattle.std.proofs.lemmas.Bool.Decides.{nat_tests}
 use Rattle.std.proofs.lemmas.List.{get_or_read}
 use Rattle.design_model.specs.View.{design_view}
-use Rattle.value_store.specs.Held.{HoldsSignals}
+use Rattle.write_log.specs.value_store.Held.{HoldsSignals}
 use Rattle.word_log.specs.Logs as w
 use Rattle.write_log.specs.Logs.{reads_of}
 use Rattle.word_log.specs.declared.memory.StoredMemory.{StoredMemory}

@@ -1,5 +1,5 @@
 use Rattle.std.proofs.Common.{ap}
-use Rattle.value_store.specs.Signals.{read_at}
+use Rattle.write_log.specs.value_store.Signals.{read_at}
 use Rattle.word_log.specs.Logs as w
 use Rattle.write_log.specs.Logs.{reads_of}
 use Rattle.body_store.specs.Scenes.{scene_with}

@@ -1,7 +1,7 @@
 use Rattle.std.proofs.Common.{◌≡◌, ◌-◌, ◌<◌, ap, length, subst, sym, ◌∙◌}
 use Rattle.design_model.specs.View.{design_view}
-use Rattle.memory_rebuild.specs.Words.{unwritten}
-use Rattle.value_store.specs.Held.{HoldsSignals}
+use Rattle.word_log.specs.memory_rebuild.Words.{unwritten}
+use Rattle.write_log.specs.value_store.Held.{HoldsSignals}
 use Rattle.body_store.specs.Made.{without}
 use Rattle.body_store.specs.Veils.{SameButWords, kept_words}
 use Rattle.body_store.proofs.Fit.{among_memories, from_memories}

@@ -1,6 +1,6 @@
 use Rattle.std.proofs.Common.{◌+◌, ◌<◌, ap, arith, length, refl, set, subst, sym, ◌∙◌}
 use Rattle.std.specs.Vec.{with_item}
-use Rattle.memory_rebuild.specs.Words.{KnownWords, unwritten}
+use Rattle.word_log.specs.memory_rebuild.Words.{KnownWords, unwritten}
 use Rattle.word_log.specs.declared.memory.StoredMemory.{StoredMemory}
 use Rattle.body_store.specs.Fitting.{FitsDesign, FitsWords}
 use Rattle.body_store.proofs.Fit.{fit_shapes, logged_too}

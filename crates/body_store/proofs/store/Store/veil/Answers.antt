@@ -1,7 +1,7 @@
 use Rattle.std.proofs.Common.{◌≡◌, ◌+◌, ◌-◌, ◌<◌, ap, ap₂, arith, length, subst, sym, ◌∙◌}
 use Rattle.design_model.specs.View.{design_view}
-use Rattle.value_store.specs.Held.{HoldsSignals}
-use Rattle.value_store.specs.Signals.{read_at, shape_at}
+use Rattle.write_log.specs.value_store.Held.{HoldsSignals}
+use Rattle.write_log.specs.value_store.Signals.{read_at, shape_at}
 use Rattle.word_log.specs.Logs as w
 use Rattle.write_log.specs.Logs.{reads_of}
 use Rattle.body_store.specs.Fitting.{memory_in}

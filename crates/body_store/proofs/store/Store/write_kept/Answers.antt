@@ -1,8 +1,8 @@
 use Rattle.std.proofs.Common.{◌+◌, ◌<◌, arith, length, refl, set, subst, sym, ◌∙◌}
 use Rattle.std.specs.Vec.{with_item}
 use Rattle.design_model.specs.View.{design_view}
-use Rattle.body_replay.specs.Store.{keep_all}
-use Rattle.memory_rebuild.specs.Words.{StandsFor, cell_writes}
+use Rattle.body_calls.specs.body_replay.Store.{keep_all}
+use Rattle.word_log.specs.memory_rebuild.Words.{StandsFor, cell_writes}
 use Rattle.word_log.specs.declared.memory.StoredMemory.{StoredMemory}
 use Rattle.body_store.proofs.KeptWords.{kept_fits, kept_plain, kept_under, plain_set, under_set, veils_set, written_fits}
 use Rattle.body_store.proofs.Memories.{fits_set}

@@ -1,8 +1,8 @@
 use Rattle.std.proofs.Common.{ap, if◌then◌else◌, length, subst, sym, ◌∙◌}
 use Rattle.std.specs.Option.{unwrap_or}
 use Rattle.known_state.specs.Partly.{is_whole}
-use Rattle.value_store.specs.Signals.{read_at}
-use Rattle.value_store.proofs.Left.{joined_self}
+use Rattle.write_log.specs.value_store.Signals.{read_at}
+use Rattle.write_log.proofs.value_store.Left.{joined_self}
 use Rattle.body_calls.specs.Lvalues.{Like, written}
 use Rattle.body_calls.specs.declared.lvalue.Lvalue.TheVariants.{Part}
 use Rattle.body_store.specs.Scenes.{scene_of, scene_with}

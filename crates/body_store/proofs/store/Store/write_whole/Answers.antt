@@ -1,7 +1,7 @@
 use Rattle.std.proofs.Common.{ap, length, subst, sym, ◌∙◌}
 use Rattle.std.specs.Option.{unwrap_or}
 use Rattle.known_state.specs.Partly.{with_blame}
-use Rattle.value_store.specs.Signals.{read_at}
+use Rattle.write_log.specs.value_store.Signals.{read_at}
 use Rattle.body_calls.specs.Lvalues.{Like, written}
 use Rattle.body_calls.specs.declared.lvalue.Lvalue.TheVariants.{Signal}
 use Rattle.body_store.specs.Scenes.{scene_of, scene_with}

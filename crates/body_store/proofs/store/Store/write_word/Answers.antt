@@ -4,10 +4,10 @@ use Rattle.std.proofs.Math.Nat.{min-le_right}
 use Rattle.std.proofs.lemmas.List.{get_or_default}
 use Rattle.design_model.specs.Design.{Design, memory_at}
 use Rattle.design_model.specs.View.{design_view}
-use Rattle.body_replay.specs.KnownBits.{KnownBits}
-use Rattle.body_replay.specs.Store.{Kept, keep_all, write_word}
-use Rattle.memory_rebuild.specs.Words.{StandsFor, count}
-use Rattle.value_store.specs.Signals.{read_at}
+use Rattle.body_calls.specs.body_replay.KnownBits.{KnownBits}
+use Rattle.body_calls.specs.body_replay.Store.{Kept, keep_all, write_word}
+use Rattle.word_log.specs.memory_rebuild.Words.{StandsFor, count}
+use Rattle.write_log.specs.value_store.Signals.{read_at}
 use Rattle.write_log.proofs.PutBack.{under_self}
 use Rattle.write_log.specs.Logs.{around, is_inside, reads_of}
 use Rattle.word_log.specs.declared.memory.StoredMemory.{StoredMemory}

@@ -1,7 +1,7 @@
 use Rattle.std.proofs.Common.{◌≡◌, ◌∙◌, ◌<◌, ap, length, subst, sym}
 use Rattle.std.proofs.lemmas.List.{get_or_default}
 use Rattle.design_model.specs.Design.{Design, signal_at}
-use Rattle.cover_points.specs.declared.listing.Points.{Points}
+use Rattle.cover_marks.specs.cover_points.declared.listing.Points.{Points}
 use Rattle.cover_marks.specs.Marks.{AreMarksOf}
 use Rattle.signal_marks.specs.Toggled.{ListsBoth, MarksToggles}
 use Rattle.signal_marks.specs.Seen.{AreSeen, IsSeen, masks_of, no_toggles}

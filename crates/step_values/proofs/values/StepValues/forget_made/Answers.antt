@@ -1,7 +1,7 @@
 use Rattle.std.proofs.Common.{◌≡◌, ℕ, ◌<◌, length, map, subst, sym}
 use Rattle.std.specs.Prelude.{slice_set}
 use Rattle.design_model.specs.Design.{Design, signal_cells}
-use Rattle.body_replay.specs.Store.{Kept}
+use Rattle.store_knowledge.specs.body_replay.Store.{Kept}
 use Rattle.process_targets.specs.Targets.{has_bit}
 use Rattle.step_values.specs.Loose.{forgetting}
 use Rattle.step_values.specs.Vectors.{FitsSignals, StepVectors, vector_at}

@@ -1,6 +1,6 @@
 use Rattle.std.proofs.Common.{ap, ◌∙◌}
 use Rattle.design_model.specs.Design.{signal_cells}
-use Rattle.body_replay.specs.KnownBits.{unknown}
+use Rattle.value_store.specs.body_replay.KnownBits.{unknown}
 use Rattle.known_state.specs.Partly.{Partly}
 use Rattle.std.proofs.Common.{length}
 use Rattle.weak_runs.proofs.Unknown.{unknown_row}

@@ -4,8 +4,8 @@ use Rattle.four_state.specs.Vector.{Vector, fill}
 use Rattle.design_model.specs.Design.{memory_at}
 use Rattle.design_model.specs.declared.design.Range.{Range}
 use Rattle.known_state.specs.Partly.{Partly}
-use Rattle.body_replay.specs.KnownBits.{sure, unknown}
-use Rattle.body_replay.specs.Replay.{word_read}
+use Rattle.value_store.specs.body_replay.KnownBits.{sure, unknown}
+use Rattle.value_store.specs.body_replay.Replay.{word_read}
 use Rattle.term_replay.specs.Words.{IsOf}
 use Rattle.weak_runs.proofs.Unknown.{answer, read_length, unread_read}
 use Rattle.weak_runs.proofs.unread.UnreadReads.word.Goals as goal

@@ -1,6 +1,6 @@
 use Rattle.std.proofs.Common.{◌≡◌, ℕ, List, ap, get_or, length, set, subst, sym, true, ◌∙◌}
 use Rattle.std.proofs.lemmas.List.{get_or_default}
-use Rattle.body_replay.specs.Store.{keep_all, write_word}
+use Rattle.memory_rebuild.specs.body_replay.Store.{keep_all, write_word}
 use Rattle.memory_rebuild.specs.Words.{HaveWidth, IsIndex, StandsFor, count, word_after, word_at}
 use Rattle.word_log.specs.declared.memory.StoredMemory.{StoredMemory}
 use Rattle.word_log.specs.Keeps.{AfterWrite}

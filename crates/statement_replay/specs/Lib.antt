@@ -1,0 +1,1 @@
+pub use Rattle.open_tests.specs as open_tests

@@ -1,0 +1,1 @@
+pub use Rattle.table_laws.specs as table_laws
