@@ -4,9 +4,9 @@ use Rattle.std.proofs.lemmas.Bool.{eqb-true, eqb-false}
 use Rattle.std.proofs.lemmas.List.{get_or-map}
 use Rattle.body_replay.specs.known_state.Partly.{Partly, is_whole, with_blame}
 use Rattle.body_replay.specs.known_state.Join.{joined}
-use Rattle.body_replay.specs.design_model.Design.{Design, no_signal, signal_at, signal_cells}
-use Rattle.body_replay.specs.design_model.declared.design.Range.{Range}
-use Rattle.body_replay.specs.design_model.Assignment.{signal_range}
+use Rattle.design_model.specs.Design.{Design, no_signal, signal_at, signal_cells}
+use Rattle.design_model.specs.declared.design.Range.{Range}
+use Rattle.design_model.specs.Assignment.{signal_range}
 use Rattle.body_replay.specs.KnownBits.{all_sure}
 use Rattle.body_replay.specs.Store.{Kept, keep_all, write_bits, writes_of}
 use Rattle.body_replay.specs.Replay.{part_blame}

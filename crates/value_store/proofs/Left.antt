@@ -10,9 +10,9 @@ use Rattle.body_replay.specs.known_state.Partly.{Partly, are_sure, filled, is_wh
 use Rattle.body_replay.specs.known_state.Join.{join_bit, joined}
 use Rattle.body_replay.proofs.known_state.Allowed.{whole_filled}
 use Rattle.body_replay.proofs.known_state.Cases.{both_true}
-use Rattle.body_replay.specs.design_model.Design.{Design, signal_at, signal_cells}
-use Rattle.body_replay.specs.design_model.Value.{offset_option}
-use Rattle.body_replay.specs.design_model.Assignment.{signal_range}
+use Rattle.design_model.specs.Design.{Design, signal_at, signal_cells}
+use Rattle.design_model.specs.Value.{offset_option}
+use Rattle.design_model.specs.Assignment.{signal_range}
 use Rattle.body_replay.specs.KnownBits.{KnownBits}
 use Rattle.body_replay.specs.Store.{Kept, KnownWrite, keep_all, known_bit_option, perhaps_cell, perhaps_cells, weaken, write_bits}
 use Rattle.body_replay.proofs.Answered.{same_sure}

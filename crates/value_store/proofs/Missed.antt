@@ -4,9 +4,9 @@ use Rattle.std.specs.List.{range_with_len}
 use Rattle.body_replay.specs.event_machine.Cell.{same_cell}
 use Rattle.four_state.specs.declared.bit.Bit.{Bit}
 use Rattle.four_state.specs.Parts.{index, within}
-use Rattle.body_replay.specs.design_model.Design.{Design, cell, signal_at, signal_cells}
-use Rattle.body_replay.specs.design_model.Value.{offset_option}
-use Rattle.body_replay.specs.design_model.Assignment.{option_cell, signal_range}
+use Rattle.design_model.specs.Design.{Design, cell, signal_at, signal_cells}
+use Rattle.design_model.specs.Value.{offset_option}
+use Rattle.design_model.specs.Assignment.{option_cell, signal_range}
 use Rattle.body_replay.specs.KnownBits.{KnownBits, on_whole, whole_bits}
 use Rattle.body_replay.specs.Store.{Kept, KnownWrite, keep_all, known_bit_option, known_bit_writes, perhaps_cell, perhaps_cells, write_bits, writes_of}
 use Rattle.body_replay.proofs.Frames.{Misses, miss_append, miss_weaken, missed}

@@ -4,8 +4,8 @@ use Rattle.std.proofs.lemmas.Int.{ints}
 use Rattle.std.proofs.lemmas.Bool.{cases_lt, ltb-true}
 use Rattle.four_state.specs.declared.bit.Bit.{Bit}
 use Rattle.four_state.specs.Parts.{within}
-use Rattle.body_replay.specs.design_model.declared.design.Range.{Range}
-use Rattle.body_replay.specs.design_model.Value.{offset, offset_option}
+use Rattle.design_model.specs.declared.design.Range.{Range}
+use Rattle.design_model.specs.Value.{offset, offset_option}
 use Rattle.value_store.specs.Near.{far, near_option}
 use Rattle.value_store.specs.Parts.{bit_or_old, bits_over, placed_bits}
 

@@ -12,7 +12,7 @@ use Rattle.body_replay.specs.known_state.Answers.{IsTight, allow_both}
 use Rattle.body_replay.proofs.known_state.Allowed.{filled_allowed}
 use Rattle.body_replay.proofs.known_state.BinaryLaws.{vector_allowed}
 use Rattle.body_replay.proofs.Stored.{known_or_part, known_with, place_answer}
-use Rattle.body_replay.specs.design_model.declared.design.Range.{Range}
+use Rattle.design_model.specs.declared.design.Range.{Range}
 use Rattle.value_store.specs.Parts.{bit_or_old, bits_over, common_bits, placed_bits, part_written, whole_offset, updated}
 
 old_or_part : (q : Option Bit) (ps : List (Option Bit)) (o : Option ℕ) → known_or_part q ps o ≡ bit_or_old q ps o

@@ -7,7 +7,7 @@ use Rattle.std.proofs.lemmas.Bool.{eqb-true}
 use Rattle.body_replay.specs.known_state.Partly.{Partly}
 use Rattle.value_store.specs.Signals.{Signals, Shape, shape_of, unknown_from, unknown_of, unknown_signals}
 use Rattle.value_store.specs.Slots.{IsSlot, blank_of, forgotten, hidden_in, rewound, shape_in, signals_in}
-use Rattle.body_replay.specs.design_model.declared.design.Signal.{Signal}
+use Rattle.design_model.specs.declared.design.Signal.{Signal}
 use Rattle.value_store.specs.declared.slot.Slot.{Slot}
 
 -- a change that a view of a slot does not see

@@ -1,7 +1,7 @@
 -- When what a store has of its signals is what is known of the cells of a design, and what its calls keep of that.
 use Rattle.std.specs.Prelude.{◌≡◌, ℕ, ◌<◌, ◌≤◌, ◌==◌, Bool, true, false, if◌then◌else◌, List, length, map, slice_set}
 use Rattle.body_replay.specs.known_state.Partly.{Partly, is_whole}
-use Rattle.body_replay.specs.design_model.Design.{Design, signal_at, signal_cells}
+use Rattle.design_model.specs.Design.{Design, signal_at, signal_cells}
 use Rattle.body_replay.specs.KnownBits.{all_sure}
 use Rattle.body_replay.specs.Store.{Kept, KnownWrite, keep_all, weaken, write_bits, writes_of}
 use Rattle.body_replay.specs.Replay.{part_blame}

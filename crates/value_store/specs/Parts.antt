@@ -5,8 +5,8 @@ use Rattle.four_state.specs.declared.bit.Bit.TheVariants.{Zero, X}
 use Rattle.four_state.specs.Parts.{index, within}
 use Rattle.body_replay.specs.known_state.Partly.{Partly, filled, is_whole, with_blame}
 use Rattle.body_replay.specs.known_state.Join.{join_bit, joined}
-use Rattle.body_replay.specs.design_model.declared.design.Range.{Range}
-use Rattle.body_replay.specs.design_model.Value.{offset_option}
+use Rattle.design_model.specs.declared.design.Range.{Range}
+use Rattle.design_model.specs.Value.{offset_option}
 
 -- the bit of the part at this place, or else the old one
 abbrev pub bit_or_old : Option Bit → List (Option Bit) → Option ℕ → Option Bit

@@ -1,12 +1,12 @@
 -- How many updates the bodies of a design can queue between two flushes, and how much a run of one can log.
 use Rattle.std.specs.Prelude.{ℕ, ◌+◌, ◌-◌, ◌^◌, min, max, nat_lt, Bool, true, false, ◌&&◌, List, [], ◌∷◌, if◌then◌else◌, length}
 use Rattle.body_replay.specs.cov_host.declared.place.Place.{Place}
-use Rattle.body_replay.specs.design_model.Tree as t
-use Rattle.body_replay.specs.design_model.Tree.{Arms, Process, Stmt, Stmts, Target, Targets, a_stmt, a_target, all_of, arm, assign, bits_of, block, branch, clocked, comb, empty, no_arms, no_stmts, no_targets, select, set, several, turns, word_of}
-use Rattle.body_replay.specs.design_model.Design.{Design, body, memory_at}
-use Rattle.body_replay.specs.design_model.Lawful.{span}
-use Rattle.body_replay.specs.design_model.View.{Arm, arm_step, stmt_form_step, stmt_step}
-use Rattle.body_replay.specs.design_model.declared.tree.CaseArm.{CaseArm, fold-CaseArm}
+use Rattle.design_model.specs.Tree as t
+use Rattle.design_model.specs.Tree.{Arms, Process, Stmt, Stmts, Target, Targets, a_stmt, a_target, all_of, arm, assign, bits_of, block, branch, clocked, comb, empty, no_arms, no_stmts, no_targets, select, set, several, turns, word_of}
+use Rattle.design_model.specs.Design.{Design, body, memory_at}
+use Rattle.design_model.specs.Lawful.{span}
+use Rattle.design_model.specs.View.{Arm, arm_step, stmt_form_step, stmt_step}
+use Rattle.design_model.specs.declared.tree.CaseArm.{CaseArm, fold-CaseArm}
 
 -- a target's signals, parts and words
 abbrev mutual

@@ -2,8 +2,8 @@
 use Rattle.std.specs.Prelude.{◌≡◌, ◌+◌, ◌≤◌, ℕ, Bool, true, false, if◌then◌else◌, List, [], ◌∷◌, is_some, length, map, replicate, slice_index_or, slice_set, Option, Some, None}
 use Rattle.std.specs.Option.{unwrap_or}
 use Rattle.body_replay.specs.known_state.Partly.{Partly}
-use Rattle.body_replay.specs.design_model.declared.design.Range.{Range}
-use Rattle.body_replay.specs.design_model.declared.design.Signal.{Signal}
+use Rattle.design_model.specs.declared.design.Range.{Range}
+use Rattle.design_model.specs.declared.design.Signal.{Signal}
 
 -- the declared range of a signal, its width and whether it is signed
 pub record Shape : Type 0 where

@@ -2,12 +2,11 @@
 //! How much of the log of undecided tests a run of a body takes. In a run each branch and each arm runs at most once.
 
 ghost use Rattle.std.specs.Prelude.{◌≡◌, ◌+◌, false, true, map};
-ghost use Rattle.body_replay.specs.design_model.Design.{body};
-ghost use Rattle.body_replay.specs.design_model.View.{arms_of, design_view, process_view, stmt_view, stmts_of, target_view, targets_of};
+ghost use Rattle.design_model.specs.Design.{body};
+ghost use Rattle.design_model.specs.View.{arms_of, design_view, process_view, stmt_view, stmts_of, target_view, targets_of};
 ghost use Rattle.value_store.specs.Rooms.{all_logged, all_take, arm_view, arms_logged, as_usize, log_takes, logged, most_logged, target_takes};
 
-use body_replay::{CaseArm, Design, Process, Stmt, StmtForm, Target};
-
+use design_model::{CaseArm, Design, Process, Stmt, StmtForm, Target};
 /// How many places of the log of undecided tests a run of any of the bodies of a design takes at most: one for each test, and
 /// inside of a test one for each written signal, and for each written word one more than its memory has words. Where that is
 /// no `usize`, the greatest one.

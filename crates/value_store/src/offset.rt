@@ -3,11 +3,11 @@
 ghost use Rattle.std.specs.Prelude.{◌≡◌, ◌≤◌, List, Option, length};
 ghost use Rattle.four_state.specs.declared.bit.Bit.{Bit};
 ghost use Rattle.four_state.specs.Parts.{index as index_value};
-ghost use Rattle.body_replay.specs.design_model.Value.{offset_option};
+ghost use Rattle.design_model.specs.Value.{offset_option};
 ghost use Rattle.value_store.specs.Near.{near_option};
 ghost use Rattle.value_store.specs.Parts.{placed_bits};
 
-use body_replay::Range;
+use design_model::Range;
 use four_state::{Four, Index};
 
 /// An index that is as far from 0 is in no range, and a part of 128 bits from there does not reach one.

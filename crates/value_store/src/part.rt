@@ -5,7 +5,8 @@ ghost use Rattle.body_replay.specs.known_state.Partly.{with_blame};
 ghost use Rattle.value_store.specs.Parts.{common_bits, part_written, updated};
 
 use crate::offset::part_offset;
-use body_replay::{Known, Range};
+use body_replay::Known;
+use design_model::Range;
 use four_state::{CaseKind, Four};
 
 /// The vector with this thing to blame for what is not sure.

@@ -3,11 +3,10 @@
 //! and a block with nonblocking assignments runs at most once between two flushes.
 
 ghost use Rattle.std.specs.Prelude.{◌≡◌, ◌+◌, ◌∷◌, [], map};
-ghost use Rattle.body_replay.specs.design_model.View.{arms_of, process_view, stmt_view, stmts_of, target_view, targets_of};
+ghost use Rattle.design_model.specs.View.{arms_of, process_view, stmt_view, stmts_of, target_view, targets_of};
 ghost use Rattle.value_store.specs.Rooms.{all_parts, all_queued, arm_view, arms_queued, as_usize, processes_queued, queued_parts, target_parts};
 
-use body_replay::{CaseArm, Process, Stmt, StmtForm, Target};
-
+use design_model::{CaseArm, Process, Stmt, StmtForm, Target};
 /// How many updates the bodies of these processes can queue between two flushes; where that is no `usize`, the greatest
 /// one.
 pub fn queue_room(processes: &[Process]) -> usize

@@ -6,7 +6,8 @@ ghost use Rattle.value_store.specs.Parts.{part_written, updated};
 
 use crate::part::{blamed, with_part, with_update};
 use crate::slot::{Slot, forget, rewind};
-use body_replay::{Known, NoMemory, Range, Signal};
+use body_replay::{Known, NoMemory};
+use design_model::{Range, Signal};
 use std::alloc::Global;
 use std::marker::Model;
 

@@ -2,7 +2,8 @@ ghost use Rattle.std.specs.Prelude.{◌≡◌, ◌≤◌, length, map};
 ghost use Rattle.value_store.specs.Signals.{shape_of, unknown_of};
 ghost use Rattle.value_store.specs.Slots.{IsSlot, forgotten, rewound, shape_in};
 
-use body_replay::{Known, Range, Signal};
+use body_replay::Known;
+use design_model::{Range, Signal};
 
 /// What is held of a signal.
 #[derive(Clone, Copy)]

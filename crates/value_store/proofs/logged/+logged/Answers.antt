@@ -1,6 +1,6 @@
 use Rattle.std.proofs.Common.{◌≤◌, length, map, ap, arith}
 use Rattle.std.proofs.lemmas.List.{drop_all}
-use Rattle.body_replay.specs.design_model.View.{arms_of, design_view, stmt_view, stmts_of}
+use Rattle.design_model.specs.View.{arms_of, design_view, stmt_view, stmts_of}
 use Rattle.value_store.specs.Rooms.{all_logged, arm_view, arms_logged, log_takes}
 use Rattle.value_store.proofs.Counted.{ended}
 use Rattle.value_store.proofs.logged.+logged.Goals as goal

@@ -1,6 +1,6 @@
 use Rattle.std.proofs.Common.{◌≡◌, ◌<◌, ◌^◌, ◌+◌, ◌*◌, drop, map}
-use Rattle.body_replay.specs.design_model.View.{arms_of, design_view, stmt_view, stmts_of}
-use Rattle.body_replay.specs.design_model.declared.tree.Stmt.{size-Stmt}
+use Rattle.design_model.specs.View.{arms_of, design_view, stmt_view, stmts_of}
+use Rattle.design_model.specs.declared.tree.Stmt.{size-Stmt}
 use Rattle.value_store.specs.Rooms.{all_logged, arm_view, arms_logged, as_usize, log_takes}
 use Rattle.value_store.proofs.logged.+logged.Given as goal
 

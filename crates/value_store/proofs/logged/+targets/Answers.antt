@@ -1,6 +1,6 @@
 use Rattle.std.proofs.Common.{◌≤◌, length, map, ap, arith}
 use Rattle.std.proofs.lemmas.List.{drop_all}
-use Rattle.body_replay.specs.design_model.View.{design_view, target_view, targets_of}
+use Rattle.design_model.specs.View.{design_view, target_view, targets_of}
 use Rattle.value_store.specs.Rooms.{all_take, log_takes}
 use Rattle.value_store.proofs.Counted.{ended}
 use Rattle.value_store.proofs.logged.+targets.Goals as goal

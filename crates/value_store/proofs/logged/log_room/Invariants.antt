@@ -1,5 +1,5 @@
 use Rattle.std.proofs.Common.{◌≡◌, ◌<◌, ◌^◌, max, drop, map}
-use Rattle.body_replay.specs.design_model.View.{design_view, process_view}
+use Rattle.design_model.specs.View.{design_view, process_view}
 use Rattle.value_store.specs.Rooms.{as_usize, log_takes, most_logged}
 use Rattle.value_store.proofs.logged.log_room.Given as goal
 

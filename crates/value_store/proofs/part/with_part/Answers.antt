@@ -2,7 +2,7 @@ use Rattle.std.proofs.Common.{◌≡◌, ◌≤◌, true, Some, None, length, ap
 use Rattle.std.proofs.lemmas.Int.{ints}
 use Rattle.four_state.specs.Parts.{index}
 use Rattle.body_replay.specs.known_state.Partly.{is_whole}
-use Rattle.body_replay.specs.design_model.Value.{offset_option}
+use Rattle.design_model.specs.Value.{offset_option}
 use Rattle.value_store.specs.Parts.{bits_over, placed_bits, whole_offset}
 use Rattle.value_store.proofs.Placed.{placed_is, written_placed}
 use Rattle.value_store.proofs.part.with_part.Goals as goal

@@ -1,6 +1,6 @@
 use Rattle.std.proofs.Common.{◌≡◌, ◌<◌, ◌^◌, ◌+◌, ◌*◌, drop, map}
-use Rattle.body_replay.specs.design_model.View.{target_view, targets_of}
-use Rattle.body_replay.specs.design_model.declared.tree.Target.{size-Target}
+use Rattle.design_model.specs.View.{target_view, targets_of}
+use Rattle.design_model.specs.declared.tree.Target.{size-Target}
 use Rattle.value_store.specs.Rooms.{all_parts, as_usize}
 use Rattle.value_store.proofs.room.+targets.Given as goal
 

@@ -1,6 +1,6 @@
 use Rattle.std.proofs.Common.{◌≤◌, length, map, ap, arith}
 use Rattle.std.proofs.lemmas.List.{drop_all}
-use Rattle.body_replay.specs.design_model.View.{process_view}
+use Rattle.design_model.specs.View.{process_view}
 use Rattle.value_store.specs.Rooms.{processes_queued}
 use Rattle.value_store.proofs.Counted.{ended}
 use Rattle.value_store.proofs.room.queue_room.Goals as goal

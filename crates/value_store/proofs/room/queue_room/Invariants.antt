@@ -1,5 +1,5 @@
 use Rattle.std.proofs.Common.{◌≡◌, ◌<◌, ◌^◌, ◌+◌, drop, map}
-use Rattle.body_replay.specs.design_model.View.{process_view}
+use Rattle.design_model.specs.View.{process_view}
 use Rattle.value_store.specs.Rooms.{as_usize, processes_queued}
 use Rattle.value_store.proofs.room.queue_room.Given as goal
 
