@@ -2,6 +2,7 @@ use Rattle.std.proofs.lemmas.Result.{err_from_is_err_and}
 use Rattle.design_model.specs.View.{design_view}
 use Rattle.event_machine.specs.Habit.{Free}
 use Rattle.dump_replay.specs.shown_dumps.Shown.{bound_dump}
+use Rattle.whole_files.proofs.EffectLemmas.{OnlyReads-trans}
 use Rattle.dump_score.proofs.FileLemmas.{header_refuses, nothing_read}
 use Rattle.dump_score.proofs.Opening.{bind_in_file, can_end_binds, end_in_file, open_scoring, opened_bound}
 use Rattle.dump_score.proofs.Scored.{said, scored_file, scored_rises, scored_times}
@@ -166,3 +167,12 @@ returns-clause-scored g c =
     let final = c.finish-marks.ensures design points opened.vars instance scored.b.items (scored_rises replay design points opened.vars instance on.0 scored) scored.followed in
     let times = scored_times replay design points opened.vars instance on.0 scored in
     scored_file replay design points opened.vars instance on.0 scored name before c.args.sources c.finish-marks.result _ on.1 final (c.in_ok-score_table.ensures Free _ times final.scored)
+
+pub returns-in_err-score_end-clause-effects : goal.returns-in_err-score_end-clause-effects
+returns-in_err-score_end-clause-effects g c = OnlyReads-trans _ _ _ c.in_ok-open.ensures.effects (OnlyReads-trans _ _ _ c.in_ok-opened.ensures.effects c.in_ok-score_body.ensures.effects)
+
+pub returns-in_err-score_table-clause-effects : goal.returns-in_err-score_table-clause-effects
+returns-in_err-score_table-clause-effects g c = OnlyReads-trans _ _ _ c.in_ok-open.ensures.effects (OnlyReads-trans _ _ _ c.in_ok-opened.ensures.effects c.in_ok-score_body.ensures.effects)
+
+pub returns-clause-effects : goal.returns-clause-effects
+returns-clause-effects g c = OnlyReads-trans _ _ _ c.in_ok-open.ensures.effects (OnlyReads-trans _ _ _ c.in_ok-opened.ensures.effects c.in_ok-score_body.ensures.effects)
