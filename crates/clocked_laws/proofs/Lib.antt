@@ -1,0 +1,4 @@
+pub mod Order
+pub mod Kept
+pub use Rattle.replay_steps.proofs as replay_steps
+pub use Rattle.replay_steps.proofs.replay_model as replay_model
