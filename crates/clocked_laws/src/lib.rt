@@ -7,9 +7,13 @@
 //! A cell that each of them leaves is as it was at the start of the step, and the writes that are queued leave it so
 //! ([`clocked_keep_law`]). That is each cell that none of them may write ([`untargeted_law`], [`clocked_made_law`]), so all that may
 //! not move ([`clocked_target_law`], [`clocked_still_law`]).
+//!
+//! What a Clocked assigns is made by no Assign or Comb, so what is made of it is what the runs of the Clocked leave once the queued
+//! writes are made ([`clocked_firm_law`]).
 #![tactic(auto)]
 
 ghost use Rattle.clocked_laws.specs.Laws.{CleanAppendLaw, CleanFilterLaw, ClockedActedLaw, ClockedFilterLaw, ClockedNotesLaw, ClockedRunningLaw, ClockedUnmadeLaw, WeakAppendLaw, WeakFilterLaw};
+ghost use Rattle.clocked_laws.specs.Laws.{ClockedAllKeptLaw, ClockedAllMadeLaw, ClockedFirmLaw, ClockedStartLaw};
 ghost use Rattle.clocked_laws.specs.Laws.{ClockedAllStillLaw, ClockedFlushLaw, ClockedKeepLaw, ClockedMadeLaw, ClockedStartStillLaw, ClockedStillLaw, ClockedTargetLaw, UntargetedLaw};
 
 /// A Clocked that does not run clean changes nothing among those that do.
@@ -71,4 +75,12 @@ pub fn clocked_still_law()
 pub fn clocked_made_law()
     ensures flushed { ClockedFlushLaw }
     ensures made { ClockedMadeLaw }
+{}
+
+/// What a Clocked assigns is not to be made anew; what the Clocked leave, once the queued writes are made, is what is made of it.
+pub fn clocked_firm_law()
+    ensures firm { ClockedFirmLaw }
+    ensures start { ClockedStartLaw }
+    ensures made { ClockedAllMadeLaw }
+    ensures kept { ClockedAllKeptLaw }
 {}
