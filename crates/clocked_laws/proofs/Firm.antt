@@ -1,13 +1,13 @@
 -- What the Clocked assign is made by them alone.
-use Rattle.std.proofs.Common.{◌≡◌, ◌++◌, ◌<◌, ◌&&◌, not, ℕ, Bool, true, false, List, [], ◌∷◌, length, Some, None, inl, inr, refl, sym, ap, subst, ◌∙◌}
+use Rattle.std.proofs.Common.{◌≡◌, ◌++◌, ◌&&◌, not, ℕ, Bool, true, false, List, [], ◌∷◌, Some, None, inl, inr, refl, sym, ap, subst, ◌∙◌}
 use Rattle.std.specs.Prelude.{if◌then◌else◌}
 use Rattle.std.proofs.lemmas.Bool.{and_parts, both_ways, false_from_ne_true}
 use Rattle.event_machine.specs.Cell.{Cell}
-use Rattle.replay_steps.specs.replay_model.design_model.Design.{Design, In, IsClocked, body_at, process_at}
+use Rattle.replay_steps.specs.replay_model.design_model.Design.{In, IsClocked, body_at, process_at}
 use Rattle.replay_steps.specs.replay_model.design_model.Lawful.{IsLawfulDesign}
-use Rattle.replay_steps.specs.replay_model.design_model.Mentions.{blocking_target, body_assigns}
+use Rattle.replay_steps.specs.replay_model.design_model.Mentions.{blocking_target}
 use Rattle.replay_steps.specs.replay_model.body_replay.Replay.{flush}
-use Rattle.replay_steps.specs.replay_model.Step.{Closing, Working, after_settling, all_run, certainty, clocked_run, is_dumped, is_loose, is_touched, plain_store, run_all_settling, run_settling, settle_start, settled_kept, updated, with_dump}
+use Rattle.replay_steps.specs.replay_model.Step.{Closing, Working, after_settling, all_run, certainty, clocked_run, is_dumped, is_loose, is_touched, plain_store, run_all_settling, run_settling, settle_start, settled_kept, updated}
 use Rattle.replay_steps.specs.replay_model.Tables.{AreTables}
 use Rattle.replay_steps.proofs.replay_model.Bits.{any_in, in_halves, in_left, in_right}
 use Rattle.replay_steps.proofs.replay_model.Clocked.{at_false}

@@ -3,21 +3,15 @@ use Rattle.std.proofs.Common.{◌≡◌, ◌++◌, ◌||◌, ◌&&◌, ℕ, suc,
 use Rattle.std.proofs.lemmas.Bool.{and_parts, both_ways, cases_Bool, false_from_ne_true, or_left, or_parts, or_right}
 use Rattle.std.specs.Prelude.{is_none, is_some}
 use Rattle.event_machine.specs.Cell.{Cell}
-use Rattle.event_machine.specs.Habit.{Habit}
 use Rattle.event_machine.specs.MayMove.{of_target}
-use Rattle.replay_steps.specs.replay_model.design_model.Design.{Design, In, body_at, cell}
+use Rattle.replay_steps.specs.replay_model.design_model.Design.{In, body_at, cell}
 use Rattle.replay_steps.specs.replay_model.design_model.MayMove.{CanWakeAt}
 use Rattle.replay_steps.specs.replay_model.design_model.Mentions.{blocking_target}
-use Rattle.replay_steps.specs.replay_model.design_model.Shows.{BoundDump}
-use Rattle.replay_steps.specs.replay_model.body_replay.Contract.{Certainty, Outcome, clean, weak}
+use Rattle.replay_steps.specs.replay_model.body_replay.Contract.{Certainty, clean, weak}
 use Rattle.replay_steps.specs.replay_model.body_replay.Replay.{flush}
-use Rattle.replay_steps.specs.replay_model.body_replay.Runs.{AreRuns, Runs, StoreView}
-use Rattle.replay_steps.specs.replay_model.body_replay.Store.{Kept}
-use Rattle.replay_steps.specs.replay_model.Laws.{closing_at}
-use Rattle.replay_steps.specs.replay_model.Sets.{AreSets, Sets}
-use Rattle.replay_steps.specs.replay_model.Step.{Closing, Replay, Working, after_clocked, all_run, clean_store, clocked_run, is_dumped, is_loose, is_target, is_touched, opened, plain_store, run_all_clean, run_all_settling, run_all_weak, run_clean, run_settling, run_weak, settle_start, updated}
-use Rattle.replay_steps.specs.replay_model.Tables.{Tables}
-use Rattle.replay_steps.specs.Settling.{IsDumpStill, IsStillAt, MoveTargets}
+use Rattle.replay_steps.specs.replay_model.body_replay.Runs.{AreRuns, StoreView}
+use Rattle.replay_steps.specs.replay_model.Step.{Closing, Working, after_clocked, clean_store, clocked_run, is_dumped, is_loose, is_touched, opened, plain_store, run_all_clean, run_all_settling, run_all_weak, run_clean, run_settling, run_weak, settle_start, updated}
+use Rattle.replay_steps.specs.Settling.{IsStillAt, MoveTargets}
 use Rattle.replay_steps.proofs.replay_model.Bits.{any_in, flush_append}
 use Rattle.replay_steps.proofs.replay_model.Clocked.{at_false, at_true}
 use Rattle.replay_steps.proofs.replay_model.Targets.{is_target-from}

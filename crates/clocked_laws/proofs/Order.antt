@@ -1,20 +1,13 @@
 -- Which Clocked run, in what order, and what they leave alone.
-use Rattle.std.proofs.Common.{◌≡◌, ◌++◌, ◌||◌, ◌&&◌, ℕ, suc, Bool, true, false, List, [], ◌∷◌, Option, Some, None, inl, inr, refl, sym, ap, ◌∙◌, append_assoc}
+use Rattle.std.proofs.Common.{◌≡◌, ◌++◌, ◌||◌, ◌&&◌, ℕ, Bool, true, false, List, [], ◌∷◌, Option, Some, None, inl, inr, refl, sym, ap, ◌∙◌, append_assoc}
 use Rattle.std.proofs.lemmas.Bool.{both_ways, or_left, or_right}
 use Rattle.std.proofs.lemmas.List.{append-nil}
 use Rattle.std.specs.Prelude.{if◌then◌else◌, is_none, is_some}
 use Rattle.std.specs.List.{filter}
-use Rattle.event_machine.specs.Habit.{Habit}
-use Rattle.replay_steps.specs.replay_model.design_model.Design.{Design, In, cell}
-use Rattle.replay_steps.specs.replay_model.design_model.MayMove.{CanWakeSome}
-use Rattle.replay_steps.specs.replay_model.design_model.Shows.{BoundDump}
-use Rattle.replay_steps.specs.replay_model.body_replay.Runs.{Runs}
-use Rattle.replay_steps.specs.replay_model.Laws.{closing_at}
+use Rattle.replay_steps.specs.replay_model.design_model.Design.{cell}
 use Rattle.replay_steps.specs.replay_model.Marks.{Marking}
-use Rattle.replay_steps.specs.replay_model.Sets.{AreSets, Sets}
-use Rattle.replay_steps.specs.replay_model.Step.{Closing, Replay, Working, clocked_run, opened, run_all_clean, run_all_weak, run_clean, run_weak}
-use Rattle.replay_steps.specs.replay_model.Tables.{Tables}
-use Rattle.clocked_laws.specs.Clocked.{is_clean, is_running, is_weak}
+use Rattle.replay_steps.specs.replay_model.Step.{Closing, Working, clocked_run, opened, run_all_clean, run_all_weak, run_clean, run_weak}
+use Rattle.clocked_laws.specs.Clocked.{is_clean, is_weak}
 use Rattle.clocked_laws.specs.Laws.{CleanAppendLaw, CleanFilterLaw, ClockedFilterLaw, ClockedNotesLaw, ClockedRunningLaw, ClockedUnmadeLaw, WeakAppendLaw, WeakFilterLaw}
 
 -- ---- those that do not run

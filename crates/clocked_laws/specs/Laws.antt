@@ -1,21 +1,21 @@
 -- What the Clocked processes of a step leave.
-use Rattle.std.specs.Prelude.{◌≡◌, ◌⊎◌, ◌<◌, ◌++◌, ℕ, Bool, suc, true, false, List, filter, length, is_some, Option}
+use Rattle.std.specs.Prelude.{◌≡◌, ◌++◌, ℕ, Bool, suc, true, false, List, filter, is_some, Option}
 use Rattle.event_machine.specs.Cell.{Cell}
 use Rattle.event_machine.specs.Habit.{Habit}
-use Rattle.replay_steps.specs.replay_model.design_model.Design.{Design, In, IsClocked, body_at, process_at, signal_at}
+use Rattle.replay_steps.specs.replay_model.design_model.Design.{Design, In, IsClocked, body_at, process_at}
 use Rattle.replay_steps.specs.replay_model.design_model.Lawful.{IsLawfulDesign}
-use Rattle.replay_steps.specs.replay_model.design_model.Mentions.{blocking_target, body_assigns, body_queues}
+use Rattle.replay_steps.specs.replay_model.design_model.Mentions.{body_assigns}
 use Rattle.replay_steps.specs.replay_model.design_model.Shows.{BoundDump}
 use Rattle.replay_steps.specs.replay_model.body_replay.Replay.{flush}
-use Rattle.replay_steps.specs.replay_model.body_replay.Runs.{AreRuns, Runs, runs_of}
+use Rattle.replay_steps.specs.replay_model.body_replay.Runs.{AreRuns, Runs}
 use Rattle.replay_steps.specs.replay_model.Laws.{closing_at}
 use Rattle.replay_steps.specs.replay_model.Marks.{Marking}
 use Rattle.replay_steps.specs.replay_model.Sets.{AreSets, Sets}
-use Rattle.replay_steps.specs.replay_model.Step.{Closing, Replay, Working, all_run, clocked_run, is_loose, is_target, is_touched, opened, run_all_clean, run_all_weak, run_clean, run_weak, settle_start, with_dump}
+use Rattle.replay_steps.specs.replay_model.Step.{Closing, Replay, Working, all_run, clocked_run, is_loose, is_target, opened, run_all_clean, run_all_weak, run_clean, run_weak, settle_start, with_dump}
 use Rattle.replay_steps.specs.replay_model.Tables.{AreTables, Tables}
 use Rattle.replay_steps.specs.Blank.{DrivesCells, HasDumpCells, IsBlank}
 use Rattle.replay_steps.specs.Settling.{IsDumpStill, IsStillAt, MoveTargets}
-use Rattle.clocked_laws.specs.Clocked.{IsAsAtStart, IsUnwritten, KeepsCell, MoveClocked, QueuesCells, StaysInside, is_clean, is_running, is_weak}
+use Rattle.clocked_laws.specs.Clocked.{IsAsAtStart, IsUnwritten, KeepsCell, MoveClocked, StaysInside, is_clean, is_running, is_weak}
 
 -- ---- which of them run, and in what order
 
@@ -156,7 +156,3 @@ abbrev pub ClockedAllBlankLaw : Type 0
 ClockedAllBlankLaw =
     (st : Closing) → StayInside st → HasDumpCells st.design st.bound → ((p : ℕ) → In p (st.tables.order ++ st.tables.last) → DrivesCells st.design p)
     → IsBlank st.design st.start.kept → IsBlank st.design (all_run st).kept
-
--- the runs of the bodies of a lawful design change only cells of the design
-abbrev pub RunsInsideLaw : Type 0
-RunsInsideLaw = (d : Design) → IsLawfulDesign d → (p : ℕ) → StaysInside d (runs_of d) p

@@ -9,9 +9,10 @@
 //! not move ([`clocked_target_law`], [`clocked_still_law`]).
 //!
 //! What a Clocked assigns is made by no Assign or Comb, so what is made of it is what the runs of the Clocked leave once the queued
-//! writes are made ([`clocked_firm_law`]).
+//! writes are made ([`clocked_firm_law`]). Of what is no cell of the design nothing is known ([`clocked_blank_law`]).
 #![tactic(auto)]
 
+ghost use Rattle.clocked_laws.specs.Laws.{CleanBlankLaw, ClockedAllBlankLaw, ClockedBlankLaw, ClockedStartBlankLaw, FlushedBlankLaw, WeakBlankLaw};
 ghost use Rattle.clocked_laws.specs.Laws.{CleanAppendLaw, CleanFilterLaw, ClockedActedLaw, ClockedFilterLaw, ClockedNotesLaw, ClockedRunningLaw, ClockedUnmadeLaw, WeakAppendLaw, WeakFilterLaw};
 ghost use Rattle.clocked_laws.specs.Laws.{ClockedAllKeptLaw, ClockedAllMadeLaw, ClockedFirmLaw, ClockedStartLaw};
 ghost use Rattle.clocked_laws.specs.Laws.{ClockedAllStillLaw, ClockedFlushLaw, ClockedKeepLaw, ClockedMadeLaw, ClockedStartStillLaw, ClockedStillLaw, ClockedTargetLaw, UntargetedLaw};
@@ -83,4 +84,15 @@ pub fn clocked_firm_law()
     ensures start { ClockedStartLaw }
     ensures made { ClockedAllMadeLaw }
     ensures kept { ClockedAllKeptLaw }
+{}
+
+/// Of what is no cell of the design nothing is known after a run of a Clocked that changes only cells of the design, after all of
+/// them, once the queued writes are made, as the first Assign or Comb runs, and after the step.
+pub fn clocked_blank_law()
+    ensures clean { CleanBlankLaw }
+    ensures weak { WeakBlankLaw }
+    ensures clocked { ClockedBlankLaw }
+    ensures flushed { FlushedBlankLaw }
+    ensures start { ClockedStartBlankLaw }
+    ensures all { ClockedAllBlankLaw }
 {}
