@@ -1,7 +1,7 @@
 -- The writes of an assignment are to cells of the design.
-use Rattle.std.proofs.Common.{◌≡◌, ◌⊎◌, inl, inr, ⊎_elim, ℕ, zero, suc, ◌+◌, ◌*◌, ◌-◌, ◌<◌, ◌≤◌, ◌==◌, ◌&&◌, Bool, true, false, if◌then◌else◌, List, [], ◌∷◌, ◌++◌, map, length, take, drop, min, max, ℤ, pos, negsuc, ◌+ℤ◌, Option, Some, None, refl, sym, ap, subst, ◌∙◌, arith}
+use Rattle.std.proofs.Common.{◌≡◌, inl, inr, ⊎_elim, ℕ, zero, suc, ◌+◌, ◌*◌, ◌<◌, ◌≤◌, ◌&&◌, Bool, true, false, if◌then◌else◌, List, [], ◌∷◌, ◌++◌, map, length, take, drop, min, max, ℤ, pos, negsuc, ◌+ℤ◌, Option, Some, None, refl, sym, ap, subst, ◌∙◌, arith}
 use Rattle.std.specs.Prelude.{nat_le, nat_lt}
-use Rattle.std.specs.List.{All, range_with_len}
+use Rattle.std.specs.List.{range_with_len}
 use Rattle.std.proofs.lemmas.Bool.{and_parts, cases_lt, false_from_ne_true, leb-true, lt-ltb, ltb-true}
 use Rattle.std.proofs.lemmas.List.Elements.{All-append, All-cons, All-head, All-nil, All-tail}
 use Rattle.body_replay.specs.event_machine.Cell.{Cell, same_cell}
@@ -15,7 +15,7 @@ use Rattle.design_model.specs.Shape.{are_targets, is_target}
 use Rattle.design_model.specs.Tree.{Target, Targets, a_target, all_of, bits_of, no_targets, several, word_of}
 use Rattle.design_model.specs.Value.{head, named_word, offset_option}
 use Rattle.body_replay.specs.KnownBits.{KnownBits, on_whole, whole_bits}
-use Rattle.body_replay.specs.Store.{Kept, KnownWrite, keep_all, keep_write, known_bit_option, known_bit_writes, known_value, known_word_writes, known_writes, known_writes_all, may_name, perhaps_cell, perhaps_cells, perhaps_words, weaken, words, write_bit, writes_of}
+use Rattle.body_replay.specs.Store.{Kept, KnownWrite, keep_write, known_bit_option, known_bit_writes, known_value, known_word_writes, known_writes, known_writes_all, may_name, perhaps_cell, perhaps_cells, perhaps_words, weaken, words, write_bit, writes_of}
 use Rattle.body_replay.proofs.Writes.{same_cell_eq}
 use Rattle.run_cells.specs.Cells.{AreInside, InsideKeptLaw}
 
