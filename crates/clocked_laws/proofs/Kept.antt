@@ -16,7 +16,8 @@ use Rattle.replay_steps.proofs.replay_model.Bits.{any_in, flush_append}
 use Rattle.replay_steps.proofs.replay_model.Clocked.{at_false, at_true}
 use Rattle.replay_steps.proofs.replay_model.Targets.{is_target-from}
 use Rattle.replay_steps.proofs.Settling.{run_still}
-use Rattle.clocked_laws.specs.Clocked.{IsAsAtStart, IsUnwritten, KeepsCell, MoveClocked, is_clean, is_running, is_weak}
+use Rattle.run_cells.specs.Cells.{KeepsCell}
+use Rattle.clocked_laws.specs.Clocked.{IsAsAtStart, IsUnwritten, MoveClocked, is_clean, is_running, is_weak}
 use Rattle.clocked_laws.specs.Laws.{ClockedAllStillLaw, ClockedFlushLaw, ClockedKeepLaw, ClockedMadeLaw, ClockedStartStillLaw, ClockedStillLaw, ClockedTargetLaw, UntargetedLaw}
 
 pub untargeted : UntargetedLaw
@@ -84,14 +85,14 @@ targets_move d h dump run tables sets t a are p c i e target = go (sets.trigger 
     go None (Some x) f g e = by x (are.wakes p x g)
     go None None f g e = absurd (both_ways false refl e)
 
-still_unwritten : (st : Closing) → MoveClocked st → (c : Cell) → st.sets.moves c.thing ≡ false → IsUnwritten st c
+pub still_unwritten : (st : Closing) → MoveClocked st → (c : Cell) → st.sets.moves c.thing ≡ false → IsUnwritten st c
 still_unwritten st moving c still p i e = false_from_ne_true _ (λ target. both_ways _ still (moving p c i e target))
 
 pub clocked_still : ClockedStillLaw
 clocked_still st runs moving c still = unwritten_kept st runs c (still_unwritten st moving c still)
 
 -- what may not move is not to be made anew
-still_firm : (st : Closing) → MoveTargets st → (c : Cell) → st.sets.moves c.thing ≡ false → is_loose st c ≡ false
+pub still_firm : (st : Closing) → MoveTargets st → (c : Cell) → st.sets.moves c.thing ≡ false → is_loose st c ≡ false
 still_firm st moving c still = false_from_ne_true _ (λ e.
     let q = any_in (λ p. is_touched st p && blocking_target st.design (body_at st.design p) c) (st.tables.order ++ st.tables.last) e in
     let both = and_parts (is_touched st q.0) _ q.2 in

@@ -1,5 +1,5 @@
 -- What the Clocked processes of a step leave.
-use Rattle.std.specs.Prelude.{◌≡◌, ◌++◌, ℕ, Bool, suc, true, false, List, filter, is_some, Option}
+use Rattle.std.specs.Prelude.{◌≡◌, ◌&&◌, ◌++◌, ℕ, Bool, suc, true, false, List, filter, is_some, Option, Some}
 use Rattle.event_machine.specs.Cell.{Cell}
 use Rattle.event_machine.specs.Habit.{Habit}
 use Rattle.replay_steps.specs.replay_model.design_model.Design.{Design, In, IsClocked, body_at, process_at}
@@ -11,21 +11,26 @@ use Rattle.replay_steps.specs.replay_model.body_replay.Runs.{AreRuns, Runs}
 use Rattle.replay_steps.specs.replay_model.Laws.{closing_at}
 use Rattle.replay_steps.specs.replay_model.Marks.{Marking}
 use Rattle.replay_steps.specs.replay_model.Sets.{AreSets, Sets}
-use Rattle.replay_steps.specs.replay_model.Step.{Closing, Replay, Working, all_run, clocked_run, is_loose, is_target, opened, run_all_clean, run_all_weak, run_clean, run_weak, settle_start, with_dump}
+use Rattle.replay_steps.specs.replay_model.Step.{Closing, Replay, Working, all_run, clocked_run, contradicts, is_dumped, is_loose, is_target, opened, run_all_clean, run_all_weak, run_clean, run_weak, settle_start, surely_differ, with_dump}
 use Rattle.replay_steps.specs.replay_model.Tables.{AreTables, Tables}
 use Rattle.replay_steps.specs.Blank.{DrivesCells, HasDumpCells, IsBlank}
 use Rattle.replay_steps.specs.Settling.{IsDumpStill, IsStillAt, MoveTargets}
-use Rattle.clocked_laws.specs.Clocked.{IsAsAtStart, IsUnwritten, KeepsCell, MoveClocked, StaysInside, is_clean, is_running, is_weak}
+use Rattle.run_cells.specs.Cells.{KeepsCell, StaysInside}
+use Rattle.clocked_laws.specs.Clocked.{IsAsAtStart, IsInputOrWritten, IsUnwritten, MoveClocked, is_clean, is_running, is_weak}
 
 -- ---- which of them run, and in what order
 
 -- those that a test leaves out change nothing, where none of them runs clean
 abbrev pub CleanFilterLaw : Type 0
-CleanFilterLaw = (st : Closing) (f : ℕ → Bool) (ps : List ℕ) (w : Working) → ((p : ℕ) → In p ps → is_clean st p ≡ true → f p ≡ true) → run_all_clean st ps w ≡ run_all_clean st (filter f ps) w
+CleanFilterLaw =
+    (st : Closing) (f : ℕ → Bool) (ps : List ℕ) (w : Working) → ((p : ℕ) → In p ps → is_clean st p ≡ true → f p ≡ true)
+    → run_all_clean st ps w ≡ run_all_clean st (filter f ps) w
 
 -- those that a test leaves out change nothing, where none of them runs weak
 abbrev pub WeakFilterLaw : Type 0
-WeakFilterLaw = (st : Closing) (f : ℕ → Bool) (ps : List ℕ) (w : Working) → ((p : ℕ) → In p ps → is_weak st p ≡ true → f p ≡ true) → run_all_weak st ps w ≡ run_all_weak st (filter f ps) w
+WeakFilterLaw =
+    (st : Closing) (f : ℕ → Bool) (ps : List ℕ) (w : Working) → ((p : ℕ) → In p ps → is_weak st p ≡ true → f p ≡ true)
+    → run_all_weak st ps w ≡ run_all_weak st (filter f ps) w
 
 -- of the Clocked, in their order, those that are left out by a test change nothing where none of them runs
 abbrev pub ClockedFilterLaw : Type 0
@@ -67,6 +72,12 @@ ClockedTargetLaw =
     (d : Design) (h : Habit) (dump : BoundDump) (run : Runs) (tables : Tables) (sets : Sets) (t : ℕ) (a : Replay) → AreSets d h dump (suc t) sets
     → MoveClocked (closing_at d dump run tables sets t a)
 
+-- by the sets of a step of a lawful design what may move is an input, or is written by a process that runs
+abbrev pub ClockedMovesLaw : Type 0
+ClockedMovesLaw =
+    (d : Design) (h : Habit) (dump : BoundDump) (run : Runs) (tables : Tables) (sets : Sets) (t : ℕ) (a : Replay) → IsLawfulDesign d → AreTables d dump.bound tables
+    → AreSets d h dump (suc t) sets → (s : ℕ) → sets.moves s ≡ true → IsInputOrWritten (closing_at d dump run tables sets t a) s
+
 -- ---- what they leave of a cell
 
 -- a process that may not write a cell leaves it
@@ -88,6 +99,10 @@ ClockedStartStillLaw = (st : Closing) → AreRuns st.design st.run → MoveClock
 -- and after all of them
 abbrev pub ClockedAllStillLaw : Type 0
 ClockedAllStillLaw = (st : Closing) → AreRuns st.design st.run → MoveClocked st → MoveTargets st → IsDumpStill st → IsStillAt st (all_run st)
+
+-- what is made of it in the step is what was known, whatever the dump says
+abbrev pub ClockedStillMadeLaw : Type 0
+ClockedStillMadeLaw = (st : Closing) → AreRuns st.design st.run → MoveClocked st → MoveTargets st → (c : Cell) → st.sets.moves c.thing ≡ false → (all_run st).made c ≡ st.start.kept c
 
 -- a cell that no Clocked which runs may write has the value that was known, once the queued writes are made
 abbrev pub ClockedFlushLaw : Type 0
@@ -125,6 +140,12 @@ ClockedAllKeptLaw =
     (st : Closing) → IsLawfulDesign st.design → AreTables st.design st.bound st.tables → (c : Cell) → IsClockedCell st.design c
     → (all_run st).kept c ≡ with_dump st (flush (clocked_run st).kept (clocked_run st).queue) c
 
+-- so it contradicts the step where this surely differs from what the dump says
+abbrev pub ClockedContradictsLaw : Type 0
+ClockedContradictsLaw =
+    (st : Closing) → IsLawfulDesign st.design → AreTables st.design st.bound st.tables → (c : Cell) → IsClockedCell st.design c
+    → contradicts st c ≡ (is_dumped st.design st.bound c && surely_differ (flush (clocked_run st).kept (clocked_run st).queue c) (Some (st.new c)))
+
 -- ---- what is outside of the design
 
 -- each Clocked that runs changes only cells of the design
@@ -137,7 +158,9 @@ CleanBlankLaw = (st : Closing) (trigger : Option ℕ) (p : ℕ) (w : Working) �
 
 -- and after a weak one
 abbrev pub WeakBlankLaw : Type 0
-WeakBlankLaw = (st : Closing) (trigger wakes : Option ℕ) (p : ℕ) (w : Working) → StaysInside st.design st.run p → IsBlank st.design w.kept → IsBlank st.design (run_weak st trigger wakes p w).kept
+WeakBlankLaw =
+    (st : Closing) (trigger wakes : Option ℕ) (p : ℕ) (w : Working) → StaysInside st.design st.run p → IsBlank st.design w.kept
+    → IsBlank st.design (run_weak st trigger wakes p w).kept
 
 -- and after all of them
 abbrev pub ClockedBlankLaw : Type 0

@@ -5,8 +5,9 @@
 //! nothing of what has acted and of what was made, and only add to what was reported ([`clocked_rest_law`]).
 //!
 //! A cell that each of them leaves is as it was at the start of the step, and the writes that are queued leave it so
-//! ([`clocked_keep_law`]). That is each cell that none of them may write ([`untargeted_law`], [`clocked_made_law`]), so all that may
-//! not move ([`clocked_target_law`], [`clocked_still_law`]).
+//! ([`clocked_keep_law`]). That is each cell that none of them may write ([`untargeted_law`], [`clocked_made_law`]). They write only
+//! what may move ([`clocked_target_law`]), so what may not move stays ([`clocked_still_law`]); and what may move is an input or is
+//! written by a process that runs ([`clocked_moves_law`]).
 //!
 //! What a Clocked assigns is made by no Assign or Comb, so what is made of it is what the runs of the Clocked leave once the queued
 //! writes are made ([`clocked_firm_law`]). Of what is no cell of the design nothing is known ([`clocked_blank_law`]).
@@ -14,8 +15,8 @@
 
 ghost use Rattle.clocked_laws.specs.Laws.{CleanBlankLaw, ClockedAllBlankLaw, ClockedBlankLaw, ClockedStartBlankLaw, FlushedBlankLaw, WeakBlankLaw};
 ghost use Rattle.clocked_laws.specs.Laws.{CleanAppendLaw, CleanFilterLaw, ClockedActedLaw, ClockedFilterLaw, ClockedNotesLaw, ClockedRunningLaw, ClockedUnmadeLaw, WeakAppendLaw, WeakFilterLaw};
-ghost use Rattle.clocked_laws.specs.Laws.{ClockedAllKeptLaw, ClockedAllMadeLaw, ClockedFirmLaw, ClockedStartLaw};
-ghost use Rattle.clocked_laws.specs.Laws.{ClockedAllStillLaw, ClockedFlushLaw, ClockedKeepLaw, ClockedMadeLaw, ClockedStartStillLaw, ClockedStillLaw, ClockedTargetLaw, UntargetedLaw};
+ghost use Rattle.clocked_laws.specs.Laws.{ClockedAllKeptLaw, ClockedAllMadeLaw, ClockedContradictsLaw, ClockedFirmLaw, ClockedStartLaw};
+ghost use Rattle.clocked_laws.specs.Laws.{ClockedAllStillLaw, ClockedFlushLaw, ClockedKeepLaw, ClockedMadeLaw, ClockedMovesLaw, ClockedStartStillLaw, ClockedStillLaw, ClockedStillMadeLaw, ClockedTargetLaw, UntargetedLaw};
 
 /// A Clocked that does not run clean changes nothing among those that do.
 pub fn clean_filter_law()
@@ -55,6 +56,11 @@ pub fn clocked_target_law()
     ensures { ClockedTargetLaw }
 {}
 
+/// What may move is an input, or is written by an Assign or Comb that watches something that may move, or by a Clocked that runs.
+pub fn clocked_moves_law()
+    ensures { ClockedMovesLaw }
+{}
+
 /// A process that may not write a cell leaves it.
 pub fn untargeted_law()
     ensures { UntargetedLaw }
@@ -65,11 +71,13 @@ pub fn clocked_keep_law()
     ensures { ClockedKeepLaw }
 {}
 
-/// What may not move is as it was at the start of the step, as the first Assign or Comb runs, and after all of them.
+/// What may not move is as it was at the start of the step, as the first Assign or Comb runs, and after all of them. Where the dump
+/// says something else of it (`IsDumpStill` does not hold), what was made of it is still what was known.
 pub fn clocked_still_law()
     ensures clocked { ClockedStillLaw }
     ensures start { ClockedStartStillLaw }
     ensures all { ClockedAllStillLaw }
+    ensures made { ClockedStillMadeLaw }
 {}
 
 /// A cell that no Clocked which runs may write has the value that was known, and this is what was made of it.
@@ -78,12 +86,14 @@ pub fn clocked_made_law()
     ensures made { ClockedMadeLaw }
 {}
 
-/// What a Clocked assigns is not to be made anew; what the Clocked leave, once the queued writes are made, is what is made of it.
+/// What a Clocked assigns is not to be made anew; what the Clocked leave, once the queued writes are made, is what is made of it,
+/// and contradicts the step where it surely differs from what the dump says.
 pub fn clocked_firm_law()
     ensures firm { ClockedFirmLaw }
     ensures start { ClockedStartLaw }
     ensures made { ClockedAllMadeLaw }
     ensures kept { ClockedAllKeptLaw }
+    ensures contradicts { ClockedContradictsLaw }
 {}
 
 /// Of what is no cell of the design nothing is known after a run of a Clocked that changes only cells of the design, after all of

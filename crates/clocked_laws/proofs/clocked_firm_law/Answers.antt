@@ -1,4 +1,4 @@
-use Rattle.clocked_laws.proofs.Firm.{clocked_all_kept, clocked_all_made, clocked_firm, clocked_start}
+use Rattle.clocked_laws.proofs.Firm.{clocked_all_kept, clocked_all_made, clocked_contradicts, clocked_firm, clocked_start}
 use Rattle.clocked_laws.proofs.clocked_firm_law.Goals as goal
 
 pub returns-clause-firm : goal.returns-clause-firm
@@ -12,3 +12,6 @@ returns-clause-made c st lawful tabled x mine = clocked_all_made st lawful table
 
 pub returns-clause-kept : goal.returns-clause-kept
 returns-clause-kept c st lawful tabled x mine = clocked_all_kept st lawful tabled x mine
+
+pub returns-clause-contradicts : goal.returns-clause-contradicts
+returns-clause-contradicts c st lawful tabled x mine = clocked_contradicts st lawful tabled x mine

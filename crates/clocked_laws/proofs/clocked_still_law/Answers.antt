@@ -1,3 +1,4 @@
+use Rattle.clocked_laws.proofs.Firm.{still_made}
 use Rattle.clocked_laws.proofs.Kept.{all_still, clocked_still, start_still}
 use Rattle.clocked_laws.proofs.clocked_still_law.Goals as goal
 
@@ -9,3 +10,6 @@ returns-clause-start c st runs clocked moving dump = start_still st runs clocked
 
 pub returns-clause-all : goal.returns-clause-all
 returns-clause-all c st runs clocked moving dump = all_still st runs clocked moving dump
+
+pub returns-clause-made : goal.returns-clause-made
+returns-clause-made c st runs clocked moving x still = still_made st runs clocked moving x still
