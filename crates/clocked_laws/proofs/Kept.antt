@@ -1,5 +1,5 @@
 -- What the runs of the Clocked leave of a cell.
-use Rattle.std.proofs.Common.{◌≡◌, ◌++◌, ◌||◌, ◌&&◌, ℕ, suc, Bool, true, false, List, [], ◌∷◌, Option, Some, None, inl, inr, refl, sym, ap, ◌∙◌}
+use Rattle.std.proofs.Common.{◌≡◌, ◌++◌, ◌||◌, ◌&&◌, ℕ, suc, Bool, true, false, List, [], ◌∷◌, Option, Some, None, inl, inr, ⊎_elim, refl, sym, ap, ◌∙◌}
 use Rattle.std.proofs.lemmas.Bool.{and_parts, both_ways, cases_Bool, false_from_ne_true, or_left, or_parts, or_right}
 use Rattle.std.specs.Prelude.{is_none, is_some}
 use Rattle.event_machine.specs.Cell.{Cell}
@@ -14,11 +14,11 @@ use Rattle.replay_steps.specs.replay_model.Step.{Closing, Working, after_clocked
 use Rattle.replay_steps.specs.Settling.{IsStillAt, MoveTargets}
 use Rattle.replay_steps.proofs.replay_model.Bits.{any_in, flush_append}
 use Rattle.replay_steps.proofs.replay_model.Clocked.{at_false, at_true}
-use Rattle.replay_steps.proofs.replay_model.Targets.{is_target-from}
+use Rattle.replay_steps.proofs.replay_model.Targets.{blocks_assigns, blocks_from, is_target-from, queues_assigns, queues_from}
 use Rattle.replay_steps.proofs.Settling.{run_still}
 use Rattle.run_cells.specs.Cells.{KeepsCell}
 use Rattle.clocked_laws.specs.Clocked.{IsAsAtStart, IsUnwritten, MoveClocked, is_clean, is_running, is_weak}
-use Rattle.clocked_laws.specs.Laws.{ClockedAllStillLaw, ClockedFlushLaw, ClockedKeepLaw, ClockedMadeLaw, ClockedStartStillLaw, ClockedStillLaw, ClockedTargetLaw, UntargetedLaw}
+use Rattle.clocked_laws.specs.Laws.{ClockedAllStillLaw, ClockedFlushLaw, ClockedKeepLaw, ClockedMadeLaw, ClockedStartStillLaw, ClockedStillLaw, ClockedTargetLaw, UnassignedLaw, UntargetedLaw}
 
 pub untargeted : UntargetedLaw
 untargeted d run p c runs away =
@@ -65,6 +65,12 @@ clocked_kept st c keeps =
 
 pub unwritten_kept : (st : Closing) → AreRuns st.design st.run → (c : Cell) → IsUnwritten st c → IsAsAtStart st (clocked_run st) c
 unwritten_kept st runs c away = clocked_kept st c (λ p i e. untargeted st.design st.run p c runs (away p i e))
+
+pub unassigned : UnassignedLaw
+unassigned st c none p i e = false_from_ne_true _ (λ target. both_ways _ (none p i e) (⊎_elim
+    (λ blocks. blocks_assigns c.thing (body_at st.design p) (blocks_from st.design p c blocks))
+    (λ queues. queues_assigns c.thing (body_at st.design p) (queues_from st.design p c queues))
+    (is_target-from st.design p c target)))
 
 pub clocked_flushed : ClockedFlushLaw
 clocked_flushed st runs c away = let left = unwritten_kept st runs c away in left.queue (clocked_run st).kept ∙ left.kept

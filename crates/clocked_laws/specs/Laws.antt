@@ -104,6 +104,10 @@ ClockedAllStillLaw = (st : Closing) → AreRuns st.design st.run → MoveClocked
 abbrev pub ClockedStillMadeLaw : Type 0
 ClockedStillMadeLaw = (st : Closing) → AreRuns st.design st.run → MoveClocked st → MoveTargets st → (c : Cell) → st.sets.moves c.thing ≡ false → (all_run st).made c ≡ st.start.kept c
 
+-- a cell of what no Clocked that runs assigns none of them may write
+abbrev pub UnassignedLaw : Type 0
+UnassignedLaw = (st : Closing) (c : Cell) → ((p : ℕ) → In p st.tables.clocked → is_running st p ≡ true → body_assigns c.thing (body_at st.design p) ≡ false) → IsUnwritten st c
+
 -- a cell that no Clocked which runs may write has the value that was known, once the queued writes are made
 abbrev pub ClockedFlushLaw : Type 0
 ClockedFlushLaw = (st : Closing) → AreRuns st.design st.run → (c : Cell) → IsUnwritten st c → flush (clocked_run st).kept (clocked_run st).queue c ≡ st.start.kept c

@@ -16,7 +16,7 @@
 ghost use Rattle.clocked_laws.specs.Laws.{CleanBlankLaw, ClockedAllBlankLaw, ClockedBlankLaw, ClockedStartBlankLaw, FlushedBlankLaw, WeakBlankLaw};
 ghost use Rattle.clocked_laws.specs.Laws.{CleanAppendLaw, CleanFilterLaw, ClockedActedLaw, ClockedFilterLaw, ClockedNotesLaw, ClockedRunningLaw, ClockedUnmadeLaw, WeakAppendLaw, WeakFilterLaw};
 ghost use Rattle.clocked_laws.specs.Laws.{ClockedAllKeptLaw, ClockedAllMadeLaw, ClockedContradictsLaw, ClockedFirmLaw, ClockedStartLaw};
-ghost use Rattle.clocked_laws.specs.Laws.{ClockedAllStillLaw, ClockedFlushLaw, ClockedKeepLaw, ClockedMadeLaw, ClockedMovesLaw, ClockedStartStillLaw, ClockedStillLaw, ClockedStillMadeLaw, ClockedTargetLaw, UntargetedLaw};
+ghost use Rattle.clocked_laws.specs.Laws.{ClockedAllStillLaw, ClockedFlushLaw, ClockedKeepLaw, ClockedMadeLaw, ClockedMovesLaw, ClockedStartStillLaw, ClockedStillLaw, ClockedStillMadeLaw, ClockedTargetLaw, UnassignedLaw, UntargetedLaw};
 
 /// A Clocked that does not run clean changes nothing among those that do.
 pub fn clean_filter_law()
@@ -80,8 +80,10 @@ pub fn clocked_still_law()
     ensures made { ClockedStillMadeLaw }
 {}
 
-/// A cell that no Clocked which runs may write has the value that was known, and this is what was made of it.
+/// A cell that no Clocked which runs may write, as each of what none of them assigns, has the value that was known, and this is what
+/// was made of it.
 pub fn clocked_made_law()
+    ensures unassigned { UnassignedLaw }
     ensures flushed { ClockedFlushLaw }
     ensures made { ClockedMadeLaw }
 {}
