@@ -1,0 +1,5 @@
+pub mod Inputs
+pub mod Shown
+pub mod Toggled
+pub mod Exact
+pub mod Worked
