@@ -1,5 +1,0 @@
-use Rattle.input_tables.proofs.Counts.{few_or_many}
-use Rattle.input_tables.proofs.laws.count_law.Goals as goal
-
-pub returns : goal.returns
-returns c d few many = few_or_many d few many
