@@ -18,10 +18,16 @@ class Probes:
     """The probes of one process: the key of each bit of its vector, and the names of its scratch variables."""
 
     def __init__(self, number, process):
-        self.number, self.process, self.keys, self.scratch = number, process, {}, []
+        self.number, self.process, self.keys, self.scratch, self.known_visits = number, process, {}, [], {}
 
     def bit(self, key):
         return f"probe_{self.number}[{self.keys.setdefault(key, len(self.keys))}]"
+
+    def visits(self, digits):
+        """The keys of the bits that are 1."""
+        if digits not in self.known_visits:
+            self.known_visits[digits] = {key for key, place in self.keys.items() if digits[place] == "1"}
+        return self.known_visits[digits]
 
     def variable(self, width, signed):
         name = f"value_{self.number}_{len(self.scratch)}"

@@ -1,6 +1,7 @@
 """Simulation by Icarus Verilog, what it prints of settled values, and the dump that it writes."""
 import subprocess
 from dataclasses import dataclass, field
+from functools import lru_cache
 
 from .copies import in_bench
 from .stimuli import settled_digits
@@ -44,7 +45,9 @@ def simulate(folder, copy, number):
     return read_settled(run(["vvp", "-n", "bench.vvp", *words], folder, 4), copy)
 
 
+@lru_cache(maxsize=4)
 def read_settled(output, copy):
+    """What the output of a simulation says; that of one bench is mostly the same whatever is dumped."""
     lines, found = iter(output.split("\n")), []
     for line in lines:
         if line.startswith("T "):
