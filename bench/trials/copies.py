@@ -4,9 +4,11 @@ Each instance of the copy is a module of its own. Each of its processes has a ve
 each case of a counted node: a block sets it to what its last evaluation visited, and the bench has those of continuous assignments
 set at settled times. Nothing of the design reads a probe. A block under `*` also reads whole what it mentions, since Icarus
 Verilog wakes such a block only by the bits that it reads, where the standard says that a name stands for the signal
-(IEEE 1364-2001, 9.7.5).
+(IEEE 1364-2001, 9.7.5). Where only a loop without turns reads a signal, the block has a list without that signal in place of
+`*`: by the definitions the loop has no statements, so the signal does not wake the block, where Icarus Verilog is woken by it.
 """
 from . import vectors
+from .bodies import listed_names
 from .statements import Block, Case, Empty
 from .terms import Binary, Constant, cases_of
 from .texts import ModuleText
@@ -18,10 +20,16 @@ class Probes:
     """The probes of one process: the key of each bit of its vector, and the names of its scratch variables."""
 
     def __init__(self, number, process):
-        self.number, self.process, self.keys, self.scratch = number, process, {}, []
+        self.number, self.process, self.keys, self.scratch, self.known_visits = number, process, {}, [], {}
 
     def bit(self, key):
         return f"probe_{self.number}[{self.keys.setdefault(key, len(self.keys))}]"
+
+    def visits(self, digits):
+        """The keys of the bits that are 1."""
+        if digits not in self.known_visits:
+            self.known_visits[digits] = {key for key, place in self.keys.items() if digits[place] == "1"}
+        return self.known_visits[digits]
 
     def variable(self, width, signed):
         name = f"value_{self.number}_{len(self.scratch)}"
@@ -98,14 +106,21 @@ class CopyText(ModuleText):
 
     def comb(self, item):
         probes = self.next_probes()
-        self.put(f"always @{self.event_text(item)} begin")
         names = sorted({self.local_name(it) for it in probes.process.mentions() - set(probes.process.targets())})
+        self.put(f"always @{self.wakes_text(item, names, probes.process)} begin")
         if item.listed is None and names:
             self.put(f"  read_{probes.number} = ^{{{', '.join(names)}}};")
         self.put(f"  acted_{probes.number} = $time;")
         self.put(f"  probe_{probes.number} = 0;")
         self.below(item.body)
         self.put("end")
+
+    def wakes_text(self, item, names, process):
+        """The event control, with these names in place of `*` where the text has more signals than the process mentions."""
+        read = {self.made.scope.find(name) for name in listed_names(item.body, self.module.constant_names())}
+        if item.listed is not None or read <= process.mentions():
+            return self.event_text(item)
+        return f"({' or '.join(names) or 'tb.never'})"
 
     def local_name(self, signal):
         return next(name for name, it in self.made.scope.names.items() if it is signal)

@@ -3,6 +3,7 @@
 A module is a list of declarations and a list of items. The design has one instance of its top, and below it those of its items.
 """
 from dataclasses import dataclass, field
+from functools import wraps
 
 from . import terms, vectors
 from .statements import Set, assign, possible_masks, statements_in, united
@@ -39,10 +40,10 @@ class Signal:
 
 
 class Scope:
-    """What the names of a module mean in one instance."""
+    """What the names of a module mean in one instance; `answers` has what was found of its terms."""
 
     def __init__(self, path, names=()):
-        self.path, self.names = path, dict(names)
+        self.path, self.names, self.answers = path, dict(names), {}
 
     def find(self, name):
         return self.names[name]
@@ -55,7 +56,7 @@ class NoSignals:
     """The scope of a constant expression."""
 
     def __init__(self, constants):
-        self.constants = constants
+        self.constants, self.answers = constants, {}
 
     def find(self, name):
         return self.constants[name]
@@ -214,10 +215,24 @@ class Counter:
                 self.statement(part)
 
 
+def kept(method):
+    """A method without arguments that is called once for each object."""
+    name = f"kept_{method.__name__}"
+
+    @wraps(method)
+    def answer(self):
+        if name not in self.__dict__:
+            self.__dict__[name] = method(self)
+        return self.__dict__[name]
+
+    return answer
+
+
 class Process:
     """A process of the flat design; the kinds are below."""
     counted = True
 
+    @kept
     def mentions(self):
         """The signals that its text reads."""
         found = set()
@@ -229,6 +244,17 @@ class Process:
         """The signals to which it is sensitive."""
         return self.mentions()
 
+    @kept
+    def used(self):
+        """The signals of which its execution may read the values, in some order."""
+        return tuple(self.mentions() | set(self.targets()))
+
+    @kept
+    def answers(self):
+        """What its executions and views gave, by what they know of `used`."""
+        return {}
+
+    @kept
     def wake_masks(self):
         """The bits that wake it, by signal: those of what it watches that it does not itself assign."""
         targets = self.targets()
@@ -245,6 +271,7 @@ class Assignment(Process):
     def read_terms(self):
         return [(self.value, self.scope)]
 
+    @kept
     def targets(self):
         return possible_masks(self.target, self.target_scope)
 
@@ -280,9 +307,11 @@ class Combinational(Process):
     def read_terms(self):
         return [(term, scope) for statement, scope in self.body.copies(self.scope) for term, _, _ in statement.evaluated(scope)]
 
+    @kept
     def watched(self):
         return self.mentions() | {self.scope.find(name) for name in self.item.listed or []}
 
+    @kept
     def targets(self):
         found = {}
         for statement, scope in self.body.copies(self.scope):
@@ -296,6 +325,7 @@ class Combinational(Process):
     def walk(self, view):
         self.body.walk(self.scope, view, True)
 
+    @kept
     def reads_first(self):
         """The targets that it reads on some path before it has written them whole."""
         found, targets = set(), self.targets()
@@ -306,6 +336,7 @@ class Combinational(Process):
         self.body.flow(self.scope, {}, note)
         return found
 
+    @kept
     def writes_whole(self):
         """The signals that it writes whole on each path."""
         written = self.body.flow(self.scope, {}, lambda signals, masks: None)
@@ -378,6 +409,7 @@ class Flat:
         else:
             self.processes.append(Assignment(term, Name(port.name), inner, None, outer))
 
+    @kept
     def writers(self):
         """The processes that write each signal."""
         found = {signal: [] for signal in self.signals}

@@ -8,7 +8,7 @@ Blocks of edges and memories would add their rules to `Clear.grow` and their dou
 """
 from . import vectors
 from .designs import Assignment, Combinational
-from .runs import Execution, Outside, differ_in
+from .runs import Execution, differ_in, known_values, visited
 from .terms import Binary, cases_of, holds
 
 
@@ -17,7 +17,7 @@ class Clear:
 
     def __init__(self, run, bound):
         self.flat, self.bound = run.flat, set(bound)
-        self.writers = {signal: found for signal, found in run.flat.writers().items()}
+        self.writers = run.flat.writers()
         self.changed, self.at = {}, {}
         blocks = [process for process in run.flat.processes if isinstance(process, Combinational)]
         self.whole = {process: process.writes_whole() for process in blocks}
@@ -30,8 +30,9 @@ class Clear:
             if number:
                 old = run.steps[number - 1].values
                 changed = changed | {signal for signal in self.bound if old[signal] != step.values[signal]}
+            same = number and len(changed) == len(self.changed[run.steps[number - 1].time])
             self.changed[step.time] = changed
-            self.at[step.time] = self.grow(changed)
+            self.at[step.time] = self.at[run.steps[number - 1].time] if same else self.grow(changed)
 
     def grow(self, changed):
         """The least set by the rules; of the bound signals these have changed in the window so far."""
@@ -116,6 +117,14 @@ class View:
                 self.add(("c", term.node, case), sure and all(value is not None for value, _ in asked))
 
 
+def view_of(process, known, values):
+    """The view of a process. Equal values of what it uses and knows give the same one."""
+    key = "view", known_values(process, values, known)
+    if key not in process.answers():
+        process.answers()[key] = View(process, known, values)
+    return process.answers()[key]
+
+
 class Doubts:
     """What is in doubt for a point at a step of the window, and which points are reached there."""
 
@@ -128,7 +137,7 @@ class Doubts:
     def view(self, process, time):
         if (process, time) not in self.views:
             known = self.clear.at[time] - set(self.clear.targets[process])
-            self.views[process, time] = View(process, known, self.steps[time][1].values)
+            self.views[process, time] = view_of(process, known, self.steps[time][1].values)
         return self.views[process, time]
 
     def is_clear(self, signal, time):
@@ -145,21 +154,20 @@ class Doubts:
         found = {it for it in self.run.wakes[point.process] if not self.is_clear(it, time)}
         return found | self.clear.own_reads.get(point.process, set())
 
+    def first_reached(self, process):
+        """The points that a process reaches at a step of the window, each with the first time."""
+        if process not in self.visits:
+            found = self.visits[process] = {}
+            for time in self.steps:
+                for key in self.reached(process, time):
+                    found.setdefault(key, time)
+        return self.visits[process]
+
     def reached(self, process, time):
         """The points that a process reaches whatever is not known: up to its first read of that, and those surely open."""
-        if (process, time) not in self.visits:
-            self.visits[process, time] = self.found_reached(process, time)
-        return self.visits[process, time]
-
-    def found_reached(self, process, time):
         old, new = self.steps[time]
         masks = {signal: bits for signal, bits in self.run.wakes[process].items() if signal in self.bound}
         if not differ_in(old.values, new.values, masks):
             return set()
-        view = self.view(process, time)
-        execution = Execution(new.values, view.known)
-        try:
-            process.execute(execution)
-        except Outside:
-            pass
-        return execution.visits | view.sure
+        known = self.clear.at[time] - set(self.clear.targets[process])
+        return visited(process, new.values, known) | self.view(process, time).sure

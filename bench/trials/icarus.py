@@ -1,6 +1,9 @@
 """Simulation by Icarus Verilog, what it prints of settled values, and the dump that it writes."""
+import resource
+import signal
 import subprocess
 from dataclasses import dataclass, field
+from functools import lru_cache
 
 from .copies import in_bench
 from .stimuli import settled_digits
@@ -14,14 +17,16 @@ class SimulationFault(Exception):
 
 
 def run(words, folder, seconds):
-    """The output of a command, whose status must be 0."""
-    try:
-        done = subprocess.run(words, cwd=folder, capture_output=True, text=True, errors="replace", timeout=seconds)
-    except subprocess.TimeoutExpired as fault:
-        raise SimulationFault(f"{words[0]} does not end") from fault
+    """The output of a command, whose status must be 0, and which has so many seconds of processor time."""
+    pipes = {"stdout": subprocess.PIPE, "stderr": subprocess.PIPE}
+    with subprocess.Popen(words, cwd=folder, text=True, errors="replace", **pipes) as done:
+        resource.prlimit(done.pid, resource.RLIMIT_CPU, (seconds, seconds))
+        output, said = done.communicate()
+    if done.returncode in (-signal.SIGXCPU, -signal.SIGKILL):
+        raise SimulationFault(f"{words[0]} does not end")
     if done.returncode:
-        raise SimulationFault(f"{words[0]} ends with {done.returncode}: {(done.stderr or done.stdout)[:500]}")
-    return done.stdout
+        raise SimulationFault(f"{words[0]} ends with {done.returncode}: {(said or output)[:500]}")
+    return output
 
 
 def build(folder):
@@ -41,10 +46,12 @@ class Settled:
 def simulate(folder, copy, number):
     """Runs the bench with the choice of this number, and gives what is settled after each step; with None its other steps."""
     words = ["+other."] if number is None else [f"+dump=dump{number}.vcd", f"+vars{number}."]
-    return read_settled(run(["vvp", "-n", "bench.vvp", *words], folder, 4), copy)
+    return read_settled(run(["vvp", "-n", "bench.vvp", *words], folder, 2), copy)
 
 
+@lru_cache(maxsize=4)
 def read_settled(output, copy):
+    """What the output of a simulation says; that of one bench is mostly the same whatever is dumped."""
     lines, found = iter(output.split("\n")), []
     for line in lines:
         if line.startswith("T "):

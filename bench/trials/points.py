@@ -1,5 +1,6 @@
 """The points of a flat design in the order of a database, and its head."""
 from dataclasses import dataclass
+from functools import lru_cache
 
 from .designs import Combinational
 from .terms import Binary, cases_of
@@ -63,6 +64,7 @@ def toggle_points(signal):
     return found
 
 
+@lru_cache(maxsize=4)
 def points_of(flat):
     """All points, in the order of a database."""
     found = [point for signal in flat.signals for point in toggle_points(signal)]

@@ -44,6 +44,33 @@ class Execution:
         self.visits.update(("c", term.node, case) for case in cases if holds(case, truths))
 
 
+def executed(process, values):
+    """The execution of a process on these values. Equal values of what it uses give the same one."""
+    key = tuple(values[it] for it in process.used())
+    if key not in process.answers():
+        process.answers()[key] = Execution(values)
+        process.execute(process.answers()[key])
+    return process.answers()[key]
+
+
+def visited(process, values, known):
+    """What the execution of a process visits up to its first read of what is not known."""
+    key = "visited", known_values(process, values, known)
+    if key not in process.answers():
+        execution = Execution(values, known)
+        try:
+            process.execute(execution)
+        except Outside:
+            pass
+        process.answers()[key] = execution.visits
+    return process.answers()[key]
+
+
+def known_values(process, values, known):
+    """The values of what a process uses and is known; None for others."""
+    return tuple(values[it] if it in known else None for it in process.used())
+
+
 def differ_in(old, new, masks):
     """Whether one of these bits of signals has changed."""
     return any(((old[it].ones ^ new[it].ones) | (old[it].strange ^ new[it].strange)) & bits for it, bits in masks.items())
@@ -80,7 +107,7 @@ class Run:
     def probes(self, step):
         """The counted processes with what the simulation says of their last evaluation: its visits and its time."""
         for (_, probes), digits, acted in zip(self.copy.probes, step.probes, step.acted):
-            yield probes.process, {key for key, place in probes.keys.items() if digits[place] == "1"}, acted
+            yield probes.process, probes.visits(digits), acted
 
     def hits(self):
         """The times at which each point is hit, by its process or signal and its key."""
@@ -116,8 +143,7 @@ def toggled(old, new):
 
 
 def assignment_differences(process, step):
-    execution = Execution(step.values)
-    process.execute(execution)
+    execution = executed(process, step.values)
     if is_value_left(execution, step.values):
         return []
     made = ", ".join(f"{it.full_name} {digits_of(value)} for {digits_of(step.values[it])}"
@@ -129,8 +155,7 @@ def evaluation_differences(process, visits, acted, step):
     """How the last evaluation of a process whose wake bits have changed differs from the definitions."""
     if isinstance(process, Combinational) and acted != str(step.time):
         return [f"at {step.time} a block of {process.scope.path} that line {process.body.line} begins is not evaluated"]
-    execution = Execution(step.values)
-    process.execute(execution)
+    execution = executed(process, step.values)
     if execution.unwritten & set(process.targets()):
         return []
     name = f"the process at line {first_line(process)} of {process.scope.path}"

@@ -23,19 +23,19 @@ def index_terms(target, scope):
 
 def right_side(target, value, scope):
     """The value of an assignment with the width and sign of its context."""
-    return value, max(target.own_width(scope), value.own_width(scope)), value.own_sign(scope)
+    return value, max(terms.width_of(target, scope), terms.width_of(value, scope)), value.own_sign(scope)
 
 
 def leaf_writes(leaf, scope, state):
     """The signal, the offset and the width that a leaf names in a state."""
     signal = scope.find(leaf.name())
-    return signal, 0 if isinstance(leaf, Name) else leaf.found_offset(scope, state), leaf.own_width(scope)
+    return signal, 0 if isinstance(leaf, Name) else leaf.found_offset(scope, state), terms.width_of(leaf, scope)
 
 
 def assign(target, value, scope, state):
     """Evaluates the indexes and the value, and then writes."""
     places = [leaf_writes(leaf, scope, state) for leaf in leaves(target)]
-    result = vectors.extend(value.value(scope, state, *right_side(target, value, scope)[1:]), target.own_width(scope),
+    result = vectors.extend(value.value(scope, state, *right_side(target, value, scope)[1:]), terms.width_of(target, scope),
                             value.own_sign(scope))
     above = result.width
     for signal, low, width in places:
@@ -259,9 +259,11 @@ class For(Statement):
         return [self.body]
 
     def turns(self, scope):
-        """The scope of each turn."""
-        return [scope.with_constant(self.variable, Constant(vectors.of_number(32, turn), True))
-                for turn in range(self.first, self.end, self.step)]
+        """The scope of each turn, which is made once for each scope around it."""
+        if self not in scope.answers:
+            scope.answers[self] = [scope.with_constant(self.variable, Constant(vectors.of_number(32, turn), True))
+                                   for turn in range(self.first, self.end, self.step)]
+        return scope.answers[self]
 
     def copies(self, scope):
         yield self, scope

@@ -58,6 +58,13 @@ class Term:
         """The terms directly in it, each with the width and sign of its context."""
         return [alone(part, scope) for part in self.parts()]
 
+    def shaped(self, scope, width, signed):
+        """The operands, which are found once for each scope and context."""
+        key = self, width, signed
+        if key not in scope.answers:
+            scope.answers[key] = self.operands(scope, width, signed)
+        return scope.answers[key]
+
     def truths(self, values, result):
         """The truths by which its cases go."""
         return [vectors.truth(result)]
@@ -65,8 +72,8 @@ class Term:
     def value(self, scope, state, width=None, signed=None):
         """The value in a context of this width and sign, or in one of its own."""
         if width is None:
-            width, signed = self.own_width(scope), self.own_sign(scope)
-        values = [term.value(scope, state, w, s) for term, w, s in self.operands(scope, width, signed)]
+            _, width, signed = alone(self, scope)
+        values = [term.value(scope, state, w, s) for term, w, s in self.shaped(scope, width, signed)]
         result = vectors.extend(self.made(scope, state, values, signed), width, signed)
         if self.node:
             state.evaluated(self, self.truths(values, result))
@@ -85,7 +92,7 @@ class Term:
     def within(self, scope, width, signed):
         """The same, each with the width and sign of its context."""
         yield self, width, signed
-        for term, w, s in self.operands(scope, width, signed):
+        for term, w, s in self.shaped(scope, width, signed):
             yield from term.within(scope, w, s)
 
     def mentions(self, scope):
@@ -95,7 +102,14 @@ class Term:
 
 
 def alone(term, scope):
-    return term, term.own_width(scope), term.own_sign(scope)
+    """The term with the width and sign that it has by itself, which are found once for each scope."""
+    if term not in scope.answers:
+        scope.answers[term] = term, term.own_width(scope), term.own_sign(scope)
+    return scope.answers[term]
+
+
+def width_of(term, scope):
+    return alone(term, scope)[1]
 
 
 class Number(Term):
@@ -158,7 +172,7 @@ class Select(Term):
         raise NotImplementedError
 
     def made(self, scope, state, values, signed):
-        return vectors.select(state.read(scope.find(self.named)), self.offset(scope, values), self.own_width(scope))
+        return vectors.select(state.read(scope.find(self.named)), self.offset(scope, values), width_of(self, scope))
 
     def found_offset(self, scope, state):
         return self.offset(scope, [part.value(scope, state) for part in self.parts()])

@@ -2,7 +2,10 @@
 
 This is a second account of the operators beside the program's own, bit by bit or by whole numbers, and slow.
 """
+from functools import lru_cache
 from typing import NamedTuple
+
+ONES, STRANGE = str.maketrans("01xz", "0101"), str.maketrans("01xz", "0011")
 
 
 class Vector(NamedTuple):
@@ -25,12 +28,13 @@ def fill(width, digit):
     return Vector(width, mask(width) if digit in "1z" else 0, mask(width) if digit in "xz" else 0)
 
 
+@lru_cache(maxsize=100_000)
 def of_digits(digits):
     """The vector of these digits, the highest bit first."""
-    return Vector(len(digits), int("".join("1" if d in "1z" else "0" for d in digits), 2),
-                  int("".join("1" if d in "xz" else "0" for d in digits), 2))
+    return Vector(len(digits), int(digits.translate(ONES), 2), int(digits.translate(STRANGE), 2))
 
 
+@lru_cache(maxsize=100_000)
 def digits_of(vector):
     return "".join("01xz"[(vector.ones >> k & 1) + 2 * (vector.strange >> k & 1)] for k in range(vector.width - 1, -1, -1))
 

@@ -61,7 +61,7 @@ class Comparison:
         """A time at which the block of the point reaches it, so that each run hits it."""
         if point.signal:
             return None
-        return next((time for time in self.doubts.steps if point.key in self.doubts.reached(point.process, time)), None)
+        return self.doubts.first_reached(point.process).get(point.key)
 
     def undetermined_fault(self, point, verdict, times):
         match = UNDETERMINED.match(verdict)
