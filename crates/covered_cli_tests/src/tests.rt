@@ -137,8 +137,9 @@ const SCORED: &[Case] = &[
     Case { words: SCORE, files: &[("pads.v", SOURCE), ("D", REALISTIC)], status: Status::Done, output: ("B", DATABASE), printed: "", warned: "" },
 ];
 
+/// Dumps that are refused, and sources with what they include.
 #[rattlefmt::skip]
-const CASES: &[Case] = &[
+const DUMPS: &[Case] = &[
     // dumps that are refused
     Case { words: ELSEWHERE, files: &[("pads.v", SOURCE), ("D", DUMP)], status: Status::Dump, output: NONE, printed: "", warned: "covered: dump: bind 1 NoInstance tb.x\n" },
     Case { words: OUTSIDE, files: &[("pads.v", SOURCE), ("D", DUMP)], status: Status::Dump, output: NONE, printed: "", warned: "covered: dump: bind 2 InputNotDumped pads.clk\n" },
@@ -147,21 +148,34 @@ const CASES: &[Case] = &[
     // sources with what they include
     Case { words: INCLUDING, files: &[A, PADS, ("D", DUMP)], status: Status::Files, output: NONE, printed: "", warned: "covered: files: open_read inc/ports.vh\n" },
     Case { words: INCLUDING, files: &[A, PADS, ("D", DUMP), PORTS], status: Status::Done, output: ("B", INCLUDED), printed: "", warned: "" },
+];
+
+/// Sources and modules that are refused.
+#[rattlefmt::skip]
+const SOURCES: &[Case] = &[
     // sources that are refused
     Case { words: SCORE_M, files: &[("m.v", "module m(input a);\n  `NONE\nendmodule\n"), ("D", DUMP)], status: Status::Source, output: NONE, printed: "", warned: "covered: source: lex 6 UnknownMacro NONE at m.v:2:3\n" },
     Case { words: SCORE_M, files: &[("m.v", "module m(input a);\n  assign #1 b = a;\nendmodule\n"), ("D", DUMP)], status: Status::Source, output: NONE, printed: "", warned: "covered: source: parse 4 LeftOut delay at m.v:2:10\n" },
     Case { words: SCORE_M, files: &[("m.v", "module m(input a);\n"), ("D", DUMP)], status: Status::Source, output: NONE, printed: "", warned: "covered: source: parse 2 EarlyEnd\n" },
     Case { words: SCORE_M, files: &[("m.v", "module m(input a, output reg b);\n  always @(posedge a) b <= 1;\nendmodule\n"), ("D", DUMP)], status: Status::Source, output: NONE, printed: "", warned: "covered: source: early 1 NotYet\n" },
     Case { words: SCORE_M, files: &[("m.v", "module m(input a);\n  reg b [0:1];\nendmodule\n"), ("D", DUMP)], status: Status::Source, output: NONE, printed: "", warned: "covered: source: early 1 NotYet\n" },
-    // a continuous assignment
-    Case { words: SCORE_INV, files: &[("inv.v", INV), ("D", INV_DUMP)], status: Status::Done, output: ("B", INV_DATABASE), printed: "", warned: "" },
-    Case { words: SCORE_INV, files: &[("inv.v", INV), ("D", INV_REFUTED)], status: Status::Contradiction, output: NONE, printed: "", warned: "covered: contradiction: inv.y at 5: dumped 0, computed 1\n" },
-    Case { words: SCORE_INV, files: &[("inv.v", INV), ("D", INV_LACKING)], status: Status::Dump, output: NONE, printed: "", warned: "covered: dump: bind 3 NoBaseline inv.y\n" },
     // modules that are refused
     Case { words: SCORE_M, files: &[("m.v", "module m(input a);\n  wire [a:0] b;\nendmodule\n"), ("D", DUMP)], status: Status::Source, output: NONE, printed: "", warned: "covered: source: const 1 NotConstant at m.v:2:9\n" },
     Case { words: SCORE_M, files: &[("m.v", "module m(input a);\n  sub u(a);\nendmodule\n"), ("D", DUMP)], status: Status::Source, output: NONE, printed: "", warned: "covered: source: elab 1 NoModule sub at m.v:2:3\n" },
     Case { words: SCORE_M, files: &[("m.v", "module n(input a);\nendmodule\n"), ("D", DUMP)], status: Status::Source, output: NONE, printed: "", warned: "covered: source: elab 1 NoModule m\n" },
-    // databases
+];
+
+/// A continuous assignment.
+#[rattlefmt::skip]
+const ASSIGNMENTS: &[Case] = &[
+    Case { words: SCORE_INV, files: &[("inv.v", INV), ("D", INV_DUMP)], status: Status::Done, output: ("B", INV_DATABASE), printed: "", warned: "" },
+    Case { words: SCORE_INV, files: &[("inv.v", INV), ("D", INV_REFUTED)], status: Status::Contradiction, output: NONE, printed: "", warned: "covered: contradiction: inv.y at 5: dumped 0, computed 1\n" },
+    Case { words: SCORE_INV, files: &[("inv.v", INV), ("D", INV_LACKING)], status: Status::Dump, output: NONE, printed: "", warned: "covered: dump: bind 3 NoBaseline inv.y\n" },
+];
+
+/// Merges, reports and tracefiles.
+#[rattlefmt::skip]
+const DATABASES: &[Case] = &[
     Case { words: &["merge", "-o", "m.db", "t2.db", "t1.db"], files: TABLES, status: Status::Done, output: ("m.db", MERGED), printed: "", warned: "" },
     Case { words: &["merge", "-o", "m.db", "t1.db", "t5.db"], files: TABLES, status: Status::Database, output: ("m.db", ""), printed: "", warned: "covered: database: t5.db: 4 DesignsDiffer 2\n< top ff\n> top ffr\n" },
     Case { words: &["report", "-m", "ltcfm", "t1.db"], files: TABLES, status: Status::Done, output: NONE, printed: REPORT, warned: "" },
@@ -221,14 +235,32 @@ fn scores_a_module_of_inputs(rt: HostRuntime) {
     }
 }
 
-#[test]
-fn commands_end_as_they_should(rt: HostRuntime) {
-    for case in CASES {
-        assert!(rt;
-            ends(rt.alloc(), case, false),
-            "{} {}",
-            case.warned,
-            case.printed
-        );
+/// Whether each command of a table ends as its case says, on a host that moves many bytes at a time.
+fn all_end(alloc: Global, cases: &[Case]) -> bool {
+    for case in cases {
+        if !ends(alloc, case, false) {
+            return false;
+        }
     }
+    true
+}
+
+#[test]
+fn refuses_dumps(rt: HostRuntime) {
+    assert!(rt; all_end(rt.alloc(), DUMPS));
+}
+
+#[test]
+fn refuses_sources(rt: HostRuntime) {
+    assert!(rt; all_end(rt.alloc(), SOURCES));
+}
+
+#[test]
+fn scores_and_refuses_an_assignment(rt: HostRuntime) {
+    assert!(rt; all_end(rt.alloc(), ASSIGNMENTS));
+}
+
+#[test]
+fn joins_and_reports_databases(rt: HostRuntime) {
+    assert!(rt; all_end(rt.alloc(), DATABASES));
 }
