@@ -4,8 +4,9 @@ use Rattle.event_machine.specs.Cell.{Cell}
 use Rattle.event_machine.specs.Habit.{Habit}
 use Rattle.replay_model.specs.body_replay.Replay.{flush}
 use Rattle.replay_model.specs.body_replay.Runs.{AreRuns, Runs}
-use Rattle.replay_model.specs.design_model.Design.{Design, In}
+use Rattle.replay_model.specs.design_model.Design.{Design, In, body_at, is_number}
 use Rattle.replay_model.specs.design_model.Lawful.{IsLawfulDesign}
+use Rattle.replay_model.specs.design_model.Mentions.{body_assigns}
 use Rattle.replay_model.specs.design_model.Shows.{BoundDump}
 use Rattle.replay_model.specs.Laws.{closing_at}
 use Rattle.replay_model.specs.Marks.{Marking}
@@ -53,3 +54,7 @@ abbrev pub FirmLaw : Type 0
 FirmLaw =
     (st : Closing) (bound : ℕ → Bool) (p : ℕ) (c : Cell) → IsLawfulDesign st.design → AreTables st.design bound st.tables → In p st.tables.clocked → is_target st.design p c ≡ true
     → (is_loose st c ≡ false) × ((all_run st).made c ≡ flush (clocked_run st).kept (clocked_run st).queue c)
+
+-- what a body assigns is a signal or memory of the design
+abbrev pub NumbersLaw : Type 0
+NumbersLaw = (d : Design) → IsLawfulDesign d → (p x : ℕ) → body_assigns x (body_at d p) ≡ true → is_number d x ≡ true

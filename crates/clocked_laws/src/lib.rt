@@ -6,7 +6,7 @@
 //! design ([`blank_law`]). What they write no Assign or Comb makes anew ([`firm_law`]).
 #![tactic(auto)]
 
-ghost use Rattle.clocked_laws.specs.Laws.{BlankLaw, FilterLaw, FirmLaw, RestLaw, StillLaw, TargetLaw, UntouchedLaw};
+ghost use Rattle.clocked_laws.specs.Laws.{BlankLaw, FilterLaw, FirmLaw, NumbersLaw, RestLaw, StillLaw, TargetLaw, UntouchedLaw};
 
 /// A Clocked that cannot wake changes nothing.
 pub fn filter_law()
@@ -37,4 +37,9 @@ pub fn blank_law()
 /// What was made of what a Clocked may write is what its runs left, with the queued writes made.
 pub fn firm_law()
     ensures { FirmLaw }
+{}
+
+/// What the body of a process of a lawful design assigns is a signal or memory of the design.
+pub fn numbers_law()
+    ensures { NumbersLaw }
 {}
