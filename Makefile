@@ -1,5 +1,5 @@
-# make example        builds the program, scores two dumps of the example, merges their databases, shows the report and
-#                     writes the tracefile
+# make example        builds the program, scores two dumps of examples/pads, merges their databases, shows the report and
+#                     writes the tracefile, and scores and reports examples/alu
 # make try            shows the example with a program that is not proved, in a minute or two
 # make test           the gate: proves every crate, tries the wrong bodies, runs the tests, the program and the example cases
 # make cases          builds the program and runs the example cases of the stage that is reached; so does make rows
@@ -13,6 +13,7 @@ STAGE = combs
 # parts of later stages that are already there: dumps, bindings, merge and report
 AHEAD = merge-report pieces
 PADS = examples/pads
+ALU = examples/alu
 DOCUMENTS = USER_GUIDE.md LANGUAGE.md FORMATS.md
 
 .PHONY: build example try test cases rows built-cases wrong-bodies install
@@ -26,6 +27,8 @@ example: build
 	  && $$COVERED score -t pads -i tb.dut -v pads.v -vcd icarus.vcd -o icarus.db \
 	  && $$COVERED merge -o all.db pads.db icarus.db && $$COVERED report -d v all.db \
 	  && $$COVERED lcov -o all.info all.db
+	cd $(ALU) && COVERED=../../$(PROGRAM) \
+	  && $$COVERED score -t alu -i tb.dut -v alu.v -vcd alu.vcd -o alu.db && $$COVERED report -d v alu.db
 
 try:
 	@echo 'covered: this program is compiled without any proof; `make example` proves it first'

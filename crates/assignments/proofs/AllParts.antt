@@ -4,12 +4,12 @@ use Rattle.std.proofs.lemmas.Bool.{and_parts}
 use Rattle.std.proofs.lemmas.List.{drop-drop, drop-take, length-drop, length-take, take-take, take_all}
 use Rattle.std.specs.Prelude.{nat_le}
 use Rattle.known_state.specs.Partly.{Partly}
-use Rattle.value_store.specs.design_model.Design.{Design, is_memory, memory_at, signal_at}
-use Rattle.value_store.specs.design_model.Lawful.{span}
-use Rattle.value_store.specs.design_model.Shape.{are_targets, is_alone, is_target}
-use Rattle.value_store.specs.design_model.Tree.{Target, Targets, Term, a_target, all_of, bits_of, no_targets, several, word_of}
-use Rattle.value_store.specs.design_model.Assignment.{target_width, targets_width}
-use Rattle.value_store.specs.design_model.Value.{head}
+use Rattle.design_model.specs.Design.{Design, is_memory, memory_at, signal_at}
+use Rattle.design_model.specs.Lawful.{span}
+use Rattle.design_model.specs.Shape.{are_targets, is_alone, is_target}
+use Rattle.design_model.specs.Tree.{Target, Targets, Term, a_target, all_of, bits_of, no_targets, several, word_of}
+use Rattle.design_model.specs.Assignment.{target_width, targets_width}
+use Rattle.design_model.specs.Value.{head}
 use Rattle.value_store.specs.body_replay.KnownBits.{KnownBits, all_sure}
 use Rattle.value_store.specs.body_replay.Store.{Kept, keep_all, known_value, known_writes, known_writes_all, weaken, write_bits, write_word}
 use Rattle.value_store.specs.body_replay.Replay.{Mark, all_written_marks, blame_of, index_first, part_blame, some_writes_memory, target_blames, targets_blames, word_marks, word_write, writes_memory, written_marks}

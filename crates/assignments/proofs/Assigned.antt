@@ -6,12 +6,12 @@ use Rattle.value_store.specs.four_state.declared.bit.Bit.{Bit}
 use Rattle.value_store.specs.four_state.declared.bit.Bit.TheVariants.{One, Zero}
 use Rattle.value_store.specs.four_state.Vector.{extend}
 use Rattle.known_state.specs.Join.{joined}
-use Rattle.value_store.specs.design_model.Design.{Design, nowhere}
-use Rattle.value_store.specs.design_model.Tree.{Target, Term, sign}
-use Rattle.value_store.specs.design_model.Assignment.{target_width}
-use Rattle.value_store.specs.design_model.Shape.{is_shaped, is_target, own_sign, own_width}
+use Rattle.design_model.specs.Design.{Design, nowhere}
+use Rattle.design_model.specs.Tree.{Target, Term, sign}
+use Rattle.design_model.specs.Assignment.{target_width}
+use Rattle.design_model.specs.Shape.{is_shaped, is_target, own_sign, own_width}
 use Rattle.std.proofs.lemmas.Bool.{and_parts}
-use Rattle.value_store.specs.design_model.Value.{head}
+use Rattle.design_model.specs.Value.{head}
 use Rattle.value_store.specs.body_replay.KnownBits.{KnownBits, all_sure, extend_partly, sure}
 use Rattle.value_store.specs.body_replay.Store.{Kept, KnownWrite, keep_all, known_value, known_writes, set_bits}
 use Rattle.value_store.specs.body_replay.Replay.{Mark, Mode, State, blame_of, hit, in_mode, index_first, index_marks, line, queued, run_set, set_blames, set_first, set_known, set_marks, term_marks, written_marks}

@@ -2,7 +2,7 @@
 use Rattle.std.proofs.Common.{Bool, List, Option, [], add-one, ap, append-nil, append_assoc, arith, drop, drop-cons, false, get_or, length, refl, subst, sym, take, true, ℕ, ◌+◌, ◌<◌, ◌≤◌, ◌∙◌, ◌∷◌, ◌≡◌, ◌++◌}
 use Rattle.std.proofs.lemmas.List.{drop-take, length-take, take-take, take_all}
 use Rattle.std.proofs.Math.Path.{fun_ext}
-use Rattle.value_store.specs.design_model.Design.{Design}
+use Rattle.design_model.specs.Design.{Design}
 use Rattle.value_store.specs.body_replay.KnownBits.{KnownBits, all_sure}
 use Rattle.value_store.specs.body_replay.Store.{KnownWrite, weaken}
 use Rattle.scene_laws.specs.term_replay.Stands.{Scene}

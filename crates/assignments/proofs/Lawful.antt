@@ -4,10 +4,10 @@ use Rattle.std.specs.Prelude.{nat_le, nat_lt}
 use Rattle.std.specs.List.{list_all}
 use Rattle.std.proofs.lemmas.Bool.{and_parts, eqb-true, leb-true}
 use Rattle.std.proofs.lemmas.Bool.Decides.{nat_tests}
-use Rattle.value_store.specs.design_model.declared.design.Memory.{Memory}
-use Rattle.value_store.specs.design_model.declared.design.Signal.{Signal}
-use Rattle.value_store.specs.design_model.Design.{Design, is_memory, memory_at, no_memory, no_signal, signal_at}
-use Rattle.value_store.specs.design_model.Lawful.{IsLawfulDesign, is_memory_of, is_signal, span}
+use Rattle.design_model.specs.declared.design.Memory.{Memory}
+use Rattle.design_model.specs.declared.design.Signal.{Signal}
+use Rattle.design_model.specs.Design.{Design, is_memory, memory_at, no_memory, no_signal, signal_at}
+use Rattle.design_model.specs.Lawful.{IsLawfulDesign, is_memory_of, is_signal, span}
 use Rattle.assignments.specs.Widths.{HasWidths, IsWidth, WidthsLaw}
 
 passes : {A : Type 0} (p : A → Bool) (z : A) (xs : List A) (n : ℕ) → list_all p xs ≡ true → n < length xs → p (slice_index_or xs n z) ≡ true

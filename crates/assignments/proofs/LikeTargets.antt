@@ -1,7 +1,7 @@
 -- Targets do not tell scenes apart that are alike.
 use Rattle.std.proofs.Common.{List, Option, [], ap, ap₂, refl, ℕ, ◌++◌, ◌∙◌, ◌∷◌, ◌≡◌}
-use Rattle.value_store.specs.design_model.Design.{Design, memory_at, signal_at}
-use Rattle.value_store.specs.design_model.Tree.{Target, Targets, a_target, all_of, bits_of, no_targets, several, word_of}
+use Rattle.design_model.specs.Design.{Design, memory_at, signal_at}
+use Rattle.design_model.specs.Tree.{Target, Targets, a_target, all_of, bits_of, no_targets, several, word_of}
 use Rattle.value_store.specs.body_replay.Replay.{index_first, index_marks, indexes_first, indexes_marks}
 use Rattle.scene_laws.specs.term_replay.Stands.{Scene}
 use Rattle.scene_laws.specs.body_calls.Lvalues.{Like}

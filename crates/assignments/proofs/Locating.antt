@@ -1,8 +1,8 @@
 -- The parts of targets, one target further.
 use Rattle.std.proofs.Common.{List, Option, [], add-one, ap, append-nil, append_assoc, arith, drop, drop-cons, get_or, length, map, refl, subst, sym, ℕ, ◌+◌, ◌<◌, ◌∙◌, ◌∷◌, ◌≡◌, ◌++◌}
-use Rattle.value_store.specs.design_model.Tree as t
-use Rattle.value_store.specs.design_model.View.{target_view, targets_of}
-use Rattle.value_store.specs.design_model.declared.tree.Target.{Target}
+use Rattle.design_model.specs.Tree as t
+use Rattle.design_model.specs.View.{target_view, targets_of}
+use Rattle.design_model.specs.declared.tree.Target.{Target}
 use Rattle.value_store.specs.body_replay.Replay.{index_first}
 use Rattle.scene_laws.specs.term_replay.Stands.{Scene}
 use Rattle.value_store.specs.Queue.{Queue}

@@ -8,9 +8,9 @@ use Rattle.value_store.specs.four_state.declared.bit.Bit.TheVariants.{One, Zero}
 use Rattle.value_store.specs.four_state.Parts.{bits_with, index}
 use Rattle.known_state.proofs.Allowed.{whole_filled}
 use Rattle.known_state.specs.Join.{joined}
-use Rattle.value_store.specs.design_model.Design.{Design, is_memory, signal_at, signal_cells}
-use Rattle.value_store.specs.design_model.Value.{offset_option}
-use Rattle.value_store.specs.design_model.Assignment.{signal_range}
+use Rattle.design_model.specs.Design.{Design, is_memory, signal_at, signal_cells}
+use Rattle.design_model.specs.Value.{offset_option}
+use Rattle.design_model.specs.Assignment.{signal_range}
 use Rattle.value_store.specs.body_replay.KnownBits.{KnownBits, all_sure, sure}
 use Rattle.value_store.specs.body_replay.Store.{Kept, keep_all, known_bit_option, perhaps_cells, write_bits}
 use Rattle.value_store.specs.body_replay.Replay.{part_blame}

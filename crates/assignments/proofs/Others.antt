@@ -5,9 +5,9 @@ use Rattle.std.specs.List.{range_with_len}
 use Rattle.scene_laws.specs.event_machine.Cell.{Cell, same_cell}
 use Rattle.value_store.specs.four_state.declared.bit.Bit.{Bit}
 use Rattle.value_store.specs.four_state.Parts.{index, within}
-use Rattle.value_store.specs.design_model.Design.{Design, cell, memory_at, signal_at, signal_cells, word_cells}
-use Rattle.value_store.specs.design_model.Value.{named_word, offset_option}
-use Rattle.value_store.specs.design_model.Assignment.{option_cell, signal_range}
+use Rattle.design_model.specs.Design.{Design, cell, memory_at, signal_at, signal_cells, word_cells}
+use Rattle.design_model.specs.Value.{named_word, offset_option}
+use Rattle.design_model.specs.Assignment.{option_cell, signal_range}
 use Rattle.value_store.specs.body_replay.KnownBits.{KnownBits, on_whole, whole_bits}
 use Rattle.value_store.specs.body_replay.Store.{Kept, keep_all, known_bit_option, known_bit_writes, known_word_writes, may_name, perhaps_cell, perhaps_cells, perhaps_words, weaken, words, writes_of}
 use Rattle.value_store.proofs.body_replay.Frames.{Misses, miss_append, miss_weaken, missed}

@@ -1,8 +1,8 @@
 -- The parts of an assignment with their indexes evaluated, and what the assignment does by them.
 use Rattle.std.specs.Prelude.{◌≡◌, ◌+◌, ◌≤◌, ◌==◌, ◌||◌, ◌∷◌, ◌++◌, ℕ, Bool, true, false, if◌then◌else◌, List, [], take, drop, Option, Some, None}
 use Rattle.known_state.specs.Partly.{Partly}
-use Rattle.value_store.specs.design_model.Design.{Design, memory_at, signal_at}
-use Rattle.value_store.specs.design_model.Tree.{Target, Targets, a_target, all_of, bits_of, no_targets, several, word_of}
+use Rattle.design_model.specs.Design.{Design, memory_at, signal_at}
+use Rattle.design_model.specs.Tree.{Target, Targets, a_target, all_of, bits_of, no_targets, several, word_of}
 use Rattle.value_store.specs.body_replay.KnownBits.{KnownBits, all_sure}
 use Rattle.value_store.specs.body_replay.Store.{KnownWrite, keep_all}
 use Rattle.value_store.specs.body_replay.Replay.{Mark, index_first, part_blame, word_marks, word_write}

@@ -1,6 +1,6 @@
 -- How much of the log and of the queue an assignment takes at most.
 use Rattle.std.specs.Prelude.{◌+◌, ◌≤◌, ℕ, Bool, if◌then◌else◌}
-use Rattle.value_store.specs.design_model.Tree.{Target, Targets, a_target, all_of, bits_of, no_targets, several, word_of}
+use Rattle.design_model.specs.Tree.{Target, Targets, a_target, all_of, bits_of, no_targets, several, word_of}
 use Rattle.scene_laws.specs.body_calls.Rooms.{Rooms}
 
 -- the sum of what the signal or memory of each part takes

@@ -1,7 +1,7 @@
 -- Designs whose signals and memories are as wide as their ranges.
 use Rattle.std.specs.Prelude.{◌≡◌, ◌<◌, ◌≤◌, ℕ, true, length}
-use Rattle.value_store.specs.design_model.Design.{Design, is_memory, memory_at, signal_at}
-use Rattle.value_store.specs.design_model.Lawful.{IsLawfulDesign, span}
+use Rattle.design_model.specs.Design.{Design, is_memory, memory_at, signal_at}
+use Rattle.design_model.specs.Lawful.{IsLawfulDesign, span}
 
 -- from 1 to 128 bits, as many as the range has
 pub record IsWidth (width high low : ℕ) : Type 0 where

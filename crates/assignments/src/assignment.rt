@@ -1,10 +1,10 @@
 //! An assignment (IEEE 1364-2001, clauses 9.2.1 and 9.2.2).
 
 ghost use Rattle.std.specs.Prelude.{◌≡◌, ◌≤◌, [], true};
-ghost use Rattle.value_store.specs.design_model.Design.{Design, nowhere};
-ghost use Rattle.value_store.specs.design_model.Shape.{is_body};
-ghost use Rattle.value_store.specs.design_model.Tree as t;
-ghost use Rattle.value_store.specs.design_model.View.{target_view, term_view};
+ghost use Rattle.design_model.specs.Design.{Design, nowhere};
+ghost use Rattle.design_model.specs.Shape.{is_body};
+ghost use Rattle.design_model.specs.Tree as t;
+ghost use Rattle.design_model.specs.View.{target_view, term_view};
 ghost use Rattle.value_store.specs.body_replay.Replay.{State, run_set};
 ghost use Rattle.scene_laws.specs.body_calls.Rooms.{Leaves, takes_in};
 ghost use Rattle.scene_laws.specs.At.{IsState};
@@ -14,8 +14,9 @@ ghost use Rattle.assignments.specs.Widths.{HasWidths};
 use crate::Piece;
 use crate::parts::{make, note_written};
 use crate::target::locate;
+use design_model::{Target, Term};
 use scene_laws::{Bodies, Notes, Progress, Spot, evaluate};
-use value_store::{Queue, Target, Term};
+use value_store::Queue;
 
 /// Makes an assignment: evaluates the indexes of its target and its value, notes the words that are written, and writes the
 /// parts, or queues them. In a branch of an undecided test what is queued is not certain. No part of an earlier assignment is

@@ -1,18 +1,19 @@
 //! The parts of a target, with their indexes evaluated.
 
 ghost use Rattle.std.specs.Prelude.{◌≡◌, ◌+◌, ◌≤◌, length, map, true};
-ghost use Rattle.value_store.specs.design_model.Assignment.{target_width, targets_width};
-ghost use Rattle.value_store.specs.design_model.Lawful.{span as span_of};
-ghost use Rattle.value_store.specs.design_model.Shape.{are_targets, is_target};
-ghost use Rattle.value_store.specs.design_model.View.{target_view, targets_of};
+ghost use Rattle.design_model.specs.Assignment.{target_width, targets_width};
+ghost use Rattle.design_model.specs.Lawful.{span as span_of};
+ghost use Rattle.design_model.specs.Shape.{are_targets, is_target};
+ghost use Rattle.design_model.specs.View.{target_view, targets_of};
 ghost use Rattle.value_store.specs.body_replay.Replay.{index_first, index_marks, indexes_first, indexes_marks};
 ghost use Rattle.scene_laws.specs.term_replay.Noted.{Adds, in_this};
 ghost use Rattle.assignments.specs.Pieces.{AllLocated, Located};
 ghost use Rattle.assignments.specs.Widths.{HasWidths};
 
 use crate::Piece;
+use design_model::{Range, Target};
 use scene_laws::{Lvalue, Notes, Progress, Reads, evaluate};
-use value_store::{Queue, Range, Target};
+use value_store::Queue;
 
 /// How many bits a range has.
 fn span(range: Range) -> u8

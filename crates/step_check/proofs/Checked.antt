@@ -18,8 +18,8 @@ use Rattle.dump_check.specs.Checks.{AgreesAt, IsFirstDifference, last_of_each, m
 use Rattle.dump_check.specs.declared.order.Difference.{Difference}
 use Rattle.index_sets.specs.Rows.{row_at}
 use Rattle.step_changes.proofs.process_order.Distinct.{in_right}
-use Rattle.step_changes.specs.process_targets.Targets.{row_has}
-use Rattle.step_changes.specs.process_targets.declared.bits.Bits.{Bits}
+use Rattle.process_targets.specs.Targets.{row_has}
+use Rattle.process_targets.specs.declared.bits.Bits.{Bits}
 use Rattle.step_changes.specs.replay_model.Step.{Closing, all_run, contradicts, is_dumped, is_touched, known_bits, surely_differ}
 use Rattle.step_changes.specs.step_values.Vectors.{StepVectors}
 use Rattle.step_changes.proofs.step_values.Dumps.{bits_in}

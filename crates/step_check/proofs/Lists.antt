@@ -15,9 +15,9 @@ use Rattle.design_model.specs.Design.{Design, In, cell, signal_at}
 use Rattle.dump_check.specs.Checks.{last_of_each}
 use Rattle.index_sets.specs.Rows.{row_at}
 use Rattle.step_changes.proofs.process_order.Distinct.{in_either, in_left, in_right}
-use Rattle.step_changes.specs.process_targets.Rows.{IsInside}
-use Rattle.step_changes.specs.process_targets.Targets.{row_has}
-use Rattle.step_changes.specs.process_targets.declared.bits.Bits.{Bits}
+use Rattle.process_targets.specs.Rows.{IsInside}
+use Rattle.process_targets.specs.Targets.{row_has}
+use Rattle.process_targets.specs.declared.bits.Bits.{Bits}
 use Rattle.step_changes.proofs.replay_model.Bits.{any_in, in_any, none_in}
 use Rattle.step_changes.specs.step_values.Loose.{has_code}
 use Rattle.step_check.specs.Checks.{AreCheckRows, checked, is_checked}

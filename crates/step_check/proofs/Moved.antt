@@ -15,7 +15,7 @@ use Rattle.design_model.specs.Mentions.{blocking_target}
 use Rattle.design_model.specs.Shows.{BoundDump}
 use Rattle.step_changes.specs.body_replay.Runs.{Runs}
 use Rattle.step_changes.proofs.process_order.Distinct.{in_left, in_right}
-use Rattle.step_changes.proofs.process_targets.Settled.{settled_law}
+use Rattle.process_targets.proofs.Settled.{settled_law}
 use Rattle.step_changes.specs.replay_model.Sets.{AreSets, Sets}
 use Rattle.step_changes.specs.replay_model.Step.{Replay}
 use Rattle.step_changes.specs.replay_model.Tables.{AreTables, Tables}

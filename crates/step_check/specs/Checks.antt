@@ -2,7 +2,7 @@
 use Rattle.std.specs.Prelude.{◌≡◌, ◌&&◌, ◌==◌, ℕ, Bool, not, List, length, map, Option}
 use Rattle.std.specs.List.{filter}
 use Rattle.index_sets.specs.Rows.{row_at}
-use Rattle.step_changes.specs.process_targets.declared.bits.Bits.{Bits}
+use Rattle.process_targets.specs.declared.bits.Bits.{Bits}
 use Rattle.step_changes.specs.step_values.Loose.{has_code}
 
 -- the bits are some, of a signal with a code

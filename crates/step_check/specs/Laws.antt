@@ -13,8 +13,8 @@ use Rattle.step_changes.specs.body_store.declared.store.Store.{Store}
 use Rattle.dump_check.specs.Checks.{AgreesAt, IsFirstDifference, last_of_each}
 use Rattle.dump_check.specs.declared.order.Difference.{Difference}
 use Rattle.index_sets.specs.Rows.{row_at}
-use Rattle.step_changes.specs.process_targets.Rows.{AreTargetRows}
-use Rattle.step_changes.specs.process_targets.declared.bits.Bits.{Bits}
+use Rattle.process_targets.specs.Rows.{AreTargetRows}
+use Rattle.process_targets.specs.declared.bits.Bits.{Bits}
 use Rattle.step_changes.specs.replay_model.Laws.{closing_at}
 use Rattle.step_changes.specs.replay_model.Sets.{AreSets, Sets}
 use Rattle.step_changes.specs.replay_model.Step.{Closing, Replay, all_run, contradicts, is_touched}

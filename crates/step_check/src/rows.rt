@@ -5,8 +5,8 @@ ghost use Rattle.step_check.specs.Checks.{AreCheckRows, checked, is_checked as c
 
 use cov_host::NoMemory;
 use index_sets::Rows;
+use process_targets::Bits;
 use std::alloc::Global;
-use step_changes::Bits;
 
 /// For each of so many processes the signals with a code of which it may write some bit. `targets` has the bits that each process
 /// may write, and `codes` the code of each signal. It takes time for these.

@@ -18,6 +18,5 @@ mod values;
 pub use dump::put_dump;
 pub use forget::is_coded;
 pub use laws::{bound_law, still_law};
-pub use process_targets::Bits;
 pub use store_knowledge::{Piece, Store, keep_signal, known_signal};
 pub use values::StepValues;

@@ -1,7 +1,7 @@
 use Rattle.std.proofs.Common.{◌≡◌, ◌∙◌, ◌++◌, ◌≤◌, List, [], ap, arith, length, subst, sym}
 use Rattle.std.proofs.lemmas.Bool.{and_parts}
-use Rattle.value_store.specs.design_model.Shape.{is_target}
-use Rattle.value_store.specs.design_model.View.{target_view, term_view}
+use Rattle.design_model.specs.Shape.{is_target}
+use Rattle.design_model.specs.View.{target_view, term_view}
 use Rattle.value_store.specs.Queue.{Queue}
 use Rattle.scene_laws.specs.body_calls.Rooms.{takes_in}
 use Rattle.assignments.specs.Pieces.{AllTake, widths}

@@ -1,10 +1,10 @@
 use Rattle.std.proofs.Common.{◌≡◌, ◌∙◌, ◌+◌, ◌++◌, ◌≤◌, ap, arith, drop, length, map, subst, sym, true}
 use Rattle.std.proofs.lemmas.Bool.{and_parts}
 use Rattle.std.proofs.lemmas.List.{at_drop_all, length-append}
-use Rattle.value_store.specs.design_model.Assignment.{target_width, targets_width}
-use Rattle.value_store.specs.design_model.Shape.{are_targets}
-use Rattle.value_store.specs.design_model.Tree as tree
-use Rattle.value_store.specs.design_model.View.{target_view, targets_of}
+use Rattle.design_model.specs.Assignment.{target_width, targets_width}
+use Rattle.design_model.specs.Shape.{are_targets}
+use Rattle.design_model.specs.Tree as tree
+use Rattle.design_model.specs.View.{target_view, targets_of}
 use Rattle.value_store.specs.body_replay.Replay.{index_first, index_marks, indexes_first, indexes_marks}
 use Rattle.scene_laws.proofs.term_replay.Joining.{TellsOn, tells_further}
 use Rattle.assignments.proofs.AllParts.{pieces_length, pieces_width}

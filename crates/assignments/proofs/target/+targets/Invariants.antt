@@ -1,8 +1,8 @@
 use Rattle.std.proofs.Common.{◌≡◌, ◌+◌, ◌*◌, ◌≤◌, drop, length, map, true}
-use Rattle.value_store.specs.design_model.Assignment.{targets_width}
-use Rattle.value_store.specs.design_model.Shape.{are_targets}
-use Rattle.value_store.specs.design_model.View.{target_view, targets_of}
-use Rattle.value_store.specs.design_model.declared.tree.Target.{size-Target}
+use Rattle.design_model.specs.Assignment.{targets_width}
+use Rattle.design_model.specs.Shape.{are_targets}
+use Rattle.design_model.specs.View.{target_view, targets_of}
+use Rattle.design_model.specs.declared.tree.Target.{size-Target}
 use Rattle.value_store.specs.body_replay.Replay.{indexes_first, indexes_marks}
 use Rattle.scene_laws.proofs.term_replay.Joining.{TellsOn}
 use Rattle.assignments.proofs.Locating.{LocatesOn}
