@@ -69,14 +69,6 @@ unsaid codes values s none = go (slice_index_or codes s None) none
     go None e = refl
     go (Some code) e = absurd (false≢true (sym e))
 
--- what has a value has a code
-pub coded_from : (codes : List (Option ℕ)) (values : List (Option Vector)) (s : ℕ) (v : Vector) → dumped_of codes values s ≡ Some v → has_code codes s ≡ true
-coded_from codes values s v e = go (slice_index_or codes s None) e
-  where
-    go : (o : Option ℕ) → coded_value values o ≡ Some v → is_some o ≡ true
-    go None h = cc
-    go (Some code) h = refl
-
 -- what may be read of an early signal is as wide as the signal, where something is known of it
 abbrev IsWide : ℕ → Option KnownBits → Type 0
 IsWide n None = Unit {0}
@@ -96,3 +88,11 @@ module _ (d : Design) (codes : List (Option ℕ)) (values : Values) (old new : C
 
   pub early_width : (ps : KnownBits) → early_bits d codes values s ≡ Some ps → length ps ≡ (signal_at d s).width
   early_width ps e = subst (IsWide (signal_at d s).width) e (wide_input (signal_at d s).input)
+
+-- what may be read of an early signal is of an input
+pub early_input : (d : Design) (codes : List (Option ℕ)) (values : Values) (s : ℕ) (ps : KnownBits) → early_bits d codes values s ≡ Some ps → (signal_at d s).input ≡ true
+early_input d codes values s ps e = go (signal_at d s).input e
+  where
+    go : (i : Bool) → (if i then common_bits (dumped_of codes values.closed s) (dumped_of codes values.last s) else None) ≡ Some ps → i ≡ true
+    go true h = refl
+    go false h = cc

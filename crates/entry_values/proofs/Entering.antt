@@ -1,5 +1,5 @@
 -- The views on the way from a plain store to the one that a clean block meets.
-use Rattle.std.proofs.Common.{◌≡◌, ℕ, ◌+◌, ◌<◌, ◌==◌, Bool, true, false, List, [], length, map, take, get_or, Some, None, refl, sym, ap, ap₂, ◌∙◌, arith}
+use Rattle.std.proofs.Common.{◌≡◌, ℕ, ◌+◌, ◌<◌, ◌==◌, Bool, true, false, List, [], length, map, take, get_or, Option, Some, None, refl, sym, ap, ap₂, ◌∙◌, arith}
 use Rattle.std.specs.Prelude.{◌||◌}
 use Rattle.std.proofs.Math.Path.{fun_ext}
 use Rattle.std.proofs.lemmas.Bool.{false_from_ne_true, false≢true}
@@ -35,8 +35,11 @@ module _ (st : Closing) (trigger : ℕ) (k : Kept) where
   enter x h = record { keeps = h.keeps; own = h.own; hidden = h.hidden; shown = λ c e. absurd (false≢true e) }
 
   -- the views are equal where the same is hidden
-  same_view : (f g : ℕ → Bool) → ((y : ℕ) → f y ≡ g y) → record { kept = k; hidden = f; shown = entry st trigger } ≡ record { kept = k; hidden = g; shown = entry st trigger }
-  same_view f g same = ap {B = StoreView} (λ (t : ℕ → Bool). record { kept = k; hidden = t; shown = entry st trigger }) (fun_ext same)
+  abbrev view_by : (ℕ → Bool) → StoreView
+  view_by f = record { kept = k; hidden = f; shown = entry st trigger }
+
+  same_view : (f g : ℕ → Bool) → ((y : ℕ) → f y ≡ g y) → view_by f ≡ view_by g
+  same_view f g same = ap view_by (fun_ext same)
 
   pub enter_more : (early : List ℕ) (i e : ℕ) → i < length early → also_hiding (get_or early i e) (entered st trigger (take i early) k) ≡ entered st trigger (take (i + 1) early) k
   enter_more early i e l =
@@ -52,7 +55,7 @@ module _ (st : Closing) (p trigger : ℕ) (early : List ℕ) (codes : List (Opti
   pub entered_all : (w : Working) → also_hiding trigger (entered st trigger early w.kept) ≡ clean_store st p trigger w
   entered_all w =
       same_view st trigger w.kept (λ y. (trigger == y) || is_in early y) (λ y. (y == trigger) || st.sets.early p y)
-      (λ y. ap₂ (λ a b. a || b) (same_order trigger y) (sym (is.early y)))
+      (λ y. ap₂ (λ a b. a || b) (same_order trigger y) (sym (is.early_are y)))
 
   -- what is shown of an early signal or memory is what the view shows of it, and where nothing is known of it the view shows nothing
   module _ (x : ℕ) (apart : (x == trigger) ≡ false) (v : StoreView) (shown : v.shown ≡ entry st trigger) where

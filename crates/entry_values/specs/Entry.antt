@@ -36,5 +36,5 @@ pub record IsEntryOf (st : Closing) (p trigger : ℕ) (early : List ℕ) (codes 
   pub known : KnowsDump st.design st.bound st.start.kept old
   pub after : AreDumped st.design codes values.last st.new
   pub coded : has_code codes trigger ≡ true
-  pub early : (x : ℕ) → st.sets.early p x ≡ is_in early x
+  pub early_are : (x : ℕ) → st.sets.early p x ≡ is_in early x
   pub apart : is_in early trigger ≡ false

@@ -1,7 +1,8 @@
-ghost use Rattle.std.specs.Prelude.{◌≡◌, ◌<◌, ◌≤◌, ◌+◌, ◌==◌, ℕ, List, IfNone, IfSome, None, Some, false, length, true};
+ghost use Rattle.std.specs.Prelude.{◌≡◌, ◌<◌, ◌≤◌, ◌+◌, ◌==◌, ℕ, List, IfNone, IfSome, None, Some, false, length, map, true};
 ghost use Rattle.std.specs.List.{All};
 ghost use Rattle.event_machine.specs.Cell.{Values as CellValues};
 ghost use Rattle.four_state.specs.declared.bit.Bit.{Bit};
+ghost use Rattle.known_state.specs.Join.{joined};
 ghost use Rattle.run_views.specs.body_replay.Runs.{StoreView};
 ghost use Rattle.run_views.specs.body_store.Bodies.{rooms_of};
 ghost use Rattle.run_views.specs.design_model.Design.{signal_at};
@@ -99,24 +100,26 @@ fn early_value(
     requires after { (new : CellValues Bit) × AreDumped (design_view design.now) codes.now values.now.last new }
     ensures none { IfNone result (early_bits (design_view design.now) codes.now values.now thing ≡ None) }
     ensures some { IfSome result (λ q. early_bits (design_view design.now) codes.now values.now thing ≡ Some q.bits) }
-    ensures place { IfSome result (λ q. thing < length design.now.signals) }
 {
     if !is_input(design, thing) {
         return None;
     }
-    match (
-        old_value(codes, values, thing),
-        new_value(codes, values, thing),
-    ) {
-        (Some(old), Some(new)) => Some(Known::whole(old).join(&Known::whole(new), thing)),
-        _ => None,
-    }
+    let old = old_value(codes, values, thing)?;
+    let new = new_value(codes, values, thing)?;
+    Some(common(old, new, thing))
+}
+
+/// What two values of a signal have in common.
+fn common(old: Four, new: Four, signal: u32) -> Known
+    requires { length old.bits ≡ length new.bits }
+    ensures { result.bits ≡ joined (map Some old.bits) (map Some new.bits) }
+{
+    Known::whole(old).join(&Known::whole(new), signal)
 }
 
 /// Whether the number is that of an input.
 fn is_input(design: &Design, thing: u32) -> bool
-    ensures value { result ≡ (signal_at (design_view design.now) thing).input }
-    ensures place { result ≡ true → thing < length design.now.signals }
+    ensures { result ≡ (signal_at (design_view design.now) thing).input }
 {
     let signals = design.signals.as_slice();
     (thing as usize) < signals.len() && signals[thing as usize].input
