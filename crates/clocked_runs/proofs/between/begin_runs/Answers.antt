@@ -1,4 +1,4 @@
-use Rattle.clocked_runs.proofs.Between.{HasFlushed, begins}
+use Rattle.clocked_runs.proofs.Flushed.{HasFlushed, begins}
 use Rattle.clocked_runs.proofs.between.begin_runs.Goals as goal
 
 pub returns-clause-ready : goal.returns-clause-ready

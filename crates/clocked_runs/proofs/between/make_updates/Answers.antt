@@ -1,4 +1,4 @@
-use Rattle.clocked_runs.proofs.Between.{HasFlushed, flush_knows}
+use Rattle.clocked_runs.proofs.Flushed.{HasFlushed, flush_knows}
 use Rattle.clocked_runs.proofs.between.make_updates.Goals as goal
 
 pub returns-clause-knows : goal.returns-clause-knows
