@@ -8,7 +8,7 @@ ghost use Rattle.chosen_early.specs.early_sets.WakeState.{state_of, trigger_of};
 ghost use Rattle.chosen_early.specs.Shared.{IsSameButEarly, IsShared};
 ghost use Rattle.clocked_block.specs.clocked_runs.block_runs.body_calls.Own.{is_in};
 ghost use Rattle.clocked_block.specs.clocked_runs.block_runs.Notes.{AddsNotes};
-ghost use Rattle.clocked_block.specs.clocked_runs.run_views.body_replay.Contract.{clean};
+ghost use Rattle.clocked_block.specs.clocked_runs.run_views.body_replay.Contract.{Note, clean};
 ghost use Rattle.clocked_block.specs.entry_values.replay_model.Step.{Closing, Working, clean_store, run_clean as clean_run};
 ghost use Rattle.clocked_block.specs.entry_values.step_values.Loose.{has_code};
 ghost use Rattle.clocked_block.specs.OneRun.{AtRuns, IsRunBy};
@@ -61,6 +61,7 @@ pub fn run_chosen<N: BlockNotes, L: Ledger>(
         → AtRuns st w (process ∷ ps) store.old → AtRuns st (clean_run st (Some trigger) process w) ps store.new }
     ensures notes { (st : Closing) (w : Working) (ps : List ℕ) → IsRunBy st time → IsDumpedStep st codes.now values.now → IsEarlyIn st (state_of sets.old) habit process trigger
         → AtRuns st w (process ∷ ps) store.old → AddsNotes N.noted notes.old (st.run process (clean_store st process trigger w) (clean st.time)).notes notes.new }
+    ensures took { (ns : List Note) × AddsNotes N.noted notes.old ns notes.new }
     ensures pieces { pieces.new ≡ pieces.old }
     ensures steps { steps.new ≡ steps.old + 1 }
 {

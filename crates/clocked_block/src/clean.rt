@@ -6,7 +6,7 @@ ghost use Rattle.design_model.specs.Mentions.{body_assigns};
 ghost use Rattle.design_model.specs.View.{design_view};
 ghost use Rattle.clocked_runs.specs.block_runs.body_calls.Own.{is_in};
 ghost use Rattle.clocked_runs.specs.block_runs.Notes.{AddsNotes};
-ghost use Rattle.clocked_runs.specs.run_views.body_replay.Contract.{clean};
+ghost use Rattle.clocked_runs.specs.run_views.body_replay.Contract.{Note, clean};
 ghost use Rattle.entry_values.specs.Entry.{IsEntryOf};
 ghost use Rattle.entry_values.specs.replay_model.Step.{Closing, Working, clean_store, run_clean as clean_run};
 ghost use Rattle.clocked_block.specs.OneRun.{AtRuns, IsRunBy};
@@ -50,6 +50,7 @@ pub fn run_clean<N: BlockNotes, L: Ledger>(
         → AtRuns st w (process ∷ ps) store.old → AtRuns st (clean_run st (Some trigger) process w) ps store.new }
     ensures notes { (st : Closing) (w : Working) (ps : List ℕ) → IsRunBy st time → IsEntryOf st process trigger early.now codes.now values.now
         → AtRuns st w (process ∷ ps) store.old → AddsNotes N.noted notes.old (st.run process (clean_store st process trigger w) (clean st.time)).notes notes.new }
+    ensures took { (ns : List Note) × AddsNotes N.noted notes.old ns notes.new }
     ensures pieces { pieces.new ≡ pieces.old }
     ensures steps { steps.new ≡ steps.old + 1 }
 {

@@ -5,7 +5,7 @@ ghost use Rattle.design_model.specs.Mentions.{body_assigns};
 ghost use Rattle.design_model.specs.View.{design_view};
 ghost use Rattle.clocked_runs.specs.block_runs.body_calls.Own.{is_in};
 ghost use Rattle.clocked_runs.specs.block_runs.Notes.{AddsNotes};
-ghost use Rattle.clocked_runs.specs.run_views.body_replay.Contract.{weak};
+ghost use Rattle.clocked_runs.specs.run_views.body_replay.Contract.{Note, weak};
 ghost use Rattle.entry_values.specs.replay_model.Step.{Closing, Working, plain_store, run_weak as weak_run};
 ghost use Rattle.clocked_block.specs.OneRun.{AtRuns, IsRunBy};
 
@@ -40,6 +40,7 @@ pub fn run_weak<N: BlockNotes, L: Ledger>(
         → AtRuns st (weak_run st None (Some waker) process w) ps store.new }
     ensures notes { (st : Closing) (w : Working) (ps : List ℕ) → IsRunBy st time → AtRuns st w (process ∷ ps) store.old
         → AddsNotes N.noted notes.old (st.run process (plain_store w.kept) (weak st.time waker)).notes notes.new }
+    ensures took { (ns : List Note) × AddsNotes N.noted notes.old ns notes.new }
     ensures pieces { pieces.new ≡ pieces.old }
     ensures steps { steps.new ≡ steps.old + 1 }
 {

@@ -48,3 +48,14 @@ returns-clause-notes g c = λ st w ps by is h.
     let v = clean_store st p c.args.trigger w in
     let at : CanRun st.design v (flat w.queue) (p ∷ ps) c.show_entry.new.store = met_anew st.design (plain_store w.kept) v (flat w.queue) (p ∷ ps) c.args.store.now c.show_entry.new.store h (c.show_entry.ensures.meets st p w is h.meets) c.show_entry.ensures.design c.show_entry.ensures.updates c.show_entry.ensures.rooms in
     subst (λ (z : Outcome). AddsNotes g.N.BlockNotes.noted c.args.notes.now z.notes c.run_block.new.notes) (run_is st c.args.time p v clean by) (c.run_block.ensures.notes st.design v (flat w.queue) ps at)
+
+pub returns-clause-took : goal.returns-clause-took
+returns-clause-took g c =
+    let st = c.requires.entered.0 in
+    let w = c.requires.entered.1 in
+    let ps = c.requires.entered.2 in
+    let h = c.requires.entered.4 in
+    let p = c.args.process in
+    let v = clean_store st p c.args.trigger w in
+    let at : CanRun st.design v (flat w.queue) (p ∷ ps) c.show_entry.new.store = met_anew st.design (plain_store w.kept) v (flat w.queue) (p ∷ ps) c.args.store.now c.show_entry.new.store h (c.show_entry.ensures.meets st p w c.requires.entered.3 h.meets) c.show_entry.ensures.design c.show_entry.ensures.updates c.show_entry.ensures.rooms in
+    ((runs_of st.design p v (clean c.args.time)).notes, c.run_block.ensures.notes st.design v (flat w.queue) ps at)

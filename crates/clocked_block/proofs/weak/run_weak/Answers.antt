@@ -24,3 +24,9 @@ returns-clause-notes g c = λ st w ps by h.
     let p = c.args.process in
     let v = plain_store w.kept in
     subst (λ (z : Outcome). AddsNotes g.N.BlockNotes.noted c.args.notes.now z.notes c.run_block.new.notes) (run_is st c.args.time p v (λ t. weak t c.args.waker) by) (c.run_block.ensures.notes st.design v (flat w.queue) ps h)
+
+pub returns-clause-took : goal.returns-clause-took
+returns-clause-took g c =
+    let st = c.requires.ready.0 in
+    let v = plain_store c.requires.ready.1.kept in
+    ((runs_of st.design c.args.process v (weak c.args.time c.args.waker)).notes, c.run_block.ensures.notes st.design v (flat c.requires.ready.1.queue) c.requires.ready.2 c.requires.ready.3)
