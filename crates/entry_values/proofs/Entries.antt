@@ -11,7 +11,7 @@ use Rattle.run_views.specs.body_replay.KnownBits.{KnownBits}
 use Rattle.run_views.specs.design_model.Design.{Design, cell, signal_at, signal_bits}
 use Rattle.step_values.specs.Dumped.{dumped_of}
 use Rattle.step_values.specs.Loose.{has_code}
-use Rattle.step_values.specs.replay_model.Step.{Closing, dumped, entry, is_dumped}
+use Rattle.step_values.specs.replay_model.Step.{Closing, dumped, entry}
 use Rattle.step_values.proofs.Dumps.{said, value_bits}
 use Rattle.entry_values.specs.Entry.{IsEntryOf, common_bits, early_bits}
 use Rattle.entry_values.proofs.Bits.{common_at, join_none, sure_at, unsaid}

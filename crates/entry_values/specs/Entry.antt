@@ -1,5 +1,5 @@
 -- The values with which a clean block is entered, by those that the dump has given to codes.
-use Rattle.std.specs.Prelude.{◌≡◌, ◌==◌, ℕ, true, false, if◌then◌else◌, List, map, slice_index_or, Option, Some, None}
+use Rattle.std.specs.Prelude.{◌≡◌, ℕ, true, false, if◌then◌else◌, List, map, Option, Some, None}
 use Rattle.event_machine.specs.Cell.{Values as CellValues}
 use Rattle.four_state.specs.Vector.{Vector}
 use Rattle.four_state.specs.declared.bit.Bit.{Bit}
