@@ -2,7 +2,7 @@
 use Rattle.std.specs.Prelude.{◌≡◌, ◌&&◌, ◌++◌, ℕ, Bool, suc, true, false, List, filter, is_some, Option, Some}
 use Rattle.event_machine.specs.Cell.{Cell}
 use Rattle.event_machine.specs.Habit.{Habit}
-use Rattle.replay_steps.specs.replay_model.design_model.Design.{Design, In, IsClocked, body_at, process_at}
+use Rattle.replay_steps.specs.replay_model.design_model.Design.{Design, In, IsClocked, body_at, is_number, process_at}
 use Rattle.replay_steps.specs.replay_model.design_model.Lawful.{IsLawfulDesign}
 use Rattle.replay_steps.specs.replay_model.design_model.Mentions.{body_assigns}
 use Rattle.replay_steps.specs.replay_model.design_model.Shows.{BoundDump}
@@ -183,3 +183,7 @@ abbrev pub ClockedAllBlankLaw : Type 0
 ClockedAllBlankLaw =
     (st : Closing) → StayInside st → HasDumpCells st.design st.bound → ((p : ℕ) → In p (st.tables.order ++ st.tables.last) → DrivesCells st.design p)
     → IsBlank st.design st.start.kept → IsBlank st.design (all_run st).kept
+
+-- what a body assigns is a signal or memory of the design
+abbrev pub NumbersLaw : Type 0
+NumbersLaw = (d : Design) → IsLawfulDesign d → (p x : ℕ) → body_assigns x (body_at d p) ≡ true → is_number d x ≡ true

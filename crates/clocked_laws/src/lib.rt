@@ -16,6 +16,7 @@
 ghost use Rattle.clocked_laws.specs.Laws.{CleanBlankLaw, ClockedAllBlankLaw, ClockedBlankLaw, ClockedStartBlankLaw, FlushedBlankLaw, WeakBlankLaw};
 ghost use Rattle.clocked_laws.specs.Laws.{CleanAppendLaw, CleanFilterLaw, ClockedActedLaw, ClockedFilterLaw, ClockedNotesLaw, ClockedRunningLaw, ClockedUnmadeLaw, WeakAppendLaw, WeakFilterLaw};
 ghost use Rattle.clocked_laws.specs.Laws.{ClockedAllKeptLaw, ClockedAllMadeLaw, ClockedContradictsLaw, ClockedFirmLaw, ClockedStartLaw};
+ghost use Rattle.clocked_laws.specs.Laws.{NumbersLaw};
 ghost use Rattle.clocked_laws.specs.Laws.{ClockedAllStillLaw, ClockedFlushLaw, ClockedKeepLaw, ClockedMadeLaw, ClockedMovesLaw, ClockedStartStillLaw, ClockedStillLaw, ClockedStillMadeLaw, ClockedTargetLaw, UnassignedLaw, UntargetedLaw};
 
 /// A Clocked that does not run clean changes nothing among those that do.
@@ -107,4 +108,9 @@ pub fn clocked_blank_law()
     ensures flushed { FlushedBlankLaw }
     ensures start { ClockedStartBlankLaw }
     ensures all { ClockedAllBlankLaw }
+{}
+
+/// What the body of a process of a lawful design assigns is a signal or memory of the design.
+pub fn numbers_law()
+    ensures { NumbersLaw }
 {}

@@ -1,0 +1,2 @@
+pub mod Choosing
+pub use Rattle.early_sets.proofs as early_sets

@@ -1,0 +1,2 @@
+pub mod Shared
+pub use Rattle.early_sets.specs as early_sets

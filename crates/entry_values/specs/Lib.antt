@@ -1,0 +1,4 @@
+pub mod Entry
+pub use Rattle.run_views.specs as run_views
+pub use Rattle.step_values.specs as step_values
+pub use Rattle.step_values.specs.replay_model as replay_model
