@@ -30,14 +30,13 @@ pub record Gives (d : Design) (n w : ℕ) (right : Term) : Type 0 where
   pub inside : w < 2 ^ (signal_at d n).width
   pub given : extend (signal_at d n).width (head right).signed (value d blank right) ≡ bits_as d n w
 
--- s is the statement of an arm, with a label that matches the value v, of a case whose selector is signal c alone
-pub record IsArmFor (d : Design) (c v : ℕ) (s : Stmt) : Type 0 where
-  pub process : ℕ
+-- s is the statement of an arm, with a label that matches the value v, of a case inside the whole whose selector is signal c alone
+pub record IsArmFor (d : Design) (c v : ℕ) (s whole : Stmt) : Type 0 where
   pub place : Place
   pub line : ℕ
   pub selector : Head
   pub arms : Arms
-  pub a_case : LiesIn (select place line Exact (signal selector c) arms) (body_at d process)
+  pub a_case : LiesIn (select place line Exact (signal selector c) arms) whole
   pub labels : Terms
   pub an_arm : IsArm labels s arms
   pub label : Term
@@ -55,10 +54,11 @@ pub record Assigns (d : Design) (n w : ℕ) (s : Stmt) : Type 0 where
 
 -- an arc from the value v to the value w is drawn
 pub record IsArc (d : Design) (c n v w : ℕ) : Type 0 where
+  pub process : ℕ
   pub statement : Stmt
-  pub from : IsArmFor d c v statement
+  pub from : IsArmFor d c v statement (body_at d process)
   pub assigns : Assigns d n w statement
 
 -- a state is drawn: a label matches it, or an arc leads to it
 abbrev pub IsState : Design → ℕ → ℕ → ℕ → Type 0
-IsState d c n x = ((s : Stmt) × IsArmFor d c x s) ⊎ ((v : ℕ) × IsArc d c n v x)
+IsState d c n x = ((p : ℕ) × (s : Stmt) × IsArmFor d c x s (body_at d p)) ⊎ ((v : ℕ) × IsArc d c n v x)

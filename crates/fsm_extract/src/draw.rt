@@ -1,19 +1,20 @@
 //! The arcs and states of a machine.
 
-ghost use Rattle.std.specs.Prelude.{◌≡◌, ◌++◌, ◌<◌, ◌↔◌, ℕ, IfOk, OnOk, length, map, nat_cmp};
-ghost use Rattle.std.specs.List.{Contains};
+ghost use Rattle.std.specs.Prelude.{◌≡◌, ◌++◌, ◌<◌, ◌↔◌, [], true, ℕ, IfOk, OnOk, length, map, nat_cmp};
+ghost use Rattle.std.specs.List.{All, Contains};
 ghost use Rattle.std.specs.List.Sorted.{IsStrictlySortedBy};
-ghost use Rattle.design_model.specs.Design.{signal_at};
+ghost use Rattle.design_model.specs.Design.{body, signal_at};
+ghost use Rattle.design_model.specs.Shape.{is_body};
 ghost use Rattle.design_model.specs.Lawful.{IsLawfulDesign};
 ghost use Rattle.design_model.specs.View.{design_view, process_view};
 ghost use Rattle.fsm_extract.specs.Arcs.{IsArc, IsState};
 ghost use Rattle.fsm_extract.specs.Order.{arc_cmp};
-ghost use Rattle.fsm_extract.specs.Walked.{process_arcs, process_states};
+ghost use Rattle.fsm_extract.specs.Walked.{arcs_in, process_arcs, process_states, states_in};
 
+use crate::Arcs;
 use crate::machine::Machine;
 use crate::sorted::sorted;
 use crate::walk::{Found, walk_stmt};
-use crate::Arcs;
 use cov_host::NoMemory;
 use design_model::{Design, Process};
 use std::alloc::Global;
@@ -38,19 +39,11 @@ pub fn arcs(alloc: Global, design: &Design, current: u32, next: u32) -> Result<A
     };
     walk_processes(&machine, design.processes.as_slice(), &mut found)?;
     let Found { arcs, states, .. } = found;
-    in_order(arcs, states)
-}
-
-/// The arcs and states in order.
-fn in_order(arcs: Vec<(u128, u128)>, labels: Vec<u128>) -> Result<Arcs, NoMemory>
-{
-    let pairs = sorted(arcs)?;
-    let mut states = labels;
-    push_ends(pairs.as_slice(), &mut states)?;
-    Ok(Arcs {
-        pairs,
-        states: sorted(states)?,
-    })
+    let pairs = sorted(arcs);
+    let mut values = states;
+    push_ends(pairs.as_slice(), &mut values)?;
+    let states = sorted(values);
+    Ok(Arcs { pairs, states })
 }
 
 /// Adds the values to which arcs lead.
@@ -69,14 +62,33 @@ fn walk_processes(
     processes: &[Process],
     found: &mut Found,
 ) -> Result<(), NoMemory>
+    requires bodies { All (λ process. is_body (design_view machine.now.constants.design.now) (body (process_view process)) ≡ true) processes.now }
+    requires around { found.old.around.items ≡ [] }
+    ensures arcs { OnOk result (found.new.arcs.items ≡ found.old.arcs.items ++ process_arcs (design_view machine.now.constants.design.now) machine.now.current machine.now.next (map process_view processes.now)) }
+    ensures states { OnOk result (found.new.states.items ≡ found.old.states.items ++ process_states (design_view machine.now.constants.design.now) machine.now.current (map process_view processes.now)) }
 {
     for process in processes {
-        match process {
-            Process::Assign { .. } => {}
-            Process::Comb { body, .. } | Process::Clocked { body, .. } => {
-                walk_stmt(machine, body, found)?
-            }
-        }
+        walk_process(machine, process, found)?;
     }
     Ok(())
+}
+
+/// Adds what a process draws. A continuous assignment has no case.
+fn walk_process(
+    machine: &Machine,
+    process: &Process,
+    found: &mut Found,
+) -> Result<(), NoMemory>
+    requires body { is_body (design_view machine.now.constants.design.now) (body (process_view process.now)) ≡ true }
+    requires around { found.old.around.items ≡ [] }
+    ensures around { OnOk result (found.new.around.items ≡ []) }
+    ensures arcs { OnOk result (found.new.arcs.items ≡ found.old.arcs.items ++ arcs_in (design_view machine.now.constants.design.now) machine.now.current machine.now.next [] (body (process_view process.now))) }
+    ensures states { OnOk result (found.new.states.items ≡ found.old.states.items ++ states_in (design_view machine.now.constants.design.now) machine.now.current (body (process_view process.now))) }
+{
+    match process {
+        Process::Assign { .. } => Ok(()),
+        Process::Comb { body, .. } | Process::Clocked { body, .. } => {
+            walk_stmt(machine, body, found)
+        }
+    }
 }

@@ -8,7 +8,6 @@
 
 mod constant;
 mod draw;
-
 mod lists;
 mod machine;
 mod names;
@@ -18,5 +17,5 @@ mod strange;
 mod walk;
 
 pub use draw::arcs;
-pub use names::{MachineFault, MachinePart, find};
 pub use lists::Arcs;
+pub use names::{MachineFault, MachinePart, find};

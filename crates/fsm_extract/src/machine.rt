@@ -33,7 +33,7 @@ impl<'a> Machine<'a> {
         requires current_listed { current < length design.now.signals }
         requires next_listed { next < length design.now.signals }
         requires one_width { (signal_at (design_view design.now) current).width ≡ (signal_at (design_view design.now) next).width }
-        ensures design { result.constants.design ≡ design }
+        ensures design { result.constants.design.now ≡ design.now }
         ensures current { result.current ≡ current }
         ensures next { result.next ≡ next }
     {
@@ -41,7 +41,7 @@ impl<'a> Machine<'a> {
             constants: Strange::new(design),
             current,
             next,
-            width: design.signals.as_slice()[current as usize].width,
+            width: width_of(design, current),
         }
     }
 
@@ -77,4 +77,12 @@ impl<'a> Machine<'a> {
             _ => None,
         }
     }
+}
+
+/// The width of a signal.
+pub(crate) fn width_of(design: &Design, signal: u32) -> u8
+    requires { signal < length design.now.signals }
+    ensures { result ≡ (signal_at (design_view design.now) signal).width }
+{
+    design.signals.as_slice()[signal as usize].width
 }

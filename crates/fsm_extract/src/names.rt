@@ -10,6 +10,7 @@ ghost use Rattle.fsm_extract.specs.Fault.{IsMachine, NamesNone, NamesNoneAs};
 ghost use Rattle.fsm_extract.specs.declared.names.MachineFault.TheVariants as machine_fault;
 ghost use Rattle.fsm_extract.specs.declared.names.MachinePart.TheVariants as machine_part;
 
+use crate::machine::width_of;
 use design_model::Design;
 use state_machines::signal_named;
 
@@ -52,15 +53,15 @@ pub fn find(
             at: MachinePart::Module,
         });
     }
-    let Some(from) = signal_named(design, instance, current.as_bytes()) else {
-        return Err(MachineFault::NoMachine {
-            at: MachinePart::In,
-        });
-    };
-    match signal_as(design, instance, next, from) {
-        Some(to) => Ok((from, to)),
+    match signal_named(design, instance, current.as_bytes()) {
+        Some(from) => match signal_as(design, instance, next, from) {
+            Some(to) => Ok((from, to)),
+            None => Err(MachineFault::NoMachine {
+                at: MachinePart::Out,
+            }),
+        },
         None => Err(MachineFault::NoMachine {
-            at: MachinePart::Out,
+            at: MachinePart::In,
         }),
     }
 }
@@ -69,22 +70,21 @@ pub fn find(
 fn is_of_module(design: &Design, instance: u32, of_module: &str) -> bool
     ensures { IsTrue result ↔ IsInstanceOf (design_view design.now) instance of_module.now }
 {
-    match design.instances.get(instance as usize) {
-        Some(instance) => instance.module.as_slice() == of_module.as_bytes(),
-        None => false,
-    }
+    let instances = design.instances.as_slice();
+    let number = instance as usize;
+    number < instances.len() && instances[number].module.as_slice() == of_module.as_bytes()
 }
 
 /// The signal that a name in an instance is, if it has the width of another.
 fn signal_as(design: &Design, instance: u32, name: &str, other: u32) -> Option<u32>
     requires lawful { IsLawfulDesign (design_view design.now) }
     requires listed { other < length design.now.signals }
-    ensures some { IfSome result (λ s. IsNamedSignal (design_view design.now) instance name.now s × ((signal_at (design_view design.now) other).width ≡ (signal_at (design_view design.now) s).width)) }
+    ensures some { IfSome result (IsNamedSignal (design_view design.now) instance name.now) }
+    ensures width { IfSome result (λ s. (signal_at (design_view design.now) other).width ≡ (signal_at (design_view design.now) s).width) }
     ensures none { IfNone result (NamesNoneAs (design_view design.now) instance name.now other) }
 {
     let signal = signal_named(design, instance, name.as_bytes())?;
-    let signals = design.signals.as_slice();
-    if signals[other as usize].width == signals[signal as usize].width {
+    if width_of(design, other) == width_of(design, signal) {
         Some(signal)
     } else {
         None

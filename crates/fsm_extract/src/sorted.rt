@@ -1,19 +1,19 @@
 //! Lists that rise, with each item once.
 
-ghost use Rattle.std.specs.Prelude.{◌≡◌, ◌↔◌, true, IfOk};
+ghost use Rattle.std.specs.Prelude.{◌≡◌, ◌↔◌, true};
 ghost use Rattle.std.specs.List.{Contains};
 ghost use Rattle.std.specs.List.Sorted.{IsStrictlySortedBy};
 
-use cov_host::{NoMemory, Sequence};
+use cov_host::Sequence;
 
-/// The items in rising order, each once.
-pub(crate) fn sorted<T: Ord + Drop>(items: Vec<T>) -> Result<Sequence<T>, NoMemory>
+/// The items in rising order, each once. It takes no memory.
+pub(crate) fn sorted<T: Ord + Drop>(items: Vec<T>) -> Sequence<T>
     requires { (a b : T) → T.eq a b ≡ true → a ≡ b }
-    ensures rising { IfOk result (IsStrictlySortedBy T.cmp) }
-    ensures same { IfOk result (λ sorted. (item : T) → Contains sorted item ↔ Contains items.items item) }
+    ensures rising { IsStrictlySortedBy T.cmp result }
+    ensures same { (item : T) → Contains result item ↔ Contains items.items item }
 {
     let mut items = items;
-    items.sort()?;
+    items.sort_unstable();
     items.dedup();
-    Ok(Sequence::from_vec(items))
+    Sequence::from_vec(items)
 }

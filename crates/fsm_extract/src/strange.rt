@@ -29,7 +29,7 @@ impl<'a> Strange<'a> {
     /// The design, with each bit x.
     pub(crate) fn new(design: &'a Design) -> Self
         requires { IsLawfulDesign (design_view design.now) }
-        ensures { result.design ≡ design }
+        ensures { result.design.now ≡ design.now }
     {
         Strange { design }
     }

@@ -2,12 +2,13 @@
 //! A walk through the body of a process, with the labels that are open.
 
 ghost use Rattle.std.specs.Prelude.{◌≡◌, ◌++◌, ◌∷◌, [], ℕ, Bool, OnOk, map, true};
+ghost use Rattle.std.specs.Option.{option_to_list};
 ghost use Rattle.design_model.specs.Shape.{are_bodies, is_body};
 ghost use Rattle.design_model.specs.View.{arms_of, design_view, stmt_view, stmts_of, terms_of, term_view};
 ghost use Rattle.scene_laws.specs.Contexts.{AreArms, AreLabels};
+ghost use Rattle.scene_laws.specs.term_replay.Stands.{IsInContext};
 ghost use Rattle.fsm_extract.specs.Walked as spec;
 ghost use Rattle.fsm_extract.specs.Views.{arm_view};
-ghost use Rattle.fsm_extract.specs.declared.walk.Found.{Found as TheFound};
 
 use crate::machine::Machine;
 use cov_host::NoMemory;
@@ -81,7 +82,7 @@ fn walk_arms(
     ensures states { OnOk result (found.new.states.items ≡ found.old.states.items ++ spec.arms_states (design_view machine.now.constants.design.now) machine.now.current over (arms_of (map arm_view arms.now))) }
 {
     for arm in arms {
-        walk_arm(machine, over, arm, found)?;
+        walk_arm(machine, over, &arm.labels, &arm.body, found)?;
     }
     Ok(())
 }
@@ -91,36 +92,54 @@ fn walk_arms(
 fn walk_arm(
     machine: &Machine,
     over: bool,
-    arm: &CaseArm,
+    labels: &[Term],
+    body: &Stmt,
     found: &mut Found,
 ) -> Result<(), NoMemory>
-    requires labels { (width : ℕ) × (signed : Bool) × AreLabels (design_view machine.now.constants.design.now) width signed (arm_view arm.now).0 }
-    requires body { is_body (design_view machine.now.constants.design.now) (arm_view arm.now).1 ≡ true }
+    requires labels { (width : ℕ) × (signed : Bool) × AreLabels (design_view machine.now.constants.design.now) width signed (terms_of (map term_view labels.now)) }
+    requires body { is_body (design_view machine.now.constants.design.now) (stmt_view body.now) ≡ true }
     ensures around { OnOk result (found.new.around.items ≡ found.old.around.items) }
-    ensures arcs { OnOk result (found.new.arcs.items ≡ found.old.arcs.items ++ spec.arcs_in (design_view machine.now.constants.design.now) machine.now.current machine.now.next (found.old.around.items ++ spec.opened (design_view machine.now.constants.design.now) machine.now.current over (arm_view arm.now).0) (arm_view arm.now).1) }
-    ensures states { OnOk result (found.new.states.items ≡ found.old.states.items ++ spec.opened (design_view machine.now.constants.design.now) machine.now.current over (arm_view arm.now).0 ++ spec.states_in (design_view machine.now.constants.design.now) machine.now.current (arm_view arm.now).1) }
+    ensures arcs { OnOk result (found.new.arcs.items ≡ found.old.arcs.items ++ spec.arcs_in (design_view machine.now.constants.design.now) machine.now.current machine.now.next (found.old.around.items ++ spec.opened (design_view machine.now.constants.design.now) machine.now.current over (terms_of (map term_view labels.now))) (stmt_view body.now)) }
+    ensures states { OnOk result (found.new.states.items ≡ found.old.states.items ++ spec.opened (design_view machine.now.constants.design.now) machine.now.current over (terms_of (map term_view labels.now)) ++ spec.states_in (design_view machine.now.constants.design.now) machine.now.current (stmt_view body.now)) }
 {
     let outside = found.around.len();
-    if over {
-        open_labels(machine, &arm.labels, found)?;
-    }
-    walk_stmt(machine, &arm.body, found)?;
+    open_labels(machine, over, labels, found)?;
+    walk_stmt(machine, body, found)?;
     found.around.truncate(outside);
     Ok(())
 }
 
-/// Opens the values that labels match.
-fn open_labels(machine: &Machine, labels: &[Term], found: &mut Found) -> Result<(), NoMemory>
+/// Opens the values that labels match. Where `over` is false, they are no values of the machine's state.
+fn open_labels(
+    machine: &Machine,
+    over: bool,
+    labels: &[Term],
+    found: &mut Found,
+) -> Result<(), NoMemory>
     requires { (width : ℕ) × (signed : Bool) × AreLabels (design_view machine.now.constants.design.now) width signed (terms_of (map term_view labels.now)) }
-    ensures around { OnOk result (found.new.around.items ≡ found.old.around.items ++ spec.label_values (design_view machine.now.constants.design.now) machine.now.current (terms_of (map term_view labels.now))) }
+    ensures around { OnOk result (found.new.around.items ≡ found.old.around.items ++ spec.opened (design_view machine.now.constants.design.now) machine.now.current over (terms_of (map term_view labels.now))) }
     ensures arcs { OnOk result (found.new.arcs.items ≡ found.old.arcs.items) }
-    ensures states { OnOk result (found.new.states.items ≡ found.old.states.items ++ spec.label_values (design_view machine.now.constants.design.now) machine.now.current (terms_of (map term_view labels.now))) }
+    ensures states { OnOk result (found.new.states.items ≡ found.old.states.items ++ spec.opened (design_view machine.now.constants.design.now) machine.now.current over (terms_of (map term_view labels.now))) }
 {
+    if !over {
+        return Ok(());
+    }
     for label in labels {
-        if let Some(value) = machine.label_value(label) {
-            found.around.push(value)?;
-            found.states.push(value)?;
-        }
+        open_label(machine, label, found)?;
+    }
+    Ok(())
+}
+
+/// Opens the value that a label matches, if there is one.
+fn open_label(machine: &Machine, label: &Term, found: &mut Found) -> Result<(), NoMemory>
+    requires { IsInContext (design_view machine.now.constants.design.now) (term_view label.now) }
+    ensures around { OnOk result (found.new.around.items ≡ found.old.around.items ++ option_to_list (spec.label_value (design_view machine.now.constants.design.now) machine.now.current (term_view label.now))) }
+    ensures arcs { OnOk result (found.new.arcs.items ≡ found.old.arcs.items) }
+    ensures states { OnOk result (found.new.states.items ≡ found.old.states.items ++ option_to_list (spec.label_value (design_view machine.now.constants.design.now) machine.now.current (term_view label.now))) }
+{
+    if let Some(value) = machine.label_value(label) {
+        found.around.push(value)?;
+        found.states.push(value)?;
     }
     Ok(())
 }
