@@ -3,6 +3,7 @@ use Rattle.std.proofs.Common.{◌≡◌, ◌∙◌, ◌⊎◌, ⊎_elim, inl, in
 use Rattle.std.specs.Prelude.{is_some, nat_le, option_and_then}
 use Rattle.std.specs.Option.{option_to_list}
 use Rattle.std.proofs.lemmas.Bool.{and_parts, eqb-true, eq-eqb, false≢true}
+use Rattle.std.proofs.lemmas.List.{length-map}
 use Rattle.cov_host.specs.declared.place.Place.{Place}
 use Rattle.four_state.specs.Arithmetic.{low_bits}
 use Rattle.four_state.specs.Operators.{matches}
@@ -17,11 +18,13 @@ use Rattle.design_model.specs.Tree.{Arms, Head, Process, Stmt, Stmts, Target, Te
 use Rattle.design_model.specs.Value.{head, value}
 use Rattle.scene_laws.specs.Contexts.{AreArms, AreLabels}
 use Rattle.scene_laws.proofs.BodyContexts.{first_labels, in_arms, later_arms, later_labels, widest_least, widest_of_least}
-use Rattle.scene_laws.proofs.term_replay.Contexts.{HeadIs, context_head}
+use Rattle.scene_laws.proofs.term_replay.Constants.{constant_known}
+use Rattle.scene_laws.proofs.term_replay.Contexts.{HeadIs, context_head, length-value}
 use Rattle.fsm_extract.specs.Arcs.{Assigns, Gives, IsArc, IsArmFor, IsState, Matches}
 use Rattle.fsm_extract.specs.Parts.{IsArm, IsPart, IsStmt, IsTerm, LiesIn, inside, itself}
+use Rattle.fsm_extract.specs.Strange.{all_x}
 use Rattle.fsm_extract.specs.Walked.{all_arcs_in, all_states_in, arcs_in, arcs_to, arms_arcs, arms_states, assigned, constant_of, is_exact, is_just, is_over, label_value, label_values, number_given, number_matched, opened, process_arcs, process_states, states_in}
-use Rattle.fsm_extract.proofs.Cuts.{IsMatched, given_is, is_given, is_matched, length-extend, matched_is}
+use Rattle.fsm_extract.proofs.Cuts.{IsMatched, given_is, is_given, is_matched, matched_is}
 
 -- members of lists
 pub in_left : {A : Type 0} (x : A) (xs ys : List A) → In x xs → In x (xs ++ ys)
@@ -38,12 +41,16 @@ in_split x [] ys h = inr h
 in_split x (y ∷ xs) ys (inl e) = inl (inl e)
 in_split x (y ∷ xs) ys (inr h) = ⊎_elim (λ i. inl (inr i)) (λ i. inr i) (in_split x xs ys h)
 
-in_pairs : (v w : ℕ) (vs : List ℕ) → In v vs → In (v, w) (map (λ x. (x, w)) vs)
+-- an arc
+abbrev pub arc_of : ℕ → ℕ → ℕ × ℕ
+arc_of v w = (v, w)
+
+in_pairs : (v w : ℕ) (vs : List ℕ) → In v vs → In {A = ℕ × ℕ} (v, w) (map (λ x. (x, w)) vs)
 in_pairs v w [] h = absurd h
-in_pairs v w (x ∷ vs) (inl e) = inl (ap (λ y. (y, w)) e)
+in_pairs v w (x ∷ vs) (inl e) = inl (ap (λ y. arc_of y w) e)
 in_pairs v w (x ∷ vs) (inr h) = inr (in_pairs v w vs h)
 
-pairs_in : (v w u : ℕ) (vs : List ℕ) → In (v, w) (map (λ x. (x, u)) vs) → In v vs × (u ≡ w)
+pairs_in : (v w u : ℕ) (vs : List ℕ) → In {A = ℕ × ℕ} (v, w) (map (λ x. (x, u)) vs) → In v vs × (u ≡ w)
 pairs_in v w u [] h = absurd h
 pairs_in v w u (x ∷ vs) (inl e) = (inl (ap (λ a. a.0) e), ap (λ a. a.1) e)
 pairs_in v w u (x ∷ vs) (inr h) = let r = pairs_in v w u vs h in (inr r.0, r.1)
@@ -56,20 +63,9 @@ some_in v (Some x) (inr h) = absurd h
 in_some : (v : ℕ) (o : Option ℕ) → o ≡ Some v → In v (option_to_list o)
 in_some v o e = let there : In v (option_to_list (Some v)) = inl refl in subst (λ p. In v (option_to_list p)) (sym e) there
 
--- a value has the width of its term
-value_width : (d : Design) (t : Term) → length (value d blank t) ≡ (head t).width
-value_width d (number h n) = length-extend h.width h.signed _
-value_width d (signal h s) = length-extend h.width h.signed _
-value_width d (word h m i) = length-extend h.width h.signed _
-value_width d (bit h t i) = length-extend h.width h.signed _
-value_width d (part h t i j) = length-extend h.width h.signed _
-value_width d (slide h t b k up) = length-extend h.width h.signed _
-value_width d (unary h op t) = length-extend h.width h.signed _
-value_width d (binary h op t u) = length-extend h.width h.signed _
-value_width d (choice h x t u) = length-extend h.width h.signed _
-value_width d (concat h ts) = length-extend h.width h.signed _
-value_width d (repeat h k ts) = length-extend h.width h.signed _
-value_width d (sign h s t) = length-extend h.width h.signed _
+-- the value of a constant has the width of its term
+value_width : (d : Design) (t : Term) → is_constant t ≡ true → length (value d blank t) ≡ (head t).width
+value_width d t k = sym (length-map (value d blank t) Some) ∙ ap length (sym (constant_known d all_x blank t k)) ∙ length-value d all_x t
 
 -- the number of a constant
 module _ (d : Design) (f : Vector → Option ℕ) (t : Term) (v : ℕ) where
@@ -152,12 +148,12 @@ module _ (d : Design) (c : ℕ) where
       record { width = its.width ∙ sym own.width; sign_is = its.sign_is ∙ sym own.sign_is; fits = subst (λ n. room ≤ n) (sym own.width) least }
 
   -- the value of a label is the one that it matches
-  module _ (h : Head) (t : Term) (x : IsLabelIn h t) (v : ℕ) where
-    abbrev label : Vector
-    label = record { bits = value d blank t; signed = (head t).signed }
+  module _ (h : Head) (t : Term) (x : IsLabelIn h t) (k : is_constant t ≡ true) (v : ℕ) where
+    abbrev its_value : Vector
+    its_value = record { bits = value d blank t; signed = (head t).signed }
 
     wide : length (value d blank t) ≡ h.width
-    wide = value_width d t ∙ x.width
+    wide = value_width d t k ∙ x.width
 
     fitting : room ≤ length (value d blank t)
     fitting = subst (λ n. room ≤ n) (sym wide) x.fits
@@ -165,14 +161,19 @@ module _ (d : Design) (c : ℕ) where
     same_test : matches Exact (extend (length (value d blank t)) (head t).signed (low_bits room v)) (value d blank t) ≡ matches Exact (extend h.width h.signed (low_bits room v)) (value d blank t)
     same_test = ap₂ (λ n g. matches Exact (extend n g (low_bits room v)) (value d blank t)) wide x.sign_is
 
-    value_matches : label_value d c t ≡ Some v → Matches d c h v t
-    value_matches e =
-        let p = number_of d (number_matched room) t v e in
-        let m = matched_is room label fitting v p.1 in
-        record { constant = p.0; known = m.known; inside = m.inside; equal = sym same_test ∙ m.equal }
+    number_matches : number_matched room its_value ≡ Some v → Matches d c h v t
+    number_matches e =
+        let m = matched_is room its_value fitting v e in
+        record { constant = k; known = m.known; inside = m.inside; equal = sym same_test ∙ m.equal }
 
-    matches_value : Matches d c h v t → label_value d c t ≡ Some v
-    matches_value m = of_number d (number_matched room) t v m.constant (is_matched room label fitting v (record { known = m.known; inside = m.inside; equal = same_test ∙ m.equal }))
+    matches_number : Matches d c h v t → number_matched room its_value ≡ Some v
+    matches_number m = is_matched room its_value fitting v (record { known = m.known; inside = m.inside; equal = same_test ∙ m.equal })
+
+  value_matches : (h : Head) (t : Term) → IsLabelIn h t → (v : ℕ) → label_value d c t ≡ Some v → Matches d c h v t
+  value_matches h t x v e = let p = number_of d (number_matched room) t v e in number_matches h t x p.0 v p.1
+
+  matches_value : (h : Head) (t : Term) → IsLabelIn h t → (v : ℕ) → Matches d c h v t → label_value d c t ≡ Some v
+  matches_value h t x v m = of_number d (number_matched room) t v m.constant (matches_number h t x m.constant v m)
 
   values_in : (v : ℕ) (labels : Terms) → In v (label_values d c labels) → (label : Term) × IsTerm label labels × (label_value d c label ≡ Some v)
   values_in v no_terms i = absurd i
@@ -492,12 +493,12 @@ states_at_process d c v (q ∷ ps) (suc p) i = in_right v (states_in d c (body q
 
 module _ (d : Design) (lawful : IsLawfulDesign d) (c n : ℕ) where
   -- the arcs of the processes are the drawn ones
-  pub arcs_drawn : (v w : ℕ) → In (v, w) (process_arcs d c n d.processes) → IsArc d c n v w
+  pub arcs_drawn : (v w : ℕ) → In {A = ℕ × ℕ} (v, w) (process_arcs d c n d.processes) → IsArc d c n v w
   arcs_drawn v w i =
       let r = process_at_arcs d c n (v, w) d.processes i in
       ⊎_elim (λ j. absurd j.0) (λ j. record { process = r.0; statement = j.0; from = j.1; assigns = j.2 }) (arcs_from d c n v w [] (body_at d r.0) (lawful.bodies r.0) r.1)
 
-  pub drawn_arcs : (v w : ℕ) → IsArc d c n v w → In (v, w) (process_arcs d c n d.processes)
+  pub drawn_arcs : (v w : ℕ) → IsArc d c n v w → In {A = ℕ × ℕ} (v, w) (process_arcs d c n d.processes)
   drawn_arcs v w a = arcs_at_process d c n (v, w) d.processes a.process (from_arc d c n v w (body_at d a.process) (lawful.bodies a.process) (a.statement, a.from, a.assigns) [])
 
   -- and so are the values of labels

@@ -3,7 +3,8 @@ use Rattle.std.proofs.Common.{List, [], ◌∷◌, ◌++◌, add-one, ap, append
 use Rattle.std.specs.Global.{Vec}
 use Rattle.four_state.specs.declared.operator.CaseKind.{CaseKind}
 use Rattle.design_model.specs.Tree as t
-use Rattle.design_model.specs.View.{arms_of, stmt_view, stmts_of, term_view, terms_of}
+use Rattle.design_model.specs.View.{arms_of, process_view, stmt_view, stmts_of, term_view, terms_of}
+use Rattle.design_model.specs.declared.tree.Process.{Process}
 use Rattle.design_model.specs.declared.tree.CaseArm.{CaseArm}
 use Rattle.design_model.specs.declared.tree.Stmt.{Stmt}
 use Rattle.design_model.specs.declared.tree.StmtForm as form
@@ -20,6 +21,9 @@ stmts_from xs i x within is = rw (add-one, drop-cons xs i x within, ← is) refl
 
 pub terms_from : (xs : List Term) (i : ℕ) (x : Term) → i < length xs → x ≡ get_or xs i x → terms_of (map term_view (drop i xs)) ≡ t.a_term (term_view x) (terms_of (map term_view (drop (i + 1) xs)))
 terms_from xs i x within is = rw (add-one, drop-cons xs i x within, ← is) refl
+
+pub processes_from : (xs : List Process) (i : ℕ) (x : Process) → i < length xs → x ≡ get_or xs i x → map process_view (drop i xs) ≡ process_view x ∷ map process_view (drop (i + 1) xs)
+processes_from xs i x within is = rw (add-one, drop-cons xs i x within, ← is) refl
 
 abbrev Arm : Type 0
 Arm = t.Terms × t.Stmt

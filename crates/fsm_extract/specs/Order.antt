@@ -1,6 +1,6 @@
 -- The order of arcs.
-use Rattle.std.specs.Prelude.{ℕ, nat_cmp}
-use Rattle.std.specs.Ordering.{ordering_then}
+use Rattle.std.specs.Prelude.{ℕ}
+use Rattle.std.specs.Ordering.{nat_cmp, ordering_then}
 use Rattle.std.specs.declared.cmp.Ordering.{Ordering}
 
 -- by the first value, and then by the second

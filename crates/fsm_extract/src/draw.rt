@@ -1,8 +1,9 @@
 //! The arcs and states of a machine.
 
-ghost use Rattle.std.specs.Prelude.{◌≡◌, ◌++◌, ◌<◌, ◌↔◌, [], true, ℕ, IfOk, OnOk, length, map, nat_cmp};
-ghost use Rattle.std.specs.List.{All, Contains};
+ghost use Rattle.std.specs.Prelude.{◌≡◌, ◌++◌, ◌<◌, ◌↔◌, [], true, ℕ, IfOk, OnOk, length, map};
+ghost use Rattle.std.specs.List.{Contains, list_all};
 ghost use Rattle.std.specs.List.Sorted.{IsStrictlySortedBy};
+ghost use Rattle.std.specs.Ordering.{nat_cmp};
 ghost use Rattle.design_model.specs.Design.{body, signal_at};
 ghost use Rattle.design_model.specs.Shape.{is_body};
 ghost use Rattle.design_model.specs.Lawful.{IsLawfulDesign};
@@ -62,7 +63,7 @@ fn walk_processes(
     processes: &[Process],
     found: &mut Found,
 ) -> Result<(), NoMemory>
-    requires bodies { All (λ process. is_body (design_view machine.now.constants.design.now) (body (process_view process)) ≡ true) processes.now }
+    requires bodies { list_all (λ process. is_body (design_view machine.now.constants.design.now) (body process)) (map process_view processes.now) ≡ true }
     requires around { found.old.around.items ≡ [] }
     ensures arcs { OnOk result (found.new.arcs.items ≡ found.old.arcs.items ++ process_arcs (design_view machine.now.constants.design.now) machine.now.current machine.now.next (map process_view processes.now)) }
     ensures states { OnOk result (found.new.states.items ≡ found.old.states.items ++ process_states (design_view machine.now.constants.design.now) machine.now.current (map process_view processes.now)) }

@@ -5,7 +5,7 @@ use Rattle.std.proofs.lemmas.List.Sorted.{Contains-permutation, IsPermutation-sy
 use Rattle.fsm_extract.proofs.sorted.sorted.Goals as goal
 
 pub returns : goal.returns
-returns g t c =
+returns g c =
     let whole = c.from_vec.ensures ∙ dedup_is _ _ _ c.dedup.ensures.filtered in
     let moved = c.sort_unstable.ensures.permutation in
     record {

@@ -12,16 +12,16 @@ use Rattle.fsm_extract.proofs.Views.{arms_from, case_view, further, stmts_from, 
 use Rattle.fsm_extract.proofs.walk.+walk.Goals as goal
 
 pub walk_stmt-walk_arms-requires : goal.walk_stmt-walk_arms-requires
-walk_stmt-walk_arms-requires c =
+walk_stmt-walk_arms-requires t c =
     let d = design_view c.args.machine.now.constants.design.now in
     let is = case_view c.args.stmt.now c.in-Case.line c.in-Case.kind c.in-Case.on c.in-Case.arms (sym c.deref.ensures ∙ c.in-Case.is) ∙ ap (λ xs. tree.select c.args.stmt.now.place c.in-Case.line c.in-Case.kind (term_view c.in-Case.on) (arms_of (map arm_view xs))) (sym c.deref-in-Case.ensures.value) in
     let arms = arms_of (map arm_view c.deref-in-Case.result.now) in
     let on = term_view c.in-Case.on in
     let placed = in_arms d on arms (subst (λ s. is_body d s ≡ true) is c.requires) in
-    λ κs k. (search (rules, the_lemmas), (k, (widest_of d (own_width d on) arms, all_signed_of d (own_sign d on) arms, placed)))
+    (search (rules, the_lemmas), (widest_of d (own_width d on) arms, all_signed_of d (own_sign d on) arms, placed))
 
 pub walk_arms-walk_arm-requires : goal.walk_arms-walk_arm-requires
-walk_arms-walk_arm-requires c =
+walk_arms-walk_arm-requires t c =
     let d = design_view c.args.machine.now.constants.design.now in
     let h = c.loop-arm.invariant.shaped in
     let x = c.arm-item.result in
@@ -31,10 +31,10 @@ walk_arms-walk_arm-requires c =
     let next = arms_from c.args.arms.now c.loop-arm.arm-index x c.loop-arm-test.true c.arm-item.is in
     let placed : AreArms d h.0 h.1 (tree.arm labels body later) = subst (AreArms d h.0 h.1) next h.2 in
     let given = subst (λ xs. AreLabels d h.0 h.1 (terms_of (map term_view xs))) (sym c.deref.ensures.value) (first_labels d h.0 h.1 labels body later placed) in
-    λ κs k. (search (rules, the_lemmas), (k, ((h.0, h.1, given), first_body d h.0 h.1 labels body later placed.shaped)))
+    (search (rules, the_lemmas), ((h.0, h.1, given), first_body d h.0 h.1 labels body later placed.shaped))
 
 pub walk_stmts-loop-stmt-preserved : goal.walk_stmts-loop-stmt-preserved
-walk_stmts-loop-stmt-preserved c =
+walk_stmts-loop-stmt-preserved t c =
     let m = c.args.machine.now in
     let d = design_view m.constants.design.now in
     let h = c.loop-stmt.invariant in
@@ -54,7 +54,7 @@ walk_stmts-loop-stmt-preserved c =
     }
 
 pub walk_arms-loop-arm-preserved : goal.walk_arms-loop-arm-preserved
-walk_arms-loop-arm-preserved c =
+walk_arms-loop-arm-preserved t c =
     let m = c.args.machine.now in
     let d = design_view m.constants.design.now in
     let over = c.args.over in
@@ -82,15 +82,15 @@ walk_arms-loop-arm-preserved c =
     }
 
 pub walk_arm-returns-clause-around : goal.walk_arm-returns-clause-around
-walk_arm-returns-clause-around c =
+walk_arm-returns-clause-around t c =
     let m = c.args.machine.now in
     let d = design_view m.constants.design.now in
     let old = c.args.found.now.around.items in
     let values = opened d m.current c.args.over (terms_of (map term_view c.args.labels.now)) in
-    c.truncate.ensures.items ∙ ap₂ (λ n xs. take n xs) c.len-outside.ensures (c.in_ok-walk_stmt.ensures.around ∙ c.in_ok-open_labels.ensures.around) ∙ take_back old values
+    c.truncate.ensures.items ∙ ap₂ (λ n xs. take n xs) (c.len-outside.ensures ∙ c.args.found.now.around.ok.0) (c.in_ok-walk_stmt.ensures.around ∙ c.in_ok-open_labels.ensures.around) ∙ take_back old values
 
 pub walk_arm-returns-clause-arcs : goal.walk_arm-returns-clause-arcs
-walk_arm-returns-clause-arcs c =
+walk_arm-returns-clause-arcs t c =
     let m = c.args.machine.now in
     let d = design_view m.constants.design.now in
     c.in_ok-walk_stmt.ensures.arcs ∙ ap₂ (λ xs ys. xs ++ arcs_in d m.current m.next ys (stmt_view c.args.body.now)) c.in_ok-open_labels.ensures.arcs c.in_ok-open_labels.ensures.around
