@@ -4,7 +4,8 @@ use Rattle.four_state.specs.Vector.{Vector}
 use Rattle.four_state.specs.declared.bit.Bit.{Bit}
 use Rattle.four_state.specs.declared.bit.Bit.TheVariants.{One, Zero}
 use Rattle.four_state.specs.declared.operator.CaseKind.TheVariants.{Exact}
-use Rattle.design_model.specs.Design.{Design, Signal, nowhere}
+use Rattle.design_model.specs.Design.{Design, nowhere}
+use Rattle.design_model.specs.declared.design.Signal.{Signal}
 use Rattle.design_model.specs.Tree.{Arms, Head, Stmt, Term, a_stmt, a_term, all_of, arm, block, comb, no_arms, no_stmts, no_terms, number, select, set, signal}
 use Rattle.fsm_extract.specs.Arcs.{IsArc, Matches}
 use Rattle.fsm_extract.specs.Walked.{process_arcs, process_states}

@@ -1,6 +1,6 @@
 -- What a walk collects is what is drawn.
-use Rattle.std.proofs.Common.{◌≡◌, ◌∙◌, ◌⊎◌, ⊎_elim, inl, inr, ℕ, zero, suc, ◌<◌, ◌≤◌, ◌^◌, Bool, true, false, ◌&&◌, ◌==◌, cond, max, List, [], ◌∷◌, ◌++◌, Option, Some, None, length, map, get_or, refl, sym, ap, ap₂, subst, arith}
-use Rattle.std.specs.Prelude.{is_some, nat_le, option_and_then}
+use Rattle.std.proofs.Common.{◌≡◌, ◌∙◌, ◌⊎◌, ⊎_elim, inl, inr, ℕ, zero, suc, ◌≤◌, Bool, true, false, ◌&&◌, ◌==◌, cond, max, List, [], ◌∷◌, ◌++◌, Option, Some, None, length, map, get_or, refl, sym, ap, ap₂, subst, arith}
+use Rattle.std.specs.Prelude.{is_some, option_and_then}
 use Rattle.std.specs.Option.{option_to_list}
 use Rattle.std.proofs.lemmas.Bool.{and_parts, eqb-true, eq-eqb, false≢true}
 use Rattle.std.proofs.lemmas.List.{length-map}
@@ -20,11 +20,11 @@ use Rattle.scene_laws.specs.Contexts.{AreArms, AreLabels}
 use Rattle.scene_laws.proofs.BodyContexts.{first_labels, in_arms, later_arms, later_labels, widest_least, widest_of_least}
 use Rattle.scene_laws.proofs.term_replay.Constants.{constant_known}
 use Rattle.scene_laws.proofs.term_replay.Contexts.{HeadIs, context_head, length-value}
-use Rattle.fsm_extract.specs.Arcs.{Assigns, Gives, IsArc, IsArmFor, IsState, Matches}
+use Rattle.fsm_extract.specs.Arcs.{Assigns, Gives, IsArc, IsArmFor, Matches}
 use Rattle.fsm_extract.specs.Parts.{IsArm, IsPart, IsStmt, IsTerm, LiesIn, inside, itself}
 use Rattle.fsm_extract.specs.Strange.{all_x}
-use Rattle.fsm_extract.specs.Walked.{all_arcs_in, all_states_in, arcs_in, arcs_to, arms_arcs, arms_states, assigned, constant_of, is_exact, is_just, is_over, label_value, label_values, number_given, number_matched, opened, process_arcs, process_states, states_in}
-use Rattle.fsm_extract.proofs.Cuts.{IsMatched, given_is, is_given, is_matched, matched_is}
+use Rattle.fsm_extract.specs.Walked.{all_arcs_in, all_states_in, arcs_in, arcs_to, arms_arcs, arms_states, assigned, constant_of, is_just, is_over, label_value, label_values, number_given, number_matched, opened, process_arcs, process_states, states_in}
+use Rattle.fsm_extract.proofs.Cuts.{given_is, is_given, is_matched, matched_is}
 
 -- members of lists
 pub in_left : {A : Type 0} (x : A) (xs ys : List A) → In x xs → In x (xs ++ ys)

@@ -1,8 +1,8 @@
 -- What is in a list, by places and one by one.
-use Rattle.std.proofs.Common.{◌≡◌, ◌∙◌, ◌⊎◌, ⊎_elim, inl, inr, ℕ, suc, ◌<◌, ◌==◌, ◌&&◌, true, ap₂, List, [], ◌∷◌, ◌++◌, Option, None, Some, length, map, get_or, refl, sym, ap, subst}
+use Rattle.std.proofs.Common.{◌≡◌, ◌∙◌, ⊎_elim, inl, inr, ℕ, suc, ◌==◌, ◌&&◌, true, ap₂, List, [], ◌∷◌, ◌++◌, Option, None, Some, map, get_or, refl, sym, ap, subst}
 use Rattle.std.specs.List.{Contains, list_all}
 use Rattle.std.proofs.lemmas.Bool.{and_from, and_parts, eqb-true}
-use Rattle.design_model.specs.Design.{Design, In, body, body_at, no_process}
+use Rattle.design_model.specs.Design.{Design, In, body, no_process}
 use Rattle.design_model.specs.Shape.{is_body}
 use Rattle.design_model.specs.Tree.{Process}
 use Rattle.design_model.specs.View.{design_view, process_view}
@@ -10,7 +10,7 @@ use Rattle.design_model.specs.declared.design.Design.{Design as CodeDesign}
 use Rattle.design_model.specs.declared.tree.Process.{Process as CodeProcess}
 use Rattle.design_model.specs.Lawful.{IsLawfulDesign}
 use Rattle.state_machines.proofs.Members.{in_at, place_of}
-use Rattle.fsm_extract.specs.Arcs.{IsArc, IsArmFor, IsState}
+use Rattle.fsm_extract.specs.Arcs.{IsArc, IsState}
 use Rattle.fsm_extract.specs.Walked.{arcs_to, process_arcs, process_states}
 use Rattle.fsm_extract.proofs.Drawn.{arc_of, arcs_drawn, drawn_arcs, drawn_states, in_left, in_right, in_split, states_drawn}
 

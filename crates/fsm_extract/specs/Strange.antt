@@ -1,5 +1,5 @@
 -- A design of which each bit is x.
-use Rattle.std.specs.Prelude.{Bool, false, Option, Some}
+use Rattle.std.specs.Prelude.{false, Some}
 use Rattle.four_state.specs.declared.bit.Bit.TheVariants.{X}
 use Rattle.design_model.specs.Design.{Design}
 use Rattle.scene_laws.specs.body_replay.Store.{Kept}

@@ -1,5 +1,5 @@
 -- What a text draws, in order of the text.
-use Rattle.std.specs.Prelude.{◌≡◌, ◌≤◌, ◌==◌, ◌&&◌, ◌++◌, ◌∷◌, if◌then◌else◌, ℕ, Bool, true, false, List, [], Option, Some, None, length, map, option_and_then}
+use Rattle.std.specs.Prelude.{◌==◌, ◌&&◌, ◌++◌, ◌∷◌, if◌then◌else◌, ℕ, Bool, true, false, List, [], Option, Some, None, length, map, option_and_then}
 use Rattle.std.specs.Option.{option_to_list}
 use Rattle.four_state.specs.Arithmetic.{natural}
 use Rattle.four_state.specs.Operators.{matches}

@@ -75,11 +75,7 @@ fn walk_processes(
 }
 
 /// Adds what a process draws. A continuous assignment has no case.
-fn walk_process(
-    machine: &Machine,
-    process: &Process,
-    found: &mut Found,
-) -> Result<(), NoMemory>
+fn walk_process(machine: &Machine, process: &Process, found: &mut Found) -> Result<(), NoMemory>
     requires body { is_body (design_view machine.now.constants.design.now) (body (process_view process.now)) ≡ true }
     requires around { found.old.around.items ≡ [] }
     ensures around { OnOk result (found.new.around.items ≡ []) }

@@ -32,8 +32,9 @@ pub enum MachineFault {
     NoMachine { at: MachinePart },
 }
 
-/// The signals that two names have in an instance of a module, also as aliases. Refused is first an instance of another module,
-/// then a name of no signal, and then a second signal of another width. It takes no memory.
+/// The signals that two names have in an instance of a module, also as aliases. What is wrong first is answered: the instance is
+/// of no such module, the first name is of no signal, or the second name is of no signal or of one of another width. It takes
+/// no memory.
 pub fn find(
     design: &Design,
     of_module: &str,

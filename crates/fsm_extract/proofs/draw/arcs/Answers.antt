@@ -1,10 +1,9 @@
-use Rattle.std.proofs.Common.{◌≡◌, ◌∙◌, ◌++◌, ap, ap₂, map, sym, true}
+use Rattle.std.proofs.Common.{◌∙◌, ◌++◌, ap₂, map}
 use Rattle.std.specs.List.{list_all}
 use Rattle.std.proofs.lemmas.Bool.{eqb-true}
 use Rattle.design_model.specs.Design.{body}
 use Rattle.design_model.specs.Shape.{is_body}
 use Rattle.design_model.specs.View.{design_view, process_view}
-use Rattle.fsm_extract.specs.Walked.{process_arcs, process_states}
 use Rattle.fsm_extract.proofs.Listed.{all_arcs, all_states, arc_listed, bodies_shaped, listed_arc, listed_state, same_pair, state_listed}
 use Rattle.fsm_extract.proofs.draw.arcs.Goals as goal
 

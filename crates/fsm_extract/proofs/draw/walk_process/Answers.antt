@@ -1,4 +1,4 @@
-use Rattle.std.proofs.Common.{◌≡◌, ◌∙◌, ◌++◌, [], ap, append-nil, sym}
+use Rattle.std.proofs.Common.{◌∙◌, ◌++◌, [], ap, append-nil, sym}
 use Rattle.design_model.specs.Design.{body}
 use Rattle.design_model.specs.View.{design_view, process_view, target_view, term_view}
 use Rattle.fsm_extract.specs.Walked.{arcs_in, assigned}

@@ -1,4 +1,4 @@
-use Rattle.std.proofs.Common.{◌≡◌, ◌∙◌, ◌++◌, ◌+◌, [], ap, drop, map, sym, true}
+use Rattle.std.proofs.Common.{◌∙◌, ◌++◌, ◌+◌, [], ap, drop, map, sym}
 use Rattle.std.specs.List.{list_all}
 use Rattle.std.proofs.lemmas.Bool.{and_parts}
 use Rattle.design_model.specs.Design.{body}

@@ -1,4 +1,4 @@
-use Rattle.std.proofs.Common.{◌≡◌, ◌∙◌, ◌<◌, ap, arith, get_or, length}
+use Rattle.std.proofs.Common.{◌∙◌, ◌<◌, ap, arith, get_or, length}
 use Rattle.std.proofs.lemmas.List.{get_or_default}
 use Rattle.design_model.specs.Design.{no_signal}
 use Rattle.design_model.specs.declared.design.Signal.{Signal}

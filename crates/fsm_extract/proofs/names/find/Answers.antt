@@ -1,4 +1,4 @@
-use Rattle.std.proofs.Common.{◌≡◌, ◌∙◌, Ok, ap, ap₂, refl, subst, sym}
+use Rattle.std.proofs.Common.{◌∙◌, Ok, ap, ap₂, refl, subst}
 use Rattle.std.specs.Prelude.{is_err}
 use Rattle.std.proofs.lemmas.Bool.{false≢true}
 use Rattle.design_model.specs.Design.{signal_at}
@@ -20,8 +20,7 @@ pub returns-in-Some-signal_as-clause-no_next : goal.returns-in-Some-signal_as-cl
 returns-in-Some-signal_as-clause-no_next c =
     let d = design_view c.args.design.now in
     let i = c.args.instance in
-    let named = subst (λ n. IsNamedSignal d i n c.in-Some.from) c.as_bytes.ensures.value c.in-Some.ensures.some in
-    (
+    let named = subst (λ n. IsNamedSignal d i n c.in-Some.from) c.as_bytes.ensures.value c.in-Some.ensures.some in (
       λ e. absurd (false≢true (ap is_err e)),
       λ x. absurd (x.3 c.in-Some-signal_as.to c.in-Some-signal_as.ensures.some.1 (ap (λ k. (signal_at d k).width) (one_signal d c.requires i x.1 c.in-Some.from c.args.current.now x.2.1 named.1) ∙ c.in-Some-signal_as.ensures.width)),
     )

@@ -1,4 +1,4 @@
-use Rattle.std.proofs.Common.{◌≡◌, ◌∙◌, ap, length}
+use Rattle.std.proofs.Common.{◌∙◌, ap, length}
 use Rattle.fsm_extract.proofs.Cuts.{length-extend}
 use Rattle.fsm_extract.proofs.numbers.number_matched.Goals as goal
 

@@ -1,4 +1,4 @@
-use Rattle.std.proofs.Common.{◌≡◌, ◌∙◌, ◌++◌, ◌+◌, ap, ap₂, append_assoc, drop, length, map, refl, rules, subst, sym, take, true}
+use Rattle.std.proofs.Common.{◌≡◌, ◌∙◌, ◌++◌, ◌+◌, ap, ap₂, append_assoc, drop, map, rules, subst, sym, take, true}
 use Rattle.std.proofs.lemmas.Bool.{and_parts}
 use Rattle.design_model.specs.Shape.{all_signed_of, are_bodies, is_body, own_sign, own_width, widest_of}
 use Rattle.design_model.specs.Tree as tree

@@ -1,4 +1,4 @@
-use Rattle.std.proofs.Common.{◌≡◌, ◌∙◌, ◌++◌, ◌+◌, ap, drop, map, refl, subst, sym}
+use Rattle.std.proofs.Common.{◌∙◌, ◌++◌, ◌+◌, ap, drop, map, subst}
 use Rattle.std.specs.Option.{option_to_list}
 use Rattle.design_model.specs.View.{design_view, term_view, terms_of}
 use Rattle.scene_laws.specs.Contexts.{AreLabels}

@@ -1,4 +1,4 @@
-use Rattle.std.proofs.Common.{◌≡◌, ◌≤◌, ◌∙◌, ap, subst, sym}
+use Rattle.std.proofs.Common.{◌≤◌, ◌∙◌, ap, subst, sym}
 use Rattle.design_model.specs.Design.{signal_at}
 use Rattle.design_model.specs.View.{design_view}
 use Rattle.fsm_extract.proofs.Bounds.{signal_bounds}

@@ -1,4 +1,4 @@
-use Rattle.std.proofs.Common.{◌≡◌, ◌∙◌, ap, sym, map, Some}
+use Rattle.std.proofs.Common.{◌∙◌, ap, sym, map, Some}
 use Rattle.four_state.specs.Vector.{fill}
 use Rattle.four_state.specs.declared.bit.Bit.TheVariants.{X}
 use Rattle.design_model.specs.View.{design_view}
