@@ -6,5 +6,5 @@ pub returns : goal.returns
 returns c =
     record {
       one = record { constant = refl; known = refl; inside = lit< tt; equal = refl };
-      none = λ v h. absurd (false≢true (and_parts _ _ (and_parts _ _ (and_parts _ _ h.equal).1).1).0);
+      none = λ v h. absurd (false≢true (and_parts _ _ (and_parts _ _ h.equal).1).1);
     }
