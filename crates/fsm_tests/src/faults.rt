@@ -16,7 +16,8 @@ pub(crate) struct Fault {
 }
 
 /// A design with an instance of an inner module, whose port `d` is another name of a signal of the top.
-static TEXT: &str = "module m(input clk, input [1:0] d, output [1:0] q);\n  parameter A = 0;\n  reg [3:0] w [0:1];\n  step u(.clk(clk), .d(d), .s(q));\nendmodule\nmodule step(input clk, input [1:0] d, output reg [1:0] s);\n  reg t;\n  always @(posedge clk) begin s <= d; t <= d[0]; end\nendmodule\n";
+static TEXT: &str =
+    "module m(input clk, input [1:0] d, output [1:0] q);\n  parameter A = 0;\n  reg [3:0] w [0:1];\n  step u(.clk(clk), .d(d), .s(q));\nendmodule\nmodule step(input clk, input [1:0] d, output reg [1:0] s);\n  reg t;\n  always @(posedge clk) begin s <= d; t <= d[0]; end\nendmodule\n";
 
 pub(crate) static FAULTS: &[Fault] = &[
     Fault {
@@ -87,7 +88,13 @@ struct Trial {
 impl DesignUser for Trial {
     fn take(&mut self, _alloc: Global, design: &Design) {
         let case = self.case;
-        let found = find(design, case.of_module, case.instance, case.current, case.next);
+        let found = find(
+            design,
+            case.of_module,
+            case.instance,
+            case.current,
+            case.next,
+        );
         self.answer = match found {
             Ok(_) => case.at.is_none(),
             Err(MachineFault::NoMachine { at }) => case.at == Some(at),
