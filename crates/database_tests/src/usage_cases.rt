@@ -7,7 +7,6 @@ pub(crate) const FAULTS: &[(&[&str], &str)] = &[
     (&[""], "unknown command "),
     (&["exclude", "-o", "e.db", "-point", "t ff clk - 10", "t1.db"], "unknown command exclude"),
     (&["-t", "ff", "score"], "unknown command -t"),
-    (&["rank", "t1.db"], "unknown command rank"),
     (&["restore", "-o", "e.db", "-point", "t ff clk - 10", "t1.db"], "unknown command restore"),
     (&["selfrun", "1", "2"], "unknown command selfrun"),
     (&["frob"], "unknown command frob"),
@@ -95,4 +94,13 @@ pub(crate) const LCOV_FAULTS: &[(&[&str], &str)] = &[
     (&["lcov", "-o", "", "t1.db"], "bad value "),
     (&["lcov", "-o", "x", "-d", "v", "t1.db"], "unknown word -d"),
     (&["lcov", "-o", "x", "a.db", "b.db"], "unknown word b.db"),
+];
+
+/// Words of `rank` that are no command, with the first fault.
+#[rattlefmt::skip]
+pub(crate) const RANK_FAULTS: &[(&[&str], &str)] = &[
+    (&["rank"], "missing file"),
+    (&["rank", "-o", "x", "t1.db"], "unknown word -o"),
+    (&["rank", "a.db", "-d"], "unknown word -d"),
+    (&["rank", "a.db", "", "b.db"], "unknown word "),
 ];
