@@ -10,8 +10,8 @@
 PREFIX ?= /usr/local
 PROGRAM = crates/covered/out/covered
 STAGE = combs
-# parts of later stages that are already there: dumps, bindings, merge and report
-AHEAD = merge-report pieces
+# parts of later stages that are already there: dumps, bindings, merge, report and rank
+AHEAD = merge-report pieces rank
 PADS = examples/pads
 ALU = examples/alu
 DOCUMENTS = USER_GUIDE.md LANGUAGE.md FORMATS.md

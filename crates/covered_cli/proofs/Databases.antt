@@ -3,18 +3,21 @@ use Rattle.std.proofs.Common.{◌≡◌, ◌⊎◌, ℕ, ◌≤◌, List, [], �
 use Rattle.std.proofs.lemmas.List.Elements.{Contains-append_right}
 use Rattle.std.specs.Global.{Global}
 use Rattle.std.specs.Prelude.{Contains, MatchOption}
-use Rattle.command_line.specs.Command.{AreWordsOf, CommandValues, score as of_score, merge as of_merge, report as of_report, lcov as of_lcov}
+use Rattle.command_line.specs.Command.{AreWordsOf, CommandValues, score as of_score, merge as of_merge, report as of_report, lcov as of_lcov, rank as of_rank}
 use Rattle.command_line.specs.CommandWords.{IsScore, ScoreValues}
 use Rattle.command_line.specs.DatabaseWords.{IsMerge, IsReport, MergeValues, ReportValues}
 use Rattle.command_line.specs.LcovWords.{IsLcov, LcovValues}
-use Rattle.command_line.proofs.OneCommand.{one_lcov, one_merge, one_of_all, one_report}
+use Rattle.command_line.specs.RankWords.{IsRank, RankValues}
+use Rattle.command_line.proofs.OneCommand.{one_lcov, one_merge, one_of_all, one_rank, one_report}
 use Rattle.cov_host.specs.Outside.{Files as HostFiles, IsCounted, Outside}
 use Rattle.database_commands.specs.Faults.{ComesTo, IsMergeFault, IsNoTable, IsReading, IsRefused as IsRefusedFile, inputs_of}
+use Rattle.database_commands.specs.Ranking.{IsRankFault, IsReached, ranked_files}
 use Rattle.database_commands.specs.Reporting.{IsReportFault}
 use Rattle.database_commands.specs.Tracing.{IsLcovFault}
 use Rattle.database_commands.specs.declared.fault.CommandFault.{CommandFault}
 use Rattle.database_commands.specs.declared.fault.CommandFault.TheVariants as database
 use Rattle.database_commands.proofs.Complete.{good_merge, good_report, refused_write}
+use Rattle.database_commands.proofs.Ranking.{good_rank}
 use Rattle.database_commands.proofs.Tracing.{good_lcov}
 use Rattle.whole_files.specs.Effects.{CountsUp, IsMissing}
 use Rattle.whole_files.specs.declared.call.Call.{Call}
@@ -57,12 +60,14 @@ early_status (Databases (database.DesignsDiffer file line first other)) early = 
 good_are_words : (words : List (List ℕ)) (before : Outside) → HasGoodDatabases words before → (values : CommandValues) × AreWordsOf values words
 good_are_words words before (inl good) = (of_merge good.0, good.1)
 good_are_words words before (inr (inl good)) = (of_report good.0, good.1)
-good_are_words words before (inr (inr good)) = (of_lcov good.0, good.1)
+good_are_words words before (inr (inr (inl good))) = (of_lcov good.0, good.1)
+good_are_words words before (inr (inr (inr good))) = (of_rank good.0, good.1)
 
 good_or_score : (words : List (List ℕ)) (before : Outside) (values : ScoreValues) → HasGoodDatabases words before → IsScore words values → ⊥
 good_or_score words before values (inl good) is = let e = one_of_all words (of_merge good.0) (of_score values) good.1 is in cc
 good_or_score words before values (inr (inl good)) is = let e = one_of_all words (of_report good.0) (of_score values) good.1 is in cc
-good_or_score words before values (inr (inr good)) is = let e = one_of_all words (of_lcov good.0) (of_score values) good.1 is in cc
+good_or_score words before values (inr (inr (inl good))) is = let e = one_of_all words (of_lcov good.0) (of_score values) good.1 is in cc
+good_or_score words before values (inr (inr (inr good))) is = let e = one_of_all words (of_rank good.0) (of_score values) good.1 is in cc
 
 merge_or_report : (words : List (List ℕ)) (merge : MergeValues) (report : ReportValues) → IsMerge words merge → IsReport words report → ⊥
 merge_or_report words merge report is_merge is_report = let e = one_of_all words (of_merge merge) (of_report report) is_merge is_report in cc
@@ -73,20 +78,37 @@ merge_or_lcov words merge lcov is_merge is_lcov = let e = one_of_all words (of_m
 report_or_lcov : (words : List (List ℕ)) (report : ReportValues) (lcov : LcovValues) → IsReport words report → IsLcov words lcov → ⊥
 report_or_lcov words report lcov is_report is_lcov = let e = one_of_all words (of_report report) (of_lcov lcov) is_report is_lcov in cc
 
+merge_or_rank : (words : List (List ℕ)) (merge : MergeValues) (rank : RankValues) → IsMerge words merge → IsRank words rank → ⊥
+merge_or_rank words merge rank is_merge is_rank = let e = one_of_all words (of_merge merge) (of_rank rank) is_merge is_rank in cc
+
+report_or_rank : (words : List (List ℕ)) (report : ReportValues) (rank : RankValues) → IsReport words report → IsRank words rank → ⊥
+report_or_rank words report rank is_report is_rank = let e = one_of_all words (of_report report) (of_rank rank) is_report is_rank in cc
+
+lcov_or_rank : (words : List (List ℕ)) (lcov : LcovValues) (rank : RankValues) → IsLcov words lcov → IsRank words rank → ⊥
+lcov_or_rank words lcov rank is_lcov is_rank = let e = one_of_all words (of_lcov lcov) (of_rank rank) is_lcov is_rank in cc
+
 -- of good databases no fault but want of memory stands
 good_fault : (alloc : Global) (words : List (List ℕ)) (before after : Outside) → NoFaults before after → HasGoodDatabases words before → (f : CommandFault) → StandsInDatabases words before after f → f ≡ database.Memory
 good_fault alloc words before after none (inl good) f (inl stands) =
     good_merge alloc good.0 before after good.2 none f (subst (λ merge. IsMergeFault merge before after f) (one_merge words stands.0 good.0 stands.1 good.1) stands.2)
 good_fault alloc words before after none (inl good) f (inr (inl stands)) = absurd (merge_or_report words good.0 stands.0 good.1 stands.1)
-good_fault alloc words before after none (inl good) f (inr (inr stands)) = absurd (merge_or_lcov words good.0 stands.0 good.1 stands.1)
+good_fault alloc words before after none (inl good) f (inr (inr (inl stands))) = absurd (merge_or_lcov words good.0 stands.0 good.1 stands.1)
+good_fault alloc words before after none (inl good) f (inr (inr (inr stands))) = absurd (merge_or_rank words good.0 stands.0 good.1 stands.1)
 good_fault alloc words before after none (inr (inl good)) f (inl stands) = absurd (merge_or_report words stands.0 good.0 stands.1 good.1)
 good_fault alloc words before after none (inr (inl good)) f (inr (inl stands)) =
     good_report good.0 before after good.2 none f (subst (λ report. IsReportFault report before after f) (one_report words stands.0 good.0 stands.1 good.1) stands.2)
-good_fault alloc words before after none (inr (inl good)) f (inr (inr stands)) = absurd (report_or_lcov words good.0 stands.0 good.1 stands.1)
-good_fault alloc words before after none (inr (inr good)) f (inl stands) = absurd (merge_or_lcov words stands.0 good.0 stands.1 good.1)
-good_fault alloc words before after none (inr (inr good)) f (inr (inl stands)) = absurd (report_or_lcov words stands.0 good.0 stands.1 good.1)
-good_fault alloc words before after none (inr (inr good)) f (inr (inr stands)) =
+good_fault alloc words before after none (inr (inl good)) f (inr (inr (inl stands))) = absurd (report_or_lcov words good.0 stands.0 good.1 stands.1)
+good_fault alloc words before after none (inr (inl good)) f (inr (inr (inr stands))) = absurd (report_or_rank words good.0 stands.0 good.1 stands.1)
+good_fault alloc words before after none (inr (inr (inl good))) f (inl stands) = absurd (merge_or_lcov words stands.0 good.0 stands.1 good.1)
+good_fault alloc words before after none (inr (inr (inl good))) f (inr (inl stands)) = absurd (report_or_lcov words stands.0 good.0 stands.1 good.1)
+good_fault alloc words before after none (inr (inr (inl good))) f (inr (inr (inl stands))) =
     good_lcov good.0 before after good.2 none f (subst (λ lcov. IsLcovFault lcov before after f) (one_lcov words stands.0 good.0 stands.1 good.1) stands.2)
+good_fault alloc words before after none (inr (inr (inl good))) f (inr (inr (inr stands))) = absurd (lcov_or_rank words good.0 stands.0 good.1 stands.1)
+good_fault alloc words before after none (inr (inr (inr good))) f (inl stands) = absurd (merge_or_rank words stands.0 good.0 stands.1 good.1)
+good_fault alloc words before after none (inr (inr (inr good))) f (inr (inl stands)) = absurd (report_or_rank words stands.0 good.0 stands.1 good.1)
+good_fault alloc words before after none (inr (inr (inr good))) f (inr (inr (inl stands))) = absurd (lcov_or_rank words stands.0 good.0 stands.1 good.1)
+good_fault alloc words before after none (inr (inr (inr good))) f (inr (inr (inr stands))) =
+    good_rank alloc good.0 before after good.2 none f (subst (λ rank. IsRankFault rank before after f) (one_rank words stands.0 good.0 stands.1 good.1) stands.2)
 
 pub good_databases_end : (alloc : Global) (words : List (List ℕ)) (before middle after : Outside) → CountsUp before middle → CountsUp middle after → NoFaults before after → (fault : Fault) → Stands words before middle fault → HasGoodDatabases words before → EndsWith status.Done (status_of fault)
 good_databases_end alloc words before middle after first second none (Usage usage) stands good = absurd (command_or_fault words (good_are_words words before good) (usage, stands))
@@ -105,6 +127,10 @@ comes_within : (files : List (List ℕ)) (before : Outside) (file : List ℕ) �
 comes_within files before file comes =
     subst (λ files. Contains files file) (sym comes.files_are) (Contains-append_right comes.earlier (file ∷ comes.later) file (0, omega arith, refl))
 
+reached_within : (files : List (List ℕ)) (before : Outside) (file : List ℕ) → IsReached files before file → Contains files file
+reached_within files before file reached =
+    subst (λ files. Contains files file) (sym reached.files_are) (Contains-append_right reached.earlier (file ∷ reached.later) file (0, omega arith, refl))
+
 database_fault_cause : (words : List (List ℕ)) (before after : Outside) (f : CommandFault) → StandsInDatabases words before after f → database_status f ≡ status.Database → HasDatabaseCause words before
 database_fault_cause words before after (database.Files call file) stands is = absurd (cc)
 database_fault_cause words before after database.Print stands is = absurd (cc)
@@ -113,12 +139,16 @@ database_fault_cause words before after (database.NoDatabase file kind line) (in
     inl (merge, file.now, is_merge, comes_within (inputs_of merge) before file.now fault.0, inl (kind, line, fault.1))
 database_fault_cause words before after (database.NoDatabase file kind line) (inr (inl (report, is_report, fault))) is =
     inr (inl (report, is_report, (kind, line, subst (λ name. IsNoTable name before kind line) fault.0 fault.1)))
-database_fault_cause words before after (database.NoDatabase file kind line) (inr (inr (lcov, is_lcov, fault))) is =
-    inr (inr (lcov, is_lcov, (kind, line, subst (λ name. IsNoTable name before kind line) fault.0 fault.1)))
+database_fault_cause words before after (database.NoDatabase file kind line) (inr (inr (inl (lcov, is_lcov, fault)))) is =
+    inr (inr (inl (lcov, is_lcov, (kind, line, subst (λ name. IsNoTable name before kind line) fault.0 fault.1))))
+database_fault_cause words before after (database.NoDatabase file kind line) (inr (inr (inr (rank, is_rank, fault)))) is =
+    inr (inr (inr (rank, file.now, is_rank, reached_within (ranked_files rank) before file.now fault.0, inl (kind, line, fault.1))))
 database_fault_cause words before after (database.DesignsDiffer file line first other) (inl (merge, is_merge, fault)) is =
     inl (merge, file.now, is_merge, comes_within (inputs_of merge) before file.now fault.0, inr (line, first, other, fault.1))
 database_fault_cause words before after (database.DesignsDiffer file line first other) (inr (inl (report, is_report, fault))) is = absurd fault
-database_fault_cause words before after (database.DesignsDiffer file line first other) (inr (inr (lcov, is_lcov, fault))) is = absurd fault
+database_fault_cause words before after (database.DesignsDiffer file line first other) (inr (inr (inl (lcov, is_lcov, fault)))) is = absurd fault
+database_fault_cause words before after (database.DesignsDiffer file line first other) (inr (inr (inr (rank, is_rank, fault)))) is =
+    inr (inr (inr (rank, file.now, is_rank, comes_within (ranked_files rank) before file.now fault.1, inr (line, first, other, fault.2))))
 
 source_no_database : (f : SourceFault) → source_status f ≡ status.Database → ⊥
 source_no_database source_fault.NoMemory same = cc
@@ -187,12 +217,15 @@ databases_files_cause words before after (database.Files call file) (inl (merge,
 databases_files_cause words before after (database.Files call file) (inr (inl (report, is_report, inl fault))) is =
     reading_call words before after call file.now fault.0 (of_report report, is_report, (0, omega arith, sym fault.1)) fault.2
 databases_files_cause words before after (database.Files call file) (inr (inl (report, is_report, inr fault))) is = inl (refused_write before after call file.now fault.0 fault.2)
-databases_files_cause words before after (database.Files call file) (inr (inr (lcov, is_lcov, inl fault))) is =
+databases_files_cause words before after (database.Files call file) (inr (inr (inl (lcov, is_lcov, inl fault)))) is =
     reading_call words before after call file.now fault.0 (of_lcov lcov, is_lcov, (0, omega arith, sym fault.1)) fault.2
-databases_files_cause words before after (database.Files call file) (inr (inr (lcov, is_lcov, inr fault))) is = inl (refused_write before after call file.now fault.0 fault.2)
+databases_files_cause words before after (database.Files call file) (inr (inr (inl (lcov, is_lcov, inr fault)))) is = inl (refused_write before after call file.now fault.0 fault.2)
+databases_files_cause words before after (database.Files call file) (inr (inr (inr (rank, is_rank, fault)))) is =
+    reading_call words before after call file.now fault.0 (of_rank rank, is_rank, reached_within (ranked_files rank) before file.now fault.1) fault.2
 databases_files_cause words before after database.Print (inl (merge, is_merge, fault)) is = absurd fault
 databases_files_cause words before after database.Print (inr (inl (report, is_report, fault))) is = inl fault.1
-databases_files_cause words before after database.Print (inr (inr (lcov, is_lcov, fault))) is = absurd fault
+databases_files_cause words before after database.Print (inr (inr (inl (lcov, is_lcov, fault)))) is = absurd fault
+databases_files_cause words before after database.Print (inr (inr (inr (rank, is_rank, fault)))) is = inl fault
 databases_files_cause words before after database.Memory stands is = absurd (cc)
 databases_files_cause words before after (database.NoDatabase file kind line) stands is = absurd (cc)
 databases_files_cause words before after (database.DesignsDiffer file line first other) stands is = absurd (cc)
@@ -285,10 +318,18 @@ module _ (before middle after : Outside) (first : CountsUp before middle) (secon
   lcov_fault_later lcov (database.NoDatabase file kind line) fault = fault
   lcov_fault_later lcov (database.DesignsDiffer file line one other) fault = absurd fault
 
+  rank_fault_later : (rank : RankValues) (f : CommandFault) → IsRankFault rank before middle f → IsRankFault rank before after f
+  rank_fault_later rank (database.Files call file) fault = (fault.0, fault.1, refused_file_later call file.now fault.2)
+  rank_fault_later rank database.Print fault = counted_later fault
+  rank_fault_later rank database.Memory fault = tt
+  rank_fault_later rank (database.NoDatabase file kind line) fault = fault
+  rank_fault_later rank (database.DesignsDiffer file line one other) fault = fault
+
   databases_stand_later : (words : List (List ℕ)) (f : CommandFault) → StandsInDatabases words before middle f → StandsInDatabases words before after f
   databases_stand_later words f (inl (merge, is, fault)) = inl (merge, is, merge_fault_later merge f fault)
   databases_stand_later words f (inr (inl (report, is, fault))) = inr (inl (report, is, report_fault_later report f fault))
-  databases_stand_later words f (inr (inr (lcov, is, fault))) = inr (inr (lcov, is, lcov_fault_later lcov f fault))
+  databases_stand_later words f (inr (inr (inl (lcov, is, fault)))) = inr (inr (inl (lcov, is, lcov_fault_later lcov f fault)))
+  databases_stand_later words f (inr (inr (inr (rank, is, fault)))) = inr (inr (inr (rank, is, rank_fault_later rank f fault)))
 
   pub stands_later : (words : List (List ℕ)) (fault : Fault) → Stands words before middle fault → Stands words before after fault
   stands_later words (Usage usage) stands = stands

@@ -2,13 +2,14 @@
 use Rattle.std.specs.Prelude.{◌≡◌, ℕ, false, List, [], map}
 use Rattle.std.specs.List.{list_any}
 use Rattle.command_line.specs.CommandWords.{ScoreValues}
-use Rattle.command_line.specs.Command.{AreWordsOf, CommandValues, score as of_score, merge as of_merge, report as of_report, lcov as of_lcov, command_values}
+use Rattle.command_line.specs.Command.{AreWordsOf, CommandValues, score as of_score, merge as of_merge, report as of_report, lcov as of_lcov, rank as of_rank, command_values}
 use Rattle.command_line.specs.declared.command.Command.{Command}
 use Rattle.cov_host.specs.Outside.{Outside, HasFile, Told}
 use Rattle.coverage_db.specs.Table.{IsTable}
 use Rattle.coverage_db.specs.Text.{text_of}
 use Rattle.coverage_db.specs.declared.db.Db.{Db}
 use Rattle.database_commands.specs.Merging.{IsMergedIn}
+use Rattle.database_commands.specs.Ranking.{IsRankedIn}
 use Rattle.database_commands.specs.Reporting.{IsReportedIn}
 use Rattle.database_commands.specs.Tracing.{IsTracedIn}
 use Rattle.design_model.specs.Design.{path_of}
@@ -137,6 +138,7 @@ IsDoneBy (of_score values) before after = IsDoneIn values before after
 IsDoneBy (of_merge values) before after = IsMergedIn values before after
 IsDoneBy (of_report values) before after = IsReportedIn values before after
 IsDoneBy (of_lcov values) before after = IsTracedIn values before after
+IsDoneBy (of_rank values) before after = IsRankedIn values before after
 
 -- what the command asks for was done
 abbrev pub IsDoneWork : Command → Outside → Outside → Type 0
