@@ -1,0 +1,42 @@
+//! The table of the points that are not excluded.
+ghost use Rattle.std.specs.Prelude.{◌≡◌, length, IfOk};
+ghost use Rattle.coverage_db.specs.Table.{IsTable};
+ghost use Rattle.db_tools.specs.Excluded.{visible, unmarked};
+
+use crate::Excluded;
+use crate::copies::{copy_instances, copy_name, copy_names, copy_point};
+use cov_host::{NoMemory, Sequence};
+use coverage_db::{Db, DbPoint};
+use std::alloc::Global;
+
+/// The table of the points that are not excluded.
+pub fn visible(alloc: Global, excluded: &Excluded) -> Result<Db, NoMemory>
+    ensures visible { IfOk result (λ db. db ≡ visible excluded.now) }
+    ensures table { IfOk result (λ db. IsTable db) }
+{
+    let db = excluded.db();
+    Ok(Db {
+        top: copy_name(alloc, &db.top)?,
+        sources: copy_names(alloc, &db.sources)?,
+        instances: copy_instances(alloc, &db.instances)?,
+        points: visible_points(alloc, db.points.as_slice(), excluded.marks())?,
+    })
+}
+
+/// The points whose mark is not set.
+fn visible_points(
+    alloc: Global,
+    points: &[DbPoint],
+    marks: &[bool],
+) -> Result<Sequence<DbPoint>, NoMemory>
+    requires { length marks.now ≡ length points.now }
+    ensures { IfOk result (λ seen. seen ≡ unmarked points.now marks.now) }
+{
+    let mut seen = Sequence::new(alloc);
+    for (place, point) in points.iter().enumerate() {
+        if !marks[place] {
+            seen.push(copy_point(alloc, point)?)?;
+        }
+    }
+    Ok(seen)
+}
