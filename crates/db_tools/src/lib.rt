@@ -22,12 +22,12 @@ mod lines;
 mod marking;
 mod matcher;
 mod read;
-mod visible;
+mod visible_points;
 mod write;
 
 pub use excluded::Excluded;
 pub use fault::ToolFault;
 pub use laws::exclude_laws;
 pub use read::read_excluded;
-pub use visible::visible;
+pub use visible_points::visible;
 pub use write::write_excluded;

@@ -1,4 +1,6 @@
-ghost use Rattle.std.specs.Prelude.{◌≡◌, option_map};
+ghost use Rattle.std.specs.Prelude.{◌≡◌, ◌≤◌, ◌==◌, not, length, option_map};
+ghost use Rattle.std.specs.Char.{is_ascii_digit};
+ghost use Rattle.std.specs.List.{list_all, prefix_len};
 ghost use Rattle.coverage_db.specs.Fields.{behind, is_plain, split_first};
 ghost use Rattle.coverage_db.specs.Text.{begins_point};
 
@@ -6,13 +8,20 @@ ghost use Rattle.coverage_db.specs.Text.{begins_point};
 pub(crate) fn split_line(text: &[u8]) -> Option<(&[u8], &[u8])>
     ensures { option_map (λ parts. (parts.0.now, parts.1.now)) result ≡ split_first 10 text.now }
 {
-    let length = text.iter().take_while(|byte| **byte != b'\n').count();
-    let (line, rest) = text.split_at(length);
+    let (line, rest) = text.split_at(line_length(text));
     if rest.is_empty() {
         return None;
     }
     let (_, after) = rest.split_at(1);
     Some((line, after))
+}
+
+/// The number of bytes before the first line feed.
+fn line_length(text: &[u8]) -> usize
+    ensures length { result ≡ prefix_len (λ byte. not (byte == 10)) text.now }
+    ensures within { result ≤ length text.now }
+{
+    text.iter().take_while(|byte| **byte != b'\n').count()
 }
 
 /// The rest of a line after this front. None where the line does not begin with it.
@@ -40,8 +49,13 @@ pub(crate) fn is_plain(word: &[u8]) -> bool
 {
     match word {
         [] => false,
-        [first, others @ ..] => {
-            word.iter().all(|byte| byte.is_ascii_digit()) && (*first != b'0' || others.is_empty())
-        }
+        [first, others @ ..] => all_digits(word) && (*first != b'0' || others.is_empty()),
     }
+}
+
+/// Whether all bytes are decimal digits.
+fn all_digits(word: &[u8]) -> bool
+    ensures { result ≡ list_all is_ascii_digit word.now }
+{
+    word.iter().all(|byte| byte.is_ascii_digit())
 }

@@ -1,12 +1,12 @@
 //! Whether a text is that of an address, found without memory.
 ghost use Rattle.std.specs.Prelude.{◌≡◌, ◌∷◌, [], bytes_eq};
-ghost use Rattle.coverage_db.specs.Text.{address_text, subject_fields, place_text, index_text};
-ghost use Rattle.db_tools.specs.Matching.{after, is_at_end};
+ghost use Rattle.coverage_db.specs.Text.{address_text, subject_fields, place_text, index_text, path_at, rise_text, write_text};
+ghost use Rattle.db_tools.specs.Matching.{after, is_at_end, left_of};
 
+use crate::lines::behind;
 use cov_host::Sequence;
 use coverage_db::{Address, DbInstance, SourceLine, Subject};
 use itoa::{Buffer, Integer};
-use std::marker::Model;
 
 /// Whether this is the text of the address.
 pub(crate) fn is_address(
@@ -19,9 +19,7 @@ pub(crate) fn is_address(
     let mut matcher = Matcher { left: Some(text) };
     matcher.byte(address.subject.letter());
     matcher.byte(b' ');
-    if let Some(instance) = instances.get(address.instance as usize) {
-        matcher.bytes(instance.path.as_slice());
-    }
+    matcher.path(instances, address.instance);
     matcher.byte(b' ');
     matcher.subject(&address.subject);
     matcher.is_at_end()
@@ -34,42 +32,33 @@ struct Matcher<'a> {
     left: Option<&'a [u8]>,
 }
 
-impl<'a> Model for Matcher<'a> {
-    ghost use Rattle.std.specs.Prelude.{List, ℕ, Option};
-    ghost use Rattle.db_tools.specs.Matching.{left_of};
-
-    ghost Value = { Option (List ℕ) };
-
-    ghost view = { λ m. left_of m.left };
-}
-
 impl<'a> Matcher<'a> {
     /// The bytes come next.
     fn bytes(&mut self, front: &[u8])
-        ensures { self.new ≡ after front.now self.old }
+        ensures { left_of self.new.left ≡ after front.now (left_of self.old.left) }
     {
         if let Some(left) = self.left {
-            self.left = left.strip_prefix(front);
+            self.left = behind(left, front);
         }
     }
 
     /// The byte comes next.
     fn byte(&mut self, byte: u8)
-        ensures { self.new ≡ after (byte ∷ []) self.old }
+        ensures { left_of self.new.left ≡ after (byte ∷ []) (left_of self.old.left) }
     {
         self.bytes(&[byte]);
     }
 
     /// The number comes next, in decimal.
     fn number<I: Integer + Drop>(&mut self, number: I)
-        ensures { self.new ≡ after (I.text number) self.old }
+        ensures { left_of self.new.left ≡ after (I.text number) (left_of self.old.left) }
     {
         self.bytes(Buffer::new().format(number).as_bytes());
     }
 
     /// A space and the field come next.
     fn field(&mut self, field: &[u8])
-        ensures { self.new ≡ after (32 ∷ field.now) self.old }
+        ensures { left_of self.new.left ≡ after (32 ∷ field.now) (left_of self.old.left) }
     {
         self.byte(b' ');
         self.bytes(field);
@@ -77,7 +66,7 @@ impl<'a> Matcher<'a> {
 
     /// A space and a source with its line come next.
     fn place(&mut self, at: SourceLine)
-        ensures { self.new ≡ after (32 ∷ place_text at) self.old }
+        ensures { left_of self.new.left ≡ after (32 ∷ place_text at) (left_of self.old.left) }
     {
         self.byte(b' ');
         self.number(at.source);
@@ -87,7 +76,7 @@ impl<'a> Matcher<'a> {
 
     /// A space and the index as declared come next.
     fn index(&mut self, index: Option<u32>)
-        ensures { self.new ≡ after (32 ∷ index_text index) self.old }
+        ensures { left_of self.new.left ≡ after (32 ∷ index_text index) (left_of self.old.left) }
     {
         self.byte(b' ');
         match index {
@@ -96,9 +85,41 @@ impl<'a> Matcher<'a> {
         }
     }
 
+    /// A space and the direction of a change come next.
+    fn rise(&mut self, rise: bool)
+        ensures { left_of self.new.left ≡ after (32 ∷ rise_text rise) (left_of self.old.left) }
+    {
+        if rise {
+            self.field(b"01");
+        } else {
+            self.field(b"10");
+        }
+    }
+
+    /// A space and the way of an access come next.
+    fn write(&mut self, write: bool)
+        ensures { left_of self.new.left ≡ after (32 ∷ write_text write) (left_of self.old.left) }
+    {
+        if write {
+            self.field(b"w");
+        } else {
+            self.field(b"r");
+        }
+    }
+
+    /// The path of the instance at this place comes next.
+    #[tactic(auto, using(crate::proofs::Matched::after_none))]
+    fn path(&mut self, instances: &Sequence<DbInstance>, place: u32)
+        ensures { left_of self.new.left ≡ after (path_at instances.now place) (left_of self.old.left) }
+    {
+        if let Some(instance) = instances.get(place as usize) {
+            self.bytes(instance.path.as_slice());
+        }
+    }
+
     /// The fields of an address after its instance come next.
     fn subject(&mut self, subject: &Subject)
-        ensures { self.new ≡ after (subject_fields subject.now) self.old }
+        ensures { left_of self.new.left ≡ after (subject_fields subject.now) (left_of self.old.left) }
     {
         match subject {
             Subject::Line { number, at, word } => {
@@ -120,7 +141,7 @@ impl<'a> Matcher<'a> {
             Subject::Toggle { name, index, rise } => {
                 self.bytes(name.as_slice());
                 self.index(*index);
-                self.field(if *rise { b"01" } else { b"10" });
+                self.rise(*rise);
             }
             Subject::State { name, state } => {
                 self.bytes(name.as_slice());
@@ -134,14 +155,14 @@ impl<'a> Matcher<'a> {
             Subject::Word { name, index, write } => {
                 self.bytes(name.as_slice());
                 self.index(Some(*index));
-                self.field(if *write { b"w" } else { b"r" });
+                self.write(*write);
             }
         }
     }
 
     /// Whether nothing is left of the text, and all of it came.
     fn is_at_end(&self) -> bool
-        ensures { result ≡ is_at_end self.now }
+        ensures { result ≡ is_at_end (left_of self.now.left) }
     {
         match self.left {
             Some(left) => left.is_empty(),

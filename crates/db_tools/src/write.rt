@@ -1,5 +1,5 @@
 //! The text of a table with its excluded points.
-ghost use Rattle.std.specs.Prelude.{◌≡◌, ◌++◌, ◌∷◌, [], length, map, IfOk, OnOk};
+ghost use Rattle.std.specs.Prelude.{◌≡◌, ◌++◌, count_by, length, map, IfOk, OnOk};
 ghost use Rattle.coverage_db.specs.Text.{address_text, text_of_lines};
 ghost use Rattle.db_tools.specs.Excluded.{excluded_text, head_lines, marked};
 
@@ -24,14 +24,16 @@ pub fn write_excluded(alloc: Global, excluded: &Excluded) -> Result<Text, NoMemo
 }
 
 /// How many marks are set.
-fn count_marks(marks: &[bool]) -> usize {
+fn count_marks(marks: &[bool]) -> usize
+    ensures { result ≡ count_by (λ mark. mark) marks.now }
+{
     marks.iter().filter(|mark| **mark).count()
 }
 
 /// The lines before the table.
 fn head_text(alloc: Global, db: &Db, marks: &[bool], count: usize) -> Result<Text, NoMemory>
     requires long { length marks.now ≡ length db.now.points }
-    requires count { count ≡ length (marked db.now.points marks.now) }
+    requires count { count ≡ count_by (λ mark. mark) marks.now }
     ensures { IfOk result (λ text. text ≡ text_of_lines (head_lines (map (λ p. address_text db.now.instances p.address) (marked db.now.points marks.now)))) }
 {
     let mut text = Text::new(alloc);
@@ -43,6 +45,7 @@ fn head_text(alloc: Global, db: &Db, marks: &[bool], count: usize) -> Result<Tex
 }
 
 /// Appends a line with the address of each point whose mark is set.
+#[tactic(auto, using(crate::proofs::Marks::marked_yes, crate::proofs::Marks::marked_no))]
 fn push_addresses(
     text: &mut Text,
     instances: &Sequence<DbInstance>,

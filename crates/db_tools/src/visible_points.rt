@@ -24,6 +24,7 @@ pub fn visible(alloc: Global, excluded: &Excluded) -> Result<Db, NoMemory>
 }
 
 /// The points whose mark is not set.
+#[tactic(auto, using(crate::proofs::Marks::unmarked_yes, crate::proofs::Marks::unmarked_no))]
 fn visible_points(
     alloc: Global,
     points: &[DbPoint],
