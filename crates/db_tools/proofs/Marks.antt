@@ -1,12 +1,13 @@
 -- The items that have a mark, one place after another.
-use Rattle.std.proofs.Common.{◌≡◌, ℕ, suc, ◌+◌, ◌<◌, Bool, true, false, cond, List, [], ◌∷◌, length, drop, get_or, set, refl, sym, ap, ◌∙◌, inl, inr, arith}
-use Rattle.std.specs.Prelude.{count_by}
+use Rattle.std.proofs.Common.{◌≡◌, ℕ, suc, ◌+◌, ◌<◌, Bool, true, false, cond, List, [], ◌∷◌, ◌++◌, length, drop, get_or, set, refl, sym, ap, ◌∙◌, inl, inr, arith}
+use Rattle.std.specs.Prelude.{codes, count_by, decimal}
 use Rattle.std.specs.List.{filter}
 use Rattle.std.proofs.lemmas.List.Sums.{length-filter}
 use Rattle.std.proofs.Math.Seq.{drop-cons}
 use Rattle.std.proofs.lemmas.Bool.{cases_Bool}
-use Rattle.std.proofs.lemmas.List.{set-set, set-get_or}
-use Rattle.db_tools.specs.Excluded.{marked, unmarked}
+use Rattle.std.proofs.lemmas.List.{length-map, set-set, set-get_or}
+use Rattle.coverage_db.specs.Text.{address_text, text_of, text_of_lines}
+use Rattle.db_tools.specs.Excluded.{Exclusion, marked, unmarked, addresses, with_addresses, head_lines, excluded_text}
 
 drop_here : {X : Type 0} (xs : List X) (i : ℕ) (d : X) → i < length xs → drop i xs ≡ get_or xs i d ∷ drop (i + 1) xs
 drop_here xs i d within = let one : i + 1 ≡ suc i = omega arith in rw one (drop-cons xs i d within)
@@ -42,3 +43,27 @@ marks_back marks p q same was =
     let back : set marks p (get_or marks p true) ≡ marks = set-get_or marks p true in
     let kept : set marks p false ≡ marks = rw was at back in
     rw (← same) (set-set marks p true false ∙ kept)
+
+with_none : (lines : List (List ℕ)) (text : List ℕ) → length lines ≡ 0 → text ≡ with_addresses lines text
+with_none [] text none = refl
+with_none (line ∷ lines) text none = absurd (omega (arith, none))
+
+with_some : (lines : List (List ℕ)) (text : List ℕ) → 0 < length lines → text_of_lines (head_lines lines) ++ text ≡ with_addresses lines text
+with_some [] text some = absurd (omega (arith, some))
+with_some (line ∷ lines) text some = refl
+
+pub addresses_counted : (e : Exclusion) → length e.marks ≡ length e.table.points → length (addresses e) ≡ count_by (λ mark. mark) e.marks
+addresses_counted e long = length-map (marked e.table.points e.marks) (λ p. address_text e.table.instances p.address) ∙ count_marked e.table.points e.marks long
+
+pub none_text : (e : Exclusion) (text : List ℕ) → length e.marks ≡ length e.table.points → count_by (λ mark. mark) e.marks ≡ 0 → text ≡ text_of e.table → text ≡ excluded_text e
+none_text e text long none is = is ∙ with_none (addresses e) (text_of e.table) (addresses_counted e long ∙ none)
+
+pub some_text : (e : Exclusion) (head text : List ℕ) → length e.marks ≡ length e.table.points → 0 < count_by (λ mark. mark) e.marks → head ≡ text_of_lines (head_lines (addresses e)) → text ≡ head ++ text_of e.table → text ≡ excluded_text e
+some_text e head text long some head-is is =
+    let counted = addresses_counted e long in
+    let there : 0 < length (addresses e) = omega (arith, some, counted) in
+    rw (is, head-is) (with_some (addresses e) (text_of e.table) there)
+
+pub head_written : (lines : List (List ℕ)) (one two three four digits : List ℕ) → one ≡ codes "covered-ex 1" ++ 10 ∷ codes "excluded " → two ≡ one ++ digits → digits ≡ decimal (length lines) → three ≡ two ++ 10 ∷ []
+    → four ≡ three ++ text_of_lines lines → four ≡ text_of_lines (head_lines lines)
+head_written lines one two three four digits a b c d e = rw (e, d, b, c, a) refl

@@ -1,5 +1,5 @@
 //! The lines of an excluded text before the text of its table.
-ghost use Rattle.std.specs.Prelude.{◌≡◌, ◌<◌, ◌≤◌, ◌+◌, ◌++◌, map, length, option_map, IfOk};
+ghost use Rattle.std.specs.Prelude.{◌≡◌, ◌++◌, ◌∷◌, map, option_map, IfOk, IfSome};
 ghost use Rattle.coverage_db.specs.Text.{text_of_lines};
 ghost use Rattle.db_tools.specs.Reading.{count_of, is_version};
 
@@ -40,15 +40,24 @@ pub(crate) struct Addresses<'a> {
 }
 
 /// Splits the lines of addresses off a text.
-pub(crate) fn split_addresses(alloc: Global, text: &[u8]) -> Result<Addresses<'_>, NoMemory> {
+pub(crate) fn split_addresses(alloc: Global, text: &[u8]) -> Result<Addresses<'_>, NoMemory>
+    ensures { IfOk result (λ split. text_of_lines (map (λ line. line.now) split.lines.items) ++ split.rest.now ≡ text.now) }
+{
     let mut lines = Vec::new(alloc);
     let mut rest = text;
-    while let Some((line, after)) = split_line(rest) {
-        if !begins_point(line) {
-            break;
-        }
+    while let Some((line, after)) = next_address(rest) {
         lines.push(line)?;
         rest = after;
     }
     Ok(Addresses { lines, rest })
+}
+
+/// The first line, if it begins as a point does, without its line feed, and what is after it.
+fn next_address(text: &[u8]) -> Option<(&[u8], &[u8])>
+    ensures { IfSome result (λ parts. text.now ≡ parts.0.now ++ 10 ∷ parts.1.now) }
+{
+    match split_line(text) {
+        Some((line, after)) if begins_point(line) => Some((line, after)),
+        _ => None,
+    }
 }

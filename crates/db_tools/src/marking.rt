@@ -1,5 +1,5 @@
 //! The marks of the points that a list of addresses excludes.
-ghost use Rattle.std.specs.Prelude.{◌≡◌, length, map, IfOk};
+ghost use Rattle.std.specs.Prelude.{◌≡◌, ◌≤◌, length, map, take, IfOk};
 ghost use Rattle.coverage_db.specs.Text.{address_text};
 ghost use Rattle.db_tools.specs.Excluded.{marked};
 
@@ -33,7 +33,11 @@ struct Marking {
 }
 
 /// Goes over the points, and matches each with the next address.
-fn match_points(alloc: Global, db: &Db, lines: &[&[u8]]) -> Result<Marking, NoMemory> {
+fn match_points(alloc: Global, db: &Db, lines: &[&[u8]]) -> Result<Marking, NoMemory>
+    ensures long { IfOk result (λ m. length m.marks.items ≡ length db.now.points) }
+    ensures within { IfOk result (λ m. m.matched ≤ length lines.now) }
+    ensures named { IfOk result (λ m. map (λ p. address_text db.now.instances p.address) (marked db.now.points m.marks.items) ≡ take m.matched (map (λ line. line.now) lines.now)) }
+{
     let points = db.points.as_slice();
     let mut marks = Vec::with_capacity(alloc, points.len())?;
     let mut matched = 0;

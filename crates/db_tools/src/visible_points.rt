@@ -1,6 +1,5 @@
 //! The table of the points that are not excluded.
 ghost use Rattle.std.specs.Prelude.{◌≡◌, length, IfOk};
-ghost use Rattle.coverage_db.specs.Table.{IsTable};
 ghost use Rattle.db_tools.specs.Excluded.{visible, unmarked};
 
 use crate::Excluded;
@@ -11,8 +10,7 @@ use std::alloc::Global;
 
 /// The table of the points that are not excluded.
 pub fn visible(alloc: Global, excluded: &Excluded) -> Result<Db, NoMemory>
-    ensures visible { IfOk result (λ db. db ≡ visible excluded.now) }
-    ensures table { IfOk result (λ db. IsTable db) }
+    ensures { IfOk result (λ db. db ≡ visible excluded.now) }
 {
     let db = excluded.db();
     Ok(Db {
