@@ -13,10 +13,7 @@ pub(crate) fn copy_name(alloc: Global, name: &Name) -> Result<Name, NoMemory>
     Ok(copy)
 }
 
-pub(crate) fn copy_names(
-    alloc: Global,
-    names: &Sequence<Name>,
-) -> Result<Sequence<Name>, NoMemory>
+pub(crate) fn copy_names(alloc: Global, names: &Sequence<Name>) -> Result<Sequence<Name>, NoMemory>
     ensures { IfOk result (λ copy. copy ≡ names.now) }
 {
     let mut copies = Sequence::new(alloc);

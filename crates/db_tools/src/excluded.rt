@@ -5,8 +5,8 @@ ghost use Rattle.db_tools.specs.Excluded.{ExcludeRefuses, Excludes, RestoreRefus
 
 use crate::ToolFault;
 use crate::matcher::is_address;
-use coverage_db::{Db, DbInstance, DbPoint};
 use cov_host::Sequence;
+use coverage_db::{Db, DbInstance, DbPoint};
 use std::marker::Model;
 
 /// A table of which some points are excluded from the totals. Contracts see the table and a mark for each of its
@@ -98,11 +98,7 @@ fn place_of(db: &Db, address: &[u8]) -> Option<usize>
 }
 
 /// The place of the first of these points that has this address.
-fn find_point(
-    instances: &Sequence<DbInstance>,
-    points: &[DbPoint],
-    address: &[u8],
-) -> Option<usize>
+fn find_point(instances: &Sequence<DbInstance>, points: &[DbPoint], address: &[u8]) -> Option<usize>
     ensures place { result ≡ position (has_address instances.now address.now) points.now }
     ensures within { IfSome result (λ place. place < length points.now) }
 {

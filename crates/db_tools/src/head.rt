@@ -3,7 +3,7 @@ ghost use Rattle.std.specs.Prelude.{◌≡◌, ◌++◌, ◌∷◌, map, option_
 ghost use Rattle.coverage_db.specs.Text.{text_of_lines};
 ghost use Rattle.db_tools.specs.Reading.{count_of, is_version};
 
-use crate::lines::{behind, begins_point, is_plain, split_line};
+use crate::lines::{begins_point, behind, is_plain, split_line};
 use cov_host::NoMemory;
 use std::alloc::Global;
 

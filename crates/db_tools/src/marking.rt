@@ -11,11 +11,7 @@ use std::alloc::Global;
 
 /// A mark for each point of the table, set where its address is one of these lines. The first of them has number 3
 /// in the text.
-pub(crate) fn mark_points(
-    alloc: Global,
-    db: &Db,
-    lines: &[&[u8]],
-) -> Result<Vec<bool>, DbFault> {
+pub(crate) fn mark_points(alloc: Global, db: &Db, lines: &[&[u8]]) -> Result<Vec<bool>, DbFault> {
     let marking = match_points(alloc, db, lines)?;
     if marking.matched < lines.len() {
         return Err(bad_line(3 + marking.matched as u32));

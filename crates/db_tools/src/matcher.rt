@@ -9,11 +9,7 @@ use coverage_db::{Address, DbInstance, SourceLine, Subject};
 use itoa::{Buffer, Integer};
 
 /// Whether this is the text of the address.
-pub(crate) fn is_address(
-    instances: &Sequence<DbInstance>,
-    address: &Address,
-    text: &[u8],
-) -> bool
+pub(crate) fn is_address(instances: &Sequence<DbInstance>, address: &Address, text: &[u8]) -> bool
     ensures { result ≡ bytes_eq (address_text instances.now address.now) text.now }
 {
     let mut matcher = Matcher { left: Some(text) };

@@ -116,13 +116,69 @@ fn excluded_points_are_not_visible(rt: HostRuntime) {
 /// Each fault, in the order of the lines.
 #[test]
 fn faults_have_their_lines(rt: HostRuntime) {
-    assert!(rt; is_refused(rt.alloc(), b"covered-ex 2\nexcluded 2\nl ff 3 1:3 assign\nt ff clk - 10\ncovered-db 1\ntop ff\nsource 1 ff.v\ninstance ff ff\npoints 11\nl ff 1 1:3 if = hit\nl ff 2 1:3 assign = hit\nl ff 3 1:3 assign = missed\nc ff 1 1:3 value 0 = missed\nc ff 1 1:3 value 1 = hit\nt ff a - 01 = missed\nt ff a - 10 = missed\nt ff clk - 01 = hit\nt ff clk - 10 = missed\nt ff q - 01 = missed\nt ff q - 10 = missed\nend\n", DbKind::WrongVersion, 1));
-    assert!(rt; is_refused(rt.alloc(), b"covered-ex 1\nexcluded 3\nl ff 3 1:3 assign\nt ff clk - 10\ncovered-db 1\ntop ff\nsource 1 ff.v\ninstance ff ff\npoints 11\nl ff 1 1:3 if = hit\nl ff 2 1:3 assign = hit\nl ff 3 1:3 assign = missed\nc ff 1 1:3 value 0 = missed\nc ff 1 1:3 value 1 = hit\nt ff a - 01 = missed\nt ff a - 10 = missed\nt ff clk - 01 = hit\nt ff clk - 10 = missed\nt ff q - 01 = missed\nt ff q - 10 = missed\nend\n", DbKind::WrongCount, 2));
-    assert!(rt; is_refused(rt.alloc(), b"covered-ex 1\nexcluded 2\nt ff clk - 10\nl ff 3 1:3 assign\ncovered-db 1\ntop ff\nsource 1 ff.v\ninstance ff ff\npoints 11\nl ff 1 1:3 if = hit\nl ff 2 1:3 assign = hit\nl ff 3 1:3 assign = missed\nc ff 1 1:3 value 0 = missed\nc ff 1 1:3 value 1 = hit\nt ff a - 01 = missed\nt ff a - 10 = missed\nt ff clk - 01 = hit\nt ff clk - 10 = missed\nt ff q - 01 = missed\nt ff q - 10 = missed\nend\n", DbKind::BadLine, 4));
-    assert!(rt; is_refused(rt.alloc(), b"covered-ex 1\nexcluded 2\nl ff 3 1:3 assign\nt ff zzz - 10\ncovered-db 1\ntop ff\nsource 1 ff.v\ninstance ff ff\npoints 11\nl ff 1 1:3 if = hit\nl ff 2 1:3 assign = hit\nl ff 3 1:3 assign = missed\nc ff 1 1:3 value 0 = missed\nc ff 1 1:3 value 1 = hit\nt ff a - 01 = missed\nt ff a - 10 = missed\nt ff clk - 01 = hit\nt ff clk - 10 = missed\nt ff q - 01 = missed\nt ff q - 10 = missed\nend\n", DbKind::BadLine, 4));
-    assert!(rt; is_refused(rt.alloc(), b"covered-ex 1\nexcluded 2\nl ff 3 1:3 assign\nt ff clk - 10\ncovered-db 1\ntop ff\nsource 1 ff.v\ninstance ff ff\npoints 12\nl ff 1 1:3 if = hit\nl ff 2 1:3 assign = hit\nl ff 3 1:3 assign = missed\nc ff 1 1:3 value 0 = missed\nc ff 1 1:3 value 1 = hit\nt ff a - 01 = missed\nt ff a - 10 = missed\nt ff clk - 01 = hit\nt ff clk - 10 = missed\nt ff q - 01 = missed\nt ff q - 10 = missed\nend\n", DbKind::WrongCount, 9));
-    assert!(rt; is_refused(rt.alloc(), b"covered-ex 1\nexcluded 0\ncovered-db 1\ntop ff\nsource 1 ff.v\ninstance ff ff\npoints 11\nl ff 1 1:3 if = hit\nl ff 2 1:3 assign = hit\nl ff 3 1:3 assign = missed\nc ff 1 1:3 value 0 = missed\nc ff 1 1:3 value 1 = hit\nt ff a - 01 = missed\nt ff a - 10 = missed\nt ff clk - 01 = hit\nt ff clk - 10 = missed\nt ff q - 01 = missed\nt ff q - 10 = missed\nend\n", DbKind::BadLine, 2));
-    assert!(rt; is_refused(rt.alloc(), b"covered-ex 1\nexcluded 2\nl ff 3 1:3 assign\nt ff clk - 10\ncovered-db 3\ntop ff\nsource 1 ff.v\ninstance ff ff\npoints 11\nl ff 1 1:3 if = hit\nl ff 2 1:3 assign = hit\nl ff 3 1:3 assign = missed\nc ff 1 1:3 value 0 = missed\nc ff 1 1:3 value 1 = hit\nt ff a - 01 = missed\nt ff a - 10 = missed\nt ff clk - 01 = hit\nt ff clk - 10 = missed\nt ff q - 01 = missed\nt ff q - 10 = missed\nend\n", DbKind::BadLine, 5));
-    assert!(rt; is_refused(rt.alloc(), b"covered-ex 1\nexcluded 2\nl ff 3 1:3 assign\nt ff clk - 10\n", DbKind::BadLine, 5));
+    assert!(rt;
+        is_refused(
+            rt.alloc(),
+            b"covered-ex 2\nexcluded 2\nl ff 3 1:3 assign\nt ff clk - 10\ncovered-db 1\ntop ff\nsource 1 ff.v\ninstance ff ff\npoints 11\nl ff 1 1:3 if = hit\nl ff 2 1:3 assign = hit\nl ff 3 1:3 assign = missed\nc ff 1 1:3 value 0 = missed\nc ff 1 1:3 value 1 = hit\nt ff a - 01 = missed\nt ff a - 10 = missed\nt ff clk - 01 = hit\nt ff clk - 10 = missed\nt ff q - 01 = missed\nt ff q - 10 = missed\nend\n",
+            DbKind::WrongVersion,
+            1
+        )
+    );
+    assert!(rt;
+        is_refused(
+            rt.alloc(),
+            b"covered-ex 1\nexcluded 3\nl ff 3 1:3 assign\nt ff clk - 10\ncovered-db 1\ntop ff\nsource 1 ff.v\ninstance ff ff\npoints 11\nl ff 1 1:3 if = hit\nl ff 2 1:3 assign = hit\nl ff 3 1:3 assign = missed\nc ff 1 1:3 value 0 = missed\nc ff 1 1:3 value 1 = hit\nt ff a - 01 = missed\nt ff a - 10 = missed\nt ff clk - 01 = hit\nt ff clk - 10 = missed\nt ff q - 01 = missed\nt ff q - 10 = missed\nend\n",
+            DbKind::WrongCount,
+            2
+        )
+    );
+    assert!(rt;
+        is_refused(
+            rt.alloc(),
+            b"covered-ex 1\nexcluded 2\nt ff clk - 10\nl ff 3 1:3 assign\ncovered-db 1\ntop ff\nsource 1 ff.v\ninstance ff ff\npoints 11\nl ff 1 1:3 if = hit\nl ff 2 1:3 assign = hit\nl ff 3 1:3 assign = missed\nc ff 1 1:3 value 0 = missed\nc ff 1 1:3 value 1 = hit\nt ff a - 01 = missed\nt ff a - 10 = missed\nt ff clk - 01 = hit\nt ff clk - 10 = missed\nt ff q - 01 = missed\nt ff q - 10 = missed\nend\n",
+            DbKind::BadLine,
+            4
+        )
+    );
+    assert!(rt;
+        is_refused(
+            rt.alloc(),
+            b"covered-ex 1\nexcluded 2\nl ff 3 1:3 assign\nt ff zzz - 10\ncovered-db 1\ntop ff\nsource 1 ff.v\ninstance ff ff\npoints 11\nl ff 1 1:3 if = hit\nl ff 2 1:3 assign = hit\nl ff 3 1:3 assign = missed\nc ff 1 1:3 value 0 = missed\nc ff 1 1:3 value 1 = hit\nt ff a - 01 = missed\nt ff a - 10 = missed\nt ff clk - 01 = hit\nt ff clk - 10 = missed\nt ff q - 01 = missed\nt ff q - 10 = missed\nend\n",
+            DbKind::BadLine,
+            4
+        )
+    );
+    assert!(rt;
+        is_refused(
+            rt.alloc(),
+            b"covered-ex 1\nexcluded 2\nl ff 3 1:3 assign\nt ff clk - 10\ncovered-db 1\ntop ff\nsource 1 ff.v\ninstance ff ff\npoints 12\nl ff 1 1:3 if = hit\nl ff 2 1:3 assign = hit\nl ff 3 1:3 assign = missed\nc ff 1 1:3 value 0 = missed\nc ff 1 1:3 value 1 = hit\nt ff a - 01 = missed\nt ff a - 10 = missed\nt ff clk - 01 = hit\nt ff clk - 10 = missed\nt ff q - 01 = missed\nt ff q - 10 = missed\nend\n",
+            DbKind::WrongCount,
+            9
+        )
+    );
+    assert!(rt;
+        is_refused(
+            rt.alloc(),
+            b"covered-ex 1\nexcluded 0\ncovered-db 1\ntop ff\nsource 1 ff.v\ninstance ff ff\npoints 11\nl ff 1 1:3 if = hit\nl ff 2 1:3 assign = hit\nl ff 3 1:3 assign = missed\nc ff 1 1:3 value 0 = missed\nc ff 1 1:3 value 1 = hit\nt ff a - 01 = missed\nt ff a - 10 = missed\nt ff clk - 01 = hit\nt ff clk - 10 = missed\nt ff q - 01 = missed\nt ff q - 10 = missed\nend\n",
+            DbKind::BadLine,
+            2
+        )
+    );
+    assert!(rt;
+        is_refused(
+            rt.alloc(),
+            b"covered-ex 1\nexcluded 2\nl ff 3 1:3 assign\nt ff clk - 10\ncovered-db 3\ntop ff\nsource 1 ff.v\ninstance ff ff\npoints 11\nl ff 1 1:3 if = hit\nl ff 2 1:3 assign = hit\nl ff 3 1:3 assign = missed\nc ff 1 1:3 value 0 = missed\nc ff 1 1:3 value 1 = hit\nt ff a - 01 = missed\nt ff a - 10 = missed\nt ff clk - 01 = hit\nt ff clk - 10 = missed\nt ff q - 01 = missed\nt ff q - 10 = missed\nend\n",
+            DbKind::BadLine,
+            5
+        )
+    );
+    assert!(rt;
+        is_refused(
+            rt.alloc(),
+            b"covered-ex 1\nexcluded 2\nl ff 3 1:3 assign\nt ff clk - 10\n",
+            DbKind::BadLine,
+            5
+        )
+    );
     assert!(rt; is_refused(rt.alloc(), b"x\n", DbKind::BadLine, 1));
 }

@@ -54,4 +54,3 @@ returns-in-Word c =
     let part-1 = after_two (c.in-Word.name) (32 ∷ index_text (Some c.in-Word.index)) (left_of c.args.self.now.left) (left_of c.bytes-in-Word.new.self.left) (left_of c.index-in-Word.new.self.left) named c.index-in-Word.ensures in
     let part-2 = after_two (c.in-Word.name ++ 32 ∷ index_text (Some c.in-Word.index)) (32 ∷ write_text c.in-Word.write) (left_of c.args.self.now.left) (left_of c.index-in-Word.new.self.left) (left_of c.write.new.self.left) part-1 c.write.ensures in
     rw c.in-Word.is part-2
-
