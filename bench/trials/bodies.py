@@ -1,7 +1,7 @@
 """Random bodies of combinational blocks."""
-from . import terms, vectors
+from . import vectors
 from .expressions import random_number
-from .statements import Arm, Block, Case, Empty, For, If, Set, leaves, statements_in
+from .statements import Arm, Block, Case, Empty, For, If, Set, leaves, read_names, statements_in
 from .terms import Binary, Bit, Constant, Name, decimal
 
 
@@ -99,29 +99,5 @@ class Bodies:
 
 def listed_names(body, constants):
     """The signals that a block reads and does not assign, in order of text."""
-    found = []
     targets = {leaf.name() for statement in statements_in(body) if isinstance(statement, Set) for leaf in leaves(statement.target)}
-    todo = [body]
-    while todo:
-        part = todo.pop(0)
-        if isinstance(part, terms.Term):
-            found += read_names(part)
-        else:
-            found += [name for term in part.texts() for name in (target_names(term) if is_target(part, term) else read_names(term))]
-            todo += part.inner()
-    return [name for name in dict.fromkeys(found) if name not in targets and name not in constants]
-
-
-def is_target(statement, term):
-    return isinstance(statement, Set) and term is statement.target
-
-
-def read_names(term):
-    return [it.name() for it in term.everything() if it.name()]
-
-
-def target_names(term):
-    """The names in the indexes of a target."""
-    if isinstance(term, terms.Concat):
-        return [name for part in term.terms for name in target_names(part)]
-    return [name for part in term.parts() for name in read_names(part)]
+    return [name for name in dict.fromkeys(read_names(body)) if name not in targets and name not in constants]

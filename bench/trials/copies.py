@@ -2,13 +2,11 @@
 
 Each instance of the copy is a module of its own. Each of its processes has a vector of probes with one bit for each statement and
 each case of a counted node: a block sets it to what its last evaluation visited, and the bench has those of continuous assignments
-set at settled times. Nothing of the design reads a probe. A block under `*` also reads whole what it mentions, since Icarus
+set at settled times. Nothing of the design reads a probe. A block under `*` also reads whole what its text reads, since Icarus
 Verilog wakes such a block only by the bits that it reads, where the standard says that a name stands for the signal
-(IEEE 1364-2001, 9.7.5). Where only a loop without turns reads a signal, the block has a list without that signal in place of
-`*`: by the definitions the loop has no statements, so the signal does not wake the block, where Icarus Verilog is woken by it.
+(IEEE 1364-2001, 9.7.5).
 """
 from . import vectors
-from .bodies import listed_names
 from .statements import Block, Case, Empty
 from .terms import Binary, Constant, cases_of
 from .texts import ModuleText
@@ -106,21 +104,14 @@ class CopyText(ModuleText):
 
     def comb(self, item):
         probes = self.next_probes()
-        names = sorted({self.local_name(it) for it in probes.process.mentions() - set(probes.process.targets())})
-        self.put(f"always @{self.wakes_text(item, names, probes.process)} begin")
+        self.put(f"always @{self.event_text(item)} begin")
+        names = sorted({self.local_name(it) for it in probes.process.watched() - set(probes.process.targets())})
         if item.listed is None and names:
             self.put(f"  read_{probes.number} = ^{{{', '.join(names)}}};")
         self.put(f"  acted_{probes.number} = $time;")
         self.put(f"  probe_{probes.number} = 0;")
         self.below(item.body)
         self.put("end")
-
-    def wakes_text(self, item, names, process):
-        """The event control, with these names in place of `*` where the text has more signals than the process mentions."""
-        read = {self.made.scope.find(name) for name in listed_names(item.body, self.module.constant_names())}
-        if item.listed is not None or read <= process.mentions():
-            return self.event_text(item)
-        return f"({' or '.join(names) or 'tb.never'})"
 
     def local_name(self, signal):
         return next(name for name, it in self.made.scope.names.items() if it is signal)

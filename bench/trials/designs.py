@@ -6,7 +6,7 @@ from dataclasses import dataclass, field
 from functools import wraps
 
 from . import terms, vectors
-from .statements import Set, assign, possible_masks, statements_in, united
+from .statements import Set, assign, possible_masks, read_names, statements_in, united
 from .terms import Constant, Name
 
 
@@ -309,7 +309,8 @@ class Combinational(Process):
 
     @kept
     def watched(self):
-        return self.mentions() | {self.scope.find(name) for name in self.item.listed or []}
+        names = read_names(self.body) if self.item.listed is None else self.item.listed
+        return self.mentions() | {self.scope.find(name) for name in set(names) - self.module.constant_names()}
 
     @kept
     def targets(self):

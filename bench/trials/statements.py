@@ -321,3 +321,23 @@ def statements_in(body):
         statement = todo.pop()
         yield statement
         todo.extend(statement.inner())
+
+
+def read_names(body):
+    """The names that the text of a statement reads, in loops without turns too."""
+    found, todo = [], [body]
+    while todo:
+        statement = todo.pop(0)
+        for term in statement.texts():
+            found += index_names(term) if isinstance(statement, Set) and term is statement.target else names_in(term)
+        todo += statement.inner()
+    return found
+
+
+def names_in(term):
+    return [it.name() for it in term.everything() if it.name()]
+
+
+def index_names(target):
+    """The names in the indexes of a target."""
+    return [name for leaf in leaves(target) for part in leaf.parts() for name in names_in(part)]

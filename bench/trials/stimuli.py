@@ -101,7 +101,7 @@ def bench_text(copy, stimuli, other, choices):
     inputs = [signal for signal in copy.flat.signals if signal.is_input]
     ports = copy.flat.top.module.ports
     outputs = [copy.flat.top.scope.find(port.name) for port in ports if port.direction == "output"]
-    lines = ["module tb;", "reg tick, never;", "reg [8*64:1] name;"]
+    lines = ["module tb;", "reg tick;", "reg [8*64:1] name;"]
     lines += [f"reg {input_range(it)}{it.name};" for it in inputs] + [f"wire {input_range(it)}{it.name};" for it in outputs]
     lines.append(f"{copy_name(copy.flat.top)} dut({', '.join(f'.{it.name}({it.name})' for it in inputs + outputs)});")
     lines += [*show_task(copy), *dump_task(choices), "initial begin", "  tick = 0;", '  if ($test$plusargs("other.")) begin']

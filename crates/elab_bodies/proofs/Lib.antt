@@ -5,3 +5,4 @@ pub mod SoundLoops
 pub mod SoundCases
 pub mod SoundOfMet
 pub mod SoundNets
+pub mod ReadLists

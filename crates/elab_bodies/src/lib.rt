@@ -11,6 +11,7 @@ mod forms;
 mod nets;
 mod numbers;
 mod processes;
+mod reads;
 mod statements;
 mod uncounted;
 

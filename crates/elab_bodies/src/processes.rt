@@ -14,6 +14,7 @@ ghost use Rattle.flat_design.specs.Scope.{binding_of, look_up, range_width};
 ghost use Rattle.verilog_tree.specs.View.{expr_view, statement_view};
 ghost use Rattle.verilog_tree.specs.declared.item.Named.{Named};
 
+use crate::reads::text_signals;
 use crate::statements::{statement, target_width};
 use crate::uncounted::uncounted;
 use cov_host::{NoMemory, Place, Sequence};
@@ -73,24 +74,25 @@ pub fn always_process(
     ensures counted { OnOk result (nodes.new ≡ nodes.old + count.statement_nodes (binding_of scope.old) (statement_view body.now)) }
     ensures kept { OnOk result (binding_of scope.new ≡ binding_of scope.old) }
 {
-    let body = statement(alloc, base, scope, body, line, nodes)?;
-    Ok(process_of(alloc, scope, instance, when, body)?)
+    let flat = statement(alloc, base, scope, body, line, nodes)?;
+    Ok(process_of(alloc, scope, instance, when, body, flat)?)
 }
 
-/// The process of an `always` block with this body.
+/// The process of an `always` block with this text and body.
 fn process_of(
     alloc: Global,
     scope: &Scope,
     instance: u32,
     when: &When,
+    text: &Statement,
     body: Stmt,
 ) -> Result<Process, NoMemory>
-    ensures { IfOk result (λ x. process_view x ≡ spec.process_of (binding_of scope.now) instance when.now (stmt_view body)) }
+    ensures { IfOk result (λ x. process_view x ≡ spec.process_of (binding_of scope.now) instance when.now (statement_view text.now) (stmt_view body)) }
 {
     match when {
         When::Star => Ok(Process::Comb {
             instance,
-            wakes: Sequence::new(alloc),
+            wakes: text_signals(alloc, scope, text)?,
             body,
         }),
         When::Names(names) => Ok(Process::Comb {

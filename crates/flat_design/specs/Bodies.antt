@@ -130,6 +130,29 @@ abbrev mutual
   items_reads g no_items = []
   items_reads g (case_item labels s is) = all_identifiers labels ++ reads g s ++ items_reads g is
 
+-- the names that the header of a loop reads
+abbrev pub header_reads : Header → List Named
+header_reads h = target_reads h.name ++ identifiers h.first ++ identifiers h.test ++ target_reads h.target ++ identifiers h.step
+
+-- the names that the text of a statement reads, in bodies without turns too
+abbrev mutual
+  pub text_reads : Statement → List Named
+  text_reads (sequential_block p ss) = all_text_reads ss
+  text_reads (if_statement p c s other) = identifiers c ++ text_reads s ++ all_text_reads other
+  text_reads (case_statement p kind e is) = identifiers e ++ items_text_reads is
+  text_reads (for_loop p h s) = header_reads h ++ text_reads s
+  text_reads (assignment p x blocking v) = target_reads x ++ identifiers v
+  text_reads (system_task p) = []
+  text_reads (null_statement p) = []
+
+  pub all_text_reads : Statements → List Named
+  all_text_reads no_statements = []
+  all_text_reads (a_statement s ss) = text_reads s ++ all_text_reads ss
+
+  pub items_text_reads : CaseItems → List Named
+  items_text_reads no_items = []
+  items_text_reads (case_item labels s is) = all_identifiers labels ++ text_reads s ++ items_text_reads is
+
 -- the names that a statement assigns, bodies without turns excepted
 abbrev mutual
   pub assigned : Scope → Statement → List Named

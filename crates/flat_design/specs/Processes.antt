@@ -13,7 +13,7 @@ use Rattle.verilog_tree.specs.declared.item.When.{When}
 use Rattle.verilog_tree.specs.declared.item.When.TheVariants.{Star, Names, Edges}
 use Rattle.verilog_tree.specs.Tree.{Expr, literal, identifier, bit_select, part_select, indexed_part, unary_operator, binary_operator, conditional, concatenation, replication, sign_cast, parentheses, Exprs, no_exprs, an_expr, place_of, Statement}
 use Rattle.elab_const.specs.Meaning.{shape_as}
-use Rattle.flat_design.specs.Bodies.{Met, met_process, met_writing, met_faults, met_writings, met, statement, reads, assigned}
+use Rattle.flat_design.specs.Bodies.{Met, met_process, met_writing, met_faults, met_writings, met, statement, reads, text_reads, assigned}
 use Rattle.flat_design.specs.Expressions.{faults}
 use Rattle.flat_design.specs.Fault.{Fault, ElabKind, fault_at, fault_if, before_or, none, Undeclared, MixedAssign, Incomplete, EventNotBit, SelfAssign, WrongUse, TwoDrivers}
 use Rattle.flat_design.specs.Identifiers.{base_name}
@@ -186,11 +186,11 @@ abbrev pub mode_of : When → Mode
 mode_of (Edges es) = Clocked
 mode_of _ = Combinational
 
--- the process of an always block with this body
-abbrev pub process_of : Scope → ℕ → When → t.Stmt → Process
-process_of g i Star s = comb i [] s
-process_of g i (Names xs) s = comb i (listed_signals g xs) s
-process_of g i (Edges es) s = clocked i (events g es) s
+-- the process of an always block with this text and body; under * its list has all signals that the text reads (clause 9.7.5)
+abbrev pub process_of : Scope → ℕ → When → Statement → t.Stmt → Process
+process_of g i Star text s = comb i (listed_signals g (text_reads text)) s
+process_of g i (Names xs) text s = comb i (listed_signals g xs) s
+process_of g i (Edges es) text s = clocked i (events g es) s
 
 -- what is met in an always block
 abbrev pub body_met : Scope → Place → When → Statement → List Met → List Met
@@ -198,7 +198,7 @@ body_met g p w s ms = met_faults (when_faults g w) ++ ms ++ met_faults (mixed_fa
 
 -- always @w s in instance i, as process number k; its line points are numbered from l on, its counted nodes from n on
 abbrev pub always : ℕ → Scope → ℕ → ℕ → Place → When → Statement → ℕ → ℕ → Made
-always base g i k p w s l n = record { process = process_of g i w (statement base g s l n); met = body_met g p w s (met g (mode_of w) k s) }
+always base g i k p w s l n = record { process = process_of g i w s (statement base g s l n); met = body_met g p w s (met g (mode_of w) k s) }
 
 -- a term without counted nodes
 abbrev pub uncounted_head : Head → Head

@@ -140,7 +140,7 @@ module _ (base : ℕ) (ms : List Module) (tokens : AreOfTokens ms) where
       let good = good_scope base ms tokens i before now here.known.module_in here.opening here.known.aliases (continues_twice here.continues later) in
       let ms2 = met g (mode_of w) k s in
       let fit = subst (λ f. AreFit (item_literals f)) form (item_fit ms tokens i.of_module here.known.module_in x x_in) in
-      subst (IsGoodBody now.design) (sym (body_of g (length before.design.instances) w (statement base g s l n)))
+      subst (IsGoodBody now.design) (sym (body_of g (length before.design.instances) w s (statement base g s l n)))
       (let sound = free_body (when_faults g w) (mixed_faults (writings ms2) ++ incomplete_faults g w s) ms2 (met_process x.place) free in
       (body_shaped now.design base base_is g good (wide_scope i before before here.known) (mode_of w) k s fit sound l n, body_well now.design base base_is g good (wide_scope i before before here.known) (bounded_scope i before) (mode_of w) k s fit sound l n))
 

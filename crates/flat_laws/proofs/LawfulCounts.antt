@@ -199,10 +199,10 @@ pub output_adds : (base : ℕ) (g : Scope) (i k : ℕ) (p : Place) (s : SignalEn
 output_adds base g i k p s e =
     process_first p _ (joined_output base g i k p s e).process (all_append is_told (met_faults (target_faults g Continuous e)) (met_writings g Continuous true true k e) (told_faults (target_faults g Continuous e)) (told_writings g Continuous true true k e)) refl
 
-size_of_process : (g : Scope) (i : ℕ) (w : When) (s : Stmt) → size_of (process_of g i w s) ≡ size s
-size_of_process g i Star s = refl
-size_of_process g i (Names xs) s = refl
-size_of_process g i (Edges xs) s = refl
+size_of_process : (g : Scope) (i : ℕ) (w : When) (text : Statement) (s : Stmt) → size_of (process_of g i w text s) ≡ size s
+size_of_process g i Star text s = refl
+size_of_process g i (Names xs) text s = refl
+size_of_process g i (Edges xs) text s = refl
 
 -- an always block: faults, what is met in its body, faults, and the process
 sum_body : (f : Met → ℕ) (p : Met → Bool) → ((m : Met) → p m ≡ true → f m ≡ 0) → (ahead ms behind : List Met) (x : Met) → list_all p ahead ≡ true → list_all p behind ≡ true → sum_by f (ahead ++ ms ++ behind ++ x ∷ []) ≡ sum_by f ms + f x
@@ -215,7 +215,7 @@ always_adds base g i k p w s l n = record {
   processes = omega (arith, sum_body process_count is_inner no_process ahead ms behind (met_process p) ahead_inner behind_inner, sum_nothing process_count is_inner no_process ms ms_inner);
   words = omega (arith, sum_body word_count is_inner no_words ahead ms behind (met_process p) ahead_inner behind_inner, sum_nothing word_count is_inner no_words ms ms_inner);
   instances = omega (arith, sum_body instance_count is_inner no_instance ahead ms behind (met_process p) ahead_inner behind_inner, sum_nothing instance_count is_inner no_instance ms ms_inner);
-  statements = omega (arith, sum_body statement_count is_told no_statement ahead ms behind (met_process p) (told_faults (when_faults g w)) (told_faults (mixed_faults (writings ms) ++ incomplete_faults g w s)), count_statements base g (mode_of w) k s l n, size_of_process g i w (statement base g s l n));
+  statements = omega (arith, sum_body statement_count is_told no_statement ahead ms behind (met_process p) (told_faults (when_faults g w)) (told_faults (mixed_faults (writings ms) ++ incomplete_faults g w s)), count_statements base g (mode_of w) k s l n, size_of_process g i w s (statement base g s l n));
 }
   where
     ms : List Met

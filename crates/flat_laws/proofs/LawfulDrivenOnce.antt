@@ -277,7 +277,7 @@ assign_once d base g h ms apart k to n sound part =
     true_both _ _ (fixed_target d base g h to n sound)
     (once_target d base g h k to n sound (sym (ap (conflicts are_two_drivers) (target_writings d base g h k to sound)) ∙ conflicts_part _ ms part apart))
 
-block_once : (d : Design) (base : ℕ) (g : Scope) (i : ℕ) (w : When) (s : Statement) (l n : ℕ) → (has_edges w ≡ false → is_blocking s ≡ true) → target_once (process_of g i w (statement base g s l n)) d ≡ true
+block_once : (d : Design) (base : ℕ) (g : Scope) (i : ℕ) (w : When) (s : Statement) (l n : ℕ) → (has_edges w ≡ false → is_blocking s ≡ true) → target_once (process_of g i w s (statement base g s l n)) d ≡ true
 block_once d base g i Star s l n h = ap not (none_queued base g s l n (h refl))
 block_once d base g i (Names xs) s l n h = ap not (none_queued base g s l n (h refl))
 block_once d base g i (Edges es) s l n h = refl

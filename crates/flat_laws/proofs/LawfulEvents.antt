@@ -16,15 +16,15 @@ use Rattle.design_model.specs.declared.design.Signal.{Signal}
 use Rattle.verilog_tree.specs.declared.item.Named.{Named}
 use Rattle.verilog_tree.specs.declared.item.When.{When}
 use Rattle.verilog_tree.specs.declared.item.When.TheVariants.{Star, Names, Edges}
-use Rattle.verilog_tree.specs.Tree.{Module, Item, InstanceItem, One}
-use Rattle.flat_design.specs.Bodies.{Met, met_faults}
+use Rattle.verilog_tree.specs.Tree.{Module, Item, InstanceItem, One, Statement}
+use Rattle.flat_design.specs.Bodies.{Met, met_faults, text_reads}
 use Rattle.flat_design.specs.Connections.{declaration_of}
 use Rattle.flat_design.specs.Declarations.{Declaration}
 use Rattle.flat_design.specs.Fault.{Fault}
 use Rattle.flat_design.specs.Faults.{answer}
 use Rattle.flat_design.specs.Flat.{start, elaborated, top_instance}
 use Rattle.flat_design.specs.Instances.{Instantiation, Sofar, add_process, opened, context, declared, alias_number, alias_of, alias_to, signal_of, is_own}
-use Rattle.flat_design.specs.Processes.{Made, process_of, when_faults, edge_faults, signal_numbers, events}
+use Rattle.flat_design.specs.Processes.{Made, process_of, when_faults, edge_faults, signal_numbers, listed_signals, events}
 use Rattle.flat_design.specs.Scope.{Scope, look_up, range_width}
 use Rattle.flat_design.specs.declared.entry.Entry.{Entry}
 use Rattle.flat_design.specs.declared.entry.Entry.TheVariants.{Constant as a_constant, Turn as a_turn, Signal as a_signal, Memory as a_memory, LoopVariable as a_loop_variable, Instance as an_instance, NoConstant as no_constant, Faulty as a_faulty_one}
@@ -96,11 +96,13 @@ pub record WakesIn (xs : List Signal) (x : Process) : Type 0 where
   pub wakes : (y : ℕ) → In y (wakes_of x) → y < length xs
   pub events : (v : Edge × ℕ) → In v (events_of x) → OneBit xs v.1
 
-process_wakes : (xs : List Signal) (ys : List Memory) (g : Scope) → ScopeMatches xs ys g → (n : ℕ) (w : When) (s : Stmt) → when_faults g w ≡ [] → WakesIn xs (process_of g n w s)
-process_wakes xs ys g all n Star s free = record { wakes = λ y h. absurd h; events = λ v h. absurd h }
-process_wakes xs ys g all n (Names xs2) s free =
-    record { wakes = λ y h. let k = in_flat_map (λ x. signal_numbers (look_up g x.name)) y xs2 h in number_in xs ys (look_up g k.0.name) y (all k.0.name) k.2; events = λ v h. absurd h }
-process_wakes xs ys g all n (Edges es) s free = record { wakes = λ y h. absurd h; events = events_in xs ys g all es free }
+listed_in : (xs : List Signal) (ys : List Memory) (g : Scope) → ScopeMatches xs ys g → (ns : List Named) (y : ℕ) → In y (listed_signals g ns) → y < length xs
+listed_in xs ys g all ns y h = let k = in_flat_map (λ x. signal_numbers (look_up g x.name)) y ns h in number_in xs ys (look_up g k.0.name) y (all k.0.name) k.2
+
+process_wakes : (xs : List Signal) (ys : List Memory) (g : Scope) → ScopeMatches xs ys g → (n : ℕ) (w : When) (text : Statement) (s : Stmt) → when_faults g w ≡ [] → WakesIn xs (process_of g n w text s)
+process_wakes xs ys g all n Star text s free = record { wakes = listed_in xs ys g all (text_reads text); events = λ v h. absurd h }
+process_wakes xs ys g all n (Names ns) text s free = record { wakes = listed_in xs ys g all ns; events = λ v h. absurd h }
+process_wakes xs ys g all n (Edges es) text s free = record { wakes = λ y h. absurd h; events = events_in xs ys g all es free }
 
 record IsWoken (st : Sofar) : Type 0 where
   aliases : (a : Alias) → In a st.design.aliases → (a.instance < length st.design.instances) × (a.signal < length st.design.signals)
@@ -186,7 +188,7 @@ woken_steps base ms = record {
   opens = λ depth i st free known h. woken_opened i st known h;
   assigns = λ depth i before st here x x_in y v n assigned free h. woken_process _ st (none_woken st.design.signals _ refl refl) h;
   runs = λ depth i before st here x x_in w s l n form free h.
-      woken_process _ st (process_wakes st.design.signals st.design.memories (context base i before).scope (scope_matches base i before st here.known here.continues) (length before.design.instances) w _ (when_free (when_faults (context base i before).scope w) _ _ _ free)) h;
+      woken_process _ st (process_wakes st.design.signals st.design.memories (context base i before).scope (scope_matches base i before st here.known here.continues) (length before.design.instances) w s _ (when_free (when_faults (context base i before).scope w) _ _ _ free)) h;
   inputs = λ depth i before at st x k m o inside j s joined way free h. woken_process _ st (none_woken st.design.signals _ refl refl) h;
   outputs = λ depth i before at st x k m o inside j s joined way free h. woken_process _ st (none_woken st.design.signals _ refl refl) h;
   below = λ depth i before st here h x k m o under. known_below base ms depth i before st here x k m o under;

@@ -60,7 +60,7 @@ target_no_input xs ys g good base is mode y to n sound h =
 block_no_input : (all : List Module) (base : ℕ) (xs : List Signal) (ys : List Memory) (st : Sofar) (k : ℕ) (x : Process) → base ≡ length xs → (s : IsBlock all base xs ys st.met k x) → (y : ℕ) → body_assigns y (body x) ≡ true → NoInput xs y
 block_no_input all base xs ys st k x is s y h =
     let f = found_set (IsGoodScope xs ys) (good_turn xs ys) base s.scope (mode_of s.when) k (λ blocking t v. target_names y t) s.body s.line s.node s.good s.free
-    (subst (λ b. body_assigns y b ≡ true) (body_of s.scope s.instance s.when (statement base s.scope s.body s.line s.node)) (subst (λ z. body_assigns y (body z) ≡ true) s.is h)) in
+    (subst (λ b. body_assigns y b ≡ true) (body_of s.scope s.instance s.when s.body (statement base s.scope s.body s.line s.node)) (subst (λ z. body_assigns y (body z) ≡ true) s.is h)) in
     target_no_input xs ys f.scope f.known base is (mode_of s.when) y f.to f.node f.target_sound f.passes
 
 source_no_input : (all : List Module) (base : ℕ) (xs : List Signal) (ys : List Memory) (st : Sofar) (k : ℕ) (x : Process) → base ≡ length xs → Source all base xs ys st.met k x → (y : ℕ) → body_assigns y (body x) ≡ true → NoInput xs y

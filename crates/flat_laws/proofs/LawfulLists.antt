@@ -12,7 +12,7 @@ use Rattle.design_model.specs.declared.design.Range.{Range}
 use Rattle.design_model.specs.declared.design.Signal.{Signal}
 use Rattle.verilog_tree.specs.declared.item.When.{When}
 use Rattle.verilog_tree.specs.declared.item.When.TheVariants.{Star, Names, Edges}
-use Rattle.verilog_tree.specs.Tree.{Module}
+use Rattle.verilog_tree.specs.Tree.{Module, Statement}
 use Rattle.flat_design.specs.Declarations.{Declaration, Sort, a_net, a_variable, words_from, an_integer, a_parameter, some_instance, faulty, is_faulty}
 use Rattle.flat_design.specs.Flat.{elaborated}
 use Rattle.flat_design.specs.Faults.{answer}
@@ -158,10 +158,10 @@ pub instance_here : (i : Instantiation) (before now : Sofar) → Continues (open
 instance_here i before now h =
     omega (arith, ap length h.instances.whole, length-append (opened i before).design.instances h.instances.rest, length-append before.design.instances (record { path = i.path; «module» = i.of_module.name.name } ∷ []))
 
-pub process_instance : (g : Scope) (i : ℕ) (w : When) (s : Stmt) → instance_of (process_of g i w s) ≡ i
-process_instance g i Star s = refl
-process_instance g i (Names xs) s = refl
-process_instance g i (Edges xs) s = refl
+pub process_instance : (g : Scope) (i : ℕ) (w : When) (text : Statement) (s : Stmt) → instance_of (process_of g i w text s) ≡ i
+process_instance g i Star text s = refl
+process_instance g i (Names xs) text s = refl
+process_instance g i (Edges xs) text s = refl
 
 -- the outer instance is one of the design while the ports of an inner one are joined
 pub outer_here : (i j : Instantiation) (before at now : Sofar) → Continues (opened i before) at → Continues (opened j at) now → length before.design.instances < length now.design.instances
@@ -175,7 +175,7 @@ ranged_steps base ms = record {
   meets = λ st h. record { signals = h.signals; memories = h.memories; constants = h.constants; processes = h.processes };
   opens = λ depth i st free known h. ranged_opened i st h;
   assigns = λ depth i before st here x x_in y v n assigned free h. ranged_process _ st (instance_here i before st here.continues) h;
-  runs = λ depth i before st here x x_in w s l n form free h. ranged_process _ st (subst (λ k. k < length st.design.instances) (sym (process_instance _ (length before.design.instances) w _)) (instance_here i before st here.continues)) h;
+  runs = λ depth i before st here x x_in w s l n form free h. ranged_process _ st (subst (λ k. k < length st.design.instances) (sym (process_instance _ (length before.design.instances) w s _)) (instance_here i before st here.continues)) h;
   inputs = λ depth i before at st x k m o inside j s joined way free h. ranged_process _ st (outer_here i (inner_of (context base i before) x.place k m o) before at st inside.outer.continues inside.continues) h;
   outputs = λ depth i before at st x k m o inside j s joined way free h. ranged_process _ st (outer_here i (inner_of (context base i before) x.place k m o) before at st inside.outer.continues inside.continues) h;
   below = λ depth i before st here h x k m o under. tt;

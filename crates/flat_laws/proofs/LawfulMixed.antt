@@ -61,7 +61,7 @@ same_true false false e = refl
 set_in_block : (all : List Module) (base : ℕ) (xs : List Signal) (ys : List Memory) (st : Sofar) (k : ℕ) (x : Process) → (s : IsBlock all base xs ys st.met k x) → (b : Bool) (y : ℕ) → any_set (sets b y) (body x) ≡ true → IsSet base (length xs) (met s.scope (mode_of s.when) k s.body) b y
 set_in_block all base xs ys st k x s b y h =
     let f = found_set (IsGoodScope xs ys) (good_turn xs ys) base s.scope (mode_of s.when) k (sets b y) s.body s.line s.node s.good s.free
-    (subst (λ z. any_set (sets b y) z ≡ true) (body_of s.scope s.instance s.when (statement base s.scope s.body s.line s.node)) (subst (λ z. any_set (sets b y) (body z) ≡ true) s.is h)) in
+    (subst (λ z. any_set (sets b y) z ≡ true) (body_of s.scope s.instance s.when s.body (statement base s.scope s.body s.line s.node)) (subst (λ z. any_set (sets b y) (body z) ≡ true) s.is h)) in
     let p = and_parts (same_bool b f.blocking) _ f.passes in
     let r = target_set xs ys f.scope f.known base (mode_of s.when) y f.to f.node p.1 f.target_sound in
     record {

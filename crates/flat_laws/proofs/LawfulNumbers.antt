@@ -52,22 +52,22 @@ assign_numbers base g i x v l n =
     }
 
 -- an always block has the numbers of its body
-body_lines : (g : Scope) (i : ℕ) (w : When) (s : Stmt) → lines_of (process_of g i w s) ≡ law.lines s
-body_lines g i Star s = refl
-body_lines g i (Names xs) s = refl
-body_lines g i (Edges es) s = refl
+body_lines : (g : Scope) (i : ℕ) (w : When) (text : Statement) (s : Stmt) → lines_of (process_of g i w text s) ≡ law.lines s
+body_lines g i Star text s = refl
+body_lines g i (Names xs) text s = refl
+body_lines g i (Edges es) text s = refl
 
-body_nodes : (g : Scope) (i : ℕ) (w : When) (s : Stmt) → nodes_of (process_of g i w s) ≡ nodes_in (body_terms s)
-body_nodes g i Star s = refl
-body_nodes g i (Names xs) s = refl
-body_nodes g i (Edges es) s = refl
+body_nodes : (g : Scope) (i : ℕ) (w : When) (text : Statement) (s : Stmt) → nodes_of (process_of g i w text s) ≡ nodes_in (body_terms s)
+body_nodes g i Star text s = refl
+body_nodes g i (Names xs) text s = refl
+body_nodes g i (Edges es) text s = refl
 
-always_numbers : (base : ℕ) (g : Scope) (i : ℕ) (w : When) (s : Statement) (l n : ℕ) → HasNumbers l (l + lines s) n (n + statement_nodes g s) (process_of g i w (statement base g s l n))
+always_numbers : (base : ℕ) (g : Scope) (i : ℕ) (w : When) (s : Statement) (l n : ℕ) → HasNumbers l (l + lines s) n (n + statement_nodes g s) (process_of g i w s (statement base g s l n))
 always_numbers base g i w s l n =
     let flat : Stmt = statement base g s l n in
     record {
-      lines = subst (Once line_number l (l + lines s)) (sym (body_lines g i w flat)) (once_among line_number l (l + lines s) (law.lines flat) (text_lines s l) (lines_in_text base g s l n) (lines_once s l));
-      nodes = subst (Once node_number n (n + statement_nodes g s)) (sym (body_nodes g i w flat)) (once_among node_number n (n + statement_nodes g s) (nodes_in (body_terms flat)) (statement_text g s n) (statement_in_text base g s l n) (statement_once g s n));
+      lines = subst (Once line_number l (l + lines s)) (sym (body_lines g i w s flat)) (once_among line_number l (l + lines s) (law.lines flat) (text_lines s l) (lines_in_text base g s l n) (lines_once s l));
+      nodes = subst (Once node_number n (n + statement_nodes g s)) (sym (body_nodes g i w s flat)) (once_among node_number n (n + statement_nodes g s) (nodes_in (body_terms flat)) (statement_text g s n) (statement_in_text base g s l n) (statement_once g s n));
     }
 
 -- parts of two processes of one instance by one number are one
@@ -205,7 +205,7 @@ numbered_walk base ms = record {
       numbered_process _ i before st (progress l n os) l (n + (nodes g y + nodes g v)) refl (instance_here i before st here.continues) (omega arith) (omega arith) (assign_numbers base g (length before.design.instances) y v l n) h;
   runs = λ depth i before st here x x_in w s l n os form free h.
       let g = (context base i before).scope in
-      numbered_process _ i before st (progress l n os) (l + lines s) (n + statement_nodes g s) (process_instance g (length before.design.instances) w (statement base g s l n)) (instance_here i before st here.continues) (omega arith) (omega arith) (always_numbers base g (length before.design.instances) w s l n) h;
+      numbered_process _ i before st (progress l n os) (l + lines s) (n + statement_nodes g s) (process_instance g (length before.design.instances) w s (statement base g s l n)) (instance_here i before st here.continues) (omega arith) (omega arith) (always_numbers base g (length before.design.instances) w s l n) h;
   inputs = λ depth i before at st x k m o inside r j s joined way free h.
       numbered_process _ i before st r r.lines r.nodes refl (outer_here i (inner_of (context base i before) x.place k m o) before at st inside.outer.continues inside.continues) (omega arith) (omega arith) (uncounted_numbers r.lines r.nodes (length before.design.instances) _ _) h;
   outputs = λ depth i before at st x k m o inside r j s joined way free h.

@@ -114,7 +114,7 @@ pub record IsBlock (all : List Module) (base : ℕ) (xs : List Signal) (ys : Lis
   pub line : ℕ
   pub node : ℕ
   pub instance : ℕ
-  pub is : x ≡ process_of scope instance when (statement base scope body line node)
+  pub is : x ≡ process_of scope instance when body (statement base scope body line node)
   pub of_module : Module
   pub module_in : In of_module all
   pub item : Item
@@ -347,7 +347,7 @@ source_at all base st h p = by_place (cases_lt p (length st.design.processes))
 pub block_no_assign : (all : List Module) (base : ℕ) (xs : List Signal) (ys : List Memory) (ms : List Met) (k : ℕ) (x : Process) → IsBlock all base xs ys ms k x → IsAssign x → ⊥
 block_no_assign all base xs ys ms k x s a = by_list s.when (subst IsAssign s.is a)
   where
-    by_list : (w : When) → IsAssign (process_of s.scope s.instance w (statement base s.scope s.body s.line s.node)) → ⊥
+    by_list : (w : When) → IsAssign (process_of s.scope s.instance w s.body (statement base s.scope s.body s.line s.node)) → ⊥
     by_list Star h = h
     by_list (Names xs) h = h
     by_list (Edges es) h = h

@@ -96,20 +96,20 @@ written_process base m st here h = record { written = λ p y less assigns. by_pl
         (subst (λ n. IsWritten base st.design.signals (st.met ++ m.met) n y m.process) last
         (record { writing = w.writing; writing_in = in_right (met_writing w.writing) st.met m.met w.writing_in; process = w.process; driver = w.driver; thing = w.thing }))
 
-pub body_of : (g : Scope) (i : ℕ) (w : When) (s : Stmt) → body (process_of g i w s) ≡ s
-body_of g i Star s = refl
-body_of g i (Names xs) s = refl
-body_of g i (Edges es) s = refl
+pub body_of : (g : Scope) (i : ℕ) (w : When) (text : Statement) (s : Stmt) → body (process_of g i w text s) ≡ s
+body_of g i Star text s = refl
+body_of g i (Names xs) text s = refl
+body_of g i (Edges es) text s = refl
 
-pub no_assign_of : (g : Scope) (i : ℕ) (w : When) (s : Stmt) → is_assign (process_of g i w s) ≡ false
-no_assign_of g i Star s = refl
-no_assign_of g i (Names xs) s = refl
-no_assign_of g i (Edges es) s = refl
+pub no_assign_of : (g : Scope) (i : ℕ) (w : When) (text : Statement) (s : Stmt) → is_assign (process_of g i w text s) ≡ false
+no_assign_of g i Star text s = refl
+no_assign_of g i (Names xs) text s = refl
+no_assign_of g i (Edges es) text s = refl
 
-no_memory : (g h : Scope) (i : ℕ) (w : When) (s : Stmt) (e : Expr) → memory_target_faults g (mode_of w) e ≡ [] → IsComb (process_of h i w s) → ⊥
-no_memory g h i Star s e free is = cc
-no_memory g h i (Names xs) s e free is = cc
-no_memory g h i (Edges es) s e free is = is
+no_memory : (g h : Scope) (i : ℕ) (w : When) (text : Statement) (s : Stmt) (e : Expr) → memory_target_faults g (mode_of w) e ≡ [] → IsComb (process_of h i w text s) → ⊥
+no_memory g h i Star text s e free is = cc
+no_memory g h i (Names xs) text s e free is = cc
+no_memory g h i (Edges es) text s e free is = is
 
 -- the writing of a part of a target without fault was met
 pub writing_there : (g : Scope) → IsSoundScope g → (mode : Mode) (blocking continuous : Bool) (k : ℕ) (x e : Expr) → target_faults g mode x ≡ [] → In e (leaves x) → In (met_writing (writing_of g blocking continuous k e)) (met_writings g mode blocking continuous k x)
@@ -121,7 +121,7 @@ writing_there g sound mode blocking continuous k x e free e_in = by_test (none (
 
 -- what an always block assigns it writes
 written_always : (xs : List Signal) (ys : List Memory) (base : ℕ) (g : Scope) → IsGoodScope xs ys g → (i k : ℕ) (w : When) (s : Statement) (l n y : ℕ) → IsFree (met g (mode_of w) k s) → body_assigns y (statement base g s l n) ≡ true →
-    IsWritten base xs (met g (mode_of w) k s) k y (process_of g i w (statement base g s l n))
+    IsWritten base xs (met g (mode_of w) k s) k y (process_of g i w s (statement base g s l n))
 written_always xs ys base g good i k w s l n y free assigns =
     let f = found_set (IsGoodScope xs ys) (good_turn xs ys) base g (mode_of w) k (λ blocking t v. target_names y t) s l n good free assigns in
     let r = target_set xs ys f.scope f.known base (mode_of w) y f.to f.node f.passes f.target_sound in
@@ -129,15 +129,15 @@ written_always xs ys base g good i k w s l n y free assigns =
       writing = writing_of f.scope f.blocking false k r.0;
       writing_in = f.writings _ (writing_there f.scope f.known.sound (mode_of w) f.blocking false k f.to r.0 f.target_sound r.1);
       process = refl;
-      driver = sym (no_assign_of g i w (statement base g s l n));
+      driver = sym (no_assign_of g i w s (statement base g s l n));
       thing = by_leaf f.scope f.known r.0 r.2;
     }
   where
-    by_leaf : (h : Scope) → IsGoodScope xs ys h → (e : Expr) → IsLeaf h base (mode_of w) y e → ((thing_of (look_up h (base_name e).name) ≡ the_signal y) × (y < length xs)) ⊎ ((m : ℕ) × (thing_of (look_up h (base_name e).name) ≡ the_memory m) × (base + m ≡ y) × (IsComb (process_of g i w (statement base g s l n)) → ⊥))
+    by_leaf : (h : Scope) → IsGoodScope xs ys h → (e : Expr) → IsLeaf h base (mode_of w) y e → ((thing_of (look_up h (base_name e).name) ≡ the_signal y) × (y < length xs)) ⊎ ((m : ℕ) × (thing_of (look_up h (base_name e).name) ≡ the_memory m) × (base + m ≡ y) × (IsComb (process_of g i w s (statement base g s l n)) → ⊥))
     by_leaf h known e (inl a) =
         let less : a.0.number < length xs = (subst (EntryMatches xs ys) a.1 (known.matches (base_name e).name)).number in
         inl (ap thing_of a.1 ∙ ap the_signal a.2, subst (λ z. z < length xs) a.2 less)
-    by_leaf h known e (inr a) = inr (a.0.number, ap thing_of a.1, a.2, no_memory h g i w (statement base g s l n) e a.3)
+    by_leaf h known e (inr a) = inr (a.0.number, ap thing_of a.1, a.2, no_memory h g i w s (statement base g s l n) e a.3)
 
 -- what is known of an instance that is to be opened: its aliases, and that its module is one of these
 abbrev pub KnownIn : List Module → ℕ → Instantiation → Sofar → Type 0
@@ -217,9 +217,9 @@ written_steps base ms tokens = record {
       let ms2 = met g (mode_of w) k s in
       let later = mixed_faults (writings ms2) ++ incomplete_faults g w s in
       written_process base (always base g number k x.place w s l n) st
-      (λ y e. always_written base st.design.signals (when_faults g w) later ms2 (met_process x.place) k y (process_of g number w (statement base g s l n))
+      (λ y e. always_written base st.design.signals (when_faults g w) later ms2 (met_process x.place) k y (process_of g number w s (statement base g s l n))
       (written_always st.design.signals st.design.memories base g good number k w s l n y (free_body (when_faults g w) later ms2 (met_process x.place) free)
-      (subst (λ b. body_assigns y b ≡ true) (body_of g number w (statement base g s l n)) e))) h;
+      (subst (λ b. body_assigns y b ≡ true) (body_of g number w s (statement base g s l n)) e))) h;
   inputs = λ depth i before at st x k m o inside j s joined way free h.
       let inner = inner_of (context base i before) x.place k m o in
       let g = (context base i before).scope in

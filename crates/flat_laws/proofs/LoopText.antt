@@ -132,7 +132,7 @@ term_shapes : map process_shapes (elaborated text (codes "m")).design.processes 
     shape_as 4 false ∷ shape_as 32 true ∷ []) ∷ [])
 term_shapes = refl
 
-process_heads : map process_head (elaborated text (codes "m")).design.processes ≡ (a_comb 0 ([]) ∷ a_clocked 0 ((Pos, 1) ∷ []) ∷ [])
+process_heads : map process_head (elaborated text (codes "m")).design.processes ≡ (a_comb 0 (0 ∷ 0 ∷ 0 ∷ []) ∷ a_clocked 0 ((Pos, 1) ∷ []) ∷ [])
 process_heads = refl
 
 laws : keeps_laws (elaborated text (codes "m")).design ≡ true

@@ -2,7 +2,8 @@
 //!
 //! Each answer is worked out by hand. It has two parts for each process: the signals that its blocking assignments write,
 //! each with the sum of the powers of two of its places, and what it watches, with the places that it does not write itself.
-//! What comes after a plus sign is in a list of names, and the body does not mention it.
+//! What comes after a plus sign is in a list of names, or is read in a loop without turns alone, and the flat body does not
+//! mention it.
 
 ghost use Rattle.std.specs.Prelude.{◌≡◌, ◌≤◌, length};
 ghost use Rattle.design_model.specs.Lawful.{IsLawfulDesign};
@@ -147,6 +148,18 @@ endmodule
 ----
 # b is in the list of names alone.
 rows: writes y=1, watches a=1+b=7
+====
+module m(input a, input [2:0] b, input c, output reg y);
+  integer i, j;
+  always @* begin
+    for (i = 0; i < 0; i = i + 1)
+      for (j = c; j < 2; j = j + 1) y = b[j];
+    y = a;
+  end
+endmodule
+----
+# What a loop without turns reads is no part of the flat body, and wakes the block all the same.
+rows: writes y=1, watches a=1+c=1+b=7
 ====
 module m(input clk, input [1:0] i, input d, output reg q, output w);
   reg t;

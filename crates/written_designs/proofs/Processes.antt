@@ -35,15 +35,15 @@ pub record HasParts (P : Place → Type 0) (most : ℕ) (x : Process) : Type 0 w
   pub lines : (y : LineAt) → In y (lines_of x) → IsPart P most y.line y.place
   pub nodes : (y : NodeAt) → In y (nodes_of x) → IsPart P most y.node y.place
 
-body_lines : (g : Scope) (i : ℕ) (w : When) (s : Stmt) → lines_of (process_of g i w s) ≡ law.lines s
-body_lines g i Star s = refl
-body_lines g i (Names xs) s = refl
-body_lines g i (Edges es) s = refl
+body_lines : (g : Scope) (i : ℕ) (w : When) (text : Statement) (s : Stmt) → lines_of (process_of g i w text s) ≡ law.lines s
+body_lines g i Star text s = refl
+body_lines g i (Names xs) text s = refl
+body_lines g i (Edges es) text s = refl
 
-body_nodes : (g : Scope) (i : ℕ) (w : When) (s : Stmt) → nodes_of (process_of g i w s) ≡ nodes_in (body_terms s)
-body_nodes g i Star s = refl
-body_nodes g i (Names xs) s = refl
-body_nodes g i (Edges es) s = refl
+body_nodes : (g : Scope) (i : ℕ) (w : When) (text : Statement) (s : Stmt) → nodes_of (process_of g i w text s) ≡ nodes_in (body_terms s)
+body_nodes g i Star text s = refl
+body_nodes g i (Names xs) text s = refl
+body_nodes g i (Edges es) text s = refl
 
 module _ (P : Place → Type 0) (most : ℕ) where
   pub nothing_parts : HasParts P most no_process
@@ -77,12 +77,12 @@ module _ (P : Place → Type 0) (most : ℕ) where
       }
 
   pub body_parts : (base : ℕ) (g : Scope) (i : ℕ) (w : When) (s : Statement) (l n : ℕ) → IsPlacedBody P s → 1 ≤ l → l + lines s ≤ most + 1 → 1 ≤ n → n + statement_nodes g s ≤ most + 1 →
-      HasParts P most (process_of g i w (statement base g s l n))
+      HasParts P most (process_of g i w s (statement base g s l n))
   body_parts base g i w s l n h lines_from lines_to nodes_from nodes_to =
       let flat : Stmt = statement base g s l n in
       record {
         lines = λ y k.
-            line_part l (l + lines s) (text_lines s l) lines_from lines_to (lines_once s l) (lines_at P s l h) y (lines_in_text base g s l n y (subst (λ z. In y z) (body_lines g i w flat) k));
+            line_part l (l + lines s) (text_lines s l) lines_from lines_to (lines_once s l) (lines_at P s l h) y (lines_in_text base g s l n y (subst (λ z. In y z) (body_lines g i w s flat) k));
         nodes = λ y k.
-            node_part n (n + statement_nodes g s) (statement_text g s n) nodes_from nodes_to (statement_once g s n) (statement_at P g s n h) y (statement_in_text base g s l n y (subst (λ z. In y z) (body_nodes g i w flat) k));
+            node_part n (n + statement_nodes g s) (statement_text g s n) nodes_from nodes_to (statement_once g s n) (statement_at P g s n h) y (statement_in_text base g s l n y (subst (λ z. In y z) (body_nodes g i w s flat) k));
       }
