@@ -1,7 +1,7 @@
 //! The signals that the text of a block reads, which wake it under `*` (IEEE 1364-2001, 9.7.5). The body of a loop without
 //! turns is text too.
 
-ghost use Rattle.std.specs.Prelude.{◌≡◌, ◌++◌, [], IfOk, OnOk};
+ghost use Rattle.std.specs.Prelude.{◌≡◌, ◌++◌, IfOk, OnOk};
 ghost use Rattle.flat_design.specs.Bodies as spec;
 ghost use Rattle.flat_design.specs.Identifiers.{all_identifiers, identifiers};
 ghost use Rattle.flat_design.specs.Processes.{listed_signals, signal_numbers};
@@ -89,11 +89,7 @@ fn add_arms(scope: &Scope, arms: &[Arm], signals: &mut Sequence<u32>) -> Result<
 }
 
 /// Adds what the header of a loop reads.
-fn add_header(
-    scope: &Scope,
-    header: &For,
-    signals: &mut Sequence<u32>,
-) -> Result<(), NoMemory>
+fn add_header(scope: &Scope, header: &For, signals: &mut Sequence<u32>) -> Result<(), NoMemory>
     ensures { OnOk result (signals.new ≡ signals.old ++ listed_signals (binding_of scope.now) (spec.header_reads (loop_view header.now).0)) }
 {
     add_set(scope, &header.name, &header.first, signals)?;
@@ -146,12 +142,7 @@ fn add_expr(scope: &Scope, expr: &Expr, signals: &mut Sequence<u32>) -> Result<(
 
 /// Adds what two expressions read.
 #[cycle(add_expr)]
-fn add_two(
-    scope: &Scope,
-    a: &Expr,
-    b: &Expr,
-    signals: &mut Sequence<u32>,
-) -> Result<(), NoMemory>
+fn add_two(scope: &Scope, a: &Expr, b: &Expr, signals: &mut Sequence<u32>) -> Result<(), NoMemory>
     ensures { OnOk result (signals.new ≡ signals.old ++ listed_signals (binding_of scope.now) (identifiers (expr_view a.now) ++ identifiers (expr_view b.now))) }
 {
     add_expr(scope, a, signals)?;
@@ -214,11 +205,7 @@ fn add_target(scope: &Scope, target: &Expr, signals: &mut Sequence<u32>) -> Resu
 
 /// Adds what the indexes of several targets read.
 #[cycle(add_target)]
-fn add_targets(
-    scope: &Scope,
-    targets: &[Expr],
-    signals: &mut Sequence<u32>,
-) -> Result<(), NoMemory>
+fn add_targets(scope: &Scope, targets: &[Expr], signals: &mut Sequence<u32>) -> Result<(), NoMemory>
     ensures { OnOk result (signals.new ≡ signals.old ++ listed_signals (binding_of scope.now) (all_target_reads (exprs_of (exprs_view targets.now)))) }
 {
     for target in targets {

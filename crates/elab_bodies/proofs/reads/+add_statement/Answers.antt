@@ -3,7 +3,6 @@ use Rattle.flat_design.specs.Bodies.{all_text_reads, header_reads, items_text_re
 use Rattle.flat_design.specs.Identifiers.{all_identifiers, identifiers}
 use Rattle.flat_design.specs.Processes.{listed_signals}
 use Rattle.flat_design.specs.Scope.{binding_of}
-use Rattle.flat_design.specs.Targets.{target_reads}
 use Rattle.verilog_tree.specs.Tree.{arms_of, exprs_of, statements_of}
 use Rattle.verilog_tree.specs.View.{arms_view, expr_view, exprs_view, loop_view, statement_view, statements_view}
 use Rattle.verilog_tree.specs.declared.statement.Arm.{out-Arm}
