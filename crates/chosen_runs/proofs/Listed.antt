@@ -1,11 +1,11 @@
 -- A block is entered by the list of what was found to be early.
-use Rattle.std.proofs.Common.{◌≡◌, ◌↔◌, ℕ, ◌<◌, ◌==◌, Bool, true, false, not, List, length, get_or, Option, Some, refl, sym, ap, subst, ◌∙◌, eq-eqb}
-use Rattle.std.specs.List.{All, Contains}
+use Rattle.std.proofs.Common.{◌≡◌, ◌↔◌, ℕ, ◌<◌, ◌==◌, Bool, true, false, not, List, get_or, Option, refl, sym, ap, ◌∙◌, eq-eqb}
+use Rattle.std.specs.List.{All}
 use Rattle.std.proofs.lemmas.Bool.{false_from_ne_true, false≢true}
 use Rattle.std.proofs.lemmas.List.{get_or_default}
-use Rattle.chosen_early.specs.early_sets.Early.{IsEarlyBy, IsEarlySeed, early_rule}
-use Rattle.chosen_early.specs.early_sets.Reached.{Reached, of_seed, of_target}
-use Rattle.chosen_early.specs.early_sets.WakeState.{WakeState, edges_at}
+use Rattle.chosen_early.specs.early_sets.Early.{IsEarlyBy}
+use Rattle.chosen_early.specs.early_sets.Reached.{of_seed, of_target}
+use Rattle.chosen_early.specs.early_sets.WakeState.{WakeState}
 use Rattle.chosen_early.specs.early_sets.declared.habit.Habit.{Habit}
 use Rattle.chosen_early.proofs.Choosing.{early_same}
 use Rattle.chosen_early.proofs.early_sets.Membership.{is_in_from, is_in_gives}
@@ -29,6 +29,10 @@ same_test : (a b : Bool) → (a ≡ true → b ≡ true) → (b ≡ true → a �
 same_test true b f g = sym (f refl)
 same_test false true f g = g refl
 same_test false false f g = refl
+
+-- the test of a list of what is early
+pub is_listed : (w : WakeState) (h : Habit) (p t : ℕ) (early : List ℕ) → IsEarlyList w h p t early → (x : ℕ) → (is_in early x ≡ true) ↔ IsEarlyBy w h p t x
+is_listed w h p t early is x = (λ e. (is x).0 (is_in_gives early x e), λ b. let c = (is x).1 b in is_in_from early x c.0 c.1 c.2)
 
 module _ (w v : WakeState) (same : IsSameButEarly w v) (h : Habit) (p t : ℕ) (early : List ℕ) (is : IsEarlyList v h p t early) where
   -- a number in the list is early by the sets before, and the other way round

@@ -1,5 +1,5 @@
 -- A step in which clean blocks run, by the codes of its dump and the sets that were found.
-use Rattle.std.specs.Prelude.{◌≡◌, ◌↔◌, ◌<◌, ◌+◌, ℕ, true, List, length, Option}
+use Rattle.std.specs.Prelude.{◌≡◌, ◌↔◌, ℕ, true, List, Option}
 use Rattle.event_machine.specs.Cell.{Values as CellValues}
 use Rattle.four_state.specs.declared.bit.Bit.{Bit}
 use Rattle.chosen_early.specs.early_sets.Early.{IsEarlyBy}

@@ -5,7 +5,7 @@ ghost use Rattle.design_model.specs.Mentions.{body_assigns};
 ghost use Rattle.design_model.specs.View.{design_view};
 ghost use Rattle.chosen_early.specs.early_sets.Early.{IsEarlyBy};
 ghost use Rattle.chosen_early.specs.early_sets.WakeState.{state_of, trigger_of};
-ghost use Rattle.chosen_early.specs.Shared.{IsSameButEarly, IsShared};
+ghost use Rattle.chosen_early.specs.Shared.{IsEarlyList, IsSameButEarly, IsShared};
 ghost use Rattle.clocked_block.specs.clocked_runs.block_runs.body_calls.Own.{is_in};
 ghost use Rattle.clocked_block.specs.clocked_runs.block_runs.Notes.{AddsNotes};
 ghost use Rattle.clocked_block.specs.clocked_runs.run_views.body_replay.Contract.{Note, clean};
@@ -55,6 +55,7 @@ pub fn run_chosen<N: BlockNotes, L: Ledger>(
     requires none { pieces.old.items ≡ [] }
     requires scratch { 128 ≤ pieces.old.room }
     ensures rest { IsSameButEarly (state_of sets.old) (state_of sets.new) }
+    ensures early { IsEarlyList (state_of sets.old) habit process trigger (state_of sets.new).early }
     ensures shared { IfSome shared.new (λ last. IsShared (state_of sets.new) habit last) }
     ensures design { design_view store.new.design.now ≡ design_view design.now }
     ensures runs { (st : Closing) (w : Working) (ps : List ℕ) → IsRunBy st time → IsDumpedStep st codes.now values.now → IsEarlyIn st (state_of sets.old) habit process trigger

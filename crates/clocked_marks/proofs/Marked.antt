@@ -1,18 +1,17 @@
 -- The marks after the run of a Clocked block.
-use Rattle.std.proofs.Common.{◌≡◌, ℕ, ◌++◌, List, [], refl, sym, subst}
+use Rattle.std.proofs.Common.{ℕ, List, [], refl, sym, subst}
 use Rattle.body_replay.specs.Contract.{Certainty, Note, Store as ModelStore, outcome}
 use Rattle.body_replay.specs.Runs.{Runs, StoreView, own_store}
 use Rattle.design_model.specs.Design.{Design, body_at}
 use Rattle.design_model.specs.Lawful.{IsLawfulDesign}
 use Rattle.chosen_runs.specs.clocked_block.OneRun.{AtRuns, IsRunBy}
 use Rattle.chosen_runs.specs.clocked_block.clocked_runs.run_views.body_store.declared.store.Store.{Store}
-use Rattle.chosen_runs.specs.clocked_block.entry_values.replay_model.Marks.{Marking, markings_by}
+use Rattle.chosen_runs.specs.clocked_block.entry_values.replay_model.Marks.{Marking}
 use Rattle.chosen_runs.specs.clocked_block.entry_values.replay_model.Step.{Closing, Working, after_clocked}
 use Rattle.run_marks.specs.cover_marks.Marks.{AreMarksOf}
 use Rattle.run_marks.specs.cover_marks.declared.marks.Marks.{Marks}
 use Rattle.run_marks.specs.cover_points.Visits.{AreApart, AreOnce}
 use Rattle.run_marks.specs.cover_points.declared.listing.Points.{Points}
-use Rattle.run_marks.specs.mark_laws.Marked.{AreVerdicts}
 use Rattle.run_marks.specs.Reported.{AreNotesOf, HasReported, RunStart}
 use Rattle.run_marks.proofs.Reports.{none_reported}
 use Rattle.clocked_marks.specs.AtClocked.{AtClocked}

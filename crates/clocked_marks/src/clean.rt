@@ -1,19 +1,22 @@
 ghost use Rattle.std.specs.Prelude.{◌≡◌, ◌<◌, ◌≤◌, ◌+◌, ◌∷◌, [], ℕ, IfSome, List, Some, length, true};
-ghost use Rattle.design_model.specs.Design.{body_at};
+ghost use Rattle.event_machine.specs.Cell.{Values};
+ghost use Rattle.four_state.specs.declared.bit.Bit.{Bit};
+ghost use Rattle.design_model.specs.Design.{Design as TheDesign, body_at};
 ghost use Rattle.design_model.specs.Lawful.{IsLawfulDesign};
 ghost use Rattle.design_model.specs.Mentions.{body_assigns};
 ghost use Rattle.design_model.specs.View.{design_view};
 ghost use Rattle.chosen_runs.specs.chosen_early.early_sets.Early.{IsEarlyBy};
 ghost use Rattle.chosen_runs.specs.chosen_early.early_sets.WakeState.{state_of, trigger_of};
-ghost use Rattle.chosen_runs.specs.chosen_early.Shared.{IsSameButEarly, IsShared};
+ghost use Rattle.chosen_runs.specs.chosen_early.Shared.{IsEarlyList, IsSameButEarly, IsShared};
 ghost use Rattle.chosen_runs.specs.clocked_block.clocked_runs.block_runs.body_calls.Own.{is_in};
 ghost use Rattle.chosen_runs.specs.clocked_block.entry_values.replay_model.Step.{Closing, Working, run_clean};
+ghost use Rattle.chosen_runs.specs.clocked_block.entry_values.step_values.Dumped.{AreDumped};
 ghost use Rattle.chosen_runs.specs.clocked_block.entry_values.step_values.Loose.{has_code};
-ghost use Rattle.chosen_runs.specs.clocked_block.OneRun.{AtRuns, IsRunBy};
+ghost use Rattle.chosen_runs.specs.clocked_block.OneRun.{IsRunBy};
 ghost use Rattle.chosen_runs.specs.Chosen.{IsDumpedStep, IsEarlyIn};
 ghost use Rattle.run_marks.specs.cover_marks.Marks.{AreMarksOf};
 ghost use Rattle.run_marks.specs.cover_points.Visits.{AreApart, AreOnce};
-ghost use Rattle.clocked_marks.specs.AtClocked.{AtClocked};
+ghost use Rattle.clocked_marks.specs.AtClocked.{AtClocked, CanRunAll};
 
 use chosen_runs::{Habit, Piece, Store, Wakes, run_chosen};
 use code_values::CodeValues;
@@ -52,13 +55,17 @@ pub fn mark_clean<L: Ledger>(
     requires written { (x : ℕ) → is_in written.now x ≡ body_assigns x (body_at (design_view design.now) process) }
     requires signal { trigger < length design.now.signals }
     requires coded { has_code codes.now trigger ≡ true }
-    requires ready { (st : Closing) × (w : Working) × (ps : List ℕ) × IsDumpedStep st codes.now values.now × AtRuns st w (process ∷ ps) store.old }
+    requires before { (old : Values Bit) × AreDumped (design_view design.now) codes.now values.now.closed old }
+    requires after { (new : Values Bit) × AreDumped (design_view design.now) codes.now values.now.last new }
+    requires ready { (d : TheDesign) × (ps : List ℕ) × CanRunAll d (process ∷ ps) store.old }
     requires none { pieces.old.items ≡ [] }
     requires scratch { 128 ≤ pieces.old.room }
     requires marks { AreMarksOf notes.old.points.now notes.old.marks }
     ensures rest { IsSameButEarly (state_of sets.old) (state_of sets.new) }
+    ensures early { IsEarlyList (state_of sets.old) habit process trigger (state_of sets.new).early }
     ensures shared { IfSome shared.new (λ last. IsShared (state_of sets.new) habit last) }
     ensures design { design_view store.new.design.now ≡ design_view design.now }
+    ensures ready { (d : TheDesign) (ps : List ℕ) → CanRunAll d (process ∷ ps) store.old → CanRunAll d ps store.new }
     ensures points { notes.new.points.now ≡ notes.old.points.now }
     ensures marks { AreMarksOf notes.new.points.now notes.new.marks }
     ensures step { (st : Closing) (w : Working) (ps : List ℕ) → AreApart notes.old.points.now → AreOnce notes.old.points.now

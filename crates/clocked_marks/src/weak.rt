@@ -1,14 +1,14 @@
 ghost use Rattle.std.specs.Prelude.{◌≡◌, ◌<◌, ◌≤◌, ◌+◌, ◌∷◌, [], ℕ, List, None, Some, length};
-ghost use Rattle.design_model.specs.Design.{body_at};
+ghost use Rattle.design_model.specs.Design.{Design as TheDesign, body_at};
 ghost use Rattle.design_model.specs.Lawful.{IsLawfulDesign};
 ghost use Rattle.design_model.specs.Mentions.{body_assigns};
 ghost use Rattle.design_model.specs.View.{design_view};
 ghost use Rattle.chosen_runs.specs.clocked_block.clocked_runs.block_runs.body_calls.Own.{is_in};
 ghost use Rattle.chosen_runs.specs.clocked_block.entry_values.replay_model.Step.{Closing, Working, run_weak as weak_run};
-ghost use Rattle.chosen_runs.specs.clocked_block.OneRun.{AtRuns, IsRunBy};
+ghost use Rattle.chosen_runs.specs.clocked_block.OneRun.{IsRunBy};
 ghost use Rattle.run_marks.specs.cover_marks.Marks.{AreMarksOf};
 ghost use Rattle.run_marks.specs.cover_points.Visits.{AreApart, AreOnce};
-ghost use Rattle.clocked_marks.specs.AtClocked.{AtClocked};
+ghost use Rattle.clocked_marks.specs.AtClocked.{AtClocked, CanRunAll};
 
 use chosen_runs::{Piece, Store, run_weak};
 use design_model::Design;
@@ -34,11 +34,12 @@ pub fn mark_weak<L: Ledger>(
     requires lawful { IsLawfulDesign (design_view design.now) }
     requires place { process < length design.now.processes }
     requires written { (x : ℕ) → is_in written.now x ≡ body_assigns x (body_at (design_view design.now) process) }
-    requires ready { (st : Closing) × (w : Working) × (ps : List ℕ) × AtRuns st w (process ∷ ps) store.old }
+    requires ready { (d : TheDesign) × (ps : List ℕ) × CanRunAll d (process ∷ ps) store.old }
     requires none { pieces.old.items ≡ [] }
     requires scratch { 128 ≤ pieces.old.room }
     requires marks { AreMarksOf notes.old.points.now notes.old.marks }
     ensures design { design_view store.new.design.now ≡ design_view design.now }
+    ensures ready { (d : TheDesign) (ps : List ℕ) → CanRunAll d (process ∷ ps) store.old → CanRunAll d ps store.new }
     ensures points { notes.new.points.now ≡ notes.old.points.now }
     ensures marks { AreMarksOf notes.new.points.now notes.new.marks }
     ensures step { (st : Closing) (w : Working) (ps : List ℕ) → AreApart notes.old.points.now → AreOnce notes.old.points.now → IsRunBy st time

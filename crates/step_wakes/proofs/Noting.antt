@@ -1,6 +1,6 @@
 -- The changes of a step, noted one after the other.
 use Rattle.std.proofs.Common.{◌≡◌, ◌≢◌, ◌⊎◌, ◌↔◌, inl, inr, ⊎_elim, ◌∙◌, ℕ, ◌-◌, ◌<◌, ◌+◌, ◌&&◌, ◌||◌, Bool, true, false, cond, not, List, [], ◌∷◌, ◌++◌, Some, None, length, get_or, set, take, refl, sym, ap, ap₂, subst, arith, lt-ltb}
-use Rattle.std.specs.List.{Contains}
+use Rattle.std.specs.List.{All, Contains}
 use Rattle.std.proofs.lemmas.Bool.{and_from, and_parts, both_ways, cases_Bool, cases_eq, cases_lt, false≢true, or_left, or_right, false_from_ne_true}
 use Rattle.std.proofs.lemmas.List.{get_or-set_other, get_or-set_same, get_or_past, length-set, take_more}
 use Rattle.std.proofs.lemmas.List.Elements.{Contains-append_left, Contains-push, Contains-push_cases}
@@ -19,12 +19,12 @@ use Rattle.design_model.proofs.TargetCells.{target_cells_law}
 use Rattle.early_sets.specs.Adds.{Adds}
 use Rattle.early_sets.specs.Edges.{edges_between, no_edges}
 use Rattle.early_sets.specs.Has.{is_in}
-use Rattle.early_sets.specs.Rounds.{writer_at}
+use Rattle.early_sets.specs.Rounds.{AreRounds, becomes_single, is_written_by, writer_at}
 use Rattle.early_sets.specs.Settled.{HasSettled}
-use Rattle.early_sets.specs.WakeState.{WakeState, is_told, own_edges}
+use Rattle.early_sets.specs.WakeState.{WakeState, is_single, is_told, own_edges}
 use Rattle.early_sets.proofs.Membership.{is_in_from, is_in_gives}
 use Rattle.replay_sets.proofs.SetsLaw.{sets_law}
-use Rattle.replay_sets.specs.wake_laws.Laws.{AreNotes, IsChangedInput, IsRoundOf}
+use Rattle.replay_sets.specs.wake_laws.Laws.{AreNotes, HasNoWriters, IsChangedInput, IsRoundOf}
 use Rattle.replay_sets.specs.wake_laws.OfDesign.{AreTablesOf, AreWritersOf}
 use Rattle.replay_sets.proofs.wake_laws.MovesLaw.{moves_by, reached_below}
 use Rattle.replay_sets.proofs.wake_laws.RoundsLaw.{has_moves, rounds_law}
@@ -311,3 +311,19 @@ step_sets d bound before noted after changes start end sized of so rest settled 
           let m = moves_by d lawful dump t after tables notes rounds.single s clean.can_wake.1 in
           rounds.first s (reached_below d lawful dump t after tables notes s m) (rounds.single.complete s m clean.is_single);
     }
+
+-- what is noted is a signal or memory
+pub noted_below : (before after : WakeState) (changes : List SignalChange) (n : ℕ) → ((x : ℕ) → Contains before.untold x → x < n) → All (λ (c : SignalChange). c.signal < n) changes → IsNoted before changes after
+    → (x : ℕ) → Contains after.noted x → x < n
+noted_below before after changes n untold all so x i =
+    ⊎_elim (λ u. untold x u) (λ e. let at = e.2 in subst (λ z. z < n) e.1 (subst (λ (c : SignalChange). c.signal < n) at.2 (all at.0 e.0 at.1))) (so.only x i)
+
+-- where nothing may become single there is no round but the first
+pub none_derived : (w : WakeState) (earlier : List WakeState) → HasNoWriters w → AreRounds (w ∷ earlier) → w.derived ≡ []
+none_derived w [] none rounds = rounds.0
+none_derived w (a ∷ earlier) none (next, rounds) = absurd (never (ap (λ z. writer_at z next.some.0) (sym next.rest) ∙ none next.some.0) next.some.1)
+  where
+    never : writer_at a next.some.0 ≡ None → becomes_single a next.some.0 ≡ true → ⊥
+    never is h =
+        let rest = and_parts (not (is_single a next.some.0)) _ (and_parts (is_in a.moves next.some.0) _ h).1 in
+        false≢true (sym (ap (is_written_by a) is) ∙ rest.1)

@@ -1,11 +1,34 @@
-use Rattle.std.proofs.Common.{◌∙◌, ◌∷◌, [], subst, sym}
+use Rattle.std.proofs.Common.{◌∙◌, ◌∷◌, [], ℕ, Bool, None, Some, false, subst, sym}
+use Rattle.event_machine.specs.Cell.{Values}
+use Rattle.four_state.specs.declared.bit.Bit.{Bit}
+use Rattle.four_state.specs.declared.bit.Bit.TheVariants.{X}
 use Rattle.body_replay.specs.Contract.{weak}
 use Rattle.design_model.specs.Lawful.{IsLawfulDesign}
 use Rattle.design_model.specs.View.{design_view}
-use Rattle.chosen_runs.specs.clocked_block.entry_values.replay_model.Step.{plain_store}
+use Rattle.chosen_runs.specs.clocked_block.entry_values.replay_model.Step.{plain_store, run_weak}
 use Rattle.run_marks.specs.cover_marks.Marks.{AreMarksOf}
 use Rattle.clocked_marks.proofs.Marked.{clocked_after, reported}
+use Rattle.clocked_marks.proofs.Trial.{trial, trial_by, trial_can, trial_runs, trial_state}
 use Rattle.clocked_marks.proofs.weak.mark_weak.Goals as goal
+
+pub run_weak-requires-clause-ready : goal.run_weak-requires-clause-ready
+run_weak-requires-clause-ready g c =
+    let d = c.requires.ready.0 in
+    let ps = c.requires.ready.1 in
+    let k = c.requires.ready.2.kept in
+    let ws = c.requires.ready.2.queue in
+    let none : ℕ → ℕ → Bool = λ q x. false in
+    let all : Values Bit = λ a. X in
+    (trial d [] c.args.time all all none, trial_state k ws, ps, trial_runs d [] c.args.time all all none (c.args.process ∷ ps) c.args.store.now k ws c.requires.ready.2.runs)
+
+pub returns-clause-ready : goal.returns-clause-ready
+returns-clause-ready g c = λ d ps r.
+    let none : ℕ → ℕ → Bool = λ q x. false in
+    let all : Values Bit = λ a. X in
+    let st = trial d [] c.args.time all all none in
+    let w = trial_state r.kept r.queue in
+    trial_can d [] c.args.time all all none ps c.run_weak.new.store (run_weak st None (Some c.args.waker) c.args.process w)
+    (c.run_weak.ensures.runs st w ps (trial_by d [] c.args.time all all none) (trial_runs d [] c.args.time all all none (c.args.process ∷ ps) c.args.store.now r.kept r.queue r.runs))
 
 pub returns-clause-points : goal.returns-clause-points
 returns-clause-points g c =

@@ -1,8 +1,10 @@
-use Rattle.std.proofs.Common.{◌<◌, ◌∙◌, get_or, length, sym, ap, subst, arith}
+use Rattle.std.proofs.Common.{◌<◌, ◌∙◌, None, get_or, length, sym, ap, subst, arith}
+use Rattle.std.specs.Prelude.{slice_index_or}
+use Rattle.std.specs.List.{Contains}
 use Rattle.std.proofs.lemmas.List.{get_or_default, take_all}
 use Rattle.four_state.specs.declared.bit.Bit.TheVariants.{Zero}
 use Rattle.early_sets.specs.WakeState.{state_of}
-use Rattle.step_wakes.proofs.Noting.{IsNoted, found_of, noted_more, noted_none, step_sets, still_of}
+use Rattle.step_wakes.proofs.Noting.{IsNoted, found_of, none_derived, noted_below, noted_more, noted_none, step_sets, still_of}
 use Rattle.step_wakes.specs.declared.step.SignalChange.{SignalChange}
 use Rattle.step_wakes.proofs.step.find.Goals as goal
 
@@ -40,6 +42,20 @@ returns-clause-tables g c = ap (λ w. w.tables) c.settle.ensures.rest ∙ c.loop
 
 pub returns-clause-writers : goal.returns-clause-writers
 returns-clause-writers g c = ap (λ w. w.writers) c.settle.ensures.rest ∙ c.loop-change.invariant.0.writers
+
+pub returns-clause-noted : goal.returns-clause-noted
+returns-clause-noted g c = λ x i.
+    let changes = c.args.changes.now in
+    let before = state_of c.args.wakes.now in
+    let so : IsNoted before changes (state_of c.loop-change.wakes) = subst (λ xs. IsNoted before xs (state_of c.loop-change.wakes)) (take_all c.loop-change.change-index changes c.loop-change-test.false) c.loop-change.invariant.0 in
+    let low = noted_below before (state_of c.loop-change.wakes) changes before.tables.things c.args.wakes.now.sizes.untold_below c.requires so x (subst (λ xs. Contains xs x) (ap (λ w. w.noted) c.settle.ensures.rest) i) in
+    subst (λ t. x < t.things) (sym (ap (λ w. w.tables) c.settle.ensures.rest ∙ c.loop-change.invariant.0.tables)) low
+
+pub returns-clause-derived : goal.returns-clause-derived
+returns-clause-derived g c = λ none.
+    let after = state_of c.settle.new.self in
+    let same = ap (λ w. w.writers) c.settle.ensures.rest ∙ c.loop-change.invariant.0.writers in
+    none_derived after c.settle.ensures.settled.earlier (λ x. ap (λ ws. slice_index_or ws x None) same ∙ none x) c.settle.ensures.settled.rounds
 
 pub returns-clause-sets : goal.returns-clause-sets
 returns-clause-sets g c d bound of =

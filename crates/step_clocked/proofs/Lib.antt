@@ -1,0 +1,7 @@
+pub mod Members
+pub mod Rooms
+pub mod Sets
+pub mod Folds
+pub mod Chosen
+pub mod Listed
+pub mod Order
