@@ -39,7 +39,7 @@ pub has_rows : RowsLaw
 has_rows d bound tables watched targets written wakes lawful plain tabled are count blocking names rows = record {
   targets = blocking;
   written_count = names.count;
-  written = names.each;
+  written = λ p x settles. names.each p x;
   wakes_count = rows.count ∙ count;
   signals = signals_are d bound tables watched wakes lawful plain tabled are rows;
 }
