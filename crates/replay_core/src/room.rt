@@ -54,11 +54,11 @@ pub(crate) fn make_room(
     ensures none { IfOk result (λ room. room.value.step.list.pairs ≡ []) }
     ensures none_clocked { IfOk result (λ room. room.value.step.clocked.pairs ≡ []) }
 {
-    let step = step_room(alloc, design, bound)?;
     let scratch = scratch_room(alloc, design, tables)?;
     let later = Queue::new(alloc, design.processes.len())?;
     let ran = Queue::new(alloc, design.processes.len())?;
     let checks = CheckOrder::new(alloc, design.signals.len() as u32)?;
+    let step = step_room(alloc, design, bound)?;
     let room = ReplayRoom {
         step,
         scratch,
@@ -84,20 +84,51 @@ fn step_room(alloc: Global, design: &Design, bound: &[bool]) -> Result<StepRoom,
     ensures running { IfOk result (λ step. step.running.size ≡ length design.now.processes) }
     ensures values { IfOk result (λ step. FitsSignals (design_view design.now) step.values) }
 {
-    let (changed, overwritten, running) = index_sets(alloc, design)?;
+    let lists = step_lists(alloc, design)?;
     let changes = Queue::new(alloc, design.signals.len())?;
-    let sets = wakes_of(alloc, design, bound)?;
-    let (clocked, list) = wake_lists(alloc, design)?;
     let values = StepValues::new(alloc, design)?;
+    let sets = wakes_of(alloc, design, bound)?;
     Ok(StepRoom {
-        changed,
+        changed: lists.changed,
         changes,
         sets,
-        clocked,
+        clocked: lists.clocked,
+        overwritten: lists.overwritten,
+        running: lists.running,
+        list: lists.list,
+        values,
+    })
+}
+
+/// The sets and wake lists among what a step begins with.
+#[derive(Drop)]
+struct StepLists {
+    changed: IndexSet,
+    overwritten: IndexSet,
+    running: IndexSet,
+    clocked: WakeList,
+    list: WakeList,
+}
+
+/// They are of the size of the design, and empty.
+fn step_lists(alloc: Global, design: &Design) -> Result<StepLists, NoMemory>
+    requires { IsLawfulDesign (design_view design.now) }
+    ensures changed { IfOk result (λ lists. lists.changed.size ≡ length design.now.signals) }
+    ensures overwritten { IfOk result (λ lists. lists.overwritten.size ≡ length design.now.signals) }
+    ensures running { IfOk result (λ lists. lists.running.size ≡ length design.now.processes) }
+    ensures clocked { IfOk result (λ lists. lists.clocked.count ≡ length design.now.processes) }
+    ensures none_clocked { IfOk result (λ lists. lists.clocked.pairs ≡ []) }
+    ensures list { IfOk result (λ lists. lists.list.count ≡ length design.now.processes) }
+    ensures none { IfOk result (λ lists. lists.list.pairs ≡ []) }
+{
+    let (changed, overwritten, running) = index_sets(alloc, design)?;
+    let (clocked, list) = wake_lists(alloc, design)?;
+    Ok(StepLists {
+        changed,
         overwritten,
         running,
+        clocked,
         list,
-        values,
     })
 }
 
