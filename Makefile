@@ -1,5 +1,6 @@
 # make example        builds the program, scores two dumps of examples/pads, merges their databases, shows the report and
-#                     writes the tracefile, and scores and reports examples/alu
+#                     writes the tracefile, scores and reports examples/alu, and scores, merges and reports the two dumps
+#                     of examples/uart
 # make try            shows the example with a program that is not proved, in a minute or two
 # make test           the gate: proves every crate, tries the wrong bodies, runs the tests, the program and the example cases
 # make cases          builds the program and runs the example cases of the stage that is reached; so does make rows
@@ -9,11 +10,12 @@
 
 PREFIX ?= /usr/local
 PROGRAM = crates/covered/out/covered
-STAGE = combs
+STAGE = clocked
 # parts of later stages that are already there: dumps, bindings, merge and report
 AHEAD = merge-report pieces
 PADS = examples/pads
 ALU = examples/alu
+UART = examples/uart
 DOCUMENTS = USER_GUIDE.md LANGUAGE.md FORMATS.md
 
 .PHONY: build example try test cases rows built-cases wrong-bodies install
@@ -29,6 +31,10 @@ example: build
 	  && $$COVERED lcov -o all.info all.db
 	cd $(ALU) && COVERED=../../$(PROGRAM) \
 	  && $$COVERED score -t alu -i tb.dut -v alu.v -vcd alu.vcd -o alu.db && $$COVERED report -d v alu.db
+	cd $(UART) && COVERED=../../$(PROGRAM) \
+	  && $$COVERED score -t uart_tx -i tb.dut -v uart_tx.v -vcd sent.vcd -o sent.db \
+	  && $$COVERED score -t uart_tx -i tb.dut -v uart_tx.v -vcd aborted.vcd -o aborted.db \
+	  && $$COVERED merge -o all.db sent.db aborted.db && $$COVERED report -d v all.db
 
 try:
 	@echo 'covered: this program is compiled without any proof; `make example` proves it first'

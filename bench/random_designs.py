@@ -1,24 +1,30 @@
 #!/usr/bin/env python3
 """Scores random designs under random dumps of their simulation, and checks each database.
 
-    bench/random_designs.py PROGRAM [--runs N] [--seed S] [--dumps K] [--out FOLDER] [--verbose]
+    bench/random_designs.py PROGRAM [--clocked] [--runs N] [--seed S] [--dumps K] [--out FOLDER] [--verbose]
 
 Each run makes a design of continuous assignments and combinational blocks and a bench that moves its inputs, simulates it by
 Icarus Verilog (`iverilog` and `vvp`) with K choices of dumped names, and scores it under each of these dumps. At times a dump
-gets more words that say the same, such as values that do not last. Checked is:
+gets more words that say the same, such as values that do not last. With `--clocked` the design has clocked blocks too: of one
+and two clocks, with and without resets, by blocking and by nonblocking assignments, in chains, exchanges, dividers and machines;
+its bench moves inputs between the edges and with them, before, after and among what the edge wakes. Checked is:
 
 - the status is 0, and the database lists the points of the design;
 - a point that is marked hit is hit in the simulation, which probes in a copy of the design report, and one that is marked missed
-  is not; the same in a second simulation, with other orders and other values of what is not decided, where that shows the
-  same dump. That a verdict holds in every other run is checked only as far as the next two points say it;
+  is not; the same in other simulations, with other orders and other values of what is not decided, where these show the
+  same dump: one, or three of a design with clocked blocks. That a verdict holds in every other run is checked only as far as
+  the next two points say it;
 - an undetermined point names a signal that is in doubt at a time of the window, and the simulation does not hit it where
   nothing is in doubt for it. With all signals dumped nothing is in doubt, except for blocks that read a target before they
-  write it;
+  write it, for clocked blocks that read what may change before they run, and for those that may run any number of times;
 - a point that a block reaches whatever the dump leaves open is marked hit;
 - a dump in which one bit of what its inputs decide is altered is refused as a contradiction at that time.
 
-A design that Icarus Verilog evaluates otherwise than the definitions in `trials` is counted and says nothing. A case with a fault
-is made smaller and kept in FOLDER with its files and `fault.txt`. Run N of seed S is run 1 of seed S + N - 1.
+A design that Icarus Verilog evaluates otherwise than the definitions in `trials` is counted and says nothing, such as one with a
+block that reads a net of what it has itself written before, where an activation runs whole by the definitions; so is one that is
+simulated against a law of the definitions, such as that a clean block runs once. A fault of the kind `account` is one of `trials`,
+whose account of a dump does not hold in each simulation that shows it. A case with a fault is made smaller and kept in FOLDER with
+its files and `fault.txt`. Run N of seed S is run 1 of seed S + N - 1. At the end the counts are printed.
 """
 import argparse
 import collections
@@ -60,7 +66,7 @@ def keep(program, case, fault, folder):
 
 def run(program, seed, options, counts, work):
     """Whether the design of a seed has no fault under any of its dumps."""
-    case, choices, altered = random_case(seed, options.dumps)
+    case, choices, altered = random_case(seed, options.dumps, options.clocked)
     trial = Trial(program, work, case, [*choices, case.names])
     try:
         trial.build()
@@ -86,9 +92,21 @@ def run(program, seed, options, counts, work):
     return True
 
 
+def summary(options, counts, faulty):
+    """The counts of all runs: first those of the checks, then what nothing was said of."""
+    scored, second, refused = (counts.pop(word, 0) for word in ("scored", "other runs", "contradicted"))
+    verdicts = ", ".join(f"{counts.pop(word, 0)} {word}" for word in ("hit", "missed", "undetermined"))
+    kind = "clocked designs" if options.clocked else "designs"
+    lines = [f"{options.runs} {kind} from seed {options.seed}: {scored} dumps scored and {second} other runs that show them",
+             f"points: {verdicts}", f"altered dumps: {refused} refused"]
+    lines += [", ".join(f"{n} {word}" for word, n in counts.items())] if counts else []
+    return "\n".join([*lines, f"{faulty} designs with a fault"])
+
+
 def main():
     parser = argparse.ArgumentParser(description=__doc__, formatter_class=argparse.RawDescriptionHelpFormatter)
     parser.add_argument("program")
+    parser.add_argument("--clocked", action="store_true")
     parser.add_argument("--runs", type=int, default=100)
     parser.add_argument("--seed", type=int, default=1)
     parser.add_argument("--dumps", type=int, default=3)
@@ -101,8 +119,7 @@ def main():
     with tempfile.TemporaryDirectory() as work:
         for seed in range(options.seed, options.seed + options.runs):
             faulty += not run(os.path.abspath(options.program), seed, options, counts, work)
-    print(f"{options.runs} designs from seed {options.seed}: " + ", ".join(f"{n} {word}" for word, n in counts.items()))
-    print(f"{faulty} with a fault")
+    print(summary(options, counts, faulty))
     return 1 if faulty else 0
 
 

@@ -1,7 +1,7 @@
-"""Random bodies of combinational blocks."""
+"""Random bodies of blocks."""
 from . import vectors
 from .expressions import random_number
-from .statements import Arm, Block, Case, Empty, For, If, Set, leaves, read_names, statements_in
+from .statements import Arm, Block, Case, Empty, For, If, Set, Task, leaves, read_names, statements_in
 from .terms import Binary, Bit, Constant, Name, decimal
 
 
@@ -24,10 +24,17 @@ class Bodies:
 
     def defaults(self):
         """An assignment to each target whole."""
-        return [Set(Name(name), self.term()) for name in self.targets]
+        return [self.set(Name(name), self.term()) for name in self.targets]
+
+    def set(self, target, value):
+        return Set(target, value)
+
+    def together(self):
+        """Targets that one assignment may write."""
+        return self.targets
 
     def assignment(self):
-        return Set(self.make.target(self.targets), self.term(self.chance.choice([0, 1, 2, 3])))
+        return self.set(self.make.target(self.together()), self.term(self.chance.choice([0, 1, 2, 3])))
 
     def statement(self, depth):
         if depth <= 0 or self.chance.random() < 0.3:
@@ -89,12 +96,30 @@ class Bodies:
         index = Name(variable) if chance.random() < 0.7 else Binary("+", Name(variable), decimal(chance.randint(0, 2)))
         read = [name for name in self.make.readable if self.in_range(name, 0, highest)]
         value = Bit(chance.choice(read), Name(variable)) if read and chance.random() < 0.6 else self.term(1)
-        return Set(Bit(chance.choice(ranged), index), value)
+        return self.set(Bit(chance.choice(ranged), index), value)
 
     def in_range(self, name, low, high):
         """Whether all these indexes are of the signal: a constant select may not be out of range."""
         bounds = self.make.bounds(name)
         return bounds is not None and bounds[0] <= low and high <= bounds[1]
+
+
+class ClockedBodies(Bodies):
+    """The body of a clocked block, of whose targets those in `later` are written by nonblocking assignments."""
+
+    def __init__(self, expressions, targets, new_loop, later):
+        super().__init__(expressions, targets, new_loop)
+        self.later = set(later)
+
+    def set(self, target, value):
+        return Set(target, value, leaves(target)[0].name() in self.later)
+
+    def together(self):
+        is_later = self.chance.choice(self.targets) in self.later
+        return [name for name in self.targets if (name in self.later) == is_later]
+
+    def statement(self, depth):
+        return Task('$display("%b", 1)') if self.chance.random() < 0.02 else super().statement(depth)
 
 
 def listed_names(body, constants):

@@ -5,9 +5,13 @@ each case of a counted node: a block sets it to what its last evaluation visited
 set at settled times. Nothing of the design reads a probe. A block under `*` also reads whole what its text reads, since Icarus
 Verilog wakes such a block only by the bits that it reads, where the standard says that a name stands for the signal
 (IEEE 1364-2001, 9.7.5).
+
+A clocked block is evaluated any number of times in a step. Its probes have what all of these visit, and each prints the values with
+which it begins.
 """
 from . import vectors
-from .statements import Block, Case, Empty
+from .designs import Clocked
+from .statements import Block, Case, Empty, Task
 from .terms import Binary, Constant, cases_of
 from .texts import ModuleText
 
@@ -102,6 +106,23 @@ class CopyText(ModuleText):
     def instance(self, item, module_name):
         return super().instance(item, copy_name(self.made.below[item.name]))
 
+    def always(self, item):
+        if isinstance(item, Clocked):
+            self.clocked(item)
+        else:
+            self.comb(item)
+
+    def clocked(self, item):
+        probes = self.next_probes()
+        number, used = probes.number, probes.process.used()
+        self.put(f"always @{self.event_text(item)} begin")
+        names = "".join(f", {self.local_name(signal)}" for signal in used)
+        self.put(f'  $display("A {self.made.path} {number} %0d{" %b" * len(used)}", $time{names});')
+        self.put(f"  if (acted_{number} !== $time) probe_{number} = 0;")
+        self.put(f"  acted_{number} = $time;")
+        self.below(item.body)
+        self.put("end")
+
     def comb(self, item):
         probes = self.next_probes()
         self.put(f"always @{self.event_text(item)} begin")
@@ -117,6 +138,8 @@ class CopyText(ModuleText):
         return next(name for name, it in self.made.scope.names.items() if it is signal)
 
     def statement(self, statement):
+        if isinstance(statement, Task):
+            statement = Empty()
         if isinstance(statement, (Block, Empty)):
             super().statement(statement)
             return
@@ -174,6 +197,11 @@ class Copy:
             lines += text.write()
             self.probes += [(made.path, probes) for probes in text.probes]
         self.text = "\n".join(lines) + "\n"
+        self.numbered = {(path, probes.number): probes.process for path, probes in self.probes}
+
+    def process(self, path, number):
+        """The process of an instance with these probes."""
+        return self.numbered[path, number]
 
 
 def in_bench(path):

@@ -110,13 +110,24 @@ class Assign:
 
 
 @dataclass
-class Comb:
-    """A combinational block; `listed` has the names of its list, or is None for `*`."""
+class Always:
+    """An `always` block; `loops` has the variables of its loops."""
     body: object
+    loops: list = field(default_factory=list, kw_only=True)
+    separator: str = field(default=" or ", kw_only=True)
+
+
+@dataclass
+class Comb(Always):
+    """A combinational block; `listed` has the names of its list, or is None for `*`."""
     listed: list = None
-    loops: list = field(default_factory=list)
-    separator: str = " or "
     star: str = "*"
+
+
+@dataclass
+class Clocked(Always):
+    """A clocked block: `events` has pairs of `posedge` or `negedge` and a name."""
+    events: list
 
 
 @dataclass
@@ -138,7 +149,7 @@ class Plain:
 
 @dataclass
 class Module:
-    """A module. `ansi` says whether its head declares the ports."""
+    """A module. `ansi` says whether its head declares the ports, and `clocks` which of them are there for clocks and resets."""
     name: str
     params: list = field(default_factory=list)
     ports: list = field(default_factory=list)
@@ -146,6 +157,7 @@ class Module:
     items: list = field(default_factory=list)
     ansi: bool = True
     source: int = 1
+    clocks: list = field(default_factory=list)
 
     def everything_declared(self):
         return self.ports + self.declared + [item.declared for item in self.items if isinstance(item, Assign) and item.declared]
@@ -156,8 +168,10 @@ class Module:
         for item in self.items:
             if isinstance(item, Comb):
                 found.update(item.listed or [])
+            if isinstance(item, Clocked):
+                found.update(name for _, name in item.events)
             roots = [term for pair in item.sets for term in pair] if isinstance(item, Assign) else []
-            roots += [term for it in statements_in(item.body) for term in it.texts()] if isinstance(item, Comb) else []
+            roots += [term for it in statements_in(item.body) for term in it.texts()] if isinstance(item, Always) else []
             roots += [term for term in item.connections.values() if term] if isinstance(item, Instance) else []
             found.update(it.name() for root in roots for it in root.everything() if it.name())
         return found
@@ -168,7 +182,7 @@ class Module:
         return [it for it in self.everything_declared() if it.kind != "integer" or it.name in used]
 
     def constant_names(self):
-        loops = {name for item in self.items if isinstance(item, Comb) for name in item.loops}
+        loops = {name for item in self.items if isinstance(item, Always) for name in item.loops}
         return {param.name for param in self.params} | loops
 
     def number(self):
@@ -179,7 +193,7 @@ class Module:
                 for target, value in item.sets:
                     count.term(target)
                     count.term(value)
-            if isinstance(item, Comb):
+            if isinstance(item, Always):
                 count.statement(item.body)
 
 
@@ -246,8 +260,8 @@ class Process:
 
     @kept
     def used(self):
-        """The signals of which its execution may read the values, in some order."""
-        return tuple(self.mentions() | set(self.targets()))
+        """The signals of which its execution may read the values, in the order of their names."""
+        return tuple(sorted(self.mentions() | set(self.targets()), key=lambda signal: signal.full_name))
 
     @kept
     def answers(self):
@@ -298,8 +312,8 @@ def joined_assign(process, state):
     assign(process.target, terms.Number("", result, signed), process.target_scope, state)
 
 
-class Combinational(Process):
-    """A combinational block in one instance."""
+class BlockProcess(Process):
+    """An `always` block in one instance."""
 
     def __init__(self, item, scope, module):
         self.item, self.scope, self.module, self.body = item, scope, module, item.body
@@ -307,24 +321,37 @@ class Combinational(Process):
     def read_terms(self):
         return [(term, scope) for statement, scope in self.body.copies(self.scope) for term, _, _ in statement.evaluated(scope)]
 
+    def masks(self, queued):
+        """The bits of signals that it may write by blocking or by nonblocking assignments."""
+        found = {}
+        for statement, scope in self.body.copies(self.scope):
+            if isinstance(statement, Set) and statement.queued == queued:
+                found = united(found, possible_masks(statement.target, scope))
+        return found
+
     @kept
-    def watched(self):
-        names = read_names(self.body) if self.item.listed is None else self.item.listed
-        return self.mentions() | {self.scope.find(name) for name in set(names) - self.module.constant_names()}
+    def written_at_once(self):
+        """The signals that it writes by blocking assignments."""
+        return set(self.masks(False))
 
     @kept
     def targets(self):
-        found = {}
-        for statement, scope in self.body.copies(self.scope):
-            if isinstance(statement, Set):
-                found = united(found, possible_masks(statement.target, scope))
-        return found
+        return united(self.masks(False), self.masks(True))
 
     def execute(self, state):
         self.body.execute(self.scope, state)
 
     def walk(self, view):
         self.body.walk(self.scope, view, True)
+
+
+class Combinational(BlockProcess):
+    """A combinational block in one instance."""
+
+    @kept
+    def watched(self):
+        names = read_names(self.body) if self.item.listed is None else self.item.listed
+        return self.mentions() | {self.scope.find(name) for name in set(names) - self.module.constant_names()}
 
     @kept
     def reads_first(self):
@@ -342,6 +369,26 @@ class Combinational(Process):
         """The signals that it writes whole on each path."""
         written = self.body.flow(self.scope, {}, lambda signals, masks: None)
         return {signal for signal, masks in written.items() if masks == vectors.mask(signal.width)}
+
+
+class Edged(BlockProcess):
+    """A clocked block in one instance, which is sensitive to its edges alone."""
+
+    def watched(self):
+        return set()
+
+    @kept
+    def edges(self):
+        """The edges that wake it, by event signal in the order of its list."""
+        found = {}
+        for edge, name in self.item.events:
+            found.setdefault(self.scope.find(name), set()).add(edge)
+        return found
+
+    @kept
+    def written_later(self):
+        """The signals that it writes by nonblocking assignments."""
+        return set(self.masks(True))
 
 
 @dataclass
@@ -390,6 +437,8 @@ class Flat:
             self.processes.extend(Assignment(target, value, scope, made.module) for target, value in item.sets)
         if isinstance(item, Comb):
             self.processes.append(Combinational(item, scope, made.module))
+        if isinstance(item, Clocked):
+            self.processes.append(Edged(item, scope, made.module))
         if isinstance(item, Instance):
             self.add_instance(item, made)
 
@@ -418,6 +467,11 @@ class Flat:
             for signal in process.targets():
                 found[signal].append(process)
         return found
+
+    @kept
+    def known_wakes(self):
+        """What was found of steps, by the inputs that change."""
+        return {}
 
 
 def evaluated(term, scope):

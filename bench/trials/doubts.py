@@ -1,51 +1,96 @@
-"""What a dump decides of a design of continuous assignments and combinational blocks, and where it leaves a point open.
+"""What a dump decides of a design, and where it leaves a point open.
 
 A signal is *clear* at a time where the dump decides its settled value: it is bound; or it is a net whose bits are all driven, by
 assignments that read what is clear; or a combinational block writes it whole on each path, reads no target before it has written
-it, and reads what is clear, one of which is bound and has changed in the window. Since each expression evaluates all operands,
-only the set of these signals is to be found: their values are those of the simulation, which is a run that shows the dump.
-Blocks of edges and memories would add their rules to `Clear.grow` and their doubts to `Doubts.doubtful`.
+it, and reads what is clear, one of which is bound and has changed in the window; or a clocked block writes it that cannot wake in
+the step, and it was clear before; or one that is clean, reads what it knows, and writes it whole or finds it clear. Since each
+expression evaluates all operands, only the set of the signals of the first three kinds is to be found: their values are those of
+the simulation, which is a run that shows the dump. A clean block *knows* its trigger and what was clear before and is not early.
+Memories would add their rules to `Clear` and their doubts to `Doubts.doubtful`.
 """
 from . import vectors
-from .designs import Assignment, Combinational
-from .runs import Execution, differ_in, known_values, visited
+from .designs import Assignment, BlockProcess, Combinational, Edged
+from .runs import Execution, differ_in, known_values, partly_executed, visited
 from .terms import Binary, cases_of, holds
+from .wakes import wakes_of
+
+
+class Knowledge:
+    """What a clean block knows in a step: the values that it reads, of which those of `known` are decided."""
+
+    def __init__(self, process, wakes, clear, old, new):
+        self.process, trigger = process, wakes.trigger(process)
+        self.early = wakes.early(process)
+        self.known = (clear - self.early) | {trigger}
+        self.values = {**old.values, trigger: new.values[trigger]}
+
+    def execution(self):
+        """The execution up to the first read of what is not known, and whether there is none."""
+        return partly_executed(self.process, self.values, self.known)
 
 
 class Clear:
     """The clear signals at each listed time before the last."""
 
     def __init__(self, run, bound):
-        self.flat, self.bound = run.flat, set(bound)
+        self.run, self.flat, self.bound = run, run.flat, set(bound)
         self.writers = run.flat.writers()
-        self.changed, self.at = {}, {}
+        self.changed, self.kept, self.at, self.wakes = {}, {}, {}, {}
         blocks = [process for process in run.flat.processes if isinstance(process, Combinational)]
+        self.clocked = [process for process in run.flat.processes if isinstance(process, Edged)]
         self.whole = {process: process.writes_whole() for process in blocks}
         self.own_reads = {process: process.reads_first() for process in blocks}
         self.mentions = {process: process.mentions() for process in run.flat.processes}
         self.watched = {process: process.watched() for process in run.flat.processes}
         self.targets = {process: process.targets() for process in run.flat.processes}
-        changed = set()
-        for number, step in enumerate(run.steps):
-            if number:
-                old = run.steps[number - 1].values
-                changed = changed | {signal for signal in self.bound if old[signal] != step.values[signal]}
-            same = number and len(changed) == len(self.changed[run.steps[number - 1].time])
-            self.changed[step.time] = changed
-            self.at[step.time] = self.at[run.steps[number - 1].time] if same else self.grow(changed)
+        self.steps = {new.time: (old, new) for old, new in run.window()}
+        self.start()
+        for old, new in run.window():
+            self.step(old, new)
 
-    def grow(self, changed):
+    def start(self):
+        if self.run.steps:
+            first = self.run.steps[0].time
+            self.changed[first], self.kept[first] = set(), self.bound
+            self.at[first] = self.grow(self.bound, set())
+
+    def step(self, old, new):
+        """Finds what is clear after a step from what is clear before it."""
+        self.wakes[new.time] = wakes_of(self.flat, old.values, new.values)
+        changed = self.changed[old.time] | {it for it in self.bound if old.values[it] != new.values[it]}
+        kept = self.bound.union(*(self.register_values(process, old, new) for process in self.clocked))
+        same = changed == self.changed[old.time] and kept == self.kept[old.time]
+        self.changed[new.time], self.kept[new.time] = changed, kept
+        self.at[new.time] = self.at[old.time] if same else self.grow(kept, changed)
+
+    def knowledge(self, process, old, new):
+        """What a block knows in a step, where it is clean."""
+        wakes = self.wakes[new.time]
+        return Knowledge(process, wakes, self.at[old.time], old, new) if wakes.trigger(process) else None
+
+    def register_values(self, process, old, new):
+        """The targets of a clocked block that its rule gives a value after a step."""
+        before, targets = self.at[old.time], set(self.targets[process])
+        if not self.wakes[new.time].can_wake(process):
+            return targets & before
+        knowledge = self.knowledge(process, old, new)
+        if not knowledge:
+            return set()
+        execution, is_told = knowledge.execution()
+        return {it for it in targets if it in before or execution.writes_whole(it)} if is_told else set()
+
+    def grow(self, clear, changed):
         """The least set by the rules; of the bound signals these have changed in the window so far."""
-        clear, more = set(self.bound), True
+        clear, more = set(clear), True
         while more:
             more = {it for it in self.flat.signals if it not in clear and self.has_value(it, clear, changed)}
             clear |= more
         return clear
 
     def has_value(self, signal, clear, changed):
-        """Whether a rule gives an unbound signal its value from what is clear."""
+        """Whether a rule of nets and combinational blocks gives an unbound signal its value from what is clear."""
         writers = self.writers[signal]
-        if not writers:
+        if not writers or isinstance(writers[0], Edged):
             return False
         if isinstance(writers[0], Assignment):
             return self.is_driven(signal) and all(self.mentions[process] <= clear for process in writers)
@@ -64,7 +109,13 @@ class Clear:
 
     def forced(self, signal, time):
         """Whether the rules give a bound signal its value at a listed time, from what else is bound alone."""
+        if signal.is_input:
+            return False
         writers = self.writers[signal]
+        if time in self.steps and signal not in self.wakes[time].may_move:
+            return True
+        if writers and isinstance(writers[0], Edged):
+            return time in self.steps and signal in self.register_values(writers[0], *self.steps[time])
         if not writers or not all(self.mentions[process] <= self.bound - {signal} for process in writers):
             return False
         return self.has_value(signal, self.at[time], self.changed[time])
@@ -75,7 +126,7 @@ class View:
 
     def __init__(self, process, known, values):
         self.process, self.known, self.values = process, known, values
-        self.blocked = set(process.targets()) if isinstance(process, Combinational) else set()
+        self.blocked = process.written_at_once() if isinstance(process, BlockProcess) else set()
         self.open, self.sure = set(), set()
         process.walk(self)
 
@@ -131,8 +182,8 @@ class Doubts:
     def __init__(self, run, bound):
         self.run, self.clear = run, Clear(run, bound)
         self.bound = self.clear.bound
-        self.steps = {new.time: (old, new) for old, new in run.window()}
-        self.views, self.visits = {}, {}
+        self.steps = self.clear.steps
+        self.views, self.visits, self.clocked = {}, {}, {}
 
     def view(self, process, time):
         if (process, time) not in self.views:
@@ -149,10 +200,17 @@ class Doubts:
         """The signals that are in doubt for the point at this time."""
         if point.signal:
             return set() if self.is_clear(point.signal, time) else {point.signal}
+        if isinstance(point.process, Edged):
+            return self.clocked_doubts(point.process, time).of(point.key)
         if point.key not in self.view(point.process, time).open:
             return set()
         found = {it for it in self.run.wakes[point.process] if not self.is_clear(it, time)}
         return found | self.clear.own_reads.get(point.process, set())
+
+    def clocked_doubts(self, process, time):
+        if (process, time) not in self.clocked:
+            self.clocked[process, time] = ClockedDoubts(process, self.clear, time)
+        return self.clocked[process, time]
 
     def first_reached(self, process):
         """The points that a process reaches at a step of the window, each with the first time."""
@@ -163,11 +221,43 @@ class Doubts:
                     found.setdefault(key, time)
         return self.visits[process]
 
+    def reached_at(self, point):
+        """The first time at which the block of a point reaches it, so that each run hits it there, or None."""
+        return None if point.signal else self.first_reached(point.process).get(point.key)
+
     def reached(self, process, time):
         """The points that a process reaches whatever is not known: up to its first read of that, and those surely open."""
+        if isinstance(process, Edged):
+            return self.clocked_doubts(process, time).reached
         old, new = self.steps[time]
         masks = {signal: bits for signal, bits in self.run.wakes[process].items() if signal in self.bound}
         if not differ_in(old.values, new.values, masks):
             return set()
         known = self.clear.at[time] - set(self.clear.targets[process])
         return visited(process, new.values, known) | self.view(process, time).sure
+
+
+class ClockedDoubts:
+    """What is in doubt for a clocked block in a step, for which of its points, and which it reaches.
+
+    `open` has the points for which something may be in doubt; it is None for all.
+    """
+
+    def __init__(self, process, clear, time):
+        old, new = clear.steps[time]
+        wakers, before = clear.wakes[time].can_wake(process), clear.at[old.time]
+        knowledge = clear.knowledge(process, old, new)
+        self.signals, self.open, self.reached = set(), None, set()
+        if knowledge:
+            view = view_of(process, knowledge.known, knowledge.values)
+            execution, is_told = knowledge.execution()
+            self.open, self.reached = view.open, execution.visits | view.sure
+            if not is_told:
+                self.signals = clear.mentions[process] - knowledge.known
+        elif wakers:
+            is_told = partly_executed(process, old.values, set())[1]
+            self.signals = set(wakers) | (set() if is_told else clear.mentions[process] - before)
+
+    def of(self, key):
+        """The signals that are in doubt for a point of the block."""
+        return self.signals if self.open is None or key in self.open else set()

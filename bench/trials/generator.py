@@ -1,7 +1,8 @@
 """Random designs: modules from the lowest up, the top last."""
-from .designs import Assign, Declared, Module, NoSignals, Param, Scope, evaluated
+from .designs import Assign, Clocked, Declared, Instance, Module, NoSignals, Param, Scope, evaluated
 from .expressions import Expressions, random_number
 from .kinds import KINDS, declared_bounds, random_range
+from .registers import CLOCKED_KINDS, Registers
 from .terms import Binary, Name, decimal
 
 
@@ -126,6 +127,15 @@ class Builder:
             return Param(name, value, True, range_text="integer ", width=32, signed=True)
         return Param(name, value, True)
 
+    def add_clocks(self):
+        """One or two inputs for clocks, and at times one for a reset."""
+        for prefix in ["clk"] * self.chance.choice([1, 1, 2]) + ["rst"] * self.chance.choice([0, 1, 1]):
+            port = Declared(self.new_name(prefix), "wire", "input")
+            self.declare(port)
+            self.module.ports.append(port)
+            self.module.clocks.append(port.name)
+            self.made_readable(port)
+
     def add_ports(self, inputs, outputs):
         for direction in ["input"] * inputs + ["output"] * outputs:
             kind = self.chance.choice(["wire", "reg"]) if direction == "output" else "wire"
@@ -143,8 +153,9 @@ class Builder:
         self.ports_made = True
 
     def add_items(self, count):
-        weights = [kind.weight for kind in KINDS]
-        for kind in self.chance.choices(KINDS, weights, k=count):
+        kinds = [*KINDS, *CLOCKED_KINDS] if self.module.clocks else KINDS
+        weights = [kind.weight for kind in kinds]
+        for kind in self.chance.choices(kinds, weights, k=count):
             kind.add(self)
         for output in list(self.outputs):
             if self.chance.random() < 0.8:
@@ -166,20 +177,31 @@ def variant_constants(module, variant):
     return constants
 
 
-def random_design(chance):
-    """A list of modules, the top last."""
+def has_clocked(module):
+    """Whether the module or one below it has a clocked block."""
+    return any(isinstance(item, Clocked) or isinstance(item, Instance) and has_clocked(item.module) for item in module.items)
+
+
+def random_design(chance, clocked=False):
+    """A list of modules, the top last; `clocked` ones have clocked blocks."""
     modules = []
     for number in range(chance.choice([0, 0, 0, 1, 1, 2, 3])):
         builder = Builder(chance, f"part{number}", modules)
         variants = builder.add_params()
+        if clocked and chance.random() < 0.8:
+            builder.add_clocks()
         builder.add_ports(chance.randrange(1, 5), chance.randrange(1, 4))
         builder.add_items(chance.randrange(1, 5))
         modules = [*modules, (builder.module, variants)]
     builder = Builder(chance, chance.choice(["top", "chip", "m"]), modules)
     builder.add_params()
     builder.make.scopes = builder.make.scopes[:1]
+    if clocked:
+        builder.add_clocks()
     builder.add_ports(chance.randrange(1, 6), chance.randrange(1, 5))
     builder.add_items(chance.choice([1, 2, 3, 4, 6, 9, 12, 20]))
+    if clocked and not has_clocked(builder.module):
+        Registers().add(builder)
     design = [module for module, _ in modules] + [builder.module]
     for module in design:
         module.source = chance.choice([1, 1, 2]) if len(design) > 1 else 1

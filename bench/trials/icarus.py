@@ -36,32 +36,45 @@ def build(folder):
 
 @dataclass
 class Settled:
-    """What is settled after one step: the value of each signal, and the probes and last evaluation of each process."""
+    """What is settled after one step: the value of each signal, and the probes and last evaluation of each process.
+
+    `entries` has for each clocked block the values with which each of its evaluations in the step began.
+    """
     time: int
     values: dict
     probes: list = field(default_factory=list)
     acted: list = field(default_factory=list)
+    entries: dict = field(default_factory=dict)
 
 
-def simulate(folder, copy, number):
-    """Runs the bench with the choice of this number, and gives what is settled after each step; with None its other steps."""
-    words = ["+other."] if number is None else [f"+dump=dump{number}.vcd", f"+vars{number}."]
+def simulate(folder, copy, words):
+    """Runs the bench with these words, and gives what is settled after each step."""
     return read_settled(run(["vvp", "-n", "bench.vvp", *words], folder, 2), copy)
 
 
 @lru_cache(maxsize=4)
 def read_settled(output, copy):
     """What the output of a simulation says; that of one bench is mostly the same whatever is dumped."""
-    lines, found = iter(output.split("\n")), []
+    lines, found, entries = iter(output.split("\n")), [], {}
     for line in lines:
+        if line.startswith("A "):
+            add_entry(line.split(), copy, entries)
         if line.startswith("T "):
             settled = Settled(int(line.split()[1]), {signal: settled_digits(next(lines)) for signal in copy.flat.signals})
             for _ in copy.probes:
                 digits, time = next(lines).split()
                 settled.probes.append(digits[::-1])
                 settled.acted.append(time)
+            settled.entries = entries.pop(settled.time, {})
             found.append(settled)
     return found
+
+
+def add_entry(words, copy, entries):
+    """Adds the values with which a clocked block begins, by its time and the block."""
+    process = copy.process(words[1], int(words[2]))
+    values = {signal: settled_digits(digits) for signal, digits in zip(process.used(), words[4:])}
+    entries.setdefault(int(words[3]), {}).setdefault(process, []).append(values)
 
 
 # ---------------------------------------------------------------- dumps

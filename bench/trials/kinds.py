@@ -1,7 +1,6 @@
 """What a module is made of, by kind. Each kind adds declarations and items to a module under construction.
 
-A kind of process for blocks of edges, registers and memories belongs beside these: it declares what it writes and makes it
-readable. All that is made reads what was made before it, so a design settles; `Cycle` alone reads what comes later, by operators
+The kinds of clocked blocks are in `registers`. A kind declares what it writes and makes it readable. All that is made here reads what was made before it, so a design settles; `Cycle` alone reads what comes later, by operators
 with which it settles too.
 """
 from .bodies import Bodies, listed_names
@@ -110,11 +109,11 @@ class AnyBlock(Kind):
         """The block with `*`, or with a list of what it reads and some more names."""
         chance = builder.chance
         if not listed or chance.random() < 0.6:
-            return Comb(body, None, loops, star=chance.choice(["*", "*", "(*)"]))
+            return Comb(body, loops=loops, star=chance.choice(["*", "*", "(*)"]))
         more = [name for name in builder.make.readable + targets if chance.random() < 0.05]
         listed = list(dict.fromkeys(listed + more))
         chance.shuffle(listed)
-        return Comb(body, listed, loops, chance.choice([" or ", ", "]))
+        return Comb(body, listed, loops=loops, separator=chance.choice([" or ", ", "]))
 
 
 class CompleteBlock(AnyBlock):
@@ -201,7 +200,8 @@ class Below(Kind):
         made = []
         for port in module.ports:
             if port.direction == "input":
-                item.connections[port.name] = self.input(builder, port, variant)
+                clock = self.clock(builder) if port.name in module.clocks else None
+                item.connections[port.name] = clock or self.input(builder, port, variant)
             else:
                 item.connections[port.name] = self.output(builder, port, variant, made)
         if item.by_name:
@@ -211,6 +211,12 @@ class Below(Kind):
         builder.module.items.append(item)
         for net in made:
             builder.made_readable(net)
+
+    @staticmethod
+    def clock(builder):
+        """What a port for a clock or reset is mostly joined to, if there is one."""
+        chance = builder.chance
+        return Name(chance.choice(builder.module.clocks)) if builder.module.clocks and chance.random() < 0.85 else None
 
     def input(self, builder, port, variant):
         """What an input is joined to: a name of equal range, another expression, or nothing.

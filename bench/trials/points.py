@@ -2,7 +2,7 @@
 from dataclasses import dataclass
 from functools import lru_cache
 
-from .designs import Combinational
+from .designs import BlockProcess
 from .terms import Binary, cases_of
 
 CASES = ["0", "1", "0-", "-0", "1-", "-1", "00", "01", "10", "11"]
@@ -35,7 +35,7 @@ def line_points(process):
 
 def counted_terms(process):
     """The counted nodes of a process, each once."""
-    if isinstance(process, Combinational):
+    if isinstance(process, BlockProcess):
         roots = [term for statement, scope in process.body.copies(process.scope) for term, _, _ in statement.evaluated(scope)]
     else:
         roots = [process.value]
@@ -71,7 +71,7 @@ def points_of(flat):
     for process in flat.processes:
         if process.counted:
             found += node_points(process)
-            if isinstance(process, Combinational):
+            if isinstance(process, BlockProcess):
                 found += line_points(process)
     return sorted(found, key=lambda point: point.order)
 

@@ -1,11 +1,12 @@
 """What a simulation hits, and whether it is a run of the design by the definitions.
 
-The simulation is a run where each continuous assignment has its value at each settled time, and each combinational block
-that had to be evaluated in a step was evaluated, with what it writes on settled values. A difference here is one between Icarus
-Verilog and `vectors`, `terms` or `statements`, and not one of the program.
+The simulation is a run where each continuous assignment has its value at each settled time, each combinational block
+that had to be evaluated in a step was evaluated, with what it writes on settled values, and each clocked block left what its
+evaluations write on the values that they began with. A difference here is one between Icarus Verilog and `vectors`, `terms` or
+`statements`, and not one of the program.
 """
 from . import vectors
-from .designs import Assignment, Combinational
+from .designs import Assignment, Combinational, Edged
 from .terms import Binary, cases_of, holds
 from .vectors import digits_of
 
@@ -23,6 +24,7 @@ class Execution:
     def __init__(self, values, known=None):
         self.before, self.known = values, known
         self.values, self.written, self.visits, self.unwritten = {}, {}, set(), set()
+        self.queued = []
 
     def read(self, signal):
         if self.written.get(signal, 0) != vectors.mask(signal.width):
@@ -35,6 +37,23 @@ class Execution:
         old = self.values[signal] if signal in self.values else self.before[signal]
         self.values[signal] = vectors.place(old, low, part)
         self.written[signal] = self.written.get(signal, 0) | vectors.written_mask(signal.width, low, part.width)
+
+    def queue(self, signal, low, part):
+        self.queued.append((signal, low, part))
+
+    def writes_whole(self, signal):
+        """Whether it writes each bit of the signal, at once or later."""
+        bits = self.written.get(signal, 0)
+        for it, low, part in self.queued:
+            bits |= vectors.written_mask(it.width, low, part.width) if it is signal else 0
+        return bits == vectors.mask(signal.width)
+
+    def left(self, signal, old):
+        """What its writes in order leave of a signal that has the value `old` before them."""
+        value = self.values.get(signal, old)
+        for it, low, part in self.queued:
+            value = vectors.place(value, low, part) if it is signal else value
+        return value
 
     def reached(self, statement):
         self.visits.add(("l", statement.point))
@@ -53,17 +72,22 @@ def executed(process, values):
     return process.answers()[key]
 
 
-def visited(process, values, known):
-    """What the execution of a process visits up to its first read of what is not known."""
-    key = "visited", known_values(process, values, known)
+def partly_executed(process, values, known):
+    """The execution of a process up to its first read of what is not known, and whether there is such a read."""
+    key = "partly", known_values(process, values, known)
     if key not in process.answers():
-        execution = Execution(values, known)
+        execution, is_told = Execution(values, known), True
         try:
             process.execute(execution)
         except Outside:
-            pass
-        process.answers()[key] = execution.visits
+            is_told = False
+        process.answers()[key] = execution, is_told
     return process.answers()[key]
+
+
+def visited(process, values, known):
+    """What the execution of a process visits up to its first read of what is not known."""
+    return partly_executed(process, values, known)[0].visits
 
 
 def known_values(process, values, known):
@@ -105,7 +129,10 @@ class Run:
         return list(zip(self.steps, self.steps[1:]))
 
     def probes(self, step):
-        """The counted processes with what the simulation says of their last evaluation: its visits and its time."""
+        """The counted processes with what the simulation says of their last evaluation: its visits and its time.
+
+        Of a clocked block it is what all evaluations at that time visit.
+        """
         for (_, probes), digits, acted in zip(self.copy.probes, step.probes, step.acted):
             yield probes.process, probes.visits(digits), acted
 
@@ -113,14 +140,20 @@ class Run:
         """The times at which each point is hit, by its process or signal and its key."""
         found = {}
         for old, new in self.window():
-            for process, visits, _ in self.probes(new):
-                if differ_in(old.values, new.values, self.wakes[process]):
+            for process, visits, acted in self.probes(new):
+                if self.is_scored(process, acted, old, new):
                     for key in visits:
                         found.setdefault((process, key), []).append(new.time)
             for signal in self.flat.signals:
                 for key in toggled(old.values[signal], new.values[signal]):
                     found.setdefault((signal, key), []).append(new.time)
         return found
+
+    def is_scored(self, process, acted, old, new):
+        """Whether what a process visits in a step counts."""
+        if isinstance(process, Edged):
+            return acted == str(new.time)
+        return differ_in(old.values, new.values, self.wakes[process])
 
     def differences(self):
         """How the simulation is no run of the design, as texts."""
@@ -131,7 +164,9 @@ class Run:
                     found += assignment_differences(process, step)
         for old, new in self.window():
             for process, visits, acted in self.probes(new):
-                if differ_in(old.values, new.values, self.wakes[process]):
+                if isinstance(process, Edged):
+                    found += clocked_differences(process, visits if self.is_scored(process, acted, old, new) else set(), old, new)
+                elif self.is_scored(process, acted, old, new):
                     found += evaluation_differences(process, visits, acted, new)
         return found
 
@@ -167,5 +202,22 @@ def evaluation_differences(process, visits, acted, step):
     return found
 
 
+def clocked_differences(process, visits, old, new):
+    """How the evaluations of a clocked block in a step differ from the definitions, by the values that each began with."""
+    executions = [executed(process, values) for values in new.entries.get(process, [])]
+    name = f"the clocked block at line {first_line(process)} of {process.scope.path}"
+    by_definition = set().union(*(it.visits for it in executions))
+    found = []
+    if visits != by_definition:
+        found.append(f"at {new.time} {name} visits {sorted(visits)}, and by the definitions {sorted(by_definition)}")
+    for signal in process.targets():
+        value = old.values[signal]
+        for execution in executions:
+            value = execution.left(signal, value)
+        if value != new.values[signal]:
+            found.append(f"at {new.time} {name} leaves {signal.full_name} {digits_of(new.values[signal])} and not {digits_of(value)}")
+    return found
+
+
 def first_line(process):
-    return process.body.line if isinstance(process, Combinational) else process.value.line
+    return process.value.line if isinstance(process, Assignment) else process.body.line

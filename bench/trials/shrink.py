@@ -3,19 +3,22 @@ import copy
 from dataclasses import replace
 
 from .bodies import listed_names
-from .designs import Comb
+from .designs import Always, Clocked, Comb, Instance
 from .statements import Block, Case as CaseStatement, For, If
 from .texts import module_statements
 
 
 def smaller_cases(case):
     """Cases with one thing less: a name of the dump, a step, a move, an item, a statement, or a part of an expression."""
+    yield from fewer_modules(case)
     yield from fewer_items(case)
     yield from fewer_steps(case)
+    yield from fewer_events(case)
     yield from smaller_bodies(case)
     yield from smaller_terms(case)
     for k in range(len(case.names)):
         yield case.with_names(case.names[:k] + case.names[k + 1:], case.altered)
+    yield from fewer_declarations(case)
 
 
 def with_design(case, change):
@@ -33,6 +36,32 @@ def complete_lists(module):
         if isinstance(item, Comb) and item.listed is not None:
             read = listed_names(item.body, module.constant_names())
             item.listed = list(dict.fromkeys(item.listed + read))
+
+
+def fewer_modules(case):
+    """Without a module that has no instance."""
+    used = {item.module.name for module in case.design for item in module.items if isinstance(item, Instance)}
+    for m, module in enumerate(case.design[:-1]):
+        if module.name not in used:
+            yield with_design(case, lambda design, m=m: design.pop(m))
+
+
+def fewer_declarations(case):
+    """Without a declaration of what no item names."""
+    for m, module in enumerate(case.design):
+        used = module.used_names()
+        for k in reversed(range(len(module.declared))):
+            if module.declared[k].name not in used:
+                yield with_design(case, lambda design, m=m, k=k: design[m].declared.pop(k))
+
+
+def fewer_events(case):
+    """Without an event of a clocked block that has several."""
+    for m, module in enumerate(case.design):
+        for i, item in enumerate(module.items):
+            if isinstance(item, Clocked) and len(item.events) > 1:
+                for k in range(len(item.events)):
+                    yield with_design(case, lambda design, m=m, i=i, k=k: design[m].items[i].events.pop(k))
 
 
 def fewer_items(case):
@@ -101,7 +130,7 @@ def pull_up(module, s, k):
 
 def put_in_place(module, old, new):
     for item in module.items:
-        if isinstance(item, Comb) and item.body is old:
+        if isinstance(item, Always) and item.body is old:
             item.body = new
     for around in module_statements(module):
         for name, value in vars(around).items():

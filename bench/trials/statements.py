@@ -1,4 +1,4 @@
-"""Statements of combinational blocks: their execution, what may be reached, and what is surely written (clause 9).
+"""Statements of blocks: their execution, what may be reached, and what is surely written (clause 9).
 
 A target is a `Name`, a `Select` or a `Concat` of targets. The copies of a statement are those of the loops around it.
 """
@@ -32,15 +32,15 @@ def leaf_writes(leaf, scope, state):
     return signal, 0 if isinstance(leaf, Name) else leaf.found_offset(scope, state), terms.width_of(leaf, scope)
 
 
-def assign(target, value, scope, state):
-    """Evaluates the indexes and the value, and then writes."""
+def assign(target, value, scope, state, queued=False):
+    """Evaluates the indexes and the value, and then writes, or queues the write."""
     places = [leaf_writes(leaf, scope, state) for leaf in leaves(target)]
     result = vectors.extend(value.value(scope, state, *right_side(target, value, scope)[1:]), terms.width_of(target, scope),
                             value.own_sign(scope))
-    above = result.width
+    above, write = result.width, state.queue if queued else state.write
     for signal, low, width in places:
         above -= width
-        state.write(signal, low, vectors.select(result, above, width))
+        write(signal, low, vectors.select(result, above, width))
 
 
 def sure_masks(target, scope):
@@ -136,6 +136,13 @@ class Empty(Statement):
 
     def walk(self, scope, view, sure):
         pass
+
+
+class Task(Empty):
+    """A system task, which is no point and reads nothing."""
+
+    def __init__(self, text):
+        self.written = text
 
 
 class If(Statement):
@@ -287,11 +294,11 @@ class For(Statement):
 
 
 class Set(Statement):
-    """A blocking assignment."""
+    """A blocking assignment, or a nonblocking one where it is queued."""
     word = "assign"
 
-    def __init__(self, target, value):
-        self.target, self.value = target, value
+    def __init__(self, target, value, queued=False):
+        self.target, self.value, self.queued = target, value, queued
 
     def texts(self):
         return [self.target, self.value]
@@ -301,12 +308,12 @@ class Set(Statement):
 
     def execute(self, scope, state):
         state.reached(self)
-        assign(self.target, self.value, scope, state)
+        assign(self.target, self.value, scope, state, self.queued)
 
     def flow(self, scope, written, note):
         for term, _, _ in self.evaluated(scope):
             note(term.mentions(scope), written)
-        return united(written, sure_masks(self.target, scope))
+        return written if self.queued else united(written, sure_masks(self.target, scope))
 
     def walk(self, scope, view, sure):
         view.reached(self, sure)

@@ -4,7 +4,8 @@ from dataclasses import dataclass, field, replace
 from .copies import copy_name, in_bench
 from .vectors import digits_of, fill, of_digits
 
-LATER = {"at once": "{name} = {value};", "after the others": "#0 {name} = {value};", "at the end": "{name} <= {value};"}
+LATER = {"at once": "{name} = {value};", "after the others": "#0 {name} = {value};", "at the end": "{name} <= {value};",
+         "after the updates": "go <= ~go; @(go) {name} = {value};"}
 
 
 @dataclass
@@ -41,15 +42,18 @@ class Stimuli:
     ends_at_once: bool = False
     starts: dict = field(default_factory=dict)
 
-    def otherwise(self, chance, flat):
-        """The same moves in another order within each step, from other values of what the design does not decide."""
+    def otherwise(self, chance, flat, hows=2, share=0.7):
+        """The same moves in another order within each step, from other values of a share of what the design does not decide.
+
+        Each move is made in one of the first `hows` ways.
+        """
         steps = []
         for step in self.steps:
-            moves = [replace(move, how=chance.choice(list(LATER)[:2])) for move in step.moves]
+            moves = [replace(move, how=chance.choice(list(LATER)[:hows])) for move in step.moves]
             chance.shuffle(moves)
             steps.append(Step(step.gap, moves))
         variables = [signal for signal in flat.signals if signal.kind != "wire" and not signal.is_input]
-        starts = {it.full_name: random_digits(chance, it.width, False) for it in variables if chance.random() < 0.7}
+        starts = {it.full_name: random_digits(chance, it.width, False) for it in variables if chance.random() < share}
         return Stimuli(steps, self.dump_from, self.ends_at_once, starts)
 
 
@@ -96,16 +100,24 @@ def dump_task(choices):
     return [*lines, "end", "endtask"]
 
 
-def bench_text(copy, stimuli, other, choices):
-    """The bench, whose steps with `+other.` are those of `other`."""
+def all_steps_text(stimuli, others):
+    """The steps of the bench: with `+other0.` those of the first of `others`, and so on."""
+    lines = []
+    for number, other in enumerate(others):
+        lines += [f'  if ($test$plusargs("other{number}.")) begin', *steps_text(other), "  end else"]
+    return [*lines, "  begin", *steps_text(stimuli), "  end"]
+
+
+def bench_text(copy, stimuli, others, choices):
+    """The bench, whose steps are those of one of the others where a word of the simulation says so."""
     inputs = [signal for signal in copy.flat.signals if signal.is_input]
     ports = copy.flat.top.module.ports
     outputs = [copy.flat.top.scope.find(port.name) for port in ports if port.direction == "output"]
-    lines = ["module tb;", "reg tick;", "reg [8*64:1] name;"]
+    lines = ["module tb;", "reg tick, go;", "reg [8*64:1] name;"]
     lines += [f"reg {input_range(it)}{it.name};" for it in inputs] + [f"wire {input_range(it)}{it.name};" for it in outputs]
     lines.append(f"{copy_name(copy.flat.top)} dut({', '.join(f'.{it.name}({it.name})' for it in inputs + outputs)});")
-    lines += [*show_task(copy), *dump_task(choices), "initial begin", "  tick = 0;", '  if ($test$plusargs("other.")) begin']
-    lines += [*steps_text(other), "  end else begin", *steps_text(stimuli), "  end", "  $finish;", "end", "endmodule"]
+    lines += [*show_task(copy), *dump_task(choices), "initial begin", "  tick = 0;", "  go = 0;"]
+    lines += [*all_steps_text(stimuli, others), "  $finish;", "end", "endmodule"]
     return "\n".join(lines) + "\n"
 
 
@@ -133,7 +145,7 @@ def random_move(chance, signal, held):
     else:
         new = random_digits(chance, signal.width, chance.random() < 0.12)
     held[signal] = new
-    how = chance.choices(list(LATER), [8, 2, 1])[0]
+    how = chance.choices(list(LATER)[:3], [8, 2, 1])[0]
     if signal.width < 2 or chance.random() < 0.8:
         return [Move(signal, new, how)]
     cut = chance.randrange(1, signal.width)

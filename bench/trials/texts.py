@@ -1,6 +1,6 @@
 """The text of a design, which also says on which line each statement and each term begins."""
-from .designs import Assign, Comb, Instance
-from .statements import Block, Case, Empty, For, If, Set, statements_in
+from .designs import Always, Assign, Clocked, Instance
+from .statements import Block, Case, Empty, For, If, Set, Task, statements_in
 
 
 def range_text(declared):
@@ -77,14 +77,14 @@ class ModuleText:
                 self.put(declaration(declared, declared.kind) + ";")
         for declared in self.module.declared:
             self.put(declaration(declared, declared.kind) + ";")
-        for name in dict.fromkeys(name for item in self.module.items if isinstance(item, Comb) for name in item.loops):
+        for name in dict.fromkeys(name for item in self.module.items if isinstance(item, Always) for name in item.loops):
             self.put(f"integer {name};")
 
     def item(self, item):
         if isinstance(item, Assign):
             self.assign(item)
-        elif isinstance(item, Comb):
-            self.comb(item)
+        elif isinstance(item, Always):
+            self.always(item)
         elif isinstance(item, Instance):
             self.put(self.instance(item, item.module.name))
         else:
@@ -100,11 +100,13 @@ class ModuleText:
 
     @staticmethod
     def event_text(item):
+        if isinstance(item, Clocked):
+            return "(" + item.separator.join(f"{edge} {name}" for edge, name in item.events) + ")"
         if item.listed is None:
             return item.star
         return "(" + item.separator.join(item.listed) + ")"
 
-    def comb(self, item):
+    def always(self, item):
         self.lead = f"always @{self.event_text(item)} "
         self.statement(item.body)
 
@@ -121,7 +123,8 @@ class ModuleText:
 
     def statement(self, statement):
         self.mark_statement(statement)
-        write = {Block: self.block, If: self.branch, Case: self.case, For: self.loop, Set: self.set, Empty: self.empty}
+        write = {Block: self.block, If: self.branch, Case: self.case, For: self.loop, Set: self.set, Empty: self.empty,
+                 Task: self.task}
         write[type(statement)](statement)
 
     def below(self, statement):
@@ -138,9 +141,12 @@ class ModuleText:
     def empty(self, statement):
         self.put(";")
 
+    def task(self, statement):
+        self.put(statement.written + ";")
+
     def set(self, statement):
         self.mark(statement.target, statement.value)
-        self.put(f"{statement.target.text()} = {statement.value.text()};")
+        self.put(f"{statement.target.text()} {'<=' if statement.queued else '='} {statement.value.text()};")
 
     def branch(self, statement):
         self.mark(statement.test)
@@ -192,7 +198,7 @@ def shift_lines(module, by):
 
 def module_statements(module):
     """All statements of a module."""
-    return [statement for item in module.items if isinstance(item, Comb) for statement in statements_in(item.body)]
+    return [statement for item in module.items if isinstance(item, Always) for statement in statements_in(item.body)]
 
 
 def module_terms(module):

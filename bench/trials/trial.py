@@ -4,7 +4,8 @@ import random
 import subprocess
 from dataclasses import dataclass, replace
 
-from . import icarus
+from . import icarus, laws
+from .clocks import clocked_stimuli
 from .copies import Copy, in_bench
 from .designs import Flat
 from .doubts import Doubts
@@ -31,8 +32,8 @@ class Fault:
 class Case:
     """A design, its bench, and the names that the dump has: those of signals and of ports that are joined to them.
 
-    `seed` gives another run, and the noise of the dump with `noisy`. With `altered`, two numbers, a bit of the dump is not
-    that of the simulation; the numbers choose which.
+    `seed` gives other runs, and the noise of the dump with `noisy`. With `altered`, two numbers, a bit of the dump is not
+    that of the simulation; the numbers choose which. A `clocked` design has three other runs.
     """
     design: list
     stimuli: object
@@ -40,6 +41,14 @@ class Case:
     names: list
     noisy: bool = False
     altered: tuple = None
+    clocked: bool = False
+
+    def others(self, flat):
+        """The steps of the other runs: the inputs move otherwise, and variables begin otherwise, or one of both."""
+        chance = random.Random(self.seed)
+        if not self.clocked:
+            return [self.stimuli.otherwise(chance, flat)]
+        return [self.stimuli.otherwise(chance, flat, 4, share) for share in (0.0, 0.3, 0.7)]
 
     def with_names(self, names, altered=None):
         return replace(self, names=names, altered=altered)
@@ -87,7 +96,7 @@ class Trial:
             module.number()
         self.sources = {f"part{number}.v": text for number, text in source_texts(case.design).items()}
         self.flat = Flat(case.design[-1])
-        self.copy, self.other = Copy(self.flat), None
+        self.copy, self.others = Copy(self.flat), None
 
     def path(self, name):
         return os.path.join(self.folder, name)
@@ -97,8 +106,7 @@ class Trial:
         os.makedirs(self.folder, exist_ok=True)
         known = set(all_names(self.flat))
         choices = [dumped(names, known) for names in self.choices]
-        other = self.case.stimuli.otherwise(random.Random(self.case.seed), self.flat)
-        bench = self.copy.text + bench_text(self.copy, self.case.stimuli, other, choices)
+        bench = self.copy.text + bench_text(self.copy, self.case.stimuli, self.case.others(self.flat), choices)
         for name, text in {**self.sources, "bench.v": bench}.items():
             with open(self.path(name), "w", encoding="ascii") as it:
                 it.write(text)
@@ -112,7 +120,7 @@ class Trial:
     def outcome(self, number, altered=None):
         """Simulates the bench with the choice of this number, and scores the dump."""
         try:
-            settled = icarus.simulate(self.folder, self.copy, number)
+            settled = icarus.simulate(self.folder, self.copy, [f"+dump=dump{number}.vcd", f"+vars{number}."])
         except icarus.SimulationFault as fault:
             return Outcome("not simulated", detail=str(fault))
         if self.case.noisy:
@@ -123,19 +131,30 @@ class Trial:
         if differences:
             return Outcome("simulated otherwise", detail=differences[0])
         doubts = Doubts(run, icarus.bind(self.flat, dump))
+        runs = [run] if altered else [run, *self.other_runs(run, doubts.bound)]
+        differences = [text for it in runs for text in laws.run_differences(it, doubts.clear)]
+        if differences:
+            return Outcome("simulated against a law", detail=differences[0])
         if altered:
             return self.altered_outcome(run, doubts, altered)
-        return self.compared(self.score(f"dump{number}.vcd"), [run, *self.other_runs(run, doubts.bound)], doubts)
+        differences = laws.account_differences(runs, doubts)
+        if differences:
+            return Outcome("scored", Fault("account", "\n".join(differences[:5])))
+        return self.compared(self.score(f"dump{number}.vcd"), runs, doubts)
 
     def other_runs(self, run, bound):
-        """The other run, if it shows the same dump."""
-        if self.other is None:
-            try:
-                self.other = icarus.simulate(self.folder, self.copy, None)
-            except icarus.SimulationFault:
-                self.other = []
-        other = Run(self.flat, self.copy, self.other, run.dump)
-        return [other] if run.shows_as(other, bound) and not other.differences() else []
+        """The other runs that show the same dump."""
+        if self.others is None:
+            self.others = [self.other_settled(number) for number in range(3 if self.case.clocked else 1)]
+        runs = [Run(self.flat, self.copy, settled, run.dump) for settled in self.others]
+        return [it for it in runs if run.shows_as(it, bound) and not it.differences()]
+
+    def other_settled(self, number):
+        """What is settled in the other run of this number, or nothing where it does not end."""
+        try:
+            return icarus.simulate(self.folder, self.copy, [f"+other{number}."])
+        except icarus.SimulationFault:
+            return []
 
     def score(self, dump):
         """Runs `covered score`: the status and what it says, or None where it does not end."""
@@ -172,7 +191,7 @@ class Trial:
         self.write_altered(run, doubts, signal, number, altered[1])
         done = self.score("altered.vcd")
         if done is None:
-            return Outcome("contradicted", Fault("time", "covered does not end"))
+            return Outcome("altered and not refused", Fault("time", "covered does not end"))
         status, said = done
         if (status, said) == (2, NOT_YET):
             return Outcome("not yet")
@@ -180,7 +199,7 @@ class Trial:
         if status == 4 and said.startswith("covered: contradiction: ") and f" at {time}: " in said:
             return Outcome("contradicted")
         text = f"{signal.full_name} is altered at {time}; status {status}: {said}"
-        return Outcome("contradicted", Fault(f"altered {status}", text))
+        return Outcome("altered and not refused", Fault(f"altered {status}", text))
 
     def write_altered(self, run, doubts, signal, number, bit):
         """Writes the dump of a simulation with a bit of a signal changed at one time."""
@@ -201,12 +220,13 @@ def fault_word(text):
     return "?"
 
 
-def random_case(seed, dumps):
+def random_case(seed, dumps, clocked=False):
     """A random design with its bench, so many choices of names to dump, and the numbers that choose what is altered."""
     chance = random.Random(seed)
-    design = random_design(chance)
+    design = random_design(chance, clocked)
     for module in design:
         module.number()
     flat = Flat(design[-1])
-    case = Case(design, random_stimuli(chance, flat), seed, all_names(flat), chance.random() < 0.4)
+    stimuli = clocked_stimuli(chance, flat) if clocked else random_stimuli(chance, flat)
+    case = Case(design, stimuli, seed, all_names(flat), chance.random() < 0.4, clocked=clocked)
     return case, [random_names(chance, flat) for _ in range(dumps)], (chance.randrange(10_000), chance.randrange(128))

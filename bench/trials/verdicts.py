@@ -54,14 +54,8 @@ class Comparison:
                 return f"run {number} does not hit it"
             if verdict == "missed" and found:
                 return f"run {number} hits it at {found}"
-        reached = self.reached_at(point) if verdict == "missed" else None
+        reached = self.doubts.reached_at(point) if verdict == "missed" else None
         return f"its block reaches it at {reached}" if reached is not None else None
-
-    def reached_at(self, point):
-        """A time at which the block of the point reaches it, so that each run hits it."""
-        if point.signal:
-            return None
-        return self.doubts.first_reached(point.process).get(point.key)
 
     def undetermined_fault(self, point, verdict, times):
         match = UNDETERMINED.match(verdict)
@@ -76,5 +70,5 @@ class Comparison:
         sure = [time for found in times for time in found if not self.doubts.doubtful(point, time)]
         if sure:
             return f"nothing is in doubt at {sure}, where a run hits it"
-        reached = self.reached_at(point)
+        reached = self.doubts.reached_at(point)
         return f"its block reaches it at {reached}" if reached is not None else None

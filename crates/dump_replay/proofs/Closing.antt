@@ -25,6 +25,7 @@ use Rattle.replay_core.specs.declared.fault.ReplayFault.{ReplayFault}
 use Rattle.replay_core.specs.declared.fault.ReplayFault.TheVariants as fault
 use Rattle.replay_core.specs.declared.replay.Replay.{Replay}
 use Rattle.signal_binding.specs.Binding.{codes_of}
+use Rattle.replay_core.specs.wake_laws.Laws.{habit_of}
 use Rattle.shown_dumps.specs.Laws.{dump_with}
 use Rattle.shown_dumps.specs.Said.{EndsIn, times_in}
 use Rattle.shown_dumps.specs.Shown.{code_at}
@@ -122,27 +123,27 @@ module _ (x : DumpReplay) (y : Replay) (time : ℕ) where
 
 -- what a contradiction of the dump of the entries says of them
 refuted_entries : (x : DumpReplay) (design : Design) (points : Points) (vars : List Var) (instance : List ℕ) (entries : List Entry) (time next s end : ℕ) (dumped : Vector) (computed : Partly) → last_time None entries ≡ Some time
-    → IsReplayOf x design points vars instance → s < length (made_of x.replay).design.signals → (end ≡ time) × IsRefuted (made_of x.replay).design free (dump_with (codes_of design vars instance) entries next []) time s dumped computed.bits
+    → IsReplayOf x design points vars instance → s < length (made_of x.replay).design.signals → (end ≡ time) × IsRefuted (made_of x.replay).design (habit_of (made_of x.replay).habit) (dump_with (codes_of design vars instance) entries next []) time s dumped computed.bits
     → IsContradicted design vars instance (entries ++ Time next ∷ []) s end dumped computed.bits
 refuted_entries x design points vars instance entries time next s end dumped computed is_last of listed (same, is) =
     subst (λ t. IsContradicted design vars instance (entries ++ Time next ∷ []) s t dumped computed.bits) (sym same) (record {
       bindable = of.bindable;
       ends = record { front = entries; next = next; are = refl; last = is_last };
       listed = subst (λ d. s < length d.signals) of.design_is listed;
-      refuted = subst (λ d. IsRefuted d free (dump_with (codes_of design vars instance) entries next []) time s dumped computed.bits) of.design_is is;
+      refuted = subst (λ d. IsRefuted d free (dump_with (codes_of design vars instance) entries next []) time s dumped computed.bits) of.design_is (subst (λ h. IsRefuted (made_of x.replay).design (habit_of h) (dump_with (codes_of design vars instance) entries next []) time s dumped computed.bits) of.habit_is is);
     })
 
 module _ {T : Type 0} (x : DumpReplay) (result : Result T ReplayFault) (time : ℕ) where
   -- the first step was refused
   pub first_refused : IsNew x.replay → ((s : ℕ) → IsNew x.replay → result ≡ Err (fault.NoBaseline s) → IsFirstMissing (given_of x.replay) (made_of x.replay).codes s)
       → ((s t : ℕ) (dumped : Vector) (computed : Partly) → IsNew x.replay → result ≡ Err (fault.Contradiction s t dumped computed) → HaveValues (made_of x.replay).codes (given_of x.replay))
-      → IfErr result (λ f. (dump : BoundDump) → IsNew x.replay → IsDumpFor (made_of x.replay) dump → IsFirst dump time → IsShown dump time → AreGivenAt x.replay dump time → IsContradiction (made_of x.replay).design free dump time f)
+      → IfErr result (λ f. (dump : BoundDump) → IsNew x.replay → IsDumpFor (made_of x.replay) dump → IsFirst dump time → IsShown dump time → AreGivenAt x.replay dump time → IsContradiction (made_of x.replay).design (habit_of (made_of x.replay).habit) dump time f)
       → IfErr result (λ f. signal_of f < length (made_of x.replay).design.signals)
       → IfErr result (λ g. (design : Design) (points : Points) (vars : List Var) (instance : List ℕ) (entries : List Entry) (next : ℕ) → AreEntries vars entries → Rises None (entries ++ Time next ∷ []) → last_time None entries ≡ Some time
       → HasFollowed x design points vars instance entries → IsReplayFault design vars instance (entries ++ Time next ∷ []) g)
   first_refused new missing valued contradiction named = go result refl contradiction named
     where
-      go : (r : Result T ReplayFault) → result ≡ r → IfErr r (λ f. (dump : BoundDump) → IsNew x.replay → IsDumpFor (made_of x.replay) dump → IsFirst dump time → IsShown dump time → AreGivenAt x.replay dump time → IsContradiction (made_of x.replay).design free dump time f)
+      go : (r : Result T ReplayFault) → result ≡ r → IfErr r (λ f. (dump : BoundDump) → IsNew x.replay → IsDumpFor (made_of x.replay) dump → IsFirst dump time → IsShown dump time → AreGivenAt x.replay dump time → IsContradiction (made_of x.replay).design (habit_of (made_of x.replay).habit) dump time f)
           → IfErr r (λ f. signal_of f < length (made_of x.replay).design.signals)
           → IfErr r (λ g. (design : Design) (points : Points) (vars : List Var) (instance : List ℕ) (entries : List Entry) (next : ℕ) → AreEntries vars entries → Rises None (entries ++ Time next ∷ []) → last_time None entries ≡ Some time
           → HasFollowed x design points vars instance entries → IsReplayFault design vars instance (entries ++ Time next ∷ []) g)
@@ -157,13 +158,13 @@ module _ {T : Type 0} (x : DumpReplay) (result : Result T ReplayFault) (time : �
 
   -- a later step was refused
   pub later_refused : (IsNew x.replay → ⊥)
-      → IfErr result (λ f. (dump : BoundDump) (t : ℕ) → Follows x.replay dump t → IsNextStep dump t time → AreGivenAt x.replay dump time → IsContradiction (made_of x.replay).design free dump time f)
+      → IfErr result (λ f. (dump : BoundDump) (t : ℕ) → Follows x.replay dump t → IsNextStep dump t time → AreGivenAt x.replay dump time → IsContradiction (made_of x.replay).design (habit_of (made_of x.replay).habit) dump time f)
       → IfErr result (λ f. signal_of f < length (made_of x.replay).design.signals)
       → IfErr result (λ g. (design : Design) (points : Points) (vars : List Var) (instance : List ℕ) (entries : List Entry) (next : ℕ) → AreEntries vars entries → Rises None (entries ++ Time next ∷ []) → last_time None entries ≡ Some time
       → HasFollowed x design points vars instance entries → IsReplayFault design vars instance (entries ++ Time next ∷ []) g)
   later_refused begun contradiction named = go result contradiction named
     where
-      go : (r : Result T ReplayFault) → IfErr r (λ f. (dump : BoundDump) (t : ℕ) → Follows x.replay dump t → IsNextStep dump t time → AreGivenAt x.replay dump time → IsContradiction (made_of x.replay).design free dump time f)
+      go : (r : Result T ReplayFault) → IfErr r (λ f. (dump : BoundDump) (t : ℕ) → Follows x.replay dump t → IsNextStep dump t time → AreGivenAt x.replay dump time → IsContradiction (made_of x.replay).design (habit_of (made_of x.replay).habit) dump time f)
           → IfErr r (λ f. signal_of f < length (made_of x.replay).design.signals)
           → IfErr r (λ g. (design : Design) (points : Points) (vars : List Var) (instance : List ℕ) (entries : List Entry) (next : ℕ) → AreEntries vars entries → Rises None (entries ++ Time next ∷ []) → last_time None entries ≡ Some time
           → HasFollowed x design points vars instance entries → IsReplayFault design vars instance (entries ++ Time next ∷ []) g)
@@ -190,10 +191,6 @@ ok_both (Err fault) A B C step a b = tt
 
 pub has_begun : (x : Replay) (started : Bool) → IsFalse started ↔ IsNew x → started ≡ true → IsNew x → ⊥
 has_begun x started is true_is new = false≢true (sym (is.1 new) ∙ true_is)
-
-pub map_fault : {T : Type 0} (r : Result T ReplayFault) (A B : ReplayFault → Type 0) → ((fault : ReplayFault) → A fault → B fault) → IfErr r A → IfErr r B
-map_fault (Ok value) A B step a = tt
-map_fault (Err fault) A B step a = step fault a
 
 pub is_new : (x : Replay) (started : Bool) → IsFalse started ↔ IsNew x → started ≡ false → IsNew x
 is_new x started is false_is = is.0 false_is

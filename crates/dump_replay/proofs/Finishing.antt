@@ -7,12 +7,12 @@ use Rattle.design_model.specs.Design.{In}
 use Rattle.design_model.specs.Shows.{BoundDump, IsShownOf, IsWindowOf}
 use Rattle.design_model.specs.View.{design_view}
 use Rattle.design_model.specs.declared.design.Design.{Design}
-use Rattle.early_sets.specs.declared.habit.Habit.TheVariants.{Free}
 use Rattle.event_machine.specs.Habit.{Free as free}
 use Rattle.replay_core.specs.mark_laws.Marked.{AreVerdicts}
 use Rattle.replay_core.specs.Followed.{AreFinal}
 use Rattle.replay_core.specs.Parts.{IsNew, made_of}
 use Rattle.replay_core.specs.replay_follows.Laws.{IsLastStep}
+use Rattle.replay_core.specs.wake_laws.Laws.{habit_of}
 use Rattle.score_tables.proofs.Tables.{unmarked}
 use Rattle.signal_binding.specs.Binding.{codes_of}
 use Rattle.vcd_reader.specs.Dump.{steps_of}
@@ -27,7 +27,7 @@ use Rattle.dump_replay.specs.declared.replay.DumpReplay.{DumpReplay}
 use Rattle.dump_replay.proofs.Ends.{last_step, never_shown, no_window}
 use Rattle.dump_replay.proofs.More.{last_cases, no_times}
 
-module _ (x : DumpReplay) (marks : Marks) (of : AreMarksOf (made_of x.replay).points marks) (followed : (dump : BoundDump) (t : ℕ) → Follows x.replay dump t → IsLastStep dump t → AreFinal (made_of x.replay) Free dump marks)
+module _ (x : DumpReplay) (marks : Marks) (of : AreMarksOf (made_of x.replay).points marks) (followed : (dump : BoundDump) (t : ℕ) → Follows x.replay dump t → IsLastStep dump t → AreFinal (made_of x.replay) dump marks)
     (silent : IsNew x.replay → AreVerdicts (made_of x.replay).design (made_of x.replay).points [] marks.verdicts) (design : Design) (points : Points) (vars : List Var) (instance : List ℕ) (entries : List Entry) (rises : Rises None entries)
     (f : HasFollowed x design points vars instance entries) where
   abbrev the_dump : BoundDump
@@ -54,9 +54,10 @@ module _ (x : DumpReplay) (marks : Marks) (of : AreMarksOf (made_of x.replay).po
       let follows : Follows x.replay the_dump before = subst (λ es. Follows x.replay (dump_of (codes_of design vars instance) (steps_of es)) before) all (f.taken.follows before last ends [] (subst (Rises None) (sym all) rises)) in
       let is_last : IsLastStep the_dump before =
       λ u after window listed. last_step (times_in entries) before last (times_rise entries rises) ends u after (subst (λ ts. IsWindowOf ts u) (times_are entries) window) (subst (In u) (times_are entries) listed) in
-      let final : AreFinal (made_of x.replay) Free the_dump marks = followed the_dump before follows is_last in
-      let there : AreFinalMarks (made_of x.replay).design free the_dump (made_of x.replay).points marks =
+      let final : AreFinal (made_of x.replay) the_dump marks = followed the_dump before follows is_last in
+      let here : AreFinalMarks (made_of x.replay).design (habit_of (made_of x.replay).habit) the_dump (made_of x.replay).points marks =
       record { of = final.points; scored = record { replay = final.replay; verdicts = final.verdicts; sound = final.sound; reasoned = final.reasoned }; forced = final.forced } in
+      let there = subst (λ h. AreFinalMarks (made_of x.replay).design (habit_of h) the_dump (made_of x.replay).points marks) f.of.habit_is here in
       subst (λ d. AreFinalMarks d free the_dump points marks) f.of.design_is (subst (λ ps. AreFinalMarks (made_of x.replay).design free the_dump ps marks) f.of.points_are there)
 
   pub final_marks : AreFinalMarks (design_view design) free the_dump points marks

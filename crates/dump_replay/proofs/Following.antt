@@ -44,6 +44,7 @@ of_again x y design points vars instance ready made long wanted of = record {
   ready = ready;
   bindable = of.bindable;
   design_is = ap (λ (m : Made). m.design) made ∙ of.design_is;
+  habit_is = ap (λ (m : Made). m.habit) made ∙ of.habit_is;
   points_are = ap (λ (m : Made). m.points) made ∙ of.points_are;
   codes = ap (λ (m : Made). m.codes) made ∙ of.codes;
   within = λ code coded. omega (arith, of.within code coded, long);

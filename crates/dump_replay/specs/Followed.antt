@@ -24,11 +24,12 @@ use Rattle.dump_replay.specs.Taken.{HasTaken}
 use Rattle.bound_codes.specs.Codes.{AreWanted, IsCoded}
 use Rattle.dump_replay.specs.declared.replay.DumpReplay.{DumpReplay}
 
--- the replay is one of this design and its points, of which the instance is the top in a dump with these variables
+-- the replay is one of this design, whose inputs move freely, and of its points, of which the instance is the top in a dump with these variables
 pub record IsReplayOf (x : DumpReplay) (design : Design) (points : Points) (vars : List Var) (instance : List ℕ) : Type 0 where
   pub ready : IsReady x.replay
   pub bindable : IsBindable design vars instance
   pub design_is : (made_of x.replay).design ≡ design_view design
+  pub habit_is : (made_of x.replay).habit ≡ Free
   pub points_are : (made_of x.replay).points ≡ points
   pub codes : (made_of x.replay).codes ≡ codes_of design vars instance
   pub within : (code : ℕ) → IsCoded (codes_of design vars instance) code → code < length (given_of x.replay)
@@ -36,7 +37,7 @@ pub record IsReplayOf (x : DumpReplay) (design : Design) (points : Points) (vars
 
 -- the replay has closed the steps of a dump up to a time
 abbrev pub Follows : Replay → BoundDump → ℕ → Type 0
-Follows x dump t = HasFollowedDump x Free dump t
+Follows x dump t = HasFollowedDump x dump t
 
 -- it was given these entries, and has followed each dump that begins with them up to the last time but one
 pub record HasFollowed (x : DumpReplay) (design : Design) (points : Points) (vars : List Var) (instance : List ℕ) (entries : List Entry) : Type 0 where

@@ -24,6 +24,7 @@ use bound_codes::{coded_flags, signal_codes};
 use cover_marks::Marks;
 use cover_points::{MOST_POINTS, Points};
 use design_model::Design;
+use early_sets::Habit;
 use four_state::Four;
 use replay_core::{Replay, ReplayFault};
 use signal_binding::{BindFault, bind};
@@ -67,7 +68,7 @@ impl<'a> DumpReplay<'a> {
         let binding = bind(alloc, design, vars, instance)?;
         let codes = signal_codes(alloc, &binding, design.signals.len() as u32)?;
         let wanted = coded_flags(alloc, codes.as_slice())?;
-        let replay = Replay::new(alloc, design, points, codes)?;
+        let replay = Replay::new(alloc, Habit::Free, design, points, codes)?;
         Ok(DumpReplay {
             replay,
             wanted,

@@ -19,8 +19,8 @@ use design_model::Design;
 use dump_replay::{DumpReplay, score_table};
 use std::alloc::Global;
 
-/// The database of a design of continuous assignments and combinational blocks, which has these points and was read from
-/// these sources, under the dump in a file, in which the design is the instance.
+/// The database of a design without memories, which has these points and was read from these sources, under the dump in a
+/// file, in which the design is the instance.
 ///
 /// The file is opened once and read in pieces of 65,536 bytes. All room is made before the body is read, apart from
 /// the database's own. A fault of the text is reported as soon as it is read: one of the dump at its byte, and one of the

@@ -67,9 +67,9 @@ module _ (d : Design) (codes : List (Option ℕ)) (values : List (Option Vector)
     | inr other ↦ ap is_none other ∙ have
   ]
 
-pub given_ready : (d : Design) (points : Points) (x : ReplayTables) (r : ReplayRoom) (s : ReplayState) (phase : Phase) (code : ℕ) (v : Vector) (values : Values) → FitsReplay d points x r s phase → values.last ≡ slice_set s.values.last code (Some v) → v.signed ≡ false
+pub given_ready : (d : Design) (points : Points) (x : ReplayTables) (r : ReplayRoom) (s : ReplayState) (phase : Phase) (code : ℕ) (v : Vector) (values : Values) → FitsReplay d points x r s phase → values.last ≡ slice_set s.values.last code (Some v) → values.closed ≡ s.values.closed → v.signed ≡ false
     → ((y : ℕ) → slice_index_or x.step.codes.items y None ≡ Some code → length v.bits ≡ (signal_at d y).width) → FitsReplay d points x r (record s { values = values }) phase
-given_ready d points x r s phase code v values fits is none width =
+given_ready d points x r s phase code v values fits is closed none width =
     let codes = x.step.codes.items in
     let last = s.values.last in
     let state = fits.parts.state in
@@ -87,11 +87,14 @@ given_ready d points x r s phase code v values fits is none width =
           marks = state.marks;
           rows = state.rows ∙ sym (ap length is ∙ length-set last code (Some v));
           wide = subst (AreWideValues d codes) (sym is) (wide_after d codes last code v width state.wide);
+          wide_closed = subst (AreWideValues d codes) (sym closed) state.wide_closed;
           unsigned = subst AreUnsigned (sym is) (unsigned_after d codes last code v none state.unsigned);
         };
       };
       none = fits.none;
+      none_clocked = fits.none_clocked;
       untouched = λ new. let u = fits.untouched new in record { knows = u.knows; acted = u.acted; marks = u.marks; seen = u.seen };
       begun = λ started. subst (HaveValues codes) (sym is) (λ y. lacks_after d codes last code v (slice_index_or codes y None) (fits.begun started y));
+      closed = λ started. subst (HaveValues codes) (sym closed) (fits.closed started);
       refused = fits.refused;
     }

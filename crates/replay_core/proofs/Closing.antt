@@ -1,7 +1,7 @@
 -- A closing step of each dump that was followed up to it.
-use Rattle.std.proofs.Common.{◌≡◌, ◌↔◌, ◌∙◌, ℕ, suc, ◌+◌, ◌<◌, Bool, true, false, ◌++◌, List, [], ◌∷◌, flat_map, length, Option, Some, None, refl, sym, ap, subst}
+use Rattle.std.proofs.Common.{◌≡◌, ◌↔◌, ◌∙◌, ℕ, suc, ◌+◌, ◌<◌, ◌||◌, Bool, true, false, ◌++◌, List, flat_map, length, Option, Some, None, refl, sym, ap, subst}
 use Rattle.std.specs.Prelude.{filter, slice_index_or}
-use Rattle.std.specs.List.{All}
+use Rattle.std.proofs.lemmas.Bool.{or_left}
 use Rattle.event_machine.specs.Cell.{Cell}
 use Rattle.four_state.specs.Vector.{Vector}
 use Rattle.body_replay.specs.Runs.{runs_of}
@@ -10,12 +10,11 @@ use Rattle.code_values.specs.Values.{value_of}
 use Rattle.cover_marks.specs.Marks.{AreMarksOf}
 use Rattle.cover_marks.specs.declared.marks.Marks.{Marks}
 use Rattle.design_model.specs.Design.{AreDistinct, In, IsClocked, process_at, signal_bits}
-use Rattle.design_model.specs.Lawful.{IsLawfulDesign}
+use Rattle.design_model.specs.Machine.{is_level}
 use Rattle.design_model.specs.Shows.{BoundDump}
 use Rattle.dump_check.specs.Checks.{AgreesAt, IsFirstDifference, last_of_each}
 use Rattle.dump_check.specs.declared.order.Difference.{Difference}
 use Rattle.early_sets.specs.WakeState.{WakeState}
-use Rattle.early_sets.specs.declared.habit.Habit.{Habit}
 use Rattle.index_sets.specs.Rows.{row_at}
 use Rattle.first_step.specs.mark_laws.Marked.{AreVerdicts}
 use Rattle.process_order.proofs.Distinct.{contains_in, filter_in, in_filter}
@@ -28,21 +27,20 @@ use Rattle.replay_model.proofs.Bits.{any_in}
 use Rattle.replay_model.specs.Sets.{AreFirstSets}
 use Rattle.replay_model.specs.Step.{Closing, Replay, all_run, contradicts, is_touched}
 use Rattle.first_step.specs.replay_sets.SetsOf.{sets_of}
+use Rattle.step_start.proofs.step_parts.clocked_laws.Moved.{moves_are}
 use Rattle.first_step.proofs.replay_steps.Settling.{targets_move}
 use Rattle.signal_marks.specs.Seen.{AreSeen}
-use Rattle.first_step.specs.step_changes.Changes.{AreChangedSignals, none_early}
+use Rattle.first_step.specs.step_changes.Changes.{AreChangedSignals}
 use Rattle.first_step.specs.step_check.Checks.{AreCheckRows}
 use Rattle.first_step.specs.step_check.Laws.{HasRun}
 use Rattle.first_step.proofs.step_check.Checked.{agree_law, differ_law}
-use Rattle.first_step.proofs.step_check.Moved.{moves_are}
 use Rattle.step_marks.specs.Marked.{IsOver, IsSeenAfter}
 use Rattle.step_marks.proofs.Closed as marking
-use Rattle.step_start.specs.step_parts.AtStep.{AtStep}
+use Rattle.step_start.specs.step_parts.AtStep.{AtRest, AtStep}
 use Rattle.step_start.specs.step_parts.Due.{Due, HasBegun, IsContradicted, IsDueStep, step_of}
 use Rattle.step_start.proofs.step_parts.Noted.{noted, seen_more}
 use Rattle.step_runs.specs.Runs.{IsRunOf}
 use Rattle.step_runs.proofs.Changed.{steps_are}
-use Rattle.step_start.proofs.Members.{all_of}
 use Rattle.first_step.specs.step_values.Dumped.{AreDumped}
 use Rattle.first_step.specs.step_values.Vectors.{StepVectors}
 use Rattle.first_step.specs.step_wakes.Step.{IsOfDesign}
@@ -56,8 +54,8 @@ use Rattle.replay_core.specs.Closing.{IsDueAt}
 use Rattle.replay_core.specs.Codes.{flags_of}
 use Rattle.replay_core.specs.Faults.{IsRefuted}
 use Rattle.replay_core.specs.Made.{Made, subject_of}
-use Rattle.replay_core.specs.Steps.{CountsSensitive, IsSensitive}
-use Rattle.replay_core.proofs.Orders.{distinct_filter, order_distinct}
+use Rattle.replay_core.specs.Steps.{IsSensitive, has_event_of}
+use Rattle.replay_core.proofs.Orders.{distinct_filter, order_distinct, settles_in}
 
 -- what a difference says of the dump at its time
 pub dumped_is : (d : Rattle.design_model.specs.Design.Design) (codes : List (Option ℕ)) (last : List (Option Vector)) (new : Cell → Rattle.four_state.specs.declared.bit.Bit.Bit) (s code : ℕ) (v : Vector)
@@ -67,77 +65,80 @@ dumped_is d codes last new s code v dumped coded is =
     let same : v ≡ w.0 = (let e = sym is ∙ w.1 in cc) in
     ap (λ (u : Vector). u.bits) same ∙ w.2
 
-module _ (m : Made) (h : Habit) (dump : BoundDump) (t : ℕ) (a : Replay) (x : Parts) (at : IsDueAt (subject_of m h dump) t a x) where
+module _ (m : Made) (dump : BoundDump) (t : ℕ) (a : Replay) (x : Parts) (at : IsDueAt (subject_of m dump) t a x) where
   abbrev f : Subject
-  f = subject_of m h dump
+  f = subject_of m dump
 
-  abbrev step : WakeState → Closing
-  step wakes = step_of (due_at f t a x) wakes
+  abbrev step : WakeState → (ℕ → List ℕ) → Closing
+  step wakes early = step_of (due_at f t a x) wakes early
 
-  pub due_step : IsDueStep (due_at f t a x) m.codes m.ranks x.sets x.values x.store
+  pub due_step : IsDueStep (due_at f t a x) m.codes m.ranks m.clocked_ranks x.sets x.values x.store
   due_step = due f t a x at.follows at.given
 
-  settles : (p : ℕ) → IsClocked (process_at m.design p) → ⊥
-  settles = due_step.changes.unclocked
-
   -- a step that something contradicts refutes the dump
-  refuted : (wakes : WakeState) (c : Cell) (found : Difference) → AreFirstSets m.design (habit_of h) dump (suc t) (sets_of wakes none_early) → contradicts (step wakes) c ≡ true
+  refuted : (wakes : WakeState) (early : ℕ → List ℕ) (c : Cell) (found : Difference) → AreFirstSets m.design (habit_of m.habit) dump (suc t) (sets_of wakes early) → contradicts (step wakes early) c ≡ true
       → found.dumped.bits ≡ signal_bits m.design (dump.values (suc t)) found.signal → Rattle.known_state.specs.Partly.allows_bits found.computed.bits found.dumped.bits ≡ false
-      → IsRefuted m.design (habit_of h) dump (suc t) found.signal found.dumped found.computed.bits
-  refuted wakes c found sets differs dumped differ = record {
-    contradicted = against f t a x wakes c at.follows at.window sets differs;
+      → IsRefuted m.design (habit_of m.habit) dump (suc t) found.signal found.dumped found.computed.bits
+  refuted wakes early c found sets differs dumped differ = record {
+    contradicted = against f t a x wakes early c at.follows at.window sets differs;
     says = dumped;
     differ = differ;
   }
 
-  pub begun_refuted : (wakes : WakeState) (changed : List ℕ) (found : Difference) → IsContradicted (due_at f t a x) wakes found → IsLeastMoved (step wakes) changed (Some found)
-      → IsRefuted m.design (habit_of h) dump (suc t) found.signal found.dumped found.computed.bits
-  begun_refuted wakes changed found is least = refuted wakes is.cell found is.sets is.differs least.1.dumped least.1.differ
+  pub begun_refuted : (wakes : WakeState) (early : ℕ → List ℕ) (changed overwritten : List ℕ) (found : Difference) → IsContradicted (due_at f t a x) wakes early found
+      → IsLeastMoved (step wakes early) changed overwritten (Some found) → IsRefuted m.design (habit_of m.habit) dump (suc t) found.signal found.dumped found.computed.bits
+  begun_refuted wakes early changed overwritten found is least = refuted wakes early is.cell found is.sets is.differs least.0.different.dumped least.0.different.differ
 
-  module _ (wakes : WakeState) (listed : List ℕ) (v : StepVectors) (store : Store) (begun : HasBegun (due_at f t a x) wakes listed v store) where
+  module _ (wakes : WakeState) (early : ℕ → List ℕ) (listed : List ℕ) (v : StepVectors) (store : Store) (begin : Marks) (begun : HasBegun (due_at f t a x) wakes early listed v store begin) where
+    -- what is listed is an Assign or Comb that is touched
+    touched_in : (p : ℕ) → In p listed → In p (m.tables.order ++ m.tables.last) × (is_touched (step wakes early) p ≡ true)
+    touched_in p i = in_filter (is_touched (step wakes early)) p (m.tables.order ++ m.tables.last) (subst (In p) begun.list i)
+
     -- the runs of the list are those of the step
     pub run_is : (n : ℕ) (watched : List (List ℕ)) (rows : List (List Wake)) (changed : List ℕ) → n ≡ length m.tables.order → ((p : ℕ) → m.tables.watched p ≡ row_at watched p)
-        → AreWakeRows m.design watched rows → AreChangedSignals m.codes x.values changed → IsRunOf (step wakes) m.points m.ranks n listed rows m.codes changed (suc t)
+        → AreWakeRows m.design watched rows → AreChangedSignals m.codes x.values changed → IsRunOf (step wakes early) m.points m.ranks n listed rows m.codes changed (suc t)
     run_is n watched rows changed many same are found = record {
       apart = at.follows.subject.apart;
       once = at.follows.subject.once;
       ranked = at.follows.subject.ranked;
       ordered = many;
       listed = begun.list;
-      step = λ p i. steps_are m.design (habit_of h) dump m.tables (sets_of wakes none_early) t a (flags_of m.codes) m.codes x.values x.sets watched rows changed due_step.changes due_step.tabled begun.sets.sets same are due_step.known found p (settles p);
+      step = λ p i.
+          steps_are m.design (habit_of m.habit) dump m.tables (sets_of wakes early) t a (flags_of m.codes) m.codes x.values x.sets watched rows changed due_step.changes due_step.tabled begun.sets.sets same are
+          due_step.known found p (settles_in m.design dump.bound m.tables due_step.tabled p (touched_in p i).0);
     }
+
+    pub listed_distinct : AreDistinct listed
+    listed_distinct = subst AreDistinct (sym begun.list) (distinct_filter (is_touched (step wakes early)) (m.tables.order ++ m.tables.last) (order_distinct m.design dump.bound m.tables due_step.tabled))
 
     -- each of them mentions or lists something that may move
-    pub counts : (before after : ℕ) → after ≡ before + length listed → CountsSensitive m.design dump (suc t) before after
-    counts before after is = record {
-      processes = listed;
-      once = subst AreDistinct (sym begun.list) (distinct_filter (is_touched (step wakes)) (m.tables.order ++ m.tables.last) (order_distinct m.design dump.bound m.tables due_step.tabled));
-      sensitive = all_of (IsSensitive m.design dump (suc t)) listed (λ p i. sensitive p (in_filter (is_touched (step wakes)) p (m.tables.order ++ m.tables.last) (subst (In p) begun.list (contains_in p listed i))).1);
-      counted = is;
-    }
-      where
-        sensitive : (p : ℕ) → is_touched (step wakes) p ≡ true → IsSensitive m.design dump (suc t) p
-        sensitive p touched =
-            let y = any_in (sets_of wakes none_early).moves (m.tables.watched p) touched in
-            record {
-              thing = y.0;
-              watched = (due_step.tabled.watched p y.0).0 y.1;
-              moves = (begun.sets.sets.moves y.0).0 y.2;
-            }
+    pub listed_sensitive : (p : ℕ) → In p listed → In p (m.tables.order ++ m.tables.last) × IsSensitive m.design dump (suc t) p
+    listed_sensitive p i =
+        let r = touched_in p i in
+        let y = any_in (sets_of wakes early).moves (m.tables.watched p) r.1 in (
+          r.0,
+          record {
+            thing = y.0;
+            watched = or_left (is_level (process_at m.design p) y.0) (has_event_of (process_at m.design p) y.0) ((due_step.tabled.watched p y.0).0 y.1);
+            moves = (begun.sets.sets.moves y.0).0 y.2;
+          },
+        )
 
-    module _ (last : Store) (w : StepVectors) (flags : List Bool) (marks : Marks) (over : AtStep (step wakes) m.points (all_run (step wakes)) last w wakes flags marks) where
+    module _ (last : Store) (w : StepVectors) (flags : List Bool) (marks : Marks) (over : AtStep (step wakes early) m.points (all_run (step wakes early)) last w wakes flags marks) where
       pub has_run : (ran : List ℕ) (targets : List (List Bits)) (checks : List (List ℕ)) → ran ≡ listed → AreTargetRows m.design targets → AreCheckRows m.codes targets checks
-          → HasRun (step wakes) ran targets checks m.codes x.values.last last w
+          → HasRun (step wakes early) ran targets checks m.codes x.values.last last w
       has_run ran targets checks is rows are = record {
         values = over.values;
         still = over.still;
         dump = begun.still;
-        moved = moves_are m.design (habit_of h) dump (runs_of m.design) m.tables (sets_of wakes none_early) t a due_step.changes.lawful due_step.tabled due_step.unclocked begun.sets.sets;
-        drives = targets_move m.design (habit_of h) dump (runs_of m.design) m.tables (sets_of wakes none_early) t a due_step.tabled begun.sets.sets;
+        moved = moves_are m.design (habit_of m.habit) dump (runs_of m.design) m.tables (sets_of wakes early) t a due_step.changes.lawful due_step.tabled begun.sets.sets;
+        agree = begun.agree;
+        drives = targets_move m.design (habit_of m.habit) dump (runs_of m.design) m.tables (sets_of wakes early) t a due_step.tabled begun.sets.sets;
         lawful = due_step.changes.lawful;
+        tabled = due_step.tabled;
         running = λ p. (
-          λ i. in_filter (is_touched (step wakes)) p (m.tables.order ++ m.tables.last) (subst (In p) (is ∙ begun.list) i),
-          λ i. subst (In p) (sym (is ∙ begun.list)) (filter_in (is_touched (step wakes)) p (m.tables.order ++ m.tables.last) i.0 i.1),
+          λ i. touched_in p (subst (In p) is i),
+          λ i. subst (In p) (sym (is ∙ begun.list)) (filter_in (is_touched (step wakes early)) p (m.tables.order ++ m.tables.last) i.0 i.1),
         );
         rows = rows;
         checked = are;
@@ -147,15 +148,16 @@ module _ (m : Made) (h : Habit) (dump : BoundDump) (t : ℕ) (a : Replay) (x : P
       }
 
       -- a difference that was found after the runs refutes the dump
-      pub run_refuted : (ran : List ℕ) (targets : List (List Bits)) (checks : List (List ℕ)) (found : Difference) → HasRun (step wakes) ran targets checks m.codes x.values.last last w
-          → IsFirstDifference m.codes x.values.last w.made (last_of_each (flat_map (row_at checks) ran)) found → IsRefuted m.design (habit_of h) dump (suc t) found.signal found.dumped found.computed.bits
+      pub run_refuted : (ran : List ℕ) (targets : List (List Bits)) (checks : List (List ℕ)) (found : Difference) → HasRun (step wakes early) ran targets checks m.codes x.values.last last w
+          → IsFirstDifference m.codes x.values.last w.made (last_of_each (flat_map (row_at checks) ran)) found
+          → IsRefuted m.design (habit_of m.habit) dump (suc t) found.signal found.dumped found.computed.bits
       run_refuted ran targets checks found run first =
-          let c = differ_law (step wakes) ran targets checks m.codes x.values.last last w found run first in
+          let c = differ_law (step wakes early) ran targets checks m.codes x.values.last last w found run first in
           let is = first.differs in
-          refuted wakes c.0 found begun.sets c.2 (dumped_is m.design m.codes x.values.last (dump.values (suc t)) found.signal is.code found.dumped at.given.last is.coded is.dumped) is.differ
+          refuted wakes early c.0 found begun.sets c.2 (dumped_is m.design m.codes x.values.last (dump.values (suc t)) found.signal is.code found.dumped at.given.last is.coded is.dumped) is.differ
 
       -- the marks after the runs, and the masks before, are those with which the toggles are marked
-      pub is_over : (moving : List ℕ) (end : ℕ) → end ≡ suc t → moving ≡ wakes.moves → AreMarksOf m.points marks → IsOver (step wakes) m.points moving end last w x.seen marks
+      pub is_over : (moving : List ℕ) (end : ℕ) → end ≡ suc t → moving ≡ wakes.moves → AreMarksOf m.points marks → IsOver (step wakes early) m.points moving end last w x.seen marks
       is_over moving end time same of = record {
         values = over.values;
         moves = λ s i. over.moves s ∙ subst (λ ys. is_in ys s ≡ true) same i;
@@ -163,25 +165,25 @@ module _ (m : Made) (h : Habit) (dump : BoundDump) (t : ℕ) (a : Replay) (x : P
         listed = at.follows.subject.listed;
         marks = of;
         seen =
-            let more = noted (step wakes) due_step.unclocked in
+            let more = noted (step wakes early) in
             seen_more m.design m.points x.seen a.notes more.0 x.marks.verdicts marks.verdicts at.follows.rest.marks (subst (λ ns. AreVerdicts m.design m.points ns marks.verdicts) more.1 over.marks) at.follows.rest.seen;
       }
 
       -- where nothing was found, and the toggles are marked, the dump is followed up to the end of the step
       pub followed : (y : Parts) → y.sets ≡ wakes → y.store ≡ last → y.acted ≡ flags → y.values.closed ≡ x.values.last → IsOfDesign m.design (flags_of m.codes) y.sets → HasNoWriters y.sets
-          → ((c : Cell) → contradicts (step wakes) c ≡ false) → MarksInTurn (step wakes) m.points wakes.moves marks.verdicts y.marks.verdicts → IsSeenAfter (step wakes) m.points y.seen y.marks
+          → ((c : Cell) → contradicts (step wakes early) c ≡ false) → MarksInTurn (step wakes early) m.points wakes.moves marks.verdicts y.marks.verdicts → IsSeenAfter (step wakes early) m.points y.seen y.marks
           → (b : Replay) × Follows f (suc t) b y
-      followed y sets store acted values of writers none turns seen = (next_replay f t a x y.sets, closes f t a x y at.follows at.given at.window at.listed first of writers nothing values rest)
+      followed y sets store acted values of writers none turns seen = (next_replay f t a x y.sets early, closes f t a x y early at.follows at.given at.window at.listed first of writers nothing values rest)
         where
-          first : AreFirstSets m.design (habit_of h) dump (suc t) (sets_of y.sets none_early)
-          first = subst (λ ws. AreFirstSets m.design (habit_of h) dump (suc t) (sets_of ws none_early)) (sym sets) begun.sets
+          first : AreFirstSets m.design (habit_of m.habit) dump (suc t) (sets_of y.sets early)
+          first = subst (λ ws. AreFirstSets m.design (habit_of m.habit) dump (suc t) (sets_of ws early)) (sym sets) begun.sets
 
-          nothing : (c : Cell) → contradicts (step y.sets) c ≡ false
-          nothing = subst (λ ws. (c : Cell) → contradicts (step ws) c ≡ false) (sym sets) none
+          nothing : (c : Cell) → contradicts (step y.sets early) c ≡ false
+          nothing = subst (λ ws. (c : Cell) → contradicts (step ws early) c ≡ false) (sym sets) none
 
-          rest : Rattle.step_start.specs.step_parts.AtStep.AtRest m.design m.points (next_replay f t a x y.sets) y.store y.acted y.marks y.seen
+          rest : AtRest m.design m.points (next_replay f t a x y.sets early) y.store y.acted y.marks y.seen
           rest =
-              subst (λ ws. Rattle.step_start.specs.step_parts.AtStep.AtRest m.design m.points (next_replay f t a x ws) y.store y.acted y.marks y.seen) (sym sets)
-              (subst (λ st. Rattle.step_start.specs.step_parts.AtStep.AtRest m.design m.points (next_replay f t a x wakes) st y.acted y.marks y.seen) (sym store)
-              (subst (λ fs. Rattle.step_start.specs.step_parts.AtStep.AtRest m.design m.points (next_replay f t a x wakes) last fs y.marks y.seen) (sym acted)
-              (marking.closes (step wakes) m.points last w wakes flags marks y.marks y.seen due_step.changes.lawful at.follows.subject.listed at.follows.subject.once over turns seen)))
+              subst (λ ws. AtRest m.design m.points (next_replay f t a x ws early) y.store y.acted y.marks y.seen) (sym sets)
+              (subst (λ st. AtRest m.design m.points (next_replay f t a x wakes early) st y.acted y.marks y.seen) (sym store)
+              (subst (λ fs. AtRest m.design m.points (next_replay f t a x wakes early) last fs y.marks y.seen) (sym acted)
+              (marking.closes (step wakes early) m.points last w wakes flags marks y.marks y.seen due_step.changes.lawful at.follows.subject.listed at.follows.subject.once over turns seen)))

@@ -4,7 +4,6 @@ use Rattle.cover_points.specs.declared.listing.Points.{Points}
 use Rattle.design_model.specs.Design.{Design}
 use Rattle.design_model.specs.Shows.{BoundDump, IsListed, IsWindow}
 use Rattle.dump_check.specs.declared.order.Difference.{Difference}
-use Rattle.early_sets.specs.declared.habit.Habit.{Habit}
 use Rattle.replay_follows.specs.Follows.{Follows}
 use Rattle.replay_follows.proofs.Steps.{nexts}
 use Rattle.first_step.specs.step_changes.Changes.{AreUnsigned}
@@ -24,14 +23,15 @@ use Rattle.replay_core.specs.declared.replay.Replay.{Replay}
 use Rattle.replay_core.specs.declared.room.ReplayRoom.{ReplayRoom}
 use Rattle.replay_core.specs.declared.state.ReplayState.{ReplayState}
 use Rattle.replay_core.specs.declared.tables.ReplayTables.{ReplayTables}
+use Rattle.replay_core.proofs.Ends.{closed_by}
 
 -- ---- the next step of a dump is due
 
-module _ (x : Replay) (h : Habit) (dump : BoundDump) (t time : ℕ) (unsigned : AreUnsigned (given_of x)) (followed : HasFollowed x h dump t) (next : IsNextStep dump t time) (given : AreGivenAt x dump time) where
-  pub is_due : (before : ℕ) × (time ≡ suc before) × IsDueAt (subject_of (made_of x) h dump) before followed.replay (parts_of x)
+module _ (x : Replay) (dump : BoundDump) (t time : ℕ) (unsigned : AreUnsigned (given_of x)) (followed : HasFollowed x dump t) (next : IsNextStep dump t time) (given : AreGivenAt x dump time) where
+  pub is_due : (before : ℕ) × (time ≡ suc before) × IsDueAt (subject_of (made_of x) dump) before followed.replay (parts_of x)
   is_due =
       let m = made_of x in
-      let n = nexts (subject_of m h dump) t time followed.replay (parts_of x) next.later next.window next.between followed.follows in (
+      let n = nexts (subject_of m dump) t time followed.replay (parts_of x) next.later next.window next.between followed.follows in (
         n.0,
         n.1,
         record {
@@ -47,24 +47,24 @@ module _ (x : Replay) (h : Habit) (dump : BoundDump) (t time : ℕ) (unsigned : 
       )
 
   -- what holds of each dump whose step is due holds of this one
-  pub for_next : (holds : Habit → BoundDump → ℕ → Type 0) → ForDue (made_of x) time (parts_of x) holds → holds h dump time
-  for_next holds each = subst (holds h dump) (sym is_due.1) (each h dump is_due.0 followed.replay is_due.1 is_due.2)
+  pub for_next : (holds : BoundDump → ℕ → Type 0) → ForDue (made_of x) time (parts_of x) holds → holds dump time
+  for_next holds each = subst (holds dump) (sym is_due.1) (each dump is_due.0 followed.replay is_due.1 is_due.2)
 
   -- after it the dump is followed up to its end
-  pub followed_next : (y : Replay) → made_of y ≡ made_of x → IsStarted y → Closes (made_of x) time (parts_of x) (parts_of y) → HasFollowed y h dump time
+  pub followed_next : (y : Replay) → made_of y ≡ made_of x → IsStarted y → Closes (made_of x) time (parts_of x) (parts_of y) → HasFollowed y dump time
   followed_next y same started closes =
-      let b = for_next (λ g e u. (b : Rattle.replay_model.specs.Step.Replay) × Follows (subject_of (made_of x) g e) u b (parts_of y)) closes in
+      let b = for_next (λ e u. (b : Rattle.replay_model.specs.Step.Replay) × Follows (subject_of (made_of x) e) u b (parts_of y)) closes in
       record {
         dumped = subst (λ m. IsDumpFor m dump) (sym same) followed.dumped;
         started = started;
         replay = b.0;
-        follows = subst (λ m. Follows (subject_of m h dump) time b.0 (parts_of y)) (sym same) b.1;
+        follows = subst (λ m. Follows (subject_of m dump) time b.0 (parts_of y)) (sym same) b.1;
       }
 
 -- at most as many bodies run in it as processes mention or list what may move
 pub counts_after : (x : Replay) (time before after : ℕ) → AreUnsigned (given_of x) → Counts (made_of x) time (parts_of x) before after
-    → (h : Habit) (dump : BoundDump) (t : ℕ) → HasFollowed x h dump t → IsNextStep dump t time → AreGivenAt x dump time → CountsSensitive (made_of x).design dump time before after
-counts_after x time before after unsigned counts h dump t followed next given = for_next x h dump t time unsigned followed next given (λ g b u. CountsSensitive (made_of x).design b u before after) counts
+    → (dump : BoundDump) (t : ℕ) → HasFollowed x dump t → IsNextStep dump t time → AreGivenAt x dump time → CountsSensitive (made_of x).design dump time before after
+counts_after x time before after unsigned counts dump t followed next given = for_next x dump t time unsigned followed next given (λ b u. CountsSensitive (made_of x).design b u before after) counts
 
 -- ---- the result
 
@@ -75,6 +75,10 @@ ok_then (Err e) p to = tt
 pub err_then : {A E : Type 0} {P Q : E → Type 0} (r : Result A E) → IfErr r P → ((e : E) → P e → Q e) → IfErr r Q
 err_then (Ok v) p to = tt
 err_then (Err e) p to = to e p
+
+pub none_then : {A P Q : Type 0} (o : Option A) → IfNone o P → (P → Q) → IfNone o Q
+none_then None p to = to p
+none_then (Some y) p to = tt
 
 -- what a step that ends with this says
 abbrev pub IsFault : Option Difference → ℕ → ReplayFault → Type 0
@@ -94,16 +98,16 @@ module _ {A : Type 0} (x y : Replay) (found : Option Difference) (time : ℕ) (p
   named_after n named = err_then r err (λ fault e. subst (λ g. signal_of g < n) (sym e.2) (subst (λ o. IfSome o (λ different. different.signal < n)) e.1 named))
 
   pub followed_after : AreUnsigned (given_of x) → made_of y ≡ made_of x → IfNone found (Closes (made_of x) time (parts_of x) (parts_of y))
-      → OnOk r ((h : Habit) (dump : BoundDump) (t : ℕ) → HasFollowed x h dump t → IsNextStep dump t time → AreGivenAt x dump time → HasFollowed y h dump time)
-  followed_after unsigned same closes = ok_then r ok (λ none h dump t followed next given. followed_next x h dump t time unsigned followed next given y same (ends_started none) (subst (λ o. IfNone o (Closes (made_of x) time (parts_of x) (parts_of y))) none closes))
+      → OnOk r ((dump : BoundDump) (t : ℕ) → HasFollowed x dump t → IsNextStep dump t time → AreGivenAt x dump time → HasFollowed y dump time)
+  followed_after unsigned same closes = ok_then r ok (λ none dump t followed next given. followed_next x dump t time unsigned followed next given y same (ends_started none) (subst (λ o. IfNone o (Closes (made_of x) time (parts_of x) (parts_of y))) none closes))
 
   pub contradiction_after : AreUnsigned (given_of x) → IfSome found (Refutes (made_of x) time (parts_of x))
-      → IfErr r (λ fault. (h : Habit) (dump : BoundDump) (t : ℕ) → HasFollowed x h dump t → IsNextStep dump t time → AreGivenAt x dump time → IsContradiction (made_of x).design (habit_of h) dump time fault)
-  contradiction_after unsigned refutes = err_then r err (λ fault e h dump t followed next given.
+      → IfErr r (λ fault. (dump : BoundDump) (t : ℕ) → HasFollowed x dump t → IsNextStep dump t time → AreGivenAt x dump time → IsContradiction (made_of x).design (habit_of (made_of x).habit) dump time fault)
+  contradiction_after unsigned refutes = err_then r err (λ fault e dump t followed next given.
       let d = e.0 in
       let each : Refutes (made_of x) time (parts_of x) d = subst (λ o. IfSome o (Refutes (made_of x) time (parts_of x))) e.1 refutes in
-      let is = for_next x h dump t time unsigned followed next given (λ g b u. Rattle.replay_core.specs.Faults.IsRefuted (made_of x).design (habit_of g) b u d.signal d.dumped d.computed.bits) each in
-      subst (IsContradiction (made_of x).design (habit_of h) dump time) (sym e.2) (refl, is))
+      let is = for_next x dump t time unsigned followed next given (λ b u. Rattle.replay_core.specs.Faults.IsRefuted (made_of x).design (habit_of (made_of x).habit) b u d.signal d.dumped d.computed.bits) each in
+      subst (IsContradiction (made_of x).design (habit_of (made_of x).habit) dump time) (sym e.2) (refl, is))
 
 -- ---- the replay is ready after it
 
@@ -121,12 +125,14 @@ named_in None time n named fault is = absurd cc
 named_in (Some different) time n named fault is = let same : fault_at different time ≡ fault = cc in subst (λ g. signal_of g < n) same named
 
 pub closed_ready : (d : Design) (points : Points) (x : ReplayTables) (r : ReplayRoom) (s : ReplayState) (phase : Phase) (found : Option Difference) (time : ℕ) → phase ≡ phase_after found time → IsReplayable d points → FitsParts d points x r s → s.notes.points.now ≡ points → r.step.list.pairs ≡ []
-    → HaveValues x.step.codes.items s.values.last → IfSome found (λ different. different.signal < length d.signals) → FitsReplay d s.notes.points.now x r s phase
-closed_ready d points x r s phase found time is replayable fits noted none have named = subst (λ ps. FitsReplay d ps x r s phase) (sym noted) (record {
+    → r.step.clocked.pairs ≡ [] → HaveValues x.step.codes.items s.values.last → IfNone found (HaveValues x.step.codes.items s.values.closed) → IfSome found (λ different. different.signal < length d.signals) → FitsReplay d s.notes.points.now x r s phase
+closed_ready d points x r s phase found time is replayable fits noted none none_clocked have closed named = subst (λ ps. FitsReplay d ps x r s phase) (sym noted) (record {
   replayable = replayable;
   parts = fits;
   none = none;
+  none_clocked = none_clocked;
   untouched = λ new. absurd (not_new found time (sym is ∙ new));
   begun = λ started. have;
+  closed = λ started. closed_by found time closed (sym is ∙ started);
   refused = λ fault refused. named_in found time (length d.signals) named fault (sym is ∙ refused);
 })

@@ -1,5 +1,5 @@
 -- A replay after the first step.
-use Rattle.std.proofs.Common.{◌≡◌, ◌∙◌, ℕ, ◌<◌, ◌≤◌, Bool, false, List, [], length, IfErr, IfSome, OnOk, Option, Some, None, Result, Ok, Err, inl, inr, refl, sym, ap, subst, arith}
+use Rattle.std.proofs.Common.{◌≡◌, ◌∙◌, ℕ, ◌<◌, ◌≤◌, Bool, false, List, [], length, IfErr, IfNone, IfSome, OnOk, Option, Some, None, Result, Ok, Err, inl, inr, refl, sym, ap, subst, arith}
 use Rattle.std.specs.Prelude.{nat_lt}
 use Rattle.std.proofs.lemmas.Bool.{cases_Bool}
 use Rattle.std.proofs.lemmas.Bool.Decides.{nat_tests}
@@ -32,15 +32,27 @@ named_by (Some found) t n l fault e =
     let same : fault_at found t ≡ fault = cc in
     subst (λ f. signal_of f < n) same l
 
+-- what holds where nothing was found holds once it has started
+pub closed_by : {P : Type 0} (found : Option Difference) (t : ℕ) → IfNone found P → phase_after found t ≡ Started → P
+closed_by None t p e = p
+closed_by (Some found) t p e = absurd cc
+
+pub none_at : {A P : Type 0} (o : Option A) → P → IfNone o P
+none_at None p = p
+none_at (Some y) p = tt
+
 -- the parts fit after a step that ends at this time, in which this was found
-pub step_ready : (d : Design) (points : Points) (x : ReplayTables) (r : ReplayRoom) (s : ReplayState) (found : Option Difference) (t : ℕ) → IsReplayable d points → FitsParts d points x r s → r.step.list.pairs ≡ [] → HaveValues x.step.codes.items s.values.last → IfSome found (λ one. one.signal < length d.signals)
+pub step_ready : (d : Design) (points : Points) (x : ReplayTables) (r : ReplayRoom) (s : ReplayState) (found : Option Difference) (t : ℕ) → IsReplayable d points → FitsParts d points x r s → r.step.list.pairs ≡ [] → r.step.clocked.pairs ≡ [] → HaveValues x.step.codes.items s.values.last
+    → IfNone found (HaveValues x.step.codes.items s.values.closed) → IfSome found (λ one. one.signal < length d.signals)
     → FitsReplay d points x r s (phase_after found t)
-step_ready d points x r s found t replayable parts none have named = record {
+step_ready d points x r s found t replayable parts none none_clocked have closed named = record {
   replayable = replayable;
   parts = parts;
   none = none;
+  none_clocked = none_clocked;
   untouched = λ new. absurd (not_new found t new);
   begun = λ started. have;
+  closed = closed_by found t closed;
   refused = named_by found t (length d.signals) named;
 }
 

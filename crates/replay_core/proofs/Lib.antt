@@ -2,8 +2,10 @@ pub mod Codes
 pub mod Orders
 pub mod Given
 pub mod Untouched
+pub mod Sets
 pub mod Parts
 pub mod Closing
+pub mod Woken
 pub mod Starting
 pub mod Changes
 pub mod Ends

@@ -10,6 +10,7 @@ use Rattle.four_state.specs.declared.bit.Bit.{Bit}
 use Rattle.body_replay.specs.Store.{Kept}
 use Rattle.body_store.specs.declared.store.Store.{Store}
 use Rattle.body_store.specs.Made.{nothing}
+use Rattle.chosen_early.specs.Shared.{IsSameButEarly}
 use Rattle.code_values.specs.Values.{Values, no_values, value_of}
 use Rattle.cover_marks.specs.Marks.{AreMarksOf}
 use Rattle.cover_points.specs.declared.listing.Points.{Points}
@@ -29,6 +30,7 @@ use Rattle.step_start.specs.declared.room.StepRoom.{StepRoom}
 use Rattle.first_step.specs.step_values.Dumped.{AreDumped}
 use Rattle.first_step.specs.store_knowledge.Knows.{Knows}
 use Rattle.wake_laws.specs.Laws.{HasNoWriters}
+use Rattle.replay_core.specs.Codes.{flags_of}
 use Rattle.replay_core.specs.Fits.{AreWideValues, FitsParts, FitsReplay, FitsRoom, FitsState, FitsTables, HaveValues, IsReplayable, IsUntouched}
 use Rattle.replay_core.specs.declared.fault.Phase.TheVariants.{New, Refused, Started}
 use Rattle.replay_core.specs.declared.fault.ReplayFault.{ReplayFault}
@@ -37,6 +39,7 @@ use Rattle.replay_core.specs.declared.state.ReplayState.{ReplayState}
 use Rattle.replay_core.specs.declared.tables.ReplayTables.{ReplayTables}
 use Rattle.replay_core.proofs.Codes.{coded_below}
 use Rattle.replay_core.proofs.Given.{cells_given, dumped}
+use Rattle.replay_core.proofs.Sets.{of_design_early}
 
 -- only signals of the design have a code
 pub coded : (d : Design) (x : ReplayTables) → FitsTables d x → (s : ℕ) → Rattle.first_step.specs.step_values.Loose.has_code x.step.codes.items s ≡ true → s < length d.signals
@@ -50,12 +53,19 @@ fits_step d points x r s lawful fits = record {
   rows = fits.state.rows;
   coded = coded d x fits.tables;
   targets = fits.tables.rows.targets;
+  written = fits.tables.written.count;
+  assigned = fits.tables.written.each;
   order = x.processes.order.items ++ x.processes.last.items;
   ranked = fits.tables.ranked;
+  clocked_order = x.processes.clocked.items;
+  clocked_ranked = fits.tables.clocked;
   changed = fits.room.changed;
   changes = fits.room.changes;
   things = let are = fits.room.sets.tables.things_are in omega (arith, are);
   processes = fits.room.sets.tables.processes_are;
+  clocked = fits.room.clocked;
+  overwritten = fits.room.overwritten;
+  running = fits.room.running;
   list = fits.room.list;
   values = fits.room.values;
 }
@@ -63,6 +73,10 @@ fits_step d points x r s lawful fits = record {
 -- the values that were given last are values of the cells of the signals
 pub given_cells : (d : Design) (points : Points) (x : ReplayTables) (s : ReplayState) → FitsState d points x s → HaveValues x.step.codes.items s.values.last → AreDumped d x.step.codes.items s.values.last (cells_given x.step.codes.items s.values.last)
 given_cells d points x s fits have = dumped d x.step.codes.items s.values.last fits.wide have
+
+-- and so are those at the last closed step
+pub closed_cells : (d : Design) (points : Points) (x : ReplayTables) (s : ReplayState) → FitsState d points x s → HaveValues x.step.codes.items s.values.closed → AreDumped d x.step.codes.items s.values.closed (cells_given x.step.codes.items s.values.closed)
+closed_cells d points x s fits have = dumped d x.step.codes.items s.values.closed fits.wide_closed have
 
 no_writers : (v w : WakeState) → w.writers ≡ v.writers → HasNoWriters v → HasNoWriters w
 no_writers v w same none x = ap (λ ws. slice_index_or ws x None) same ∙ none x
@@ -76,6 +90,11 @@ room_begun d x r n given fits writers inputs room = record {
   sets = inputs _ room.sets;
   writers = no_writers (state_of r.step.sets) (state_of n.sets) writers room.writers;
   list = fits.list;
+  clocked = fits.clocked;
+  overwritten = fits.overwritten;
+  running = fits.running;
+  later = room.later;
+  none_later = room.none_later;
   values = fits.values;
   saved = room.saved;
   empty = room.empty;
@@ -86,9 +105,9 @@ room_begun d x r n given fits writers inputs room = record {
 
 -- all three after the first step
 pub first_fits : (d : Design) (points : Points) (x : ReplayTables) (r : ReplayRoom) (s : ReplayState) (v : StepValues) (scratch : Scratch) (ran : Queue ℕ) (checks : Checks) (values : Values) (store : Store) (k : Kept) → FitsParts d points x r s → FitsSignals d v
-    → length scratch.saved ≡ length r.scratch.saved → scratch.pieces ≡ r.scratch.pieces → ran.room ≡ r.ran.room → checks.size ≡ r.checks.size → Knows d k store → values.last ≡ s.values.last
+    → length scratch.saved ≡ length r.scratch.saved → scratch.pieces ≡ r.scratch.pieces → ran.room ≡ r.ran.room → checks.size ≡ r.checks.size → Knows d k store → values.last ≡ s.values.last → values.closed ≡ s.values.last
     → FitsParts d points x (record r { step = record r.step { values = v }; scratch = scratch; ran = ran; checks = checks }) (record s { values = values; store = store })
-first_fits d points x r s v scratch ran checks values store k fits wide saved pieces room size knows last =
+first_fits d points x r s v scratch ran checks values store k fits wide saved pieces room size knows last closed =
     let state = fits.state in
     record {
       tables = fits.tables;
@@ -98,6 +117,11 @@ first_fits d points x r s v scratch ran checks values store k fits wide saved pi
         sets = fits.room.sets;
         writers = fits.room.writers;
         list = fits.room.list;
+        clocked = fits.room.clocked;
+        overwritten = fits.room.overwritten;
+        running = fits.room.running;
+        later = fits.room.later;
+        none_later = fits.room.none_later;
         values = wide;
         saved = λ p l. subst (λ n. length (row_at x.step.targets p) ≤ n) (sym saved) (fits.room.saved p l);
         empty = ap (λ q. q.items) pieces ∙ fits.room.empty;
@@ -114,14 +138,15 @@ first_fits d points x r s v scratch ran checks values store k fits wide saved pi
         marks = state.marks;
         rows = state.rows ∙ sym (ap length last);
         wide = subst (AreWideValues d x.step.codes.items) (sym last) state.wide;
+        wide_closed = subst (AreWideValues d x.step.codes.items) (sym closed) state.wide;
         unsigned = subst AreUnsigned (sym last) state.unsigned;
       };
     }
 
 -- all three once the processes have run
 pub run_fits : (d : Design) (points : Points) (x : ReplayTables) (r q : ReplayRoom) (s u : ReplayState) (k : Kept) → FitsParts d points x r s → FitsRoom d x q → Knows d k u.store → length u.acted.items ≡ length s.acted.items → length u.seen ≡ length s.seen
-    → u.notes.points.now ≡ s.notes.points.now → AreMarksOf points u.notes.marks → u.values.last ≡ s.values.last → FitsParts d points x q u
-run_fits d points x r q s u k fits room knows acted seen noted marks last =
+    → u.notes.points.now ≡ s.notes.points.now → AreMarksOf points u.notes.marks → u.values.last ≡ s.values.last → AreWideValues d x.step.codes.items u.values.closed → FitsParts d points x q u
+run_fits d points x r q s u k fits room knows acted seen noted marks last wide =
     let state = fits.state in
     record {
       tables = fits.tables;
@@ -135,11 +160,12 @@ run_fits d points x r q s u k fits room knows acted seen noted marks last =
         marks = marks;
         rows = state.rows ∙ sym (ap length last);
         wide = subst (AreWideValues d x.step.codes.items) (sym last) state.wide;
+        wide_closed = wide;
         unsigned = subst AreUnsigned (sym last) state.unsigned;
       };
     }
 
-none_given : (count code : ℕ) → value_of (no_values count).last code ≡ None
+none_given : (count code : ℕ) → value_of (replicate count None) code ≡ None
 none_given count code = elim (cases_Bool (nat_lt code count)) [
   | inl e ↦ get_or-replicate count code None None (grind (arith, nat_tests, e))
   | inr e ↦
@@ -152,13 +178,17 @@ none_given count code = elim (cases_Bool (nat_lt code count)) [
 pub no_value : (values : Values) (count code : ℕ) → values ≡ no_values count → value_of values.last code ≡ None
 no_value values count code is = ap (λ (v : Values). value_of v.last code) is ∙ none_given count code
 
+-- nor had it one at the last closed step
+pub none_closed : (values : Values) (count code : ℕ) → values ≡ no_values count → value_of values.closed code ≡ None
+none_closed values count code is = ap (λ (v : Values). value_of v.closed code) is ∙ none_given count code
+
 pub count_is : (values : Values) (count : ℕ) → values ≡ no_values count → length values.last ≡ count
 count_is values count is = ap (λ (v : Values). length v.last) is ∙ length-replicate count None
 
 -- a new replay fits
-pub new_ready : (d : Design) (points : Points) (x : ReplayTables) (r : ReplayRoom) (s : ReplayState) (count : ℕ) → IsReplayable d points → FitsTables d x → FitsRoom d x r → r.step.list.pairs ≡ [] → IsUntouched d points s → s.values ≡ no_values count → length x.step.signals ≡ count
+pub new_ready : (d : Design) (points : Points) (x : ReplayTables) (r : ReplayRoom) (s : ReplayState) (count : ℕ) → IsReplayable d points → FitsTables d x → FitsRoom d x r → r.step.list.pairs ≡ [] → r.step.clocked.pairs ≡ [] → IsUntouched d points s → s.values ≡ no_values count → length x.step.signals ≡ count
     → length s.acted.items ≡ length d.processes → length s.seen ≡ length d.signals → s.notes.points.now ≡ points → AreMarksOf points s.notes.marks → FitsReplay d s.notes.points.now x r s New
-new_ready d points x r s count replayable tables room none untouched values size acted seen noted marks = subst (λ ps. FitsReplay d ps x r s New) (sym noted) (record {
+new_ready d points x r s count replayable tables room none none_clocked untouched values size acted seen noted marks = subst (λ ps. FitsReplay d ps x r s New) (sym noted) (record {
   replayable = replayable;
   parts = record {
     tables = tables;
@@ -172,12 +202,15 @@ new_ready d points x r s count replayable tables room none untouched values size
       marks = marks;
       rows = size ∙ sym (count_is s.values count values);
       wide = λ y code v coded is. absurd (no_some (sym (no_value s.values count code values) ∙ is));
+      wide_closed = λ y code v coded is. absurd (no_some (sym (none_closed s.values count code values) ∙ is));
       unsigned = λ code v is. absurd (no_some (sym (no_value s.values count code values) ∙ is));
     };
   };
   none = none;
+  none_clocked = none_clocked;
   untouched = λ new. untouched;
   begun = λ started. absurd (new_started started);
+  closed = λ started. absurd (new_started started);
   refused = λ fault refused. absurd (new_refused fault refused);
 })
   where
@@ -207,6 +240,7 @@ begun_fits d points x r s n store k fits step writers inputs knows =
         marks = state.marks;
         rows = state.rows;
         wide = state.wide;
+        wide_closed = state.wide_closed;
         unsigned = state.unsigned;
       };
     }
@@ -221,3 +255,29 @@ begin_fits d points x r s n store fits step design writers inputs known =
     let here = fits.state.known.design in
     let same : design_view store.design.now ≡ d = ap (λ y. design_view y.now) design ∙ here in
     begun_fits d points x r s n store k fits (subst (λ e. FitsStep e x.step n s.values) here step) writers (inputs d) (subst (λ e. Knows e k store) (sym h.design ∙ same) h)
+
+-- the room once the Clocked have run: of the parts with which the step begins, their list and what was found to be early have changed
+pub room_run : (d : Design) (x : ReplayTables) (r q : ReplayRoom) → FitsRoom d x r → q.step ≡ record r.step { clocked = q.step.clocked; sets = q.step.sets } → q.step.clocked.count ≡ r.step.clocked.count
+    → IsSameButEarly (state_of r.step.sets) (state_of q.step.sets) → length q.scratch.saved ≡ length r.scratch.saved → q.scratch.pieces ≡ r.scratch.pieces → q.later ≡ record r.later { items = [] } → q.ran.room ≡ r.ran.room
+    → q.checks ≡ r.checks → FitsRoom d x q
+room_run d x r q room step count same saved pieces later ran checks =
+    let of = of_design_early d (flags_of x.step.codes.items) (state_of r.step.sets) (state_of q.step.sets) same room.sets in
+    let writers = no_writers (state_of r.step.sets) (state_of q.step.sets) (ap (λ (w : WakeState). w.writers) same) room.writers in
+    record {
+      changed = ap (λ (n : StepRoom). n.changed.size) step ∙ room.changed;
+      changes = subst (λ (n : StepRoom). length d.signals ≤ n.changes.room) (sym step) room.changes;
+      sets = of;
+      writers = writers;
+      list = ap (λ (n : StepRoom). n.list.count) step ∙ room.list;
+      clocked = count ∙ room.clocked;
+      overwritten = ap (λ (n : StepRoom). n.overwritten.size) step ∙ room.overwritten;
+      running = ap (λ (n : StepRoom). n.running.size) step ∙ room.running;
+      later = subst (λ (l : Queue ℕ). length d.processes ≤ l.room) (sym later) room.later;
+      none_later = ap (λ (l : Queue ℕ). l.items) later;
+      values = subst (λ (n : StepRoom). FitsSignals d n.values) (sym step) room.values;
+      saved = λ p l. subst (λ n. length (row_at x.step.targets p) ≤ n) (sym saved) (room.saved p l);
+      empty = ap (λ q. q.items) pieces ∙ room.empty;
+      pieces = subst (λ q. 128 ≤ q.room) (sym pieces) room.pieces;
+      ran = subst (λ n. length d.processes ≤ n) (sym ran) room.ran;
+      checks = ap (λ (k : Checks). k.size) checks ∙ room.checks;
+    }

@@ -9,7 +9,7 @@ use Rattle.body_store.specs.declared.store.Store.{Store}
 use Rattle.cover_marks.specs.Marks.{AreMarksOf}
 use Rattle.cover_points.specs.Listed.{points_of}
 use Rattle.cover_points.specs.declared.listing.Points.{Points}
-use Rattle.design_model.specs.Design.{Design, In, IsClocked, process_at}
+use Rattle.design_model.specs.Design.{Design}
 use Rattle.design_model.specs.Points.{IsPoint, StateNames}
 use Rattle.design_model.specs.Shows.{BoundDump, IsFirst, IsShown}
 use Rattle.design_model.specs.declared.point.Point.{Point}
@@ -44,24 +44,16 @@ use Rattle.dump_check.specs.Checks.{IsDifference}
 use Rattle.dump_check.specs.declared.order.Difference.{Difference}
 use Rattle.known_state.specs.Partly.{Partly}
 
--- a list without members
-no_members : (xs : List ℕ) → ((x : ℕ) → In x xs → ⊥) → xs ≡ []
-no_members [] none = refl
-no_members (x ∷ xs) none = absurd (none x (inl refl))
-
 -- without state machines there are no arcs
 no_machine : (d : Design) (i : ℕ) (name : List ℕ) (s : ℕ) (from to : List ℕ) (x y : Vector) → IsPoint d [] (arc_point i name s from to x y) → ⊥
 no_machine d i name s from to x y is = is.1
 
-module _ (d : Design) (points : Points) (x : ReplayTables) (replayable : IsReplayable d points) (runs : AreRuns d (runs_of d)) (fits : FitsTables d x) where
+module _ (d : Design) (h : Habit) (points : Points) (x : ReplayTables) (replayable : IsReplayable d points) (runs : AreRuns d (runs_of d)) (fits : FitsTables d x) where
   abbrev m : Made
-  m = made_with d points x
+  m = made_with d h points x
 
-  pub none_clocked : m.tables.clocked ≡ []
-  none_clocked = no_members m.tables.clocked (λ p i. replayable.unclocked p ((fits.tabled.clocked p).0 i).1)
-
-  pub is_subject : (h : Habit) (dump : BoundDump) → IsDumpFor m dump → IsSubject (subject_of m h dump)
-  is_subject h dump of = record {
+  pub is_subject : (dump : BoundDump) → IsDumpFor m dump → IsSubject (subject_of m dump)
+  is_subject dump of = record {
     is = record {
       lawful = replayable.lawful;
       fits = of.fits;
@@ -71,16 +63,16 @@ module _ (d : Design) (points : Points) (x : ReplayTables) (replayable : IsRepla
       arcs = λ i name s from to y z at. absurd (no_machine d i name s from to y z ((replayable.listed.members (arc_point i name s from to y z)).0 at));
     };
     wakes = replayable.own_wakes;
-    unclocked = none_clocked;
     listed = replayable.listed;
     apart = replayable.apart;
     once = replayable.once;
     bound = of.bound;
     flagged = flags_are m.codes;
     ranked = fits.ranked;
+    clocked = fits.clocked;
   }
 
-  module _ (h : Habit) (dump : BoundDump) (t : ℕ) (of : IsDumpFor m dump) (first : IsFirst dump t) (shown : IsShown dump t) where
+  module _ (dump : BoundDump) (t : ℕ) (of : IsDumpFor m dump) (first : IsFirst dump t) (shown : IsShown dump t) where
     -- what the store knew before the step is what the definition starts from
     pub is_first : (s : ReplayState) → IsUntouched d points s → AreDumped d m.codes s.values.last (dump.values t) → IsFirstOf d dump.bound (dump.values t) m.codes s.values.last s.store
     is_first s untouched given = record { bound = of.bound; dumped = given; knows = untouched.knows }
@@ -88,15 +80,15 @@ module _ (d : Design) (points : Points) (x : ReplayTables) (replayable : IsRepla
     -- where nothing contradicts the step the dump is followed up to its first time
     pub starts_at : (s : ReplayState) (y : Parts) → IsUntouched d points s → AreMarksOf points s.notes.marks → AreUnsigned s.values.last → AreDumped d m.codes s.values.last (dump.values t)
         → y.values.closed ≡ s.values.last → y.acted ≡ s.acted.items → y.marks ≡ s.notes.marks → y.seen ≡ s.seen → IsOfDesign d (flags_of m.codes) y.sets → HasNoWriters y.sets
-        → Knows d (first_replay (subject_of m h dump) t).kept y.store → ((c : Cell) → contradicts_first d dump.bound (runs_of d) m.tables (dump.values t) c ≡ false) → Follows (subject_of m h dump) t (first_replay (subject_of m h dump) t) y
+        → Knows d (first_replay (subject_of m dump) t).kept y.store → ((c : Cell) → contradicts_first d dump.bound (runs_of d) m.tables (dump.values t) c ≡ false) → Follows (subject_of m dump) t (first_replay (subject_of m dump) t) y
     starts_at s y untouched marks unsigned given values acted same seen sets writers knows none =
-        starts (subject_of m h dump) t y (is_subject h dump of) first shown sets writers
+        starts (subject_of m dump) t y (is_subject dump of) first shown sets writers
         (subst (λ vs. AreDumped d m.codes vs (dump.values t)) (sym values) given)
         (subst AreUnsigned (sym values) unsigned)
         none
-        (subst (λ fs. AtRest d points (first_replay (subject_of m h dump) t) y.store fs y.marks y.seen) (sym acted)
-        (subst (λ ms. AtRest d points (first_replay (subject_of m h dump) t) y.store s.acted.items ms y.seen) (sym same)
-        (subst (λ ts. AtRest d points (first_replay (subject_of m h dump) t) y.store s.acted.items s.notes.marks ts) (sym seen)
+        (subst (λ fs. AtRest d points (first_replay (subject_of m dump) t) y.store fs y.marks y.seen) (sym acted)
+        (subst (λ ms. AtRest d points (first_replay (subject_of m dump) t) y.store s.acted.items ms y.seen) (sym same)
+        (subst (λ ts. AtRest d points (first_replay (subject_of m dump) t) y.store s.acted.items s.notes.marks ts) (sym seen)
         (record {
           knows = knows;
           acted = λ p comb. untouched.acted p;
@@ -109,7 +101,7 @@ module _ (d : Design) (points : Points) (x : ReplayTables) (replayable : IsRepla
     pub refuted_at : (c : Cell) (last : List (Option Vector)) (found : Difference) (made : List Partly) → AreDumped d m.codes last (dump.values t) → contradicts_first d dump.bound (runs_of d) m.tables (dump.values t) c ≡ true
         → IsDifference m.codes last made found → IsRefuted d (habit_of h) dump t found.signal found.dumped found.computed.bits
     refuted_at c last found made given differs is = record {
-      contradicted = against_first (subject_of m h dump) t c (is_subject h dump of) first shown differs;
+      contradicted = against_first (subject_of m dump) t c (is_subject dump of) first shown differs;
       says = dumped_is d m.codes last (dump.values t) found.signal is.code found.dumped given is.coded is.dumped;
       differ = is.differ;
     }

@@ -3,7 +3,6 @@ use Rattle.std.specs.Prelude.{◌≡◌, ℕ, suc, List, Option}
 use Rattle.code_values.specs.Values.{Values}
 use Rattle.design_model.specs.Shows.{BoundDump, IsFirst, IsListed, IsShown, IsWindow}
 use Rattle.dump_check.specs.declared.order.Difference.{Difference}
-use Rattle.early_sets.specs.declared.habit.Habit.{Habit}
 use Rattle.replay_follows.specs.Follows.{Follows, Parts, Subject}
 use Rattle.replay_follows.specs.Laws.{AreGiven}
 use Rattle.replay_model.specs.Step.{Replay}
@@ -21,30 +20,29 @@ pub record IsDueAt (f : Subject) (t : ℕ) (a : Replay) (x : Parts) : Type 0 whe
   pub listed : IsListed f.dump (suc t)
 
 -- a fact of each dump of which the step that ends at this time is to be closed
-abbrev pub ForDue : Made → ℕ → Parts → (Habit → BoundDump → ℕ → Type 0) → Type 0
-ForDue m end x holds = (h : Habit) (dump : BoundDump) (t : ℕ) (a : Replay) → end ≡ suc t → IsDueAt (subject_of m h dump) t a x → holds h dump (suc t)
+abbrev pub ForDue : Made → ℕ → Parts → (BoundDump → ℕ → Type 0) → Type 0
+ForDue m end x holds = (dump : BoundDump) (t : ℕ) (a : Replay) → end ≡ suc t → IsDueAt (subject_of m dump) t a x → holds dump (suc t)
 
 -- after the step the parts have followed each such dump up to its end
 abbrev pub Closes : Made → ℕ → Parts → Parts → Type 0
-Closes m end x y = ForDue m end x (λ h dump t. (b : Replay) × Follows (subject_of m h dump) t b y)
+Closes m end x y = ForDue m end x (λ dump t. (b : Replay) × Follows (subject_of m dump) t b y)
 
 -- what was found refutes each such dump
 abbrev pub Refutes : Made → ℕ → Parts → Difference → Type 0
-Refutes m end x found = ForDue m end x (λ h dump t. IsRefuted m.design (habit_of h) dump t found.signal found.dumped found.computed.bits)
+Refutes m end x found = ForDue m end x (λ dump t. IsRefuted m.design (habit_of m.habit) dump t found.signal found.dumped found.computed.bits)
 
 -- so many bodies run in it
 abbrev pub Counts : Made → ℕ → Parts → ℕ → ℕ → Type 0
-Counts m end x before after = ForDue m end x (λ h dump t. CountsSensitive m.design dump t before after)
+Counts m end x before after = ForDue m end x (λ dump t. CountsSensitive m.design dump t before after)
 
 -- a fact of each dump of which this is the first time, where it has these values
-abbrev pub ForFirst : Made → ℕ → Values → (Habit → BoundDump → Type 0) → Type 0
-ForFirst m t values holds =
-    (h : Habit) (dump : BoundDump) → IsDumpFor m dump → IsFirst dump t → IsShown dump t → AreDumped m.design m.codes values.last (dump.values t) → holds h dump
+abbrev pub ForFirst : Made → ℕ → Values → (BoundDump → Type 0) → Type 0
+ForFirst m t values holds = (dump : BoundDump) → IsDumpFor m dump → IsFirst dump t → IsShown dump t → AreDumped m.design m.codes values.last (dump.values t) → holds dump
 
 -- after the first step the parts have followed each such dump up to its first time
 abbrev pub Starts : Made → ℕ → Values → Parts → Type 0
-Starts m t values y = ForFirst m t values (λ h dump. (b : Replay) × Follows (subject_of m h dump) t b y)
+Starts m t values y = ForFirst m t values (λ dump. (b : Replay) × Follows (subject_of m dump) t b y)
 
 -- what was found refutes each such dump
 abbrev pub RefutesFirst : Made → ℕ → Values → Difference → Type 0
-RefutesFirst m t values found = ForFirst m t values (λ h dump. IsRefuted m.design (habit_of h) dump t found.signal found.dumped found.computed.bits)
+RefutesFirst m t values found = ForFirst m t values (λ dump. IsRefuted m.design (habit_of m.habit) dump t found.signal found.dumped found.computed.bits)

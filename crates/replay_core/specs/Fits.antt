@@ -7,7 +7,7 @@ use Rattle.cover_marks.specs.Marks.{AreMarksOf}
 use Rattle.cover_points.specs.Listed.{IsPointList}
 use Rattle.cover_points.specs.Visits.{AreApart, AreOnce}
 use Rattle.cover_points.specs.declared.listing.Points.{Points}
-use Rattle.design_model.specs.Design.{Design, IsClocked, process_at, signal_at}
+use Rattle.design_model.specs.Design.{Design, signal_at}
 use Rattle.design_model.specs.Lawful.{IsLawfulDesign}
 use Rattle.early_sets.specs.WakeState.{state_of}
 use Rattle.four_state.specs.Vector.{Vector}
@@ -21,6 +21,7 @@ use Rattle.first_step.specs.settling.Runs.{HasRows}
 use Rattle.signal_marks.specs.Seen.{AreSeen}
 use Rattle.first_step.specs.step_changes.Changes.{AreSignalsOf, AreUnsigned}
 use Rattle.first_step.specs.step_check.Checks.{AreCheckRows}
+use Rattle.step_runs.specs.Rows.{AreWrittenRows}
 use Rattle.step_start.specs.step_parts.AtStep.{flag_at}
 use Rattle.first_step.specs.step_values.Loose.{has_code}
 use Rattle.first_step.specs.step_values.Vectors.{FitsSignals}
@@ -37,11 +38,10 @@ use Rattle.replay_core.specs.declared.room.ReplayRoom.{ReplayRoom}
 use Rattle.replay_core.specs.declared.state.ReplayState.{ReplayState}
 use Rattle.replay_core.specs.declared.tables.ReplayTables.{ReplayTables}
 
--- a lawful design whose steps can be replayed, without Clocked processes and memories, and its points
+-- a lawful design whose steps can be replayed, without memories, and its points
 pub record IsReplayable (d : Design) (points : Points) : Type 0 where
   pub lawful : IsLawfulDesign d
   pub own_wakes : HasOwnWakes d
-  pub unclocked : (p : ℕ) → IsClocked (process_at d p) → ⊥
   pub memories : d.memories ≡ []
   pub listed : IsPointList d [] points
   pub apart : AreApart points
@@ -53,7 +53,9 @@ pub record FitsTables (d : Design) (x : ReplayTables) : Type 0 where
   pub signals : AreSignalsOf x.step.codes.items x.step.signals
   pub tabled : AreTables d (has_code x.step.codes.items) (tables_of x.processes)
   pub ranked : AreRanksOf (x.processes.order.items ++ x.processes.last.items) (length d.processes) x.step.order
-  pub rows : HasRows d x.step.targets x.written x.wakes
+  pub clocked : AreRanksOf x.processes.clocked.items (length d.processes) x.step.clocked
+  pub written : AreWrittenRows d x.step.written
+  pub rows : HasRows d x.step.targets x.step.written x.wakes
   pub wakes : AreWakeRows d x.processes.watched x.wakes
   pub checks : AreCheckRows x.step.codes.items x.step.targets x.checks
 
@@ -64,6 +66,11 @@ pub record FitsRoom (d : Design) (x : ReplayTables) (r : ReplayRoom) : Type 0 wh
   pub sets : IsOfDesign d (flags_of x.step.codes.items) (state_of r.step.sets)
   pub writers : HasNoWriters (state_of r.step.sets)
   pub list : r.step.list.count ≡ length d.processes
+  pub clocked : r.step.clocked.count ≡ length d.processes
+  pub overwritten : r.step.overwritten.size ≡ length d.signals
+  pub running : r.step.running.size ≡ length d.processes
+  pub later : length d.processes ≤ r.later.room
+  pub none_later : r.later.items ≡ []
   pub values : FitsSignals d r.step.values
   pub saved : (p : ℕ) → p < length d.processes → length (row_at x.step.targets p) ≤ length r.scratch.saved
   pub empty : r.scratch.pieces.items ≡ []
@@ -76,7 +83,7 @@ abbrev pub AreWideValues : Design → List (Option ℕ) → List (Option Vector)
 AreWideValues d codes values =
     (s code : ℕ) (v : Vector) → slice_index_or codes s None ≡ Some code → value_of values code ≡ Some v → length v.bits ≡ (signal_at d s).width
 
--- what is kept is of the size of the design, and so are the values that the dump gave, which have no sign
+-- what is kept is of the size of the design, and so are the values that the dump gave, before and now; the new ones have no sign
 pub record FitsState (d : Design) (points : Points) (x : ReplayTables) (s : ReplayState) : Type 0 where
   pub kept : Kept
   pub known : Knows d kept s.store
@@ -86,6 +93,7 @@ pub record FitsState (d : Design) (points : Points) (x : ReplayTables) (s : Repl
   pub marks : AreMarksOf points s.notes.marks
   pub rows : length x.step.signals ≡ length s.values.last
   pub wide : AreWideValues d x.step.codes.items s.values.last
+  pub wide_closed : AreWideValues d x.step.codes.items s.values.closed
   pub unsigned : AreUnsigned s.values.last
 
 -- all three fit
@@ -115,6 +123,8 @@ pub record FitsReplay (d : Design) (points : Points) (x : ReplayTables) (r : Rep
   pub replayable : IsReplayable d points
   pub parts : FitsParts d points x r s
   pub none : r.step.list.pairs ≡ []
+  pub none_clocked : r.step.clocked.pairs ≡ []
   pub untouched : phase ≡ New → IsUntouched d points s
   pub begun : phase ≡ Started → HaveValues x.step.codes.items s.values.last
+  pub closed : phase ≡ Started → HaveValues x.step.codes.items s.values.closed
   pub refused : (fault : ReplayFault) → phase ≡ Refused fault → signal_of fault < length d.signals

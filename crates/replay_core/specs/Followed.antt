@@ -6,7 +6,6 @@ use Rattle.cover_points.specs.Listed.{points_of}
 use Rattle.design_model.specs.Clear.{IsForced}
 use Rattle.design_model.specs.Design.{signal_bits}
 use Rattle.design_model.specs.Shows.{BoundDump, IsListed, IsWindow}
-use Rattle.early_sets.specs.declared.habit.Habit.{Habit}
 use Rattle.four_state.specs.declared.bit.Bit.{Bit}
 use Rattle.first_step.specs.mark_laws.Marked.{AreVerdicts}
 use Rattle.replay_follows.specs.Follows.{Follows}
@@ -23,11 +22,11 @@ abbrev pub AreGivenAt : Replay → BoundDump → ℕ → Type 0
 AreGivenAt x dump t = AreDumped (made_of x).design (made_of x).codes (given_of x) (dump.values t)
 
 -- the replay has closed the steps of the dump up to this time
-pub record HasFollowed (x : Replay) (h : Habit) (dump : BoundDump) (t : ℕ) : Type 0 where
+pub record HasFollowed (x : Replay) (dump : BoundDump) (t : ℕ) : Type 0 where
   pub dumped : IsDumpFor (made_of x) dump
   pub started : IsStarted x
   pub replay : model.Replay
-  pub follows : Follows (subject_of (made_of x) h dump) t replay (parts_of x)
+  pub follows : Follows (subject_of (made_of x) dump) t replay (parts_of x)
 
 -- the step that ends at a time is the next one of the dump, before its last
 pub record IsNextStep (dump : BoundDump) (t end : ℕ) : Type 0 where
@@ -37,10 +36,10 @@ pub record IsNextStep (dump : BoundDump) (t end : ℕ) : Type 0 where
   pub between : (u : ℕ) → t < u → u < end → IsListed dump u → ⊥
 
 -- the marks of the points are verdicts that are sound and reasoned, and no value that is forced differs from the dump's
-pub record AreFinal (m : Made) (h : Habit) (dump : BoundDump) (marks : Marks) : Type 0 where
+pub record AreFinal (m : Made) (dump : BoundDump) (marks : Marks) : Type 0 where
   pub points : AreMarksOf m.points marks
   pub replay : model.Replay
   pub verdicts : AreVerdicts m.design m.points replay.notes marks.verdicts
-  pub sound : AreSoundVerdicts m.design (habit_of h) dump (points_of m.points) replay
-  pub reasoned : AreReasonedVerdicts m.design (habit_of h) dump (points_of m.points) replay
-  pub forced : (t s : ℕ) (bits : List Bit) → IsForced m.design (habit_of h) dump t s bits → signal_bits m.design (dump.values t) s ≡ bits
+  pub sound : AreSoundVerdicts m.design (habit_of m.habit) dump (points_of m.points) replay
+  pub reasoned : AreReasonedVerdicts m.design (habit_of m.habit) dump (points_of m.points) replay
+  pub forced : (t s : ℕ) (bits : List Bit) → IsForced m.design (habit_of m.habit) dump t s bits → signal_bits m.design (dump.values t) s ≡ bits

@@ -9,3 +9,4 @@ pub mod Followed
 pub use Rattle.first_step.specs.mark_laws as mark_laws
 pub use Rattle.first_step.specs.step_values as step_values
 pub use Rattle.replay_follows.specs as replay_follows
+pub use Rattle.wake_laws.specs as wake_laws

@@ -18,28 +18,32 @@ use Rattle.replay_core.specs.declared.tables.ReplayTables.{ReplayTables}
 -- what a replay is made of
 pub record Made : Type 0 where
   pub design : Design
+  pub habit : Habit  -- by which the inputs move
   pub points : Points
   pub codes : List (Option ℕ)  -- the code of each signal that the dump has
   pub tables : Tables
-  pub ranks : List (Option ℕ)  -- the place of each process in the order
+  pub ranks : List (Option ℕ)  -- the place of each Assign and Comb in the order
+  pub clocked_ranks : List (Option ℕ)  -- the place of each Clocked among them
 
--- of a design, its points and these tables
-abbrev pub made_with : Design → Points → ReplayTables → Made
-made_with d points x =
+-- of a design, a habit, its points and these tables
+abbrev pub made_with : Design → Habit → Points → ReplayTables → Made
+made_with d h points x =
     record {
       design = d;
+      habit = h;
       points = points;
       codes = x.step.codes.items;
       tables = tables_of x.processes;
       ranks = x.step.order;
+      clocked_ranks = x.step.clocked;
     }
 
--- what stays of a replay under a dump and a habit
-abbrev pub subject_of : Made → Habit → BoundDump → Subject
-subject_of m h dump =
+-- what stays of a replay under a dump
+abbrev pub subject_of : Made → BoundDump → Subject
+subject_of m dump =
     record {
       design = m.design;
-      habit = h;
+      habit = m.habit;
       dump = dump;
       run = runs_of m.design;
       tables = m.tables;
@@ -47,6 +51,7 @@ subject_of m h dump =
       flags = flags_of m.codes;
       codes = m.codes;
       ranks = m.ranks;
+      clocked_ranks = m.clocked_ranks;
     }
 
 -- what is kept in the room and the state

@@ -11,7 +11,7 @@ use Rattle.replay_core.specs.declared.replay.Replay.{Replay}
 
 -- what this replay is made of
 abbrev pub made_of : Replay → Made
-made_of x = made_with (design_view x.design.now) x.state.notes.points.now x.tables.value
+made_of x = made_with (design_view x.design.now) x.habit x.state.notes.points.now x.tables.value
 
 -- what it keeps
 abbrev pub parts_of : Replay → Parts

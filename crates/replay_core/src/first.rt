@@ -2,6 +2,7 @@
 
 ghost use Rattle.std.specs.Prelude.{◌≡◌, ◌+◌, ◌<◌, ◌≤◌, [], IfNone, IfSome, ℕ, length};
 ghost use Rattle.design_model.specs.View.{design_view};
+ghost use Rattle.early_sets.specs.declared.habit.Habit.{Habit};
 ghost use Rattle.replay_core.specs.Closing.{RefutesFirst, Starts};
 ghost use Rattle.replay_core.specs.Fits.{FitsParts, HaveValues, IsReplayable, IsUntouched};
 ghost use Rattle.replay_core.specs.Made.{made_with, parts_with};
@@ -28,14 +29,17 @@ pub(crate) fn run_first_step<L: Ledger>(
     requires replayable { IsReplayable (design_view design.now) state.old.notes.points.now }
     requires fits { FitsParts (design_view design.now) state.old.notes.points.now tables.now room.old state.old }
     requires none { room.old.step.list.pairs ≡ [] }
+    requires none_clocked { room.old.step.clocked.pairs ≡ [] }
     requires untouched { IsUntouched (design_view design.now) state.old.notes.points.now state.old }
     requires given { HaveValues tables.now.step.codes.items state.old.values.last }
     ensures fits { FitsParts (design_view design.now) state.old.notes.points.now tables.now room.new state.new }
     ensures none { room.new.step.list.pairs ≡ [] }
+    ensures none_clocked { room.new.step.clocked.pairs ≡ [] }
     ensures points { state.new.notes.points.now ≡ state.old.notes.points.now }
     ensures values { state.new.values.last ≡ state.old.values.last }
-    ensures starts { IfNone result ((t : ℕ) → Starts (made_with (design_view design.now) state.old.notes.points.now tables.now) t state.old.values (parts_with room.new state.new)) }
-    ensures refutes { IfSome result (λ found. (t : ℕ) → RefutesFirst (made_with (design_view design.now) state.old.notes.points.now tables.now) t state.old.values found) }
+    ensures closed { state.new.values.closed ≡ state.old.values.last }
+    ensures starts { IfNone result ((h : Habit) (t : ℕ) → Starts (made_with (design_view design.now) h state.old.notes.points.now tables.now) t state.old.values (parts_with room.new state.new)) }
+    ensures refutes { IfSome result (λ found. (h : Habit) (t : ℕ) → RefutesFirst (made_with (design_view design.now) h state.old.notes.points.now tables.now) t state.old.values found) }
     ensures named { IfSome result (λ found. found.signal < length design.now.signals) }
     ensures steps { steps.new ≤ steps.old + length design.now.processes }
 {

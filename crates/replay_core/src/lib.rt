@@ -1,13 +1,14 @@
-//! The replay of a dump of a design: what the dump says is compared with what the continuous assignments and combinational
-//! blocks make of it, step by step, and what each of them must have executed is marked.
+//! The replay of a dump of a design: what the dump says is compared with what the processes of the design make of it, step by
+//! step, and what each of them must have executed is marked.
 //!
 //! A [`Replay`] is made of a design, its points and the codes of its signals. [`Replay::change`] takes a change of a code,
 //! [`Replay::start`] closes the first step and [`Replay::close_step`] each later one, and [`Replay::finish`] hands out the
 //! marks. It is proved that what is kept and marked is right in every run of the design that shows the dump
-//! (`specs/Followed.antt`), and that no run shows a dump that is refused as a contradiction. A design has no Clocked process, no
-//! memory and no state machine for now. Only [`Replay::new`] takes memory.
+//! (`specs/Followed.antt`), and that no run shows a dump that is refused as a contradiction. A design has no memory and no
+//! state machine for now. Only [`Replay::new`] takes memory.
 #![tactic(auto)]
 
+mod clocked;
 mod fault;
 mod first;
 mod replay;

@@ -8,7 +8,6 @@ ghost use Rattle.design_model.specs.Design.{signal_at};
 ghost use Rattle.design_model.specs.Shows.{BoundDump, IsFirst, IsShown};
 ghost use Rattle.design_model.specs.View.{design_view};
 ghost use Rattle.dump_check.specs.declared.order.Difference.{Difference as Found};
-ghost use Rattle.early_sets.specs.declared.habit.Habit.{Habit};
 ghost use Rattle.four_state.specs.Vector.{Vector};
 ghost use Rattle.known_state.specs.Partly.{Partly};
 ghost use Rattle.first_step.specs.mark_laws.Marked.{AreVerdicts};
@@ -35,6 +34,7 @@ use cover_marks::Marks;
 use cover_points::{MOST_POINTS, Points};
 use design_model::Design;
 use dump_check::Difference;
+use early_sets::Habit;
 use four_state::Four;
 use std::alloc::Global;
 use std::sync::ledger::Ledger;
@@ -47,6 +47,7 @@ use step_counts::Steps;
 #[derive(Drop)]
 pub struct Replay<'a> {
     design: &'a Design,
+    habit: Habit,
     tables: Box<ReplayTables>,
     room: Box<ReplayRoom>,
     state: ReplayState<'a>,
@@ -57,11 +58,12 @@ impl<'a> Replay<'a> {
     ghost use Rattle.replay_core.specs.Followed.{AreFinal, AreGivenAt, HasFollowed, IsNextStep};
     ghost use Rattle.replay_core.specs.Parts.{HasRefused, IsNew, IsReady, IsStarted, given_of, made_of, without_sign};
 
-    /// The replay of the dumps of a design, of which these are the points, and of which this is the code of each signal that the dump
-    /// has. Nothing is known of any signal, no step is closed and no point is marked. All memory that is ever needed is taken
+    /// The replay of the dumps of a design whose inputs move by this habit, of which these are the points, and of which this is the code of
+    /// each signal that the dump has. Nothing is known of any signal, no step is closed and no point is marked. All memory that is ever needed is taken
     /// here, in the time of the design's text.
     pub fn new(
         alloc: Global,
+        habit: Habit,
         design: &'a Design,
         points: &'a Points,
         codes: Vec<Option<u32>>,
@@ -73,6 +75,7 @@ impl<'a> Replay<'a> {
         ensures ready { IfOk result IsReady }
         ensures new { IfOk result IsNew }
         ensures design { IfOk result (λ replay. (made_of replay).design ≡ design_view design.now) }
+        ensures habit { IfOk result (λ replay. (made_of replay).habit ≡ habit) }
         ensures points { IfOk result (λ replay. (made_of replay).points ≡ points.now) }
         ensures codes { IfOk result (λ replay. (made_of replay).codes ≡ codes.items) }
         ensures within { IfOk result (λ replay. (s code : ℕ) → slice_index_or codes.items s None ≡ Some code → code < length (given_of replay)) }
@@ -85,6 +88,7 @@ impl<'a> Replay<'a> {
         let state = make_state(alloc, design, points, count)?;
         Ok(Replay {
             design,
+            habit,
             tables,
             room,
             state,
@@ -101,7 +105,7 @@ impl<'a> Replay<'a> {
         ensures made { made_of self.new ≡ made_of self.old }
         ensures phase { self.new.phase ≡ self.old.phase }
         ensures values { given_of self.new ≡ slice_set (given_of self.old) code (Some (without_sign value.now)) }
-        ensures followed { (h : Habit) (dump : BoundDump) (t : ℕ) → HasFollowed self.old h dump t → HasFollowed self.new h dump t }
+        ensures followed { (dump : BoundDump) (t : ℕ) → HasFollowed self.old dump t → HasFollowed self.new dump t }
     {
         self.state.values.set(code, unsigned(value));
     }
@@ -127,12 +131,12 @@ impl<'a> Replay<'a> {
         ensures values { given_of self.new ≡ given_of self.old }
 
         ensures started { OnOk result (IsStarted self.new) }
-        ensures followed { OnOk result ((h : Habit) (dump : BoundDump) → IsDumpFor (made_of self.old) dump → IsFirst dump time → IsShown dump time → AreGivenAt self.old dump time → HasFollowed self.new h dump time) }
+        ensures followed { OnOk result ((dump : BoundDump) → IsDumpFor (made_of self.old) dump → IsFirst dump time → IsShown dump time → AreGivenAt self.old dump time → HasFollowed self.new dump time) }
 
         ensures refused { IfErr result (HasRefused self.new) }
         ensures missing { (s : ℕ) → IsNew self.old → result ≡ Err (fault_is.NoBaseline s) → IsFirstMissing (given_of self.old) (made_of self.old).codes s }
-        ensures contradiction { IfErr result (λ fault. (h : Habit) (dump : BoundDump) → IsNew self.old → IsDumpFor (made_of self.old) dump → IsFirst dump time → IsShown dump time → AreGivenAt self.old dump time
-            → IsContradiction (made_of self.old).design (habit_of h) dump time fault) }
+        ensures contradiction { IfErr result (λ fault. (dump : BoundDump) → IsNew self.old → IsDumpFor (made_of self.old) dump → IsFirst dump time → IsShown dump time → AreGivenAt self.old dump time
+            → IsContradiction (made_of self.old).design (habit_of (made_of self.old).habit) dump time fault) }
         ensures valued { (s t : ℕ) (dumped : Vector) (computed : Partly) → IsNew self.old → result ≡ Err (fault_is.Contradiction s t dumped computed) → HaveValues (made_of self.old).codes (given_of self.old) }
         ensures again { (fault : TheFault) → HasRefused self.old fault → (result ≡ Err fault) × (self.new ≡ self.old) }
         ensures named { IfErr result (λ fault. signal_of fault < length (made_of self.old).design.signals) }
@@ -173,15 +177,15 @@ impl<'a> Replay<'a> {
         ensures values { given_of self.new ≡ given_of self.old }
 
         ensures started { OnOk result (IsStarted self.new) }
-        ensures followed { OnOk result ((h : Habit) (dump : BoundDump) (t : ℕ) → HasFollowed self.old h dump t → IsNextStep dump t time → AreGivenAt self.old dump time → HasFollowed self.new h dump time) }
+        ensures followed { OnOk result ((dump : BoundDump) (t : ℕ) → HasFollowed self.old dump t → IsNextStep dump t time → AreGivenAt self.old dump time → HasFollowed self.new dump time) }
 
         ensures refused { IfErr result (HasRefused self.new) }
-        ensures contradiction { IfErr result (λ fault. (h : Habit) (dump : BoundDump) (t : ℕ) → HasFollowed self.old h dump t → IsNextStep dump t time → AreGivenAt self.old dump time
-            → IsContradiction (made_of self.old).design (habit_of h) dump time fault) }
+        ensures contradiction { IfErr result (λ fault. (dump : BoundDump) (t : ℕ) → HasFollowed self.old dump t → IsNextStep dump t time → AreGivenAt self.old dump time
+            → IsContradiction (made_of self.old).design (habit_of (made_of self.old).habit) dump time fault) }
         ensures again { (fault : TheFault) → HasRefused self.old fault → (result ≡ Err fault) × (self.new ≡ self.old) }
         ensures named { IfErr result (λ fault. signal_of fault < length (made_of self.old).design.signals) }
 
-        ensures steps { (h : Habit) (dump : BoundDump) (t : ℕ) → HasFollowed self.old h dump t → IsNextStep dump t time → AreGivenAt self.old dump time
+        ensures steps { (dump : BoundDump) (t : ℕ) → HasFollowed self.old dump t → IsNextStep dump t time → AreGivenAt self.old dump time
             → CountsSensitive (made_of self.old).design dump time steps.old steps.new }
     {
         if let Phase::Refused(fault) = self.phase {
@@ -189,6 +193,7 @@ impl<'a> Replay<'a> {
         }
         let found = run_step(
             self.design,
+            self.habit,
             &self.tables,
             &mut self.room,
             &mut self.state,
@@ -202,7 +207,7 @@ impl<'a> Replay<'a> {
     pub fn finish(self) -> Marks
         requires ready { IsReady self }
         ensures points { AreMarksOf (made_of self.entry).points result }
-        ensures followed { (h : Habit) (dump : BoundDump) (t : ℕ) → HasFollowed self.entry h dump t → IsLastStep dump t → AreFinal (made_of self.entry) h dump result }
+        ensures followed { (dump : BoundDump) (t : ℕ) → HasFollowed self.entry dump t → IsLastStep dump t → AreFinal (made_of self.entry) dump result }
         ensures new { IsNew self.entry → AreVerdicts (made_of self.entry).design (made_of self.entry).points [] result.verdicts }
     {
         let state = self.state;

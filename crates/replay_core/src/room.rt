@@ -32,7 +32,9 @@ pub(crate) struct ReplayRoom {
     pub(crate) step: StepRoom,
     /// What the run of a process uses.
     pub(crate) scratch: Scratch,
-    /// The processes that ran, in order.
+    /// The Clocked processes that are not clean, while the clean ones run.
+    pub(crate) later: Queue<u32>,
+    /// The processes that ran, in order: the Clocked, and then the others.
     pub(crate) ran: Queue<usize>,
     /// The signals that are compared with the dump.
     pub(crate) checks: CheckOrder,
@@ -50,14 +52,17 @@ pub(crate) fn make_room(
     requires bound { bound.now ≡ flags_of tables.now.step.codes.items }
     ensures fits { IfOk result (λ room. FitsRoom (design_view design.now) tables.now room.value) }
     ensures none { IfOk result (λ room. room.value.step.list.pairs ≡ []) }
+    ensures none_clocked { IfOk result (λ room. room.value.step.clocked.pairs ≡ []) }
 {
-    let step = step_room(alloc, design, bound)?;
     let scratch = scratch_room(alloc, design, tables)?;
+    let later = Queue::new(alloc, design.processes.len())?;
     let ran = Queue::new(alloc, design.processes.len())?;
     let checks = CheckOrder::new(alloc, design.signals.len() as u32)?;
+    let step = step_room(alloc, design, bound)?;
     let room = ReplayRoom {
         step,
         scratch,
+        later,
         ran,
         checks,
     };
@@ -73,21 +78,83 @@ fn step_room(alloc: Global, design: &Design, bound: &[bool]) -> Result<StepRoom,
     ensures writers { IfOk result (λ step. HasNoWriters (state_of step.sets)) }
     ensures list { IfOk result (λ step. step.list.count ≡ length design.now.processes) }
     ensures none { IfOk result (λ step. step.list.pairs ≡ []) }
+    ensures clocked { IfOk result (λ step. step.clocked.count ≡ length design.now.processes) }
+    ensures none_clocked { IfOk result (λ step. step.clocked.pairs ≡ []) }
+    ensures overwritten { IfOk result (λ step. step.overwritten.size ≡ length design.now.signals) }
+    ensures running { IfOk result (λ step. step.running.size ≡ length design.now.processes) }
     ensures values { IfOk result (λ step. FitsSignals (design_view design.now) step.values) }
 {
-    let signals = design.signals.len();
-    let changed = IndexSet::new(alloc, signals)?;
-    let changes = Queue::new(alloc, signals)?;
-    let sets = wakes_of(alloc, design, bound)?;
-    let list = WakeList::new(alloc, design.processes.len() as u32)?;
+    let lists = step_lists(alloc, design)?;
+    let changes = Queue::new(alloc, design.signals.len())?;
     let values = StepValues::new(alloc, design)?;
+    let sets = wakes_of(alloc, design, bound)?;
     Ok(StepRoom {
-        changed,
+        changed: lists.changed,
         changes,
         sets,
-        list,
+        clocked: lists.clocked,
+        overwritten: lists.overwritten,
+        running: lists.running,
+        list: lists.list,
         values,
     })
+}
+
+/// The sets and wake lists among what a step begins with.
+#[derive(Drop)]
+struct StepLists {
+    changed: IndexSet,
+    overwritten: IndexSet,
+    running: IndexSet,
+    clocked: WakeList,
+    list: WakeList,
+}
+
+/// They are of the size of the design, and empty.
+fn step_lists(alloc: Global, design: &Design) -> Result<StepLists, NoMemory>
+    requires { IsLawfulDesign (design_view design.now) }
+    ensures changed { IfOk result (λ lists. lists.changed.size ≡ length design.now.signals) }
+    ensures overwritten { IfOk result (λ lists. lists.overwritten.size ≡ length design.now.signals) }
+    ensures running { IfOk result (λ lists. lists.running.size ≡ length design.now.processes) }
+    ensures clocked { IfOk result (λ lists. lists.clocked.count ≡ length design.now.processes) }
+    ensures none_clocked { IfOk result (λ lists. lists.clocked.pairs ≡ []) }
+    ensures list { IfOk result (λ lists. lists.list.count ≡ length design.now.processes) }
+    ensures none { IfOk result (λ lists. lists.list.pairs ≡ []) }
+{
+    let (changed, overwritten, running) = index_sets(alloc, design)?;
+    let (clocked, list) = wake_lists(alloc, design)?;
+    Ok(StepLists {
+        changed,
+        overwritten,
+        running,
+        clocked,
+        list,
+    })
+}
+
+/// The sets of the signals that have changed, of those that the Clocked have overwritten, and of the processes to run.
+fn index_sets(alloc: Global, design: &Design) -> Result<(IndexSet, IndexSet, IndexSet), NoMemory>
+    ensures changed { IfOk result (λ sets. sets.0.size ≡ length design.now.signals) }
+    ensures overwritten { IfOk result (λ sets. sets.1.size ≡ length design.now.signals) }
+    ensures running { IfOk result (λ sets. sets.2.size ≡ length design.now.processes) }
+{
+    let changed = IndexSet::new(alloc, design.signals.len())?;
+    let overwritten = IndexSet::new(alloc, design.signals.len())?;
+    let running = IndexSet::new(alloc, design.processes.len())?;
+    Ok((changed, overwritten, running))
+}
+
+/// The wake list of the Clocked, and that of the others.
+fn wake_lists(alloc: Global, design: &Design) -> Result<(WakeList, WakeList), NoMemory>
+    requires { IsLawfulDesign (design_view design.now) }
+    ensures clocked { IfOk result (λ lists. lists.0.count ≡ length design.now.processes) }
+    ensures none_clocked { IfOk result (λ lists. lists.0.pairs ≡ []) }
+    ensures list { IfOk result (λ lists. lists.1.count ≡ length design.now.processes) }
+    ensures none { IfOk result (λ lists. lists.1.pairs ≡ []) }
+{
+    let clocked = WakeList::new(alloc, design.processes.len() as u32)?;
+    let list = WakeList::new(alloc, design.processes.len() as u32)?;
+    Ok((clocked, list))
 }
 
 /// The room for the run of a process.

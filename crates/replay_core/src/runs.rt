@@ -2,6 +2,7 @@
 
 ghost use Rattle.std.specs.Prelude.{◌≡◌, ◌<◌, ◌+◌, [], length, map};
 ghost use Rattle.std.specs.List.{All};
+ghost use Rattle.design_model.specs.Design.{IsClocked, process_at};
 ghost use Rattle.design_model.specs.View.{design_view};
 ghost use Rattle.early_sets.specs.WakeState.{state_of};
 ghost use Rattle.replay_model.specs.Step.{Closing, all_run, clocked_run, settle_start};
@@ -22,14 +23,14 @@ use step_runs::run_all;
 pub(crate) fn process_rows<'b>(design: &'b Design, tables: &'b ReplayTables) -> ProcessRows<'b>
     ensures design { result.design.now ≡ design.now }
     ensures targets { result.targets.now ≡ tables.now.step.targets }
-    ensures written { result.written.now ≡ tables.now.written }
+    ensures written { result.written.now ≡ tables.now.step.written }
     ensures wakes { result.wakes.now ≡ tables.now.wakes }
     ensures codes { result.codes.now ≡ tables.now.step.codes.items }
 {
     ProcessRows {
         design,
         targets: &tables.step.targets,
-        written: &tables.written,
+        written: &tables.step.written,
         wakes: &tables.wakes,
         codes: tables.step.codes.as_slice(),
     }
@@ -46,7 +47,9 @@ pub(crate) fn run_woken<L: Ledger>(
 )
     requires replayable { IsReplayable (design_view design.now) state.old.notes.points.now }
     requires fits { FitsParts (design_view design.now) state.old.notes.points.now tables.now room.old state.old }
+    requires settles { All (λ q. IsClocked (process_at (design_view design.now) q.0) → ⊥) room.old.step.list.pairs }
     ensures fits { FitsParts (design_view design.now) state.old.notes.points.now tables.now room.new state.new }
+    ensures clocked { room.new.step.clocked ≡ room.old.step.clocked }
     ensures none { room.new.step.list.pairs ≡ [] }
     ensures within { All (λ p. p < length design.now.processes) room.new.ran.items }
     ensures ran { room.new.ran.items ≡ map (λ q. q.0) room.old.step.list.pairs }

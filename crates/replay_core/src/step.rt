@@ -19,6 +19,7 @@ ghost use Rattle.replay_core.specs.Closing.{Closes, Counts, Refutes};
 ghost use Rattle.replay_core.specs.Fits.{FitsParts, HaveValues, IsReplayable};
 ghost use Rattle.replay_core.specs.Made.{made_with, parts_with};
 
+use crate::clocked::run_woken_clocked;
 use crate::room::ReplayRoom;
 use crate::runs::run_woken;
 use crate::state::ReplayState;
@@ -26,18 +27,20 @@ use crate::tables::ReplayTables;
 use body_store::Store;
 use design_model::Design;
 use dump_check::Difference;
+use early_sets::Habit;
 use first_step::{StepValues, check};
 use signal_marks::SignalMarks;
 use std::sync::ledger::Ledger;
 use step_counts::Steps;
 use step_marks::mark_moved;
 use step_runs::MarkNotes;
-use step_start::begin_step;
+use step_start::{find_step, settle_step};
 
 /// Closes the step that ends at this time, where each signal with a code has a value. The result is the signal that contradicts it,
 /// if there is one.
 pub(crate) fn run_step<L: Ledger>(
     design: &Design,
+    habit: Habit,
     tables: &ReplayTables,
     room: &mut ReplayRoom,
     state: &mut ReplayState,
@@ -47,18 +50,25 @@ pub(crate) fn run_step<L: Ledger>(
     requires replayable { IsReplayable (design_view design.now) state.old.notes.points.now }
     requires fits { FitsParts (design_view design.now) state.old.notes.points.now tables.now room.old state.old }
     requires none { room.old.step.list.pairs ≡ [] }
+    requires none_clocked { room.old.step.clocked.pairs ≡ [] }
+    requires closed { HaveValues tables.now.step.codes.items state.old.values.closed }
     requires given { HaveValues tables.now.step.codes.items state.old.values.last }
     ensures fits { FitsParts (design_view design.now) state.old.notes.points.now tables.now room.new state.new }
     ensures none { room.new.step.list.pairs ≡ [] }
+    ensures none_clocked { room.new.step.clocked.pairs ≡ [] }
     ensures points { state.new.notes.points.now ≡ state.old.notes.points.now }
     ensures values { state.new.values.last ≡ state.old.values.last }
-    ensures closes { IfNone result (Closes (made_with (design_view design.now) state.old.notes.points.now tables.now) time (parts_with room.old state.old) (parts_with room.new state.new)) }
-    ensures refutes { IfSome result (Refutes (made_with (design_view design.now) state.old.notes.points.now tables.now) time (parts_with room.old state.old)) }
-    ensures counts { Counts (made_with (design_view design.now) state.old.notes.points.now tables.now) time (parts_with room.old state.old) steps.old steps.new }
+    ensures closed { IfNone result (state.new.values.closed ≡ state.old.values.last) }
+    ensures closes { IfNone result (Closes (made_with (design_view design.now) habit state.old.notes.points.now tables.now) time (parts_with room.old state.old) (parts_with room.new state.new)) }
+    ensures refutes { IfSome result (Refutes (made_with (design_view design.now) habit state.old.notes.points.now tables.now) time (parts_with room.old state.old)) }
+    ensures counts { Counts (made_with (design_view design.now) habit state.old.notes.points.now tables.now) time (parts_with room.old state.old) steps.old steps.new }
     ensures named { IfSome result (λ found. found.signal < length design.now.signals) }
 {
-    if let Some(found) = begin_step(
+    find_step(&tables.step, &state.values, &mut room.step, &state.store);
+    run_woken_clocked(design, habit, tables, room, state, time, steps);
+    if let Some(found) = settle_step(
         &tables.step,
+        room.ran.as_slice(),
         &state.values,
         &mut room.step,
         &mut state.store,

@@ -9,6 +9,7 @@ ghost use Rattle.replay_model.specs.Tables.{AreTables};
 ghost use Rattle.run_order.specs.Ranked.{AreRanksOf};
 ghost use Rattle.first_step.specs.step_changes.Changes.{AreSignalsOf};
 ghost use Rattle.first_step.specs.step_values.Loose.{has_code};
+ghost use Rattle.step_runs.specs.Rows.{AreWrittenRows};
 ghost use Rattle.replay_core.specs.Codes.{flags_of};
 ghost use Rattle.replay_core.specs.Fits.{FitsTables};
 
@@ -32,8 +33,6 @@ pub(crate) struct ReplayTables {
     pub(crate) step: StepTables,
     /// The order in which the processes are run.
     pub(crate) processes: ProcessTables,
-    /// The signals that each process assigns.
-    pub(crate) written: Rows<u32>,
     /// What each process watches, with the bits that wake it.
     pub(crate) wakes: Rows<Wake>,
     /// The signals with a code of which each process may write a bit.
@@ -60,7 +59,6 @@ pub(crate) fn make_tables(
 {
     let processes = process_tables(alloc, design, bound)?;
     let step = step_tables(alloc, design, codes, &processes, count)?;
-    let written = written_rows(alloc, design)?;
     let wakes = wake_rows(alloc, design, &processes.watched, &step.targets)?;
     let checks = check_rows(
         alloc,
@@ -72,7 +70,6 @@ pub(crate) fn make_tables(
     let tables = ReplayTables {
         step,
         processes,
-        written,
         wakes,
         checks,
     };
@@ -96,20 +93,26 @@ fn step_tables(
     ensures count { IfOk result (λ step. length step.signals ≡ count) }
     ensures targets { IfOk result (λ step. AreTargetRows (design_view design.now) step.targets) }
     ensures ranked { IfOk result (λ step. AreRanksOf (processes.now.order.items ++ processes.now.last.items) (length design.now.processes) step.order) }
+    ensures clocked { IfOk result (λ step. AreRanksOf processes.now.clocked.items (length design.now.processes) step.clocked) }
+    ensures written { IfOk result (λ step. AreWrittenRows (design_view design.now) step.written) }
 {
     let lists = code_lists(alloc, codes.as_slice())?;
     let signals = transpose(alloc, lists.as_slice(), count)?;
     let targets = target_rows(alloc, design)?;
     let order = order_of(alloc, design, processes)?;
+    let clocked = clocked_order(alloc, design, processes)?;
+    let written = written_rows(alloc, design)?;
     Ok(StepTables {
         codes,
         signals,
         targets,
         order,
+        clocked,
+        written,
     })
 }
 
-/// The place of each process in the order in which they run.
+/// The place of each Assign and Comb in the order in which they run.
 fn order_of(alloc: Global, design: &Design, processes: &ProcessTables) -> Result<RunOrder, NoMemory>
     requires lawful { IsLawfulDesign (design_view design.now) }
     requires tabled { (bound : ℕ → Bool) × AreTables (design_view design.now) bound (tables_of processes.now) }
@@ -117,4 +120,21 @@ fn order_of(alloc: Global, design: &Design, processes: &ProcessTables) -> Result
 {
     let all = joined(alloc, processes.order.as_slice(), processes.last.as_slice())?;
     RunOrder::new(alloc, design.processes.len() as u32, all.as_slice())
+}
+
+/// The place of each Clocked among them, in order of the design.
+fn clocked_order(
+    alloc: Global,
+    design: &Design,
+    processes: &ProcessTables,
+) -> Result<RunOrder, NoMemory>
+    requires lawful { IsLawfulDesign (design_view design.now) }
+    requires tabled { (bound : ℕ → Bool) × AreTables (design_view design.now) bound (tables_of processes.now) }
+    ensures { IfOk result (AreRanksOf processes.now.clocked.items (length design.now.processes)) }
+{
+    RunOrder::new(
+        alloc,
+        design.processes.len() as u32,
+        processes.clocked.as_slice(),
+    )
 }

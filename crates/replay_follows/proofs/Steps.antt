@@ -12,8 +12,7 @@ use Rattle.step_parts.proofs.replay_model.StandsLaws.{first_stands_law, step_sta
 use Rattle.step_parts.specs.replay_model.Step.{Replay}
 use Rattle.step_parts.proofs.replay_steps.Resting.{rests}
 use Rattle.step_parts.specs.replay_sets.SetsOf.{sets_of}
-use Rattle.step_parts.specs.step_changes.Changes.{AreUnsigned, IsDue, none_early}
-use Rattle.step_parts.proofs.step_changes.Woken.{none_clocked}
+use Rattle.step_parts.specs.step_changes.Changes.{AreUnsigned, IsDue}
 use Rattle.step_parts.specs.step_values.Dumped.{AreDumped}
 use Rattle.step_parts.proofs.step_values.Bound.{bound_known}
 use Rattle.step_parts.specs.wake_laws.Laws.{habit_of}
@@ -104,7 +103,6 @@ due f t a x follows given =
     let back : t ≡ suc t - 1 = omega arith in
     let changes : IsDue f.design f.dump (suc t) f.flags f.codes x.values x.sets = record {
       lawful = s.is.lawful;
-      unclocked = none_clocked f.design f.dump.bound f.tables s.is.tabled s.unclocked;
       tables = follows.sets;
       writers = follows.writers;
       round = given.round;
@@ -118,15 +116,16 @@ due f t a x follows given =
     } in
     record {
       changes = changes;
+      runs = s.is.runs;
       tabled = s.is.tabled;
-      unclocked = s.unclocked;
       ranked = s.ranked;
+      clocked = s.clocked;
       rest = follows.rest;
       known = bound_known f.design (habit_of f.habit) f.dump f.tables t a s.is.fits.signals follows.shown follows.stands.known;
     }
 
 pub closes : ClosedLaw
-closes f t a x y follows given window listed sets of writers none values rest =
+closes f t a x y early follows given window listed sets of writers none values rest =
     let s = follows.subject in
     record {
       subject = s;
@@ -136,13 +135,13 @@ closes f t a x y follows given window listed sets of writers none values rest =
       unsigned = subst AreUnsigned (sym values) given.unsigned;
       rest = rest;
       shown = shown_of f.dump.times (suc t) window;
-      stands = step_stands_law (habit_of f.habit) f.design f.dump f.run f.tables (points_of f.points) s.is s.wakes t (sets_of y.sets none_early) a window listed sets none follows.stands;
+      stands = step_stands_law (habit_of f.habit) f.design f.dump f.run f.tables (points_of f.points) s.is s.wakes t (sets_of y.sets early) a window listed sets none follows.stands;
     }
 
 pub against : ContradictedLaw
-against f t a x sets c follows window are differs r showing =
+against f t a x sets early c follows window are differs r showing =
     let s = follows.subject in
-    contradiction_law (habit_of f.habit) f.design f.dump f.run f.tables (points_of f.points) s.is t (sets_of sets none_early) a c window are follows.stands.sound differs r showing
+    contradiction_law (habit_of f.habit) f.design f.dump f.run f.tables (points_of f.points) s.is t (sets_of sets early) a c window are follows.stands.sound differs r showing
 
 -- ---- the end of the dump
 

@@ -35,19 +35,20 @@ pub record Subject : Type 0 where
   pub points : Points
   pub flags : List Bool  -- for each signal whether the dump has it
   pub codes : List (Option ℕ)  -- the code of each signal
-  pub ranks : List (Option ℕ)  -- the place of each process in the order
+  pub ranks : List (Option ℕ)  -- the place of each Assign and Comb in the order
+  pub clocked_ranks : List (Option ℕ)  -- the place of each Clocked among them
 
--- it is of a lawful design without Clocked processes and state machines, and the codes and the places are those of its dump and tables
+-- it is of a lawful design without state machines, and the codes and the places are those of its dump and tables
 pub record IsSubject (f : Subject) : Type 0 where
   pub is : IsReplayOf f.design (habit_of f.habit) f.dump f.run f.tables (points_of f.points)
   pub wakes : HasOwnWakes f.design
-  pub unclocked : f.tables.clocked ≡ []
   pub listed : IsPointList f.design [] f.points
   pub apart : AreApart f.points
   pub once : AreOnce f.points
   pub bound : (s : ℕ) → f.dump.bound s ≡ has_code f.codes s
   pub flagged : (s : ℕ) → flag_at f.flags s ≡ has_code f.codes s
   pub ranked : AreRanksOf (f.tables.order ++ f.tables.last) (length f.design.processes) f.ranks
+  pub clocked : AreRanksOf f.tables.clocked (length f.design.processes) f.clocked_ranks
 
 -- the parts of the code after the step that was closed last
 pub record Parts : Type 0 where

@@ -15,7 +15,7 @@ use Rattle.step_parts.specs.replay_model.Sets.{AreFirstSets}
 use Rattle.step_parts.specs.replay_model.Start.{contradicts_first, started}
 use Rattle.step_parts.specs.replay_model.Step.{Closing, Replay, closed, contradicts}
 use Rattle.step_parts.specs.replay_sets.SetsOf.{sets_of}
-use Rattle.step_parts.specs.step_changes.Changes.{AreUnsigned, none_early}
+use Rattle.step_parts.specs.step_changes.Changes.{AreUnsigned}
 use Rattle.step_parts.specs.AtStep.{AtRest}
 use Rattle.step_parts.specs.Due.{Due, IsDueStep, step_of}
 use Rattle.step_parts.specs.step_values.Dumped.{AreDumped}
@@ -45,13 +45,13 @@ due_at f t a x =
       seen = x.seen;
     }
 
--- this step by these sets
-abbrev pub step_at : Subject → ℕ → Replay → Parts → WakeState → Closing
-step_at f t a x sets = step_of (due_at f t a x) sets
+-- this step by these sets, and by what is early for its clean blocks
+abbrev pub step_at : Subject → ℕ → Replay → Parts → WakeState → (ℕ → List ℕ) → Closing
+step_at f t a x sets early = step_of (due_at f t a x) sets early
 
 -- the replay after it
-abbrev pub next_replay : Subject → ℕ → Replay → Parts → WakeState → Replay
-next_replay f t a x sets = closed (step_at f t a x sets) (points_of f.points)
+abbrev pub next_replay : Subject → ℕ → Replay → Parts → WakeState → (ℕ → List ℕ) → Replay
+next_replay f t a x sets early = closed (step_at f t a x sets early) (points_of f.points)
 
 -- the values that are given last are those of the dump at this time, and its step is judged by the first round
 pub record AreGiven (f : Subject) (x : Parts) (t : ℕ) : Type 0 where
@@ -93,22 +93,22 @@ NextLaw =
 
 -- once the dump's values at the time after it are given, the next step is due
 abbrev pub DueLaw : Type 0
-DueLaw = (f : Subject) (t : ℕ) (a : Replay) (x : Parts) → Follows f t a x → AreGiven f x (suc t) → IsDueStep (due_at f t a x) f.codes f.ranks x.sets x.values x.store
+DueLaw = (f : Subject) (t : ℕ) (a : Replay) (x : Parts) → Follows f t a x → AreGiven f x (suc t) → IsDueStep (due_at f t a x) f.codes f.ranks f.clocked_ranks x.sets x.values x.store
 
 -- after a step that nothing contradicts the replay has followed the dump up to its end
 abbrev pub ClosedLaw : Type 0
 ClosedLaw =
-    (f : Subject) (t : ℕ) (a : Replay) (x y : Parts) → Follows f t a x → AreGiven f x (suc t) → IsWindow f.dump (suc t) → IsListed f.dump (suc t)
-    → AreFirstSets f.design (habit_of f.habit) f.dump (suc t) (sets_of y.sets none_early) → IsOfDesign f.design f.flags y.sets → HasNoWriters y.sets
-    → ((c : Cell) → contradicts (step_at f t a x y.sets) c ≡ false) → y.values.closed ≡ x.values.last
-    → AtRest f.design f.points (next_replay f t a x y.sets) y.store y.acted y.marks y.seen
-    → Follows f (suc t) (next_replay f t a x y.sets) y
+    (f : Subject) (t : ℕ) (a : Replay) (x y : Parts) (early : ℕ → List ℕ) → Follows f t a x → AreGiven f x (suc t) → IsWindow f.dump (suc t) → IsListed f.dump (suc t)
+    → AreFirstSets f.design (habit_of f.habit) f.dump (suc t) (sets_of y.sets early) → IsOfDesign f.design f.flags y.sets → HasNoWriters y.sets
+    → ((c : Cell) → contradicts (step_at f t a x y.sets early) c ≡ false) → y.values.closed ≡ x.values.last
+    → AtRest f.design f.points (next_replay f t a x y.sets early) y.store y.acted y.marks y.seen
+    → Follows f (suc t) (next_replay f t a x y.sets early) y
 
 -- where some bit contradicts a step, no run shows the dump up to its end
 abbrev pub ContradictedLaw : Type 0
 ContradictedLaw =
-    (f : Subject) (t : ℕ) (a : Replay) (x : Parts) (sets : WakeState) (c : Cell) → Follows f t a x → IsWindow f.dump (suc t)
-    → AreFirstSets f.design (habit_of f.habit) f.dump (suc t) (sets_of sets none_early) → contradicts (step_at f t a x sets) c ≡ true → IsRefused f (suc t)
+    (f : Subject) (t : ℕ) (a : Replay) (x : Parts) (sets : WakeState) (early : ℕ → List ℕ) (c : Cell) → Follows f t a x → IsWindow f.dump (suc t)
+    → AreFirstSets f.design (habit_of f.habit) f.dump (suc t) (sets_of sets early) → contradicts (step_at f t a x sets early) c ≡ true → IsRefused f (suc t)
 
 -- the dump lists no time of its window after this one
 abbrev pub IsLastStep : BoundDump → ℕ → Type 0

@@ -31,7 +31,7 @@ use Rattle.source_files.specs.Files.{Grow, IsFile, Lacks, path_of}
 use Rattle.source_files.specs.Joining.{IsRefusedCall}
 use Rattle.source_files.proofs.Growing.{grow_within, grows_on, lacking_there, root_fits, root_there, settled}
 use Rattle.source_files.proofs.OneList.{one_list, one_list_of_roots, one_text}
-use Rattle.source_design.specs.Form.{HasLevelsAlone}
+use Rattle.source_design.specs.Form.{HasNoMemory}
 use Rattle.source_design.specs.Accepted.{AreAccepted, AreFaulty, StandFor}
 use Rattle.source_design.specs.Reading.{HasBegun, HasFullInclude, HasFullRoot, HasSources, IsSourceFault, LacksAt}
 use Rattle.source_design.specs.Refusals.{AreOfNoForm, AreRefused, IsFoundAt}
@@ -102,7 +102,7 @@ no_form_or_design sources defines top design formless stands =
     let same = one_list_of_modules sources defines stands.modules formless.modules stands.accepted formless.accepted in
     let flat : answer formless.modules top ≡ Ok (design_view design) = subst (λ ms. answer ms top ≡ Ok (design_view design)) same stands.flat in
     let is : design_view design ≡ formless.design = one_ok (answer formless.modules top) (design_view design) formless.design flat formless.flat in
-    formless.more (subst HasLevelsAlone is stands.levels)
+    formless.more (subst HasNoMemory is stands.memories)
 
 -- sources in which a fault stands lack no file
 refused_lack : (sources : List SourceText) (defines : List DefineText) (top : List ℕ) (refusal : SourceRefusal) → AreRefused sources defines top refusal → (name : List ℕ) → Lacks sources defines name → ⊥

@@ -86,7 +86,7 @@ pub record LacksAt (words : SourceValues) (before : Outside) (path : List ℕ) :
   pub lacks : Lacks sources words.defines name
   pub path_is : path ≡ path_of words.folder name
 
--- the sources are accepted, and their design has a Clocked process or a memory
+-- the sources are accepted, and their design has a memory
 pub record HasNoForm (words : SourceValues) (before : Outside) : Type 0 where
   pub sources : List SourceText
   pub gathered : HasSources words before sources

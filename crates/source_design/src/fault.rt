@@ -50,7 +50,7 @@ pub enum SourceFault<'a> {
     Included { call: Call, path: Name },
     /// The sources are refused.
     Refused(SourceRefusal),
-    /// The sources are accepted, and their design has a Clocked process or a memory.
+    /// The sources are accepted, and their design has a memory.
     NotYet,
 }
 

@@ -11,27 +11,24 @@ use Rattle.event_machine.specs.Told.{IsMovingInput}
 use Rattle.four_state.specs.Vector.{Vector}
 use Rattle.four_state.specs.declared.bit.Bit.{Bit}
 use Rattle.four_state.specs.declared.bit.Bit.TheVariants.{X}
-use Rattle.step_values.specs.design_model.Design.{Design, cell, process_at, signal_at, signal_bits}
+use Rattle.step_values.specs.design_model.Design.{Design, cell, signal_at, signal_bits}
 use Rattle.step_values.specs.design_model.Machine.{machine}
 use Rattle.step_values.specs.design_model.MayMove.{told_at}
 use Rattle.step_values.specs.design_model.Shows.{BoundDump}
 use Rattle.step_values.proofs.design_model.AssignLaws.{has_bit}
 use Rattle.code_values.specs.Values.{AddsChanged, IsChanged, Values, value_of}
-use Rattle.early_sets.specs.WakeState.{WakeState, can_wake_by, first_signal, trigger_by, trigger_of, waker_of}
+use Rattle.early_sets.specs.WakeState.{WakeState}
 use Rattle.early_sets.specs.declared.habit.Habit.{Habit}
-use Rattle.index_sets.specs.Rows.{row_at}
 use Rattle.process_order.specs.replay_model.Sets.{AreSets}
-use Rattle.step_wakes.specs.replay_sets.SetsOf.{sets_of}
+use Rattle.step_wakes.specs.replay_sets.SetsOf.{AreChosen, sets_of}
 use Rattle.step_values.specs.Dumped.{coded_value}
 use Rattle.step_values.specs.Loose.{has_code}
 use Rattle.step_values.proofs.Dumps.{bits_in}
 use Rattle.step_wakes.specs.Step.{AreChanges, IsOfDesign, StepSets}
 use Rattle.step_wakes.specs.declared.step.SignalChange.{SignalChange}
 use Rattle.step_wakes.specs.wake_laws.Laws.{HasNoWriters, IsChangedInput, habit_of}
-use Rattle.step_wakes.specs.wake_laws.OfDesign.{AreTablesOf}
-use Rattle.step_changes.specs.Changes.{AreChangedSignals, AreSignalsOf, IsDue, change_by, lowest, none_early}
+use Rattle.step_changes.specs.Changes.{AreChangedSignals, AreSignalsOf, IsDue, change_by, lowest}
 use Rattle.step_changes.proofs.Differing.{apart_at, first_at, same_at}
-use Rattle.step_changes.proofs.Woken.{no_events}
 
 -- ---- members of mapped lists
 
@@ -160,18 +157,10 @@ module _ (d : Design) (dump : BoundDump) (t : ℕ) (flags : List Bool) (codes : 
           candidates = λ x p is ne. absurd (no_writer p (sym (none x) ∙ is));
         }
 
-    -- no process has a trigger
-    no_trigger : (after : WakeState) → AreTablesOf d after.tables → (p s : ℕ) → trigger_of after p ≡ Some s → ⊥
-    no_trigger after of p s is =
-        let events : row_at after.tables.events p ≡ [] = of.events_are p ∙ no_events (process_at d p) (due.unclocked p) in
-        let waker : waker_of after p ≡ None = ap (first_signal (can_wake_by after)) events in
-        let trigger : trigger_of after p ≡ None = ap (trigger_by after p) waker in
-        no_writer s (sym trigger ∙ is)
-
-    pub sets_are : (after : WakeState) (h : Habit) → IsOfDesign d flags after → after.writers ≡ w.writers → StepSets d flags changes after → AreSets d (habit_of h) dump t (sets_of after none_early)
-    sets_are after h of same sets =
+    pub sets_are : (after : WakeState) (h : Habit) (early : ℕ → List ℕ) → IsOfDesign d flags after → after.writers ≡ w.writers → StepSets d flags changes after → AreChosen after h early → AreSets d (habit_of h) dump t (sets_of after early)
+    sets_are after h early of same sets chosen =
         let none : HasNoWriters after = λ x. ap (λ xs. get_or xs x None) same ∙ due.writers x in
-        (sets dump t h none_early due.lawful (inl (none, due.round)) (λ x input. due.bound x ∙ sym (due.flagged x)) (changes_are after none) (λ p s is. absurd (no_trigger after of.tables p s is))).sets
+        (sets dump t h early due.lawful (inl (none, due.round)) (λ x input. due.bound x ∙ sym (due.flagged x)) (changes_are after none) chosen).sets
 
 -- ---- the list of the changes
 

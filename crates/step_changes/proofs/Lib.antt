@@ -1,6 +1,7 @@
 pub mod Woken
 pub mod Differing
 pub mod Found
+pub use Rattle.early_sets.proofs as early_sets
 pub use Rattle.process_order.proofs as process_order
 pub use Rattle.process_order.proofs.replay_model as replay_model
 pub use Rattle.step_values.proofs as step_values

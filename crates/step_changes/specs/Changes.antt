@@ -1,17 +1,17 @@
 -- The signals that change in a step, and the sets of the step.
-use Rattle.std.specs.Prelude.{◌≡◌, ◌<◌, ◌-◌, ◌++◌, ◌↔◌, ℕ, Bool, true, false, List, [], length, slice_index_or, Option, Some, None}
+use Rattle.std.specs.Prelude.{◌≡◌, ◌<◌, ◌-◌, ◌++◌, ◌↔◌, ℕ, Bool, true, false, List, length, is_some, slice_index_or, Option, Some, None}
 use Rattle.std.specs.List.{Contains, list_any}
 use Rattle.event_machine.specs.Habit.{Habit}
 use Rattle.four_state.specs.Vector.{Vector}
 use Rattle.four_state.specs.declared.bit.Bit.{Bit}
 use Rattle.four_state.specs.declared.bit.Bit.TheVariants.{X}
-use Rattle.step_values.specs.design_model.Design.{Design, In, IsClocked, process_at}
+use Rattle.step_values.specs.design_model.Design.{Design, In}
 use Rattle.step_values.specs.design_model.Lawful.{IsLawfulDesign}
 use Rattle.step_values.specs.design_model.Shows.{BoundDump}
 use Rattle.code_values.specs.Values.{IsChanged, Values, value_of}
 use Rattle.early_sets.specs.Has.{is_in}
 use Rattle.early_sets.specs.Rounds.{HasMoves}
-use Rattle.early_sets.specs.WakeState.{WakeState}
+use Rattle.early_sets.specs.WakeState.{WakeState, waker_of}
 use Rattle.index_sets.specs.Rows.{row_at}
 use Rattle.process_order.specs.replay_model.Sets.{AreSets}
 use Rattle.process_order.specs.replay_model.Tables.{AreTables, Tables}
@@ -49,14 +49,9 @@ change_by codes t s =
 abbrev pub AreUnsigned : List (Option Vector) → Type 0
 AreUnsigned values = (code : ℕ) (v : Vector) → value_of values code ≡ Some v → v.signed ≡ false
 
--- without clean processes nothing is early
-abbrev pub none_early : ℕ → List ℕ
-none_early p = []
-
--- the step at time t of a dump is to be closed, of a design without Clocked processes: these are its codes, their values before and after, and its tables
+-- the step at time t of a dump is to be closed: these are its codes, their values before and after, and its tables
 pub record IsDue (d : Design) (dump : BoundDump) (t : ℕ) (flags : List Bool) (codes : List (Option ℕ)) (values : Values) (w : WakeState) : Type 0 where
   pub lawful : IsLawfulDesign d
-  pub unclocked : (p : ℕ) → IsClocked (process_at d p) → ⊥
   pub tables : IsOfDesign d flags w
   pub writers : HasNoWriters w
   pub round : dump.round t ≡ 0
@@ -68,9 +63,13 @@ pub record IsDue (d : Design) (dump : BoundDump) (t : ℕ) (flags : List Bool) (
   pub unsigned_old : AreUnsigned values.closed
   pub unsigned_new : AreUnsigned values.last
 
--- without Clocked processes those that may be woken are the Assigns and Combs that watch something that may move
+-- of the processes in these tables those are woken that watch something that may move, or that have a waker
+pub record AreWoken (tables : Tables) (w : WakeState) : Type 0 where
+  pub settling : (p : ℕ) → In p (tables.order ++ tables.last) → In p w.woken ↔ (list_any (is_in w.moves) (tables.watched p) ≡ true)
+  pub clocked : (p : ℕ) → In p tables.clocked → In p w.woken ↔ (is_some (waker_of w p) ≡ true)
+
+-- of the Assigns and Combs those may be woken that watch something that may move, and of the Clocked those that have a waker
 abbrev pub WokenLaw : Type 0
 WokenLaw =
     (d : Design) (h : Habit) (dump : BoundDump) (t : ℕ) (tables : Tables) (w : WakeState) (early : ℕ → List ℕ)
-    → AreTablesOf d w.tables → AreTables d dump.bound tables → tables.clocked ≡ [] → AreSets d h dump t (sets_of w early) → HasMoves w
-    → (p : ℕ) → In p w.woken ↔ (In p (tables.order ++ tables.last) × (list_any (is_in w.moves) (tables.watched p) ≡ true))
+    → AreTablesOf d w.tables → AreTables d dump.bound tables → AreSets d h dump t (sets_of w early) → HasMoves w → AreWoken tables w

@@ -1,6 +1,7 @@
 ghost use Rattle.step_changes.specs.Changes.{WokenLaw};
 
-/// The processes that may be woken in a step are the Assigns and Combs that watch something that may move.
+/// Of the Assigns and Combs those may be woken in a step that watch something that may move, and of the Clocked those that have a
+/// waker.
 pub fn woken_law()
     ensures { WokenLaw }
 {}

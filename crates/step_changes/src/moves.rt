@@ -6,11 +6,11 @@ ghost use Rattle.early_sets.specs.Rounds.{HasMoves};
 ghost use Rattle.early_sets.specs.WakeState.{state_of};
 ghost use Rattle.early_sets.specs.declared.habit.Habit.{Habit};
 ghost use Rattle.process_order.specs.replay_model.Sets.{AreSets};
-ghost use Rattle.step_wakes.specs.replay_sets.SetsOf.{sets_of};
+ghost use Rattle.step_wakes.specs.replay_sets.SetsOf.{AreChosen, sets_of};
 ghost use Rattle.step_values.specs.Loose.{has_code};
 ghost use Rattle.step_wakes.specs.Step.{IsOfDesign};
 ghost use Rattle.step_wakes.specs.wake_laws.Laws.{HasNoWriters, habit_of};
-ghost use Rattle.step_changes.specs.Changes.{AreChangedSignals, AreSignalsOf, IsDue, none_early};
+ghost use Rattle.step_changes.specs.Changes.{AreChangedSignals, AreSignalsOf, IsDue};
 
 use crate::changes::note_changes;
 use code_values::CodeValues;
@@ -46,7 +46,8 @@ pub fn find_moves(
     ensures tables { (state_of sets.new).tables ≡ (state_of sets.old).tables }
     ensures writers { (state_of sets.new).writers ≡ (state_of sets.old).writers }
     ensures moves { HasMoves (state_of sets.new) }
-    ensures sets { (d : Design) (dump : BoundDump) (t : ℕ) (h : Habit) (bound : List Bool) → IsDue d dump t bound codes.now values.now (state_of sets.old) → AreSets d (habit_of h) dump t (sets_of (state_of sets.new) none_early) }
+    ensures sets { (d : Design) (dump : BoundDump) (t : ℕ) (h : Habit) (bound : List Bool) (early : ℕ → List ℕ) → IsDue d dump t bound codes.now values.now (state_of sets.old) → AreChosen (state_of sets.new) h early
+        → AreSets d (habit_of h) dump t (sets_of (state_of sets.new) early) }
 {
     changed.clear();
     values.add_changed(signals, changed);

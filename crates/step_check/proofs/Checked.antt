@@ -1,5 +1,5 @@
 -- Whether a step is contradicted, by what was made of the signals that are checked.
-use Rattle.std.proofs.Common.{◌≡◌, ◌⊎◌, inl, inr, ℕ, ◌+◌, ◌<◌, true, false, not, ◌++◌, List, ◌∷◌, length, Option, Some, None, refl, sym, ap, ap₂, subst, ◌∙◌, arith}
+use Rattle.std.proofs.Common.{◌≡◌, inl, inr, ℕ, ◌+◌, ◌<◌, true, false, not, ◌++◌, List, ◌∷◌, length, Option, Some, None, refl, sym, ap, ap₂, subst, ◌∙◌, arith}
 use Rattle.std.specs.Prelude.{flat_map, nat_lt}
 use Rattle.std.specs.List.{All}
 use Rattle.std.proofs.lemmas.Bool.{and_from, and_parts, both_ways, cases_Bool, false_from_ne_true, false≢true}
@@ -10,16 +10,18 @@ use Rattle.four_state.specs.Vector.{Vector}
 use Rattle.four_state.specs.declared.bit.Bit.{Bit}
 use Rattle.known_state.specs.Partly.{Partly, allows_bit, allows_bits}
 use Rattle.design_model.specs.Design.{In, body_at, cell, signal_at, signal_bits}
-use Rattle.design_model.specs.Mentions.{blocking_target}
+use Rattle.design_model.specs.Mentions.{blocking_target, body_assigns}
 use Rattle.design_model.proofs.Lawful.{same_bit_self}
 use Rattle.design_model.proofs.TargetCells.{target_cells_law}
 use Rattle.step_changes.specs.body_store.declared.store.Store.{Store}
 use Rattle.dump_check.specs.Checks.{AgreesAt, IsFirstDifference, last_of_each, made_of, no_value as nothing_made}
 use Rattle.dump_check.specs.declared.order.Difference.{Difference}
 use Rattle.index_sets.specs.Rows.{row_at}
+use Rattle.clocked_laws.specs.Clocked.{IsInputOrWritten}
 use Rattle.step_changes.proofs.process_order.Distinct.{in_right}
 use Rattle.process_targets.specs.Targets.{row_has}
 use Rattle.process_targets.specs.declared.bits.Bits.{Bits}
+use Rattle.step_changes.proofs.replay_model.Targets.{is_target-from, target_assigns}
 use Rattle.step_changes.specs.replay_model.Step.{Closing, all_run, contradicts, is_dumped, is_touched, known_bits, surely_differ}
 use Rattle.step_changes.specs.step_values.Vectors.{StepVectors}
 use Rattle.step_changes.proofs.step_values.Dumps.{bits_in}
@@ -65,21 +67,22 @@ module _ (st : Closing) (ran : List ℕ) (targets : List (List Bits)) (checks : 
         let driven = and_parts (not (signal_at st.design c.thing).input) _ has.1 in
         let bound = and_parts (st.bound c.thing) _ has.0 in
         elim (cases_Bool (st.sets.moves c.thing)) [
-          | inl moves ↦ by_mover has.0 bound.0 bound.1 driven.0 driven.1 moves (run.moved c.thing moves)
+          | inl moves ↦ by_mover e bound.0 bound.1 driven.0 driven.1 moves (run.moved c.thing moves)
           | inr still ↦ both_ways _ (ap not (same_bit_self (st.new c))) (subst (λ o. surely_differ o (Some (st.new c)) ≡ true) (run.still.made c still ∙ run.dump c has.0 still) driven.1)
         ])
       where
-        by_mover : is_dumped st.design st.bound c ≡ true → st.bound c.thing ≡ true → nat_lt c.place (signal_at st.design c.thing).width ≡ true → not (signal_at st.design c.thing).input ≡ true → surely_differ ((all_run st).made c) (Some (st.new c)) ≡ true
-            → st.sets.moves c.thing ≡ true
-            → ((signal_at st.design c.thing).input ≡ true) ⊎ ((p : ℕ) × (b : Cell) × (b.thing ≡ c.thing) × In p (st.tables.order ++ st.tables.last) × (is_touched st p ≡ true) × (blocking_target st.design (body_at st.design p) b ≡ true))
-            → ⊥
-        by_mover has bound wide driven differ moves (inl input) = both_ways _ (ap not input) driven
-        by_mover has bound wide driven differ moves (inr (p, b, same, listed, touched, writes)) =
+        by_mover : contradicts st c ≡ true → st.bound c.thing ≡ true → nat_lt c.place (signal_at st.design c.thing).width ≡ true → not (signal_at st.design c.thing).input ≡ true → surely_differ ((all_run st).made c) (Some (st.new c)) ≡ true
+            → st.sets.moves c.thing ≡ true → IsInputOrWritten st c.thing → ⊥
+        by_mover is bound wide driven differ moves (inl input) = both_ways _ (ap not input) driven
+        by_mover is bound wide driven differ moves (inr (inl (p, b, same, listed, touched, writes))) =
             let i = subst (λ s. In s order) same (is_listed p b listed touched writes (subst (λ s. st.bound s ≡ true) (sym same) bound)) in
             let inside : c.place < (signal_at st.design c.thing).width = grind (arith, nat_tests, wide) in
             let start : 0 + c.place ≡ c.place = omega arith in
             let fits = allowed (all_run st).made st.new (cell c.thing) 0 (signal_at st.design c.thing).width (agrees c.thing i moves bound) c.place inside in
             allowed_same ((all_run st).made c) (st.new c) (subst (λ i. allows_bit ((all_run st).made (cell c.thing i)) (st.new (cell c.thing i)) ≡ true) start fits) differ
+        by_mover is bound wide driven differ moves (inr (inr (p, b, same, listed, running, writes))) =
+            let assigns = subst (λ s. body_assigns s (body_at st.design p) ≡ true) same (target_assigns st.design run.lawful p b (is_target-from st.design p b writes)) in
+            both_ways _ (run.agree c (p, ((run.tabled.clocked p).0 listed).1, assigns)) is
 
   pub differ : (found : Difference) → IsFirstDifference codes last v.made order found → (c : Cell) × (c.thing ≡ found.signal) × (contradicts st c ≡ true)
   differ found first =

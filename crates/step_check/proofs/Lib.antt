@@ -1,5 +1,4 @@
 pub mod Lists
-pub mod Moved
 pub mod Checked
 pub mod Fits
 pub use Rattle.step_changes.proofs as step_changes

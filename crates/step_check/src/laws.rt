@@ -1,4 +1,4 @@
-ghost use Rattle.step_check.specs.Laws.{AgreeLaw, DifferLaw, MovesLaw};
+ghost use Rattle.step_check.specs.Laws.{AgreeLaw, DifferLaw};
 
 /// Where what was made of each signal that was checked allows what the dump says, nothing contradicts the step.
 pub fn agree_law()
@@ -8,9 +8,4 @@ pub fn agree_law()
 /// A signal of which something else was made than what the dump says contradicts the step.
 pub fn differ_law()
     ensures { DifferLaw }
-{}
-
-/// What may move is an input, or a target of a process that watches something that may move.
-pub fn moves_law()
-    ensures { MovesLaw }
 {}

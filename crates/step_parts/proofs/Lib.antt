@@ -1,5 +1,7 @@
 pub mod Parts
 pub mod Noted
+pub mod Begun
+pub use Rattle.clocked_laws.proofs as clocked_laws
 pub use Rattle.mark_laws.proofs as mark_laws
 pub use Rattle.mark_laws.proofs.replay_model as replay_model
 pub use Rattle.step_changes.proofs as step_changes

@@ -13,7 +13,7 @@ use Rattle.signal_marks.specs.point_marks.declared.verdict.Verdict.{Verdict}
 use Rattle.signal_marks.specs.point_marks.declared.verdict.Verdict.TheVariants as marks
 use Rattle.mark_laws.specs.replay_model.Marks.{IsHitMarked, IsKeyOf, IsUnmarked, IsVerdict, Marking}
 use Rattle.mark_laws.specs.replay_model.Step.{Closing, Working, after_settling, all_run, certainty, clocked_run, is_touched, plain_store, run_all_settling, run_settling, settle_start, settled_kept}
-use Rattle.step_changes.proofs.replay_steps.Settling.{clocked_none}
+use Rattle.clocked_laws.proofs.Order.{clocked_adds}
 use Rattle.step_parts.specs.Laws.{NotedLaw, SeenLaw}
 
 -- ---- the runs
@@ -40,11 +40,11 @@ all st ordered [] w = same w.notes
 all st ordered (p ∷ ps) w = both w.notes (run_settling st ordered p w).notes _ (one st ordered p w) (all st ordered ps (run_settling st ordered p w))
 
 pub noted : NotedLaw
-noted st none =
+noted st =
     let start : Working = settle_start st (clocked_run st) in
     let middle : Working = run_all_settling st true st.tables.order start in
-    let runs : Extends start.notes (all_run st).notes = both start.notes middle.notes (all_run st).notes (all st true st.tables.order start) (all st false st.tables.last middle) in
-    (runs.0, runs.1 ∙ ap (λ (w : Working). w.notes ++ runs.0) (clocked_none st none))
+    both st.start.notes (clocked_run st).notes (all_run st).notes (clocked_adds st)
+    (both start.notes middle.notes (all_run st).notes (all st true st.tables.order start) (all st false st.tables.last middle))
 
 -- ---- the masks
 

@@ -1,6 +1,7 @@
 pub mod AtStep
 pub mod Laws
 pub mod Due
+pub use Rattle.clocked_laws.specs as clocked_laws
 pub use Rattle.mark_laws.specs as mark_laws
 pub use Rattle.mark_laws.specs.cover_points as cover_points
 pub use Rattle.mark_laws.specs.replay_model as replay_model

@@ -14,10 +14,14 @@ pub struct StepTables {
     pub codes: Vec<Option<u32>>,
     /// The signals of each code.
     pub signals: Rows<u32>,
-    /// The bits that each process may write.
+    /// The bits that each process may write by blocking assignments.
     pub targets: Rows<Bits>,
-    /// The place of each process in the order in which they run.
+    /// The signals and memories that each process assigns.
+    pub written: Rows<u32>,
+    /// The place of each Assign and Comb in the order in which they run.
     pub order: RunOrder,
+    /// The place of each Clocked in the order in which they run.
+    pub clocked: RunOrder,
 }
 
 /// What is found in a step.
@@ -29,7 +33,13 @@ pub struct StepRoom {
     pub changes: Queue<SignalChange>,
     /// What may move, and the processes that this wakes.
     pub sets: Wakes,
-    /// Those processes in their order.
+    /// The Clocked among these processes in their order.
+    pub clocked: WakeList,
+    /// The signals with a code that a Clocked which ran assigns.
+    pub overwritten: IndexSet,
+    /// The Assigns and Combs among these processes, each once.
+    pub running: IndexSet,
+    /// The same in the order in which they run.
     pub list: WakeList,
     /// What is known of the signals that may move, before the step and as it was made in it.
     pub values: StepValues,

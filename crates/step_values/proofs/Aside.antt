@@ -65,8 +65,17 @@ set_wide ss qs x q l width w = record { count = length-set qs x q ∙ w.count; w
 
 -- ---- what is known of signals
 
-known_width : (d : Design) (k : Kept) (s : ℕ) (q : Partly) → q.bits ≡ map k (signal_cells d s) → length q.bits ≡ (signal_at d s).width
+pub known_width : (d : Design) (k : Kept) (s : ℕ) (q : Partly) → q.bits ≡ map k (signal_cells d s) → length q.bits ≡ (signal_at d s).width
 known_width d k s q e = ap length e ∙ length-map (signal_cells d s) k ∙ length-map-range_with_len (cell s) 0 (signal_at d s).width
+
+-- a signal more
+pub one_known : (d : Design) (k : Kept) (xs ys : List ℕ) (x : ℕ) (qs : List Partly) (q : Partly) → ((s : ℕ) → is_in ys s ≡ (is_in xs s || x == s)) → x < length qs → q.bits ≡ map k (signal_cells d x) → AreKnownBits d k xs qs → AreKnownBits d k ys (slice_set qs x q)
+one_known d k xs ys x qs q more inside bits so_far s m h = ap (λ (p : Partly). p.bits) (set_there qs x q s (x == s) inside refl) ∙ at (x == s) (is_in xs s) refl (sym (more s) ∙ h) (λ e. so_far s m e)
+  where
+    at : (t u : Bool) → (x == s) ≡ t → (u || t) ≡ true → (u ≡ true → (vector_at qs s).bits ≡ map k (signal_cells d s)) → (if t then q else vector_at qs s).bits ≡ map k (signal_cells d s)
+    at true u e h old = bits ∙ ap (λ y. map k (signal_cells d y)) (eqb-true x s e)
+    at false true e h old = old refl
+    at false false e h old = absurd (false≢true h)
 
 module _ (d : Design) (k : Kept) (things : List ℕ) (i e : ℕ) (l : i < length things) where
   abbrev x : ℕ
@@ -86,15 +95,6 @@ module _ (d : Design) (k : Kept) (things : List ℕ) (i e : ℕ) (l : i < length
       or_no true e = refl
       or_no false e = e
 
-  -- a signal more
-  one_known : (qs : List Partly) (q : Partly) → x < length qs → q.bits ≡ map k (signal_cells d x) → AreKnownBits d k (take i things) qs → AreKnownBits d k (take (i + 1) things) (slice_set qs x q)
-  one_known qs q inside bits so_far s m h = ap (λ (p : Partly). p.bits) (set_there qs x q s (x == s) inside refl) ∙ at (x == s) (is_in (take i things) s) refl (sym (more s) ∙ h) (λ e. so_far s m e)
-    where
-      at : (t u : Bool) → (x == s) ≡ t → (u || t) ≡ true → (u ≡ true → (vector_at qs s).bits ≡ map k (signal_cells d s)) → (if t then q else vector_at qs s).bits ≡ map k (signal_cells d s)
-      at true u e h old = bits ∙ ap (λ y. map k (signal_cells d y)) (eqb-true x s e)
-      at false true e h old = old refl
-      at false false e h old = absurd (false≢true h)
-
   pub memory_opened : (v : StepVectors) → FitsSignals d v × AreOpened d k (take i things) v → length v.before ≤ x → FitsSignals d v × AreOpened d k (take (i + 1) things) v
   memory_opened v so_far past =
       let count = so_far.0.before.count in
@@ -109,7 +109,7 @@ module _ (d : Design) (k : Kept) (things : List ℕ) (i e : ℕ) (l : i < length
       let also : x < length v.made = omega (arith, inside, a, b) in
       subst (λ u. FitsSignals d u × AreOpened d k (take (i + 1) things) u) (sym set) (
         record { before = set_wide d.signals v.before x q inside (known_width d k x q bits) fits.before; made = set_wide d.signals v.made x q also (known_width d k x q bits) fits.made },
-        record { before = one_known v.before q inside bits so_far.1.before; made = one_known v.made q also bits so_far.1.made },
+        record { before = one_known d k (take i things) (take (i + 1) things) x v.before q more inside bits so_far.1.before; made = one_known d k (take i things) (take (i + 1) things) x v.made q more also bits so_far.1.made },
       )
 
 -- none

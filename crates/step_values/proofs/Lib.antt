@@ -5,6 +5,7 @@ pub mod Forgets
 pub mod Dumps
 pub mod Bound
 pub mod Starting
+pub mod Taking
 pub use Rattle.design_model.proofs as design_model
 pub use Rattle.process_targets.proofs as process_targets
 pub use Rattle.replay_steps.proofs as replay_steps

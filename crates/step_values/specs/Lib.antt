@@ -1,6 +1,7 @@
 pub mod Vectors
 pub mod Loose
 pub mod Loosens
+pub mod Taken
 pub mod Dumped
 pub mod Starts
 pub mod Laws

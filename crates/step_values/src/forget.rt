@@ -1,4 +1,4 @@
-//! The bits that the woken processes may write are made unknown.
+//! The bits that processes may write are made unknown.
 
 ghost use Rattle.std.specs.Prelude.{◌≡◌};
 ghost use Rattle.std.specs.List.{All};
@@ -19,7 +19,7 @@ use process_targets::Bits;
 use store_knowledge::{Store, keep_signal, known_signal};
 
 impl StepValues {
-    /// What a woken process may write is to be made anew: nothing is known of it, where the dump does not have the signal, and
+    /// What a process may write is to be made anew: nothing is known of it, where the dump does not have the signal, and
     /// of what was made of it, where the dump has it. `targets` are the bits that the process may write, and `codes` has the
     /// code of each signal. It takes time for the targets.
     pub fn loosen(&mut self, store: &mut Store, targets: &[Bits], codes: &[Option<u32>])
@@ -47,20 +47,20 @@ impl StepValues {
         }
     }
 
-    /// The same for each of the woken processes, where `targets` has those of each process.
+    /// The same for each of these processes, where `targets` has those of each process.
     pub(crate) fn loosen_all(
         &mut self,
         store: &mut Store,
-        woken: &[usize],
+        running: &[usize],
         targets: &Rows<Bits>,
         codes: &[Option<u32>],
     )
         requires known { (d : Design) × (k : Kept) × Knows d k store.old }
         requires fits { FitsSignals (design_view store.old.design.now) self.old }
-        requires rows { HaveRows (design_view store.old.design.now) targets.now woken.now }
-        ensures { Loosens codes.now (some_row_has targets.now woken.now) store.old store.new self.old self.new }
+        requires rows { HaveRows (design_view store.old.design.now) targets.now running.now }
+        ensures { Loosens codes.now (some_row_has targets.now running.now) store.old store.new self.old self.new }
     {
-        for process in woken {
+        for process in running {
             self.loosen(store, targets.row(*process), codes);
         }
     }

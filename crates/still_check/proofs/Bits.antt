@@ -43,3 +43,8 @@ differ_of (Some a) b e = ap not e
 -- a bit is allowed where it is known
 pub allows_own : (o : Option Bit) (b : Bit) → o ≡ Some b → allows_bit o b ≡ true
 allows_own o b e = ap (λ (p : Option Bit). allows_bit p b) e ∙ same_bit_self b
+
+-- a bit that is allowed does not surely differ
+pub allowed_same : (o : Option Bit) (b : Bit) → allows_bit o b ≡ true → surely_differ o (Some b) ≡ false
+allowed_same None b e = refl
+allowed_same (Some a) b e = ap not e

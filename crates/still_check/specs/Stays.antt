@@ -1,4 +1,4 @@
--- Signals that move though they may not.
+-- What the Clocked have left of bound signals, beside what the dump says of them.
 use Rattle.std.specs.Prelude.{◌≡◌, ◌<◌, ◌≤◌, ◌⊎◌, ℕ, true, false, List, Option, Some, None}
 use Rattle.std.specs.List.{All}
 use Rattle.four_state.specs.Vector.{Vector}
@@ -10,34 +10,49 @@ use Rattle.early_sets.specs.Has.{is_in}
 use Rattle.early_sets.specs.WakeState.{WakeState}
 use Rattle.step_values.specs.replay_model.Step.{Closing, known_bits}
 use Rattle.step_values.specs.Dumped.{AreDumped}
+use Rattle.step_values.specs.Starts.{left_by_clocked}
 use Rattle.step_values.specs.store_knowledge.Knows.{Knows}
 
--- the store, the sets and the values of codes are those of a step that is to be closed
-pub record IsAtStart (st : Closing) (x : Store) (sets : WakeState) (codes : List (Option ℕ)) (values : List (Option Vector)) : Type 0 where
-  pub knows : Knows st.design st.start.kept x
+-- the Clocked of a step have run: the store, the sets and the values of codes are those of the step
+pub record IsAfterClocked (st : Closing) (x : Store) (sets : WakeState) (codes : List (Option ℕ)) (values : List (Option Vector)) : Type 0 where
+  pub knows : Knows st.design (left_by_clocked st) x
   pub moves : (s : ℕ) → st.sets.moves s ≡ is_in sets.moves s
   pub dumped : AreDumped st.design codes values st.new
 
+-- what is known of the signal allows what the dump says
+abbrev pub Agrees : Closing → ℕ → Type 0
+Agrees st s = allows_bits (known_bits st.design (left_by_clocked st) s) (signal_bits st.design st.new s) ≡ true
+
 -- the signal may move, or what is known of it allows what the dump says
 abbrev pub Stays : Closing → ℕ → Type 0
-Stays st s = st.sets.moves s ≡ false → allows_bits (known_bits st.design st.start.kept s) (signal_bits st.design st.new s) ≡ true
+Stays st s = st.sets.moves s ≡ false → Agrees st s
 
--- the signal may not move, and what the dump says differs from what is known, with both
-pub record IsMoved (st : Closing) (found : Difference) : Type 0 where
-  pub still : st.sets.moves found.signal ≡ false
-  pub known : found.computed.bits ≡ known_bits st.design st.start.kept found.signal
+-- what the dump says of the signal differs from what is known, with both
+pub record IsDifferent (st : Closing) (found : Difference) : Type 0 where
+  pub known : found.computed.bits ≡ known_bits st.design (left_by_clocked st) found.signal
   pub dumped : found.dumped.bits ≡ signal_bits st.design st.new found.signal
   pub differ : allows_bits found.computed.bits found.dumped.bits ≡ false
 
--- the signal stays, or has moved so
+-- the signal agrees, or differs so
+abbrev pub IsDifferentOr : Closing → ℕ → Option Difference → Type 0
+IsDifferentOr st s None = Agrees st s
+IsDifferentOr st s (Some found) = (found.signal ≡ s) × IsDifferent st found
+
+-- the signal stays, or differs so though it may not move
 abbrev pub IsMovedOr : Closing → ℕ → Option Difference → Type 0
 IsMovedOr st s None = Stays st s
-IsMovedOr st s (Some found) = (found.signal ≡ s) × IsMoved st found
+IsMovedOr st s (Some found) = (found.signal ≡ s) × (st.sets.moves s ≡ false) × IsDifferent st found
 
--- each of the list stays, or this is the one with the least number that has moved
-abbrev pub IsLeastMoved : Closing → List ℕ → Option Difference → Type 0
-IsLeastMoved st ss None = All (Stays st) ss
-IsLeastMoved st ss (Some found) = In found.signal ss × IsMoved st found × All (λ s. s < found.signal → Stays st s) ss
+-- it so differs of a signal that has changed and may not move, or of one that is overwritten
+pub record IsMoved (st : Closing) (changed overwritten : List ℕ) (found : Difference) : Type 0 where
+  pub different : IsDifferent st found
+  pub which : (In found.signal changed × (st.sets.moves found.signal ≡ false)) ⊎ In found.signal overwritten
+
+-- each of the first list stays and each of the second agrees, or this is the one with the least number that does not
+abbrev pub IsLeastMoved : Closing → List ℕ → List ℕ → Option Difference → Type 0
+IsLeastMoved st changed overwritten None = All (Stays st) changed × All (Agrees st) overwritten
+IsLeastMoved st changed overwritten (Some found) =
+    IsMoved st changed overwritten found × All (λ s. s < found.signal → Stays st s) changed × All (λ s. s < found.signal → Agrees st s) overwritten
 
 -- the one of two with the lesser number
 abbrev pub IsLesser : Option Difference → Option Difference → Option Difference → Type 0

@@ -1,4 +1,4 @@
-//! The least signal that moves though it may not.
+//! The least signal of which the Clocked have left something else than what the dump says.
 
 ghost use Rattle.std.specs.Prelude.{◌≡◌, ◌<◌, ◌≤◌, length, true};
 ghost use Rattle.event_machine.specs.Cell.{Values};
@@ -10,8 +10,9 @@ ghost use Rattle.early_sets.specs.WakeState.{state_of};
 ghost use Rattle.step_values.specs.replay_model.Step.{Closing};
 ghost use Rattle.step_values.specs.Dumped.{AreDumped, HaveCodes, dumped_of};
 ghost use Rattle.step_values.specs.Loose.{has_code};
+ghost use Rattle.step_values.specs.Starts.{left_by_clocked};
 ghost use Rattle.step_values.specs.store_knowledge.Knows.{Knows};
-ghost use Rattle.still_check.specs.Stays.{IsAtStart, IsLeastMoved, IsLesser, IsMovedOr};
+ghost use Rattle.still_check.specs.Stays.{IsAfterClocked, IsDifferentOr, IsLeastMoved, IsLesser, IsMovedOr};
 
 use code_values::CodeValues;
 use dump_check::Difference;
@@ -19,26 +20,32 @@ use early_sets::Wakes;
 use four_state::Four;
 use step_values::{Store, known_signal};
 
-/// The signal with the least number of which the dump says another value than what is known, though it may not move, with both
-/// values. `changed` are the signals of which the value has changed, and `codes` has the code of each signal. It takes no
-/// memory, and constant time for each of the signals.
+/// The signal with the least number of which the dump says another value than what is known, with both values: of those whose
+/// value has changed (`changed`) though it may not move, and of those that a Clocked has made (`overwritten`). `codes` has the
+/// code of each signal. It takes no memory, and constant time for each of the signals.
 pub fn first_moved(
     changed: &[usize],
+    overwritten: &[usize],
     sets: &Wakes,
     codes: &[Option<u32>],
     values: &CodeValues,
     store: &Store,
 ) -> Option<Difference>
     requires coded { HaveCodes (design_view store.now.design.now) codes.now changed.now }
+    requires made { HaveCodes (design_view store.now.design.now) codes.now overwritten.now }
     requires few { length store.now.design.now.signals ≤ 65536 }
     requires things { length store.now.design.now.signals ≤ (state_of sets.now).tables.things }
     requires known { (d : Design) × (k : Kept) × Knows d k store.now }
     requires dumped { (new : Values Bit) × AreDumped (design_view store.now.design.now) codes.now values.now.last new }
-    ensures { (st : Closing) → IsAtStart st store.now (state_of sets.now) codes.now values.now.last → IsLeastMoved st changed.now result }
+    ensures { (st : Closing) → IsAfterClocked st store.now (state_of sets.now) codes.now values.now.last → IsLeastMoved st changed.now overwritten.now result }
 {
     let mut found = None;
     for signal in changed {
         let next = moved(*signal as u32, sets, codes, values, store);
+        found = lesser(found, next);
+    }
+    for signal in overwritten {
+        let next = different(*signal as u32, codes, values, store);
         found = lesser(found, next);
     }
     found
@@ -57,11 +64,27 @@ fn moved(
     requires things { length store.now.design.now.signals ≤ (state_of sets.now).tables.things }
     requires known { (d : Design) × (k : Kept) × Knows d k store.now }
     requires dumped { (new : Values Bit) × AreDumped (design_view store.now.design.now) codes.now values.now.last new }
-    ensures { (st : Closing) → IsAtStart st store.now (state_of sets.now) codes.now values.now.last → IsMovedOr st signal result }
+    ensures { (st : Closing) → IsAfterClocked st store.now (state_of sets.now) codes.now values.now.last → IsMovedOr st signal result }
 {
     if sets.may_move(signal) {
         return None;
     }
+    different(signal, codes, values, store)
+}
+
+/// A signal of which the dump says another value than what is known.
+fn different(
+    signal: u32,
+    codes: &[Option<u32>],
+    values: &CodeValues,
+    store: &Store,
+) -> Option<Difference>
+    requires place { signal < length store.now.design.now.signals }
+    requires coded { has_code codes.now signal ≡ true }
+    requires known { (d : Design) × (k : Kept) × Knows d k store.now }
+    requires dumped { (new : Values Bit) × AreDumped (design_view store.now.design.now) codes.now values.now.last new }
+    ensures { (st : Closing) → Knows st.design (left_by_clocked st) store.now → AreDumped st.design codes.now values.now.last st.new → IsDifferentOr st signal result }
+{
     let dumped = dumped(codes, values, signal)?;
     let computed = known_signal(store, signal);
     if !computed.differs(&dumped) {

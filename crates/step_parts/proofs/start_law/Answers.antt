@@ -2,4 +2,5 @@ use Rattle.step_parts.proofs.Parts.{starts}
 use Rattle.step_parts.proofs.start_law.Goals as goal
 
 pub returns : goal.returns
-returns c st ps old x v sets flags m seen none moving dump moves rest values = starts st ps old x v sets flags m seen none moving dump moves rest values
+returns c st ps x v sets flags m runs clocked moving dump moves acted points marks values =
+    starts st ps x v sets flags m runs clocked moving dump moves acted points marks values

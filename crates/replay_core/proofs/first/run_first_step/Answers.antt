@@ -35,6 +35,7 @@ returns-clause-fits g c =
     let h = b.ensures.known.2 in
     first_fits d c.args.state.now.notes.points.now c.args.tables.now c.args.room.now c.args.state.now b.new.values b.new.scratch b.new.ran b.new.check_order c.close.new.self b.new.store b.ensures.known.1 c.requires.fits
     (subst (λ e. FitsSignals e b.new.values) same b.ensures.fits) b.ensures.room b.ensures.pieces b.ensures.places b.ensures.size (subst (λ e. Knows e b.ensures.known.1 b.new.store) (sym h.design ∙ same) h) (ap (λ (v : Values). v.last) c.close.ensures)
+    (ap (λ (v : Values). v.closed) c.close.ensures)
 
 pub returns-clause-starts : goal.returns-clause-starts
 returns-clause-starts g c =
@@ -45,11 +46,11 @@ returns-clause-starts g c =
     let b = c.begin_first-found in
     let fits = c.requires.fits in
     let codes = c.process_rows-rows.ensures.codes in
-    if_none b.result b.ensures.none (λ none t h dump of first shown given.
-    let is = is_first d points x c.requires.replayable (c.runs_lawful.ensures d c.requires.replayable.lawful) fits.tables h dump t of first shown s c.requires.untouched given in
+    if_none b.result b.ensures.none (λ none h t dump of first shown given.
+    let is = is_first d h points x c.requires.replayable (c.runs_lawful.ensures d c.requires.replayable.lawful) fits.tables dump t of first shown s c.requires.untouched given in
     let here = subst (λ cs. IsFirstOf d dump.bound (dump.values t) cs s.values.last s.store) (sym codes) is in (
-      first_replay (subject_of (made_with d points x) h dump) t,
-      starts_at d points x c.requires.replayable (c.runs_lawful.ensures d c.requires.replayable.lawful) fits.tables h dump t of first shown s _ c.requires.untouched fits.state.marks fits.state.unsigned given (ap (λ (v : Values). v.closed) c.close.ensures) refl refl refl fits.room.sets fits.room.writers
+      first_replay (subject_of (made_with d h points x) dump) t,
+      starts_at d h points x c.requires.replayable (c.runs_lawful.ensures d c.requires.replayable.lawful) fits.tables dump t of first shown s _ c.requires.untouched fits.state.marks fits.state.unsigned given (ap (λ (v : Values). v.closed) c.close.ensures) refl refl refl fits.room.sets fits.room.writers
           (b.ensures.started d dump.bound (dump.values t) here) (none d dump.bound (dump.values t) here),
     ))
 
@@ -62,10 +63,10 @@ returns-clause-refutes g c =
     let b = c.begin_first-found in
     let fits = c.requires.fits in
     let codes = c.process_rows-rows.ensures.codes in
-    if_found b.result b.ensures.some b.ensures.first (λ found some differs t h dump of first shown given.
-    let is = is_first d points x c.requires.replayable (c.runs_lawful.ensures d c.requires.replayable.lawful) fits.tables h dump t of first shown s c.requires.untouched given in
+    if_found b.result b.ensures.some b.ensures.first (λ found some differs h t dump of first shown given.
+    let is = is_first d h points x c.requires.replayable (c.runs_lawful.ensures d c.requires.replayable.lawful) fits.tables dump t of first shown s c.requires.untouched given in
     let cell = some d dump.bound (dump.values t) (subst (λ cs. IsFirstOf d dump.bound (dump.values t) cs s.values.last s.store) (sym codes) is) in
-    refuted_at d points x c.requires.replayable (c.runs_lawful.ensures d c.requires.replayable.lawful) fits.tables h dump t of first shown cell.0 s.values.last found b.new.values.made given cell.2 (subst (λ cs. IsDifference cs s.values.last b.new.values.made found) codes differs.differs))
+    refuted_at d h points x c.requires.replayable (c.runs_lawful.ensures d c.requires.replayable.lawful) fits.tables dump t of first shown cell.0 s.values.last found b.new.values.made given cell.2 (subst (λ cs. IsDifference cs s.values.last b.new.values.made found) codes differs.differs))
 
 pub returns-clause-named : goal.returns-clause-named
 returns-clause-named g c =

@@ -16,8 +16,11 @@ returns-clause-fits c =
     let step = c.in_ok-step.ensures in
     let scratch = c.in_ok-scratch.ensures in
     let size : length (map process_view D.processes) ≡ length D.processes = length-map D.processes process_view in
-    let places = c.len.ensures in
+    let put_places = c.len.ensures in
+    let places = c.len-2.ensures in
     let made = ap (λ q. q.room) c.in_ok-ran.ensures in
+    let put_off = c.in_ok-later.ensures in
+    let waiting = ap (λ q. q.room) put_off in
     let all = step.changes in
     subst (FitsRoom d x) (sym c.in_ok-new.ensures.ok) (record {
       changed = step.changed;
@@ -25,10 +28,15 @@ returns-clause-fits c =
       sets = subst (λ bound. IsOfDesign d bound (state_of c.in_ok-step.step.sets)) c.requires.bound step.sets;
       writers = step.writers;
       list = step.list ∙ sym size;
+      clocked = step.clocked ∙ sym size;
+      overwritten = step.overwritten;
+      running = step.running ∙ sym size;
+      later = omega (arith, size, put_places, waiting);
+      none_later = ap (λ q. q.items) put_off;
       values = step.values;
       saved = λ p l. let inside : p < length D.processes = omega (arith, l, size) in scratch.saved p inside;
       empty = scratch.empty;
       pieces = scratch.pieces;
       ran = omega (arith, size, places, made);
-      checks = ap (λ (k : Checks). k.size) c.in_ok-checks.ensures ∙ c.len-2.ensures;
+      checks = ap (λ (k : Checks). k.size) c.in_ok-checks.ensures ∙ c.len-3.ensures;
     })

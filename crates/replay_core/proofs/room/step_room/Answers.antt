@@ -1,5 +1,5 @@
 use Rattle.body_store.proofs.Lawful.{premises}
 use Rattle.replay_core.proofs.room.step_room.Goals as goal
 
-pub new-requires-4-clause-widths : goal.new-requires-4-clause-widths
-new-requires-4-clause-widths c = (premises _ c.requires).widths
+pub new-requires-2-clause-widths : goal.new-requires-2-clause-widths
+new-requires-2-clause-widths c = (premises _ c.requires).widths

@@ -1,10 +1,63 @@
-use Rattle.std.proofs.Common.{◌≡◌, ◌∙◌, Bool, ◌++◌, List, drop, length, map, take, ap, subst, sym, arith}
+use Rattle.std.proofs.Common.{◌≡◌, ◌∙◌, ◌≤◌, ℕ, Bool, ◌++◌, List, drop, length, map, take, ap, refl, subst, sym, arith}
+use Rattle.std.specs.List.{All}
+use Rattle.std.specs.Vec.{with_items}
 use Rattle.std.proofs.Math.Seq.{take-append_seam}
+use Rattle.cover_marks.specs.Marks.{AreMarksOf}
+use Rattle.design_model.specs.Design.{IsClocked, process_at}
+use Rattle.design_model.specs.View.{design_view}
 use Rattle.early_sets.specs.WakeState.{state_of}
+use Rattle.first_step.specs.step_values.Vectors.{FitsSignals}
+use Rattle.first_step.specs.store_knowledge.Knows.{Knows}
+use Rattle.index_sets.specs.Rows.{row_at}
 use Rattle.replay_model.specs.Step.{all_run, clocked_run, settle_start}
 use Rattle.step_start.specs.step_parts.AtStep.{AtStep}
 use Rattle.step_runs.specs.Runs.{IsRunOf}
+use Rattle.replay_core.specs.Fits.{FitsRoom}
+use Rattle.replay_core.proofs.Parts.{run_fits}
 use Rattle.replay_core.proofs.runs.run_woken.Goals as goal
+
+pub run_all-requires-clause-settles : goal.run_all-requires-clause-settles
+run_all-requires-clause-settles g c =
+    subst (λ D. All (λ (q : ℕ × ℕ). IsClocked (process_at (design_view D) q.0) → ⊥) c.args.room.now.step.list.pairs) (sym c.process_rows-rows.ensures.design) c.requires.settles
+
+pub returns-clause-fits : goal.returns-clause-fits
+returns-clause-fits g c =
+    let D = c.args.design.now in
+    let d = design_view D in
+    let r = c.args.room.now in
+    let s = c.args.state.now in
+    let x = c.args.tables.now in
+    let e = c.run_all.ensures in
+    let new = c.run_all.new in
+    let old = c.requires.fits in
+    let q = record r { step = record r.step { list = new.list; values = new.values }; ran = new.ran; scratch = new.scratch } in
+    let u = record s { store = new.store; acted = with_items s.acted new.acted; notes = new.notes } in
+    let value = ap length c.as_mut_slice.ensures.value in
+    let size : s.acted.len ≡ length new.acted = omega (arith, e.flags, value, s.acted.ok.0) in
+    let rest = drop (length new.acted) s.acted.items in
+    let back : take s.acted.len (new.acted ++ rest) ≡ new.acted = ap (λ n. take n (new.acted ++ rest)) size ∙ take-append_seam new.acted rest in
+    let h = e.known.2 in
+    let same = e.same ∙ ap design_view c.process_rows-rows.ensures.design in
+    let knows = subst (λ b. Knows b e.known.1 new.store) (sym h.design ∙ same) h in
+    let room : FitsRoom d x q = record {
+      changed = old.room.changed;
+      changes = old.room.changes;
+      sets = old.room.sets;
+      writers = old.room.writers;
+      list = e.count ∙ old.room.list;
+      clocked = old.room.clocked;
+      overwritten = old.room.overwritten;
+      running = old.room.running;
+      later = old.room.later;
+      none_later = old.room.none_later;
+      values = subst (λ b. FitsSignals b new.values) same e.fits;
+      saved = λ p l. subst (λ n. length (row_at x.step.targets p) ≤ n) (sym e.room) (old.room.saved p l);
+      empty = ap (λ k. k.items) e.pieces ∙ old.room.empty;
+      pieces = subst (λ k. 128 ≤ k.room) (sym e.pieces) old.room.pieces;
+      ran = subst (λ n. length d.processes ≤ n) (sym e.places) old.room.ran;
+      checks = old.room.checks;
+    } in
+    run_fits d s.notes.points.now x r q s u e.known.1 old room knows (ap length back ∙ e.flags ∙ value) refl e.points (subst (λ ps. AreMarksOf ps new.notes.marks) e.points e.marks) refl old.state.wide_closed
 
 pub returns-clause-step : goal.returns-clause-step
 returns-clause-step g c = λ st run at.

@@ -3,7 +3,7 @@ use Rattle.std.specs.List.{All}
 use Rattle.std.proofs.lemmas.List.{length-map}
 use Rattle.std.proofs.lemmas.List.Elements.{All-weaker}
 use Rattle.design_model.specs.View.{design_view, process_view}
-use Rattle.first_step.proofs.Checked.{checked_below, found_map, none_map}
+use Rattle.first_step.proofs.Checked.{checked_below}
 use Rattle.first_step.specs.step_values.Dumped.{AreDumped}
 use Rattle.dump_check.specs.Checks.{AgreesAt, IsFirstDifference, last_of_each}
 use Rattle.index_sets.specs.Rows.{row_at}

@@ -1,112 +1,295 @@
-use Rattle.std.proofs.Common.{◌∙◌, ◌+◌, ℕ, flat_map, ap, refl, subst, sym}
+use Rattle.std.proofs.Common.{◌≡◌, ◌∙◌, ◌<◌, ℕ, Some, flat_map, length, map, ap, refl, subst, sym, arith}
 use Rattle.std.specs.List.{All}
 use Rattle.std.proofs.lemmas.List.{length-map}
+use Rattle.std.proofs.lemmas.List.Elements.{All-weaker}
 use Rattle.code_values.specs.Values.{Values}
 use Rattle.cover_marks.specs.Marks.{AreMarksOf}
-use Rattle.design_model.specs.View.{design_view}
+use Rattle.design_model.specs.Design.{Design}
+use Rattle.design_model.specs.View.{design_view, process_view}
 use Rattle.dump_check.specs.Checks.{AgreesAt, IsFirstDifference, last_of_each}
 use Rattle.early_sets.specs.WakeState.{state_of}
 use Rattle.index_sets.specs.Rows.{row_at}
 use Rattle.replay_model.specs.Step.{Closing}
 use Rattle.step_marks.specs.Marked.{IsOver, IsSeenAfter}
+use Rattle.first_step.specs.step_changes.Changes.{AreChangedSignals}
 use Rattle.first_step.specs.step_values.Dumped.{AreDumped}
 use Rattle.step_marks.specs.toggle_laws.Turns.{MarksInTurn}
+use Rattle.step_start.specs.Fits.{FitsStep}
+use Rattle.step_start.specs.step_parts.Due.{HasBegun, IsContradicted, step_of}
+use Rattle.step_start.specs.still_check.Stays.{IsLeastMoved}
+use Rattle.step_start.specs.declared.room.StepRoom.{StepRoom}
 use Rattle.replay_core.specs.Closing.{Closes}
+use Rattle.replay_core.specs.Fits.{AreWideValues, FitsParts, HaveValues}
 use Rattle.replay_core.specs.Made.{made_with, parts_with}
 use Rattle.replay_core.specs.declared.room.ReplayRoom.{ReplayRoom}
 use Rattle.replay_core.proofs.Given.{cells_given}
-use Rattle.replay_core.proofs.Parts.{begin_fits, given_cells, run_fits}
-use Rattle.replay_core.proofs.Stepping.{checked_fits, closes_run, counts_run, refutes_begun, refutes_run}
+use Rattle.replay_core.proofs.Parts.{fits_step, given_cells, run_fits}
+use Rattle.replay_core.proofs.Sets.{first_of}
+use Rattle.replay_core.proofs.Stepping.{checked_fits, clocked_inside, clocked_ran, closes_run, counts_clocked, counts_run, for_step, found_parts, list_settles, listed_of, refutes_begun, refutes_run, settled_changed, settled_parts, steps_both}
 use Rattle.replay_core.proofs.step.run_step.Goals as goal
 
--- ---- the parts
+-- ---- what the calls ask
 
-pub begin_step-requires-clause-dumped : goal.begin_step-requires-clause-dumped
-begin_step-requires-clause-dumped g c =
+pub find_step-requires-clause-fits : goal.find_step-requires-clause-fits
+find_step-requires-clause-fits g c =
     let s = c.args.state.now in
-    let codes = c.args.tables.now.step.codes.items in
-    let state = c.requires.fits.state in (
-      cells_given codes s.values.last,
-      subst (λ e. AreDumped e codes s.values.last (cells_given codes s.values.last)) (sym state.known.design) (given_cells (design_view c.args.design.now) s.notes.points.now c.args.tables.now s state c.requires.given),
-    )
+    let x = c.args.tables.now in
+    let r = c.args.room.now in
+    let fits = c.requires.fits in
+    subst (λ e. FitsStep e x.step r.step s.values) (sym fits.state.known.design) (fits_step (design_view c.args.design.now) s.notes.points.now x r s c.requires.replayable.lawful fits)
+
+pub run_woken_clocked-requires : goal.run_woken_clocked-requires
+run_woken_clocked-requires g c =
+    let D = c.args.design.now in
+    let d = design_view D in
+    let s = c.args.state.now in
+    let r = c.args.room.now in
+    let x = c.args.tables.now in
+    let points = s.notes.points.now in
+    let n = c.find_step.new.room in
+    let e = c.find_step.ensures in
+    let fits = found_parts d points x r s n c.requires.fits e.fits e.writers e.inputs in
+    record {
+      replayable = c.requires.replayable;
+      fits = fits;
+      below = clocked_inside d points x r s n fits e.listed (length D.processes) (length-map D.processes process_view);
+      sets = first_of d x.step.codes.items (state_of n.sets) fits.room.sets (e.derived c.requires.fits.room.writers) e.noted;
+      closed = c.requires.closed;
+      given = c.requires.given;
+    }
+
+pub settle_step-requires : goal.settle_step-requires
+settle_step-requires g c =
+    let D = c.args.design.now in
+    let d = design_view D in
+    let s = c.args.state.now in
+    let x = c.args.tables.now in
+    let points = s.notes.points.now in
+    let codes = x.step.codes.items in
+    let w = c.run_woken_clocked in
+    let q = w.new.room in
+    let u = w.new.state in
+    let fits = w.ensures.fits in
+    let design = fits.state.known.design in
+    let same = w.ensures.values in
+    let size : length (map process_view D.processes) ≡ length D.processes = length-map D.processes process_view in
+    let many : length (map process_view u.store.design.now.processes) ≡ length u.store.design.now.processes = length-map u.store.design.now.processes process_view in
+    let here = ap (λ (e : Design). length e.processes) design in
+    record {
+      fits = subst (λ e. FitsStep e x.step q.step u.values) (sym design) (fits_step d points x q u c.requires.replayable.lawful fits);
+      within =
+          subst (All (λ (p : ℕ). p < length u.store.design.now.processes)) (sym c.as_slice.ensures)
+          (All-weaker (λ (p : ℕ). p < length D.processes) (λ (p : ℕ). p < length u.store.design.now.processes) (λ p l. omega (arith, l, size, many, here)) q.ran.items w.ensures.within);
+      empty = ap (λ (k : StepRoom). k.list.pairs) w.ensures.step ∙ ap (λ l. l.pairs) c.find_step.ensures.list ∙ c.requires.none;
+      known = (d, fits.state.kept, fits.state.known);
+      dumped = (
+        cells_given codes u.values.last,
+        subst (λ e. AreDumped e codes u.values.last (cells_given codes u.values.last)) (sym design) (given_cells d points x u fits.state (subst (λ (vs : Values). HaveValues codes vs.last) (sym same) c.requires.given)),
+      );
+      changed = subst (λ (k : StepRoom). AreChangedSignals codes u.values k.changed.items) (sym w.ensures.step) (subst (λ vs. AreChangedSignals codes vs c.find_step.new.room.changed.items) (sym same) c.find_step.ensures.changed);
+    }
+
+-- ---- the parts once it has begun
 
 pub returns-in-Some-clause-fits : goal.returns-in-Some-clause-fits
 returns-in-Some-clause-fits g c =
-    let e = c.begin_step.ensures in
-    begin_fits (design_view c.args.design.now) c.args.state.now.notes.points.now c.args.tables.now c.args.room.now c.args.state.now c.begin_step.new.room c.begin_step.new.store c.requires.fits e.fits e.design e.writers e.inputs e.known
+    let k = c.settle_step in
+    let w = c.run_woken_clocked in
+    settled_parts (design_view c.args.design.now) c.args.state.now.notes.points.now c.args.tables.now w.new.room w.new.state k.new.room k.new.store w.ensures.fits k.ensures.fits k.ensures.design k.ensures.sets k.ensures.known
 
 pub run_woken-requires-clause-fits : goal.run_woken-requires-clause-fits
 run_woken-requires-clause-fits g c =
-    let e = c.begin_step.ensures in
-    begin_fits (design_view c.args.design.now) c.args.state.now.notes.points.now c.args.tables.now c.args.room.now c.args.state.now c.begin_step.new.room c.begin_step.new.store c.requires.fits e.fits e.design e.writers e.inputs e.known
+    let k = c.settle_step in
+    let w = c.run_woken_clocked in
+    let points = c.args.state.now.notes.points.now in
+    subst (λ ps. FitsParts (design_view c.args.design.now) ps c.args.tables.now (record w.new.room { step = k.new.room }) (record w.new.state { store = k.new.store })) (sym w.ensures.points)
+    (settled_parts (design_view c.args.design.now) points c.args.tables.now w.new.room w.new.state k.new.room k.new.store w.ensures.fits k.ensures.fits k.ensures.design k.ensures.sets k.ensures.known)
+
+pub run_woken-requires-clause-settles : goal.run_woken-requires-clause-settles
+run_woken-requires-clause-settles g c =
+    let u = c.run_woken_clocked.new.state in
+    list_settles (design_view c.args.design.now) c.args.tables.now c.settle_step.new.room u.store c.requires.fits.tables c.run_woken_clocked.ensures.fits.state.known.design c.in_default.ensures.listed
+
+pub check_step-requires-clause-ran : goal.check_step-requires-clause-ran
+check_step-requires-clause-ran g c =
+    let D = c.args.design.now in
+    let z = c.run_woken in
+    let a = z.new.state.store.design.now in
+    let size : length (map process_view D.processes) ≡ length D.processes = length-map D.processes process_view in
+    let many : length (map process_view a.processes) ≡ length a.processes = length-map a.processes process_view in
+    let here = ap (λ (e : Design). length e.processes) z.ensures.fits.state.known.design in
+    All-weaker (λ (p : ℕ). p < length D.processes) (λ (p : ℕ). p < length a.processes) (λ p l. omega (arith, l, size, many, here)) z.new.room.ran.items z.ensures.within
+
+-- ---- no Clocked waits
+
+pub returns-in-Some-check_step-clause-none_clocked : goal.returns-in-Some-check_step-clause-none_clocked
+returns-in-Some-check_step-clause-none_clocked g c =
+    ap (λ (r : ReplayRoom). r.step.clocked.pairs) c.check_step.ensures.room ∙ ap (λ l. l.pairs) c.run_woken.ensures.clocked ∙ ap (λ l. l.pairs) c.settle_step.ensures.clocked ∙ c.run_woken_clocked.ensures.none
+
+pub returns-clause-none_clocked : goal.returns-clause-none_clocked
+returns-clause-none_clocked g c =
+    ap (λ (r : ReplayRoom). r.step.clocked.pairs) c.check_step.ensures.room ∙ ap (λ l. l.pairs) c.run_woken.ensures.clocked ∙ ap (λ l. l.pairs) c.settle_step.ensures.clocked ∙ c.run_woken_clocked.ensures.none
 
 -- ---- each dump that was followed
 
 pub returns-in-Some-clause-refutes : goal.returns-in-Some-clause-refutes
 returns-in-Some-clause-refutes g c =
+    let d = design_view c.args.design.now in
+    let habit = c.args.habit in
+    let r = c.args.room.now in
     let s = c.args.state.now in
-    let e = c.in-Some.ensures in
-    refutes_begun (design_view c.args.design.now) s.notes.points.now c.args.tables.now c.args.room.now s c.begin_step.new.room c.args.time c.in-Some.found e.contradicted e.least
+    let x = c.args.tables.now in
+    let points = s.notes.points.now in
+    let time = c.args.time in
+    let n = c.find_step.new.room in
+    let e = c.find_step.ensures in
+    let fits = found_parts d points x r s n c.requires.fits e.fits e.writers e.inputs in
+    let w = c.run_woken_clocked.ensures in
+    let q = c.run_woken_clocked.new.room in
+    let u = c.run_woken_clocked.new.state in
+    let ran = clocked_ran d habit points x r s n time q u fits e.listed c.requires.replayable.lawful e.moves e.found w.chosen w.step w.rest w.members w.once w.fits.state.marks w.knows w.verdicts in
+    let k = c.settle_step.new.room in
+    let one = c.in-Some.found in
+    refutes_begun d habit points x r s n time q u ran k one
+    (for_step d habit points x r s n time q u ran (λ o early marks. IsContradicted o (state_of k.sets) early one) u.values c.as_slice.result.now w.values c.as_slice.ensures c.in-Some.ensures.contradicted)
+    (for_step d habit points x r s n time q u ran (λ o early marks. IsLeastMoved (step_of o (state_of k.sets) early) k.changed.items k.overwritten.items (Some one)) u.values c.as_slice.result.now w.values c.as_slice.ensures c.in-Some.ensures.least)
+
+pub returns-in-Some-clause-counts : goal.returns-in-Some-clause-counts
+returns-in-Some-clause-counts g c =
+    let d = design_view c.args.design.now in
+    let habit = c.args.habit in
+    let r = c.args.room.now in
+    let s = c.args.state.now in
+    let x = c.args.tables.now in
+    let points = s.notes.points.now in
+    let time = c.args.time in
+    let n = c.find_step.new.room in
+    let e = c.find_step.ensures in
+    let fits = found_parts d points x r s n c.requires.fits e.fits e.writers e.inputs in
+    let w = c.run_woken_clocked.ensures in
+    let q = c.run_woken_clocked.new.room in
+    let u = c.run_woken_clocked.new.state in
+    let ran = clocked_ran d habit points x r s n time q u fits e.listed c.requires.replayable.lawful e.moves e.found w.chosen w.step w.rest w.members w.once w.fits.state.marks w.knows w.verdicts in
+    counts_clocked d habit points x r s n time q u ran c.args.steps.now c.run_woken_clocked.new.steps w.steps
 
 pub returns-in-Some-check_step-clause-refutes : goal.returns-in-Some-check_step-clause-refutes
 returns-in-Some-check_step-clause-refutes g c =
+    let d = design_view c.args.design.now in
+    let habit = c.args.habit in
+    let r = c.args.room.now in
     let s = c.args.state.now in
     let x = c.args.tables.now in
-    let b = c.begin_step in
-    let w = c.run_woken in
-    let found = c.in-Some-check_step.found in
-    refutes_run (design_view c.args.design.now) s.notes.points.now x c.args.room.now s b.new.room b.new.store c.args.time c.requires.fits.tables b.ensures.changed c.in_default.ensures.begun w.new.room w.new.state w.ensures.sets w.ensures.step w.ensures.ran found
-    (subst (λ (vs : Values). IsFirstDifference x.step.codes.items vs.last w.new.room.step.values.made (last_of_each (flat_map (row_at x.checks) w.new.room.ran.items)) found) w.ensures.values c.in-Some-check_step.ensures.some)
+    let points = s.notes.points.now in
+    let time = c.args.time in
+    let n = c.find_step.new.room in
+    let e = c.find_step.ensures in
+    let fits = found_parts d points x r s n c.requires.fits e.fits e.writers e.inputs in
+    let w = c.run_woken_clocked.ensures in
+    let q = c.run_woken_clocked.new.room in
+    let u = c.run_woken_clocked.new.state in
+    let ran = clocked_ran d habit points x r s n time q u fits e.listed c.requires.replayable.lawful e.moves e.found w.chosen w.step w.rest w.members w.once w.fits.state.marks w.knows w.verdicts in
+    let k = c.settle_step.new.room in
+    let store = c.settle_step.new.store in
+    let changed = settled_changed x.step.codes.items s.values u.values n q k w.values w.step c.settle_step.ensures.changed e.changed in
+    let begun = for_step d habit points x r s n time q u ran (λ o early marks. HasBegun o (state_of k.sets) early (listed_of k) k.values store marks) u.values c.as_slice.result.now w.values c.as_slice.ensures c.in_default.ensures.begun in
+    let z = c.run_woken in
+    let one = c.in-Some-check_step.found in
+    refutes_run d habit points x r s n time q u ran k store c.requires.fits.tables changed begun z.new.room z.new.state (ap (λ v. v.items) w.acted) z.ensures.sets w.points z.ensures.step z.ensures.ran one
+    (subst (λ (vs : Values). IsFirstDifference x.step.codes.items vs.last z.new.room.step.values.made (last_of_each (flat_map (row_at x.checks) z.new.room.ran.items)) one) (z.ensures.values ∙ w.values) c.in-Some-check_step.ensures.some)
 
 pub returns-in-Some-check_step-clause-counts : goal.returns-in-Some-check_step-clause-counts
 returns-in-Some-check_step-clause-counts g c =
+    let d = design_view c.args.design.now in
+    let habit = c.args.habit in
+    let r = c.args.room.now in
     let s = c.args.state.now in
-    let b = c.begin_step in
-    let w = c.run_woken in
+    let x = c.args.tables.now in
+    let points = s.notes.points.now in
+    let time = c.args.time in
+    let n = c.find_step.new.room in
+    let e = c.find_step.ensures in
+    let fits = found_parts d points x r s n c.requires.fits e.fits e.writers e.inputs in
+    let w = c.run_woken_clocked.ensures in
+    let q = c.run_woken_clocked.new.room in
+    let u = c.run_woken_clocked.new.state in
+    let ran = clocked_ran d habit points x r s n time q u fits e.listed c.requires.replayable.lawful e.moves e.found w.chosen w.step w.rest w.members w.once w.fits.state.marks w.knows w.verdicts in
+    let k = c.settle_step.new.room in
+    let store = c.settle_step.new.store in
+    let changed = settled_changed x.step.codes.items s.values u.values n q k w.values w.step c.settle_step.ensures.changed e.changed in
+    let begun = for_step d habit points x r s n time q u ran (λ o early marks. HasBegun o (state_of k.sets) early (listed_of k) k.values store marks) u.values c.as_slice.result.now w.values c.as_slice.ensures c.in_default.ensures.begun in
+    let z = c.run_woken in
     let from = c.args.steps.now in
-    counts_run (design_view c.args.design.now) s.notes.points.now c.args.tables.now c.args.room.now s b.new.room b.new.store c.args.time c.requires.fits.tables b.ensures.changed c.in_default.ensures.begun from w.new.steps
-    (w.ensures.steps ∙ ap (λ n. from + n) (sym (length-map b.new.room.list.pairs (λ (q : ℕ × ℕ). q.0))))
+    counts_run d habit points x r s n time q u ran k store c.requires.fits.tables changed begun from z.new.steps (steps_both from c.run_woken_clocked.new.steps z.new.steps q.ran.items k.list.pairs w.steps z.ensures.steps)
 
 pub returns-clause-counts : goal.returns-clause-counts
 returns-clause-counts g c =
+    let d = design_view c.args.design.now in
+    let habit = c.args.habit in
+    let r = c.args.room.now in
     let s = c.args.state.now in
-    let b = c.begin_step in
-    let w = c.run_woken in
+    let x = c.args.tables.now in
+    let points = s.notes.points.now in
+    let time = c.args.time in
+    let n = c.find_step.new.room in
+    let e = c.find_step.ensures in
+    let fits = found_parts d points x r s n c.requires.fits e.fits e.writers e.inputs in
+    let w = c.run_woken_clocked.ensures in
+    let q = c.run_woken_clocked.new.room in
+    let u = c.run_woken_clocked.new.state in
+    let ran = clocked_ran d habit points x r s n time q u fits e.listed c.requires.replayable.lawful e.moves e.found w.chosen w.step w.rest w.members w.once w.fits.state.marks w.knows w.verdicts in
+    let k = c.settle_step.new.room in
+    let store = c.settle_step.new.store in
+    let changed = settled_changed x.step.codes.items s.values u.values n q k w.values w.step c.settle_step.ensures.changed e.changed in
+    let begun = for_step d habit points x r s n time q u ran (λ o early marks. HasBegun o (state_of k.sets) early (listed_of k) k.values store marks) u.values c.as_slice.result.now w.values c.as_slice.ensures c.in_default.ensures.begun in
+    let z = c.run_woken in
     let from = c.args.steps.now in
-    counts_run (design_view c.args.design.now) s.notes.points.now c.args.tables.now c.args.room.now s b.new.room b.new.store c.args.time c.requires.fits.tables b.ensures.changed c.in_default.ensures.begun from w.new.steps
-    (w.ensures.steps ∙ ap (λ n. from + n) (sym (length-map b.new.room.list.pairs (λ (q : ℕ × ℕ). q.0))))
+    counts_run d habit points x r s n time q u ran k store c.requires.fits.tables changed begun from z.new.steps (steps_both from c.run_woken_clocked.new.steps z.new.steps q.ran.items k.list.pairs w.steps z.ensures.steps)
 
 pub returns-clause-closes : goal.returns-clause-closes
 returns-clause-closes g c =
     let d = design_view c.args.design.now in
-    let s = c.args.state.now in
+    let habit = c.args.habit in
     let r = c.args.room.now in
-    let points = s.notes.points.now in
+    let s = c.args.state.now in
     let x = c.args.tables.now in
-    let b = c.begin_step in
-    let w = c.run_woken in
-    let k = c.check_step in
-    let e = c.mark_step.ensures in
+    let points = s.notes.points.now in
     let time = c.args.time in
+    let n = c.find_step.new.room in
+    let e = c.find_step.ensures in
+    let fits = found_parts d points x r s n c.requires.fits e.fits e.writers e.inputs in
+    let w = c.run_woken_clocked.ensures in
+    let q = c.run_woken_clocked.new.room in
+    let u = c.run_woken_clocked.new.state in
+    let ran = clocked_ran d habit points x r s n time q u fits e.listed c.requires.replayable.lawful e.moves e.found w.chosen w.step w.rest w.members w.once w.fits.state.marks w.knows w.verdicts in
+    let k = c.settle_step.new.room in
+    let store = c.settle_step.new.store in
+    let changed = settled_changed x.step.codes.items s.values u.values n q k w.values w.step c.settle_step.ensures.changed e.changed in
+    let begun = for_step d habit points x r s n time q u ran (λ o early marks. HasBegun o (state_of k.sets) early (listed_of k) k.values store marks) u.values c.as_slice.result.now w.values c.as_slice.ensures c.in_default.ensures.begun in
+    let z = c.run_woken in
+    let a = z.new.room in
+    let o = z.new.state in
+    let b = c.check_step in
     let codes = x.step.codes.items in
-    let q = w.new.room in
-    let u = w.new.state in
-    let fits = w.ensures.fits in
-    let noted = fits.state.noted in
+    let all = z.ensures.fits in
+    let noted = all.state.noted ∙ w.points in
+    let of = subst (λ ps. AreMarksOf ps o.notes.marks) noted (subst (λ ps. AreMarksOf ps o.notes.marks) (sym all.state.noted) all.state.marks) in
     let moves = c.moves.result.now in
-    let y = record u { seen = c.mark_step.new.seen; notes = c.mark_step.new.notes; values = c.close.new.self } in
-    let to : (st : Closing) → IsOver st points moves time u.store q.step.values s.seen u.notes.marks → IsOver st u.notes.points.now moves time u.store k.new.room.step.values u.seen u.notes.marks = λ st o.
-    subst (λ ps. IsOver st ps moves time u.store k.new.room.step.values u.seen u.notes.marks) (sym noted)
-    (subst (λ (a : ReplayRoom). IsOver st points moves time u.store a.step.values u.seen u.notes.marks) (sym k.ensures.room)
-    (subst (λ ms. IsOver st points moves time u.store q.step.values ms u.notes.marks) (sym w.ensures.seen) o)) in
-    subst (λ a. Closes (made_with d points x) time (parts_with r s) (parts_with a y)) (sym k.ensures.room)
-    (closes_run d points x r s b.new.room b.new.store time c.requires.fits.tables b.ensures.changed c.in_default.ensures.begun q u w.ensures.sets w.ensures.step w.ensures.ran y moves
-    (subst (λ (vs : Values). All (AgreesAt codes vs.last q.step.values.made) (last_of_each (flat_map (row_at x.checks) q.ran.items))) w.ensures.values c.in_default-check_step.ensures.none)
-    (c.moves.ensures.value ∙ ap (λ (a : ReplayRoom). (state_of a.step.sets).moves) k.ensures.room ∙ ap (λ ws. (state_of ws).moves) w.ensures.sets)
-    fits.room.sets fits.room.writers fits.state.marks refl refl
-    (ap (λ (v : Values). v.closed) c.close.ensures ∙ ap (λ (v : Values). v.last) w.ensures.values)
-    (λ st o. subst (λ ps. MarksInTurn st ps moves u.notes.marks.verdicts y.notes.marks.verdicts) noted (e.toggles st (to st o)))
-    (λ st o. subst (λ ps. IsSeenAfter st ps y.seen y.notes.marks) noted (e.seen st (to st o))))
+    let last = c.mark_step.ensures in
+    let y = record o { seen = c.mark_step.new.seen; notes = c.mark_step.new.notes; values = c.close.new.self } in
+    let seen = z.ensures.seen ∙ w.seen in
+    let given = z.ensures.values ∙ w.values in
+    let to : (st : Closing) → IsOver st points moves time o.store a.step.values s.seen o.notes.marks → IsOver st o.notes.points.now moves time o.store b.new.room.step.values o.seen o.notes.marks = λ st i.
+    subst (λ ps. IsOver st ps moves time o.store b.new.room.step.values o.seen o.notes.marks) (sym noted)
+    (subst (λ (f : ReplayRoom). IsOver st points moves time o.store f.step.values o.seen o.notes.marks) (sym b.ensures.room)
+    (subst (λ ms. IsOver st points moves time o.store a.step.values ms o.notes.marks) (sym seen) i)) in
+    subst (λ f. Closes (made_with d habit points x) time (parts_with r s) (parts_with f y)) (sym b.ensures.room)
+    (closes_run d habit points x r s n time q u ran k store c.requires.fits.tables changed begun a o (ap (λ v. v.items) w.acted) z.ensures.sets w.points z.ensures.step z.ensures.ran y moves
+    (subst (λ (vs : Values). All (AgreesAt codes vs.last a.step.values.made) (last_of_each (flat_map (row_at x.checks) a.ran.items))) given c.in_default-check_step.ensures.none)
+    (c.moves.ensures.value ∙ ap (λ (f : ReplayRoom). (state_of f.step.sets).moves) b.ensures.room ∙ ap (λ ws. (state_of ws).moves) z.ensures.sets)
+    all.room.sets all.room.writers of refl refl
+    (ap (λ (v : Values). v.closed) c.close.ensures ∙ ap (λ (v : Values). v.last) given)
+    (λ st i. subst (λ ps. MarksInTurn st ps moves o.notes.marks.verdicts y.notes.marks.verdicts) noted (last.toggles st (to st i)))
+    (λ st i. subst (λ ps. IsSeenAfter st ps y.seen y.notes.marks) noted (last.seen st (to st i))))
 
 -- ---- the parts after it
 
@@ -115,10 +298,22 @@ returns-clause-fits g c =
     let d = design_view c.args.design.now in
     let points = c.args.state.now.notes.points.now in
     let x = c.args.tables.now in
-    let w = c.run_woken in
-    let k = c.check_step in
+    let w = c.run_woken_clocked in
+    let z = c.run_woken in
+    let b = c.check_step in
     let e = c.mark_step.ensures in
-    let u = w.new.state in
-    let fits = checked_fits d points x w.new.room k.new.room u k.ensures.room k.ensures.size w.ensures.fits in
-    let y = record u { seen = c.mark_step.new.seen; notes = c.mark_step.new.notes; values = c.close.new.self } in
-    run_fits d points x k.new.room k.new.room u y fits.state.kept fits fits.room fits.state.known refl e.count e.points (subst (λ ps. AreMarksOf ps c.mark_step.new.notes.marks) fits.state.noted e.marks) (ap (λ (v : Values). v.last) c.close.ensures)
+    let o = z.new.state in
+    let ran = subst (λ ps. FitsParts d ps x z.new.room o) w.ensures.points z.ensures.fits in
+    let fits = checked_fits d points x z.new.room b.new.room o b.ensures.room b.ensures.size ran in
+    let y = record o { seen = c.mark_step.new.seen; notes = c.mark_step.new.notes; values = c.close.new.self } in
+    run_fits d points x b.new.room b.new.room o y fits.state.kept fits fits.room fits.state.known refl e.count e.points (subst (λ ps. AreMarksOf ps c.mark_step.new.notes.marks) fits.state.noted e.marks)
+    (ap (λ (v : Values). v.last) c.close.ensures) (subst (AreWideValues d x.step.codes.items) (sym (ap (λ (v : Values). v.closed) c.close.ensures)) fits.state.wide)
+
+pub returns-in-Some-check_step-clause-fits : goal.returns-in-Some-check_step-clause-fits
+returns-in-Some-check_step-clause-fits g c =
+    let d = design_view c.args.design.now in
+    let points = c.args.state.now.notes.points.now in
+    let x = c.args.tables.now in
+    let z = c.run_woken in
+    let b = c.check_step in
+    checked_fits d points x z.new.room b.new.room z.new.state b.ensures.room b.ensures.size (subst (λ ps. FitsParts d ps x z.new.room z.new.state) c.run_woken_clocked.ensures.points z.ensures.fits)

@@ -32,7 +32,9 @@ returns-clause-fits c =
       signals = subst (λ cs. AreSignalsOf cs step.signals) (sym is.codes) is.signals;
       tabled = subst (λ cs. AreTables d (has_code cs) order) (sym is.codes) tabled;
       ranked = subst (λ n. AreRanksOf (processes.order.items ++ processes.last.items) n step.order) (sym size) is.ranked;
-      rows = c.rows_law.ensures d (has_code codes) order processes.watched step.targets c.in_ok-written.written c.in_ok-wakes.wakes c.requires.lawful c.requires.memories tabled (λ p. refl) (c.in_ok-processes.ensures.count ∙ sym size) is.targets c.in_ok-written.ensures c.in_ok-wakes.ensures;
+      clocked = subst (λ n. AreRanksOf processes.clocked.items n step.clocked) (sym size) is.clocked;
+      written = is.written;
+      rows = c.rows_law.ensures d (has_code codes) order processes.watched step.targets step.written c.in_ok-wakes.wakes c.requires.lawful c.requires.memories tabled (λ p. refl) (c.in_ok-processes.ensures.count ∙ sym size) is.targets is.written c.in_ok-wakes.ensures;
       wakes = c.in_ok-wakes.ensures;
       checks = subst (λ cs. AreCheckRows cs step.targets c.in_ok-checks.checks) c.as_slice.ensures.value c.in_ok-checks.ensures;
     })

@@ -27,8 +27,8 @@ pub returns-clause-moves : goal.returns-clause-moves
 returns-clause-moves c = has_moves (state_of c.find.new.wakes) c.find.ensures.turns.earlier c.find.ensures.turns.rounds
 
 pub returns-clause-sets : goal.returns-clause-sets
-returns-clause-sets c = λ d dump t h bound due.
+returns-clause-sets c = λ d dump t h bound early due chosen.
     let are = changed_are c.args.codes.now c.args.values.now c.args.signals.now c.clear.new.self.items c.add_changed.new.changed.items c.requires.signals c.clear.ensures.items c.add_changed.ensures.changed in
     let after = state_of c.find.new.wakes in
     let sets : StepSets d bound (map (change_by c.args.codes.now c.args.values.now) c.add_changed.new.changed.items) after = subst (λ changes. StepSets d bound changes after) (c.as_slice.ensures ∙ c.note_changes.ensures.changes) (c.find.ensures.sets d bound due.tables) in
-    sets_are d dump t bound c.args.codes.now c.args.values.now (state_of c.args.sets.now) due c.add_changed.new.changed.items are after h (c.find.ensures.design d bound due.tables) c.find.ensures.writers sets
+    sets_are d dump t bound c.args.codes.now c.args.values.now (state_of c.args.sets.now) due c.add_changed.new.changed.items are after h early (c.find.ensures.design d bound due.tables) c.find.ensures.writers sets chosen

@@ -1,7 +1,6 @@
-use Rattle.early_sets.specs.declared.habit.Habit.TheVariants.{Free}
 use Rattle.dump_replay.proofs.Finishing.{final_marks}
 use Rattle.dump_replay.proofs.replay.DumpReplay.finish.Goals as goal
 
 pub returns : goal.returns
 returns c design points vars instance entries rises f =
-    final_marks c.args.self c.finish.result c.finish.ensures.points (c.finish.ensures.followed Free) c.finish.ensures.new design points vars instance entries rises f
+    final_marks c.args.self c.finish.result c.finish.ensures.points c.finish.ensures.followed c.finish.ensures.new design points vars instance entries rises f

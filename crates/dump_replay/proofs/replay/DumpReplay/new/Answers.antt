@@ -25,6 +25,7 @@ returns-clause-followed c =
         ready = c.in_ok-replay.ensures.ready;
         bindable = c.in_ok-binding.ensures.bindable;
         design_is = c.in_ok-replay.ensures.design;
+        habit_is = c.in_ok-replay.ensures.habit;
         points_are = c.in_ok-replay.ensures.points;
         codes = c.in_ok-replay.ensures.codes ∙ codes;
         within = λ code coded. c.in_ok-replay.ensures.within coded.0 code (ap (λ cs. code_at cs coded.0) codes ∙ coded.1);

@@ -8,4 +8,4 @@ pub returns-clause-ready : goal.returns-clause-ready
 returns-clause-ready c =
     let x = c.args.self.now in
     let is = c.unsigned.ensures in
-    given_ready (design_view x.design.now) x.state.notes.points.now x.tables.value x.room.value x.state x.phase c.args.code c.unsigned.result c.set.new.self c.requires.ready c.set.ensures.last (ap (λ (v : Vector). v.signed) is) (λ s coded. ap (λ (v : Vector). length v.bits) is ∙ c.requires.width s coded)
+    given_ready (design_view x.design.now) x.state.notes.points.now x.tables.value x.room.value x.state x.phase c.args.code c.unsigned.result c.set.new.self c.requires.ready c.set.ensures.last c.set.ensures.closed (ap (λ (v : Vector). v.signed) is) (λ s coded. ap (λ (v : Vector). length v.bits) is ∙ c.requires.width s coded)

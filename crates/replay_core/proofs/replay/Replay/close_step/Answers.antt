@@ -7,7 +7,7 @@ use Rattle.replay_core.specs.Made.{Made, made_with, parts_with}
 use Rattle.replay_core.specs.Parts.{IsReady, given_of, made_of, parts_of}
 use Rattle.replay_core.specs.Steps.{CountsSensitive}
 use Rattle.replay_core.specs.declared.replay.Replay.{Replay}
-use Rattle.replay_core.proofs.ClosingStep.{closed_ready, contradiction_after, counts_after, followed_after, is_started, named_after, refused_after, started_after}
+use Rattle.replay_core.proofs.ClosingStep.{closed_ready, contradiction_after, counts_after, followed_after, is_started, named_after, none_then, refused_after, started_after}
 use Rattle.replay_core.proofs.replay.Replay.close_step.Goals as goal
 
 pub returns-clause-ready : goal.returns-clause-ready
@@ -19,12 +19,15 @@ returns-clause-ready g c =
     let ready = c.requires.ready in
     let fits = subst (λ tables. FitsParts d points tables run.new.room run.new.state) c.deref.ensures run.ensures.fits in
     let have = subst (HaveValues x.tables.value.step.codes.items) (sym run.ensures.values) (ready.begun (is_started x.phase c.requires.started c.in_default.not-Refused)) in
-    subst IsReady (sym c.end.ensures.phase) (closed_ready d points x.tables.value run.new.room run.new.state (phase_after run.result c.args.time) run.result c.args.time refl ready.replayable fits run.ensures.points run.ensures.none have run.ensures.named)
+    let given = ready.begun (is_started x.phase c.requires.started c.in_default.not-Refused) in
+    let closed = none_then run.result run.ensures.closed (λ is. subst (HaveValues x.tables.value.step.codes.items) (sym is) given) in
+    subst IsReady (sym c.end.ensures.phase) (closed_ready d points x.tables.value run.new.room run.new.state (phase_after run.result c.args.time) run.result c.args.time refl ready.replayable fits run.ensures.points run.ensures.none
+    run.ensures.none_clocked have closed run.ensures.named)
 
 pub returns-clause-made : goal.returns-clause-made
 returns-clause-made g c =
     let x = c.args.self.now in
-    ap made_of c.end.ensures.phase ∙ ap (λ points. made_with (design_view x.design.now) points x.tables.value) c.run_step-found.ensures.points
+    ap made_of c.end.ensures.phase ∙ ap (λ points. made_with (design_view x.design.now) x.habit points x.tables.value) c.run_step-found.ensures.points
 
 pub returns-clause-values : goal.returns-clause-values
 returns-clause-values g c = ap given_of c.end.ensures.phase ∙ c.run_step-found.ensures.values
@@ -39,8 +42,8 @@ returns-clause-followed g c =
     let run = c.run_step-found in
     let d = design_view x.design.now in
     let points = x.state.notes.points.now in
-    let same : made_of y ≡ made_of x = ap made_of c.end.ensures.phase ∙ ap (λ ps. made_with d ps x.tables.value) run.ensures.points in
-    let closes1 = subst (λ tables. IfNone run.result (Closes (made_with d points tables) c.args.time (parts_with c.deref_mut.result.now x.state) (parts_with run.new.room run.new.state))) c.deref.ensures run.ensures.closes in
+    let same : made_of y ≡ made_of x = ap made_of c.end.ensures.phase ∙ ap (λ ps. made_with d x.habit ps x.tables.value) run.ensures.points in
+    let closes1 = subst (λ tables. IfNone run.result (Closes (made_with d x.habit points tables) c.args.time (parts_with c.deref_mut.result.now x.state) (parts_with run.new.room run.new.state))) c.deref.ensures run.ensures.closes in
     let closes2 = subst (λ room. IfNone run.result (Closes (made_of x) c.args.time (parts_with room x.state) (parts_with run.new.room run.new.state))) c.deref_mut.ensures.value closes1 in
     let closes3 = subst (λ z. IfNone run.result (Closes (made_of x) c.args.time (parts_of x) (parts_of z))) (sym c.end.ensures.phase) closes2 in
     followed_after x y run.result c.args.time (ap (λ (z : Replay). z.phase) c.end.ensures.phase) c.end.result c.end.ensures.ok c.end.ensures.err c.requires.ready.parts.state.unsigned same closes3
@@ -54,7 +57,7 @@ returns-clause-contradiction g c =
     let run = c.run_step-found in
     let d = design_view x.design.now in
     let points = x.state.notes.points.now in
-    let refutes1 = subst (λ tables. IfSome run.result (Refutes (made_with d points tables) c.args.time (parts_with c.deref_mut.result.now x.state))) c.deref.ensures run.ensures.refutes in
+    let refutes1 = subst (λ tables. IfSome run.result (Refutes (made_with d x.habit points tables) c.args.time (parts_with c.deref_mut.result.now x.state))) c.deref.ensures run.ensures.refutes in
     let refutes2 = subst (λ room. IfSome run.result (Refutes (made_of x) c.args.time (parts_with room x.state))) c.deref_mut.ensures.value refutes1 in
     contradiction_after x c.end.new.self run.result c.args.time (ap (λ (y : Replay). y.phase) c.end.ensures.phase) c.end.result c.end.ensures.ok c.end.ensures.err c.requires.ready.parts.state.unsigned refutes2
 
@@ -74,6 +77,6 @@ returns-clause-steps g c =
     let points = x.state.notes.points.now in
     let before = c.args.steps.now in
     let after = run.new.steps in
-    let counts1 = subst (λ tables. Counts (made_with d points tables) c.args.time (parts_with c.deref_mut.result.now x.state) before after) c.deref.ensures run.ensures.counts in
+    let counts1 = subst (λ tables. Counts (made_with d x.habit points tables) c.args.time (parts_with c.deref_mut.result.now x.state) before after) c.deref.ensures run.ensures.counts in
     let counts2 = subst (λ room. Counts (made_of x) c.args.time (parts_with room x.state) before after) c.deref_mut.ensures.value counts1 in
     counts_after x c.args.time before after c.requires.ready.parts.state.unsigned counts2

@@ -4,9 +4,9 @@ use Rattle.replay_core.specs.Parts.{made_of, parts_of}
 use Rattle.replay_core.proofs.replay.Replay.finish.Goals as goal
 
 pub returns-clause-followed : goal.returns-clause-followed
-returns-clause-followed c = λ h dump t followed last.
+returns-clause-followed c = λ dump t followed last.
     let x = c.args.self in
-    let v = ends (subject_of (made_of x) h dump) t followed.replay (parts_of x) last followed.follows in
+    let v = ends (subject_of (made_of x) dump) t followed.replay (parts_of x) last followed.follows in
     record {
       points = v.marks;
       replay = followed.replay;

@@ -18,7 +18,7 @@ use Rattle.replay_core.specs.declared.fault.ReplayFault.TheVariants.{NoBaseline}
 use Rattle.replay_core.specs.declared.replay.Replay.{Replay}
 use Rattle.replay_core.specs.declared.room.ReplayRoom.{ReplayRoom}
 use Rattle.replay_core.specs.declared.tables.ReplayTables.{ReplayTables}
-use Rattle.replay_core.proofs.Ends.{all_valued, if_err, is_new, named_fault, on_ok, step_ready}
+use Rattle.replay_core.proofs.Ends.{all_valued, if_err, is_new, named_fault, none_at, on_ok, step_ready}
 use Rattle.replay_core.proofs.replay.Replay.start.Goals as goal
 
 -- a contradiction is no signal without a value
@@ -43,6 +43,7 @@ run_first_step-found-requires g c =
           subst (λ t. FitsParts d points t c.deref_mut.result.now x.state) (sym c.deref-2.ensures)
           (subst (λ r. FitsParts d points x.tables.value r x.state) (sym c.deref_mut.ensures.value) ready.parts);
       none = subst (λ (r : ReplayRoom). r.step.list.pairs ≡ []) (sym c.deref_mut.ensures.value) ready.none;
+      none_clocked = subst (λ (r : ReplayRoom). r.step.clocked.pairs ≡ []) (sym c.deref_mut.ensures.value) ready.none_clocked;
       untouched = ready.untouched new;
       given = subst (λ (t : ReplayTables). HaveValues t.step.codes.items x.state.values.last) (sym c.deref-2.ensures) have;
     }
@@ -63,18 +64,19 @@ returns g c =
     let found = run.result in
     let time = c.args.time in
     let e = c.end.ensures.phase in
-    let m = made_with d points tables in
+    let m = made_with d x.habit points tables in
     let same = c.deref-2.ensures in
     let noted = run.ensures.points in
     let none = subst (λ cs. (s : ℕ) → s < length cs → lacks_value last cs s ≡ false) c.as_slice-codes.ensures.value c.in_default-first_missing.ensures.none in
     let have = all_valued codes last (subst (λ (t : ReplayTables). (s : ℕ) → s < length t.step.codes.items → lacks_value last t.step.codes.items s ≡ false) c.deref.ensures none) in
     let fits : FitsParts d points tables room state = subst (λ t. FitsParts d points t room state) same run.ensures.fits in
     let valued : HaveValues codes state.values.last = subst (HaveValues codes) (sym run.ensures.values) have in
+    let closed = none_at found (subst (HaveValues codes) (sym run.ensures.closed) have) in
     let ended : FitsReplay d state.notes.points.now tables room state (phase_after found time) =
-    subst (λ ps. FitsReplay d ps tables room state (phase_after found time)) (sym noted) (step_ready d points tables room state found time ready.replayable fits run.ensures.none valued run.ensures.named) in
-    let starts = subst (λ t. IfNone found ((n : ℕ) → Starts (made_with d points t) n x.state.values (parts_with room state))) same run.ensures.starts in
-    let refutes = subst (λ t. IfSome found (λ one. (n : ℕ) → RefutesFirst (made_with d points t) n x.state.values one)) same run.ensures.refutes in
-    let after : made_with d state.notes.points.now tables ≡ m = ap (λ ps. made_with d ps tables) noted in
+    subst (λ ps. FitsReplay d ps tables room state (phase_after found time)) (sym noted) (step_ready d points tables room state found time ready.replayable fits run.ensures.none run.ensures.none_clocked valued closed run.ensures.named) in
+    let starts = subst (λ t. IfNone found ((h : Habit) (n : ℕ) → Starts (made_with d h points t) n x.state.values (parts_with room state))) same run.ensures.starts in
+    let refutes = subst (λ t. IfSome found (λ one. (h : Habit) (n : ℕ) → RefutesFirst (made_with d h points t) n x.state.values one)) same run.ensures.refutes in
+    let after : made_with d x.habit state.notes.points.now tables ≡ m = ap (λ ps. made_with d x.habit ps tables) noted in
     let size : length (map process_view D.processes) ≡ length D.processes = length-map D.processes process_view in
     let steps = run.ensures.steps in
     record {
@@ -82,19 +84,19 @@ returns g c =
       made = ap made_of e ∙ after;
       values = ap given_of e ∙ run.ensures.values;
       started = on_ok c.end.result c.end.ensures.ok (λ none. ap (λ (y : Replay). y.phase) e ∙ ap (λ o. phase_after o time) none);
-      followed = on_ok c.end.result c.end.ensures.ok (λ none h dump of first shown given.
-          let b = (subst (λ o. IfNone o ((n : ℕ) → Starts m n x.state.values (parts_with room state))) none starts) time h dump of first shown given in
-          subst (λ (y : Replay). HasFollowed y h dump time) (sym e) (record {
+      followed = on_ok c.end.result c.end.ensures.ok (λ none dump of first shown given.
+          let b = (subst (λ o. IfNone o ((h : Habit) (n : ℕ) → Starts (made_with d h points tables) n x.state.values (parts_with room state))) none starts) x.habit time dump of first shown given in
+          subst (λ (y : Replay). HasFollowed y dump time) (sym e) (record {
             dumped = subst (λ n. IsDumpFor n dump) (sym after) of;
             started = ap (λ o. phase_after o time) none;
             replay = b.0;
-            follows = subst (λ n. Follows (subject_of n h dump) time b.0 (parts_with room state)) (sym after) b.1;
+            follows = subst (λ n. Follows (subject_of n dump) time b.0 (parts_with room state)) (sym after) b.1;
           }));
       refused = if_err c.end.result c.end.ensures.err (λ fault is. ap (λ (y : Replay). y.phase) e ∙ ap (λ o. phase_after o time) is.1 ∙ ap Refused (sym is.2));
       missing = λ s new is. absurd (no_missing s (subst (λ r. IfErr r (λ fault. (one : Difference) × (found ≡ Some one) × (fault ≡ fault_at one time))) is c.end.ensures.err));
-      contradiction = if_err c.end.result c.end.ensures.err (λ fault is h dump new of first shown given.
-          let refuted = (subst (λ o. IfSome o (λ one. (n : ℕ) → RefutesFirst m n x.state.values one)) is.1 refutes) time h dump of first shown given in
-          subst (λ f. IsContradiction d (habit_of h) dump time f) (sym is.2) (refl, refuted));
+      contradiction = if_err c.end.result c.end.ensures.err (λ fault is dump new of first shown given.
+          let refuted = (subst (λ o. IfSome o (λ one. (h : Habit) (n : ℕ) → RefutesFirst (made_with d h points tables) n x.state.values one)) is.1 refutes) x.habit time dump of first shown given in
+          subst (λ f. IsContradiction d (habit_of x.habit) dump time f) (sym is.2) (refl, refuted));
       valued = λ s t dumped computed new is. have;
       again = λ fault refused. absurd (c.in_default.not-Refused fault refused);
       named = if_err c.end.result c.end.ensures.err (λ fault is. named_fault found is.0 fault time (length d.signals) run.ensures.named is.1 is.2);

@@ -5,4 +5,4 @@ use Rattle.step_values.proofs.values.StepValues.loosen_all.Given as goal
 
 -- the rows of the processes so far are made unknown
 abbrev pub invariant-loop-process : goal.invariant-loop-process
-invariant-loop-process l = Loosens l.codes (some_row_has l.targets (take l.process-index l.woken)) l.fn.store l.store l.fn.self l.self
+invariant-loop-process l = Loosens l.codes (some_row_has l.targets (take l.process-index l.running)) l.fn.store l.store l.fn.self l.self

@@ -1,0 +1,83 @@
+"""What may move in a step, which clocked blocks it can wake, and what may change before a clean one is evaluated.
+
+A *single* signal changes at most once in a step, from its old to its new value: an input. An event signal that is no input may
+rise and fall within a step, so a block that one can wake is evaluated any number of times.
+"""
+from .designs import Edged
+
+
+def edge(old, new):
+    """The edge from one bit to another, or None (IEEE 1364-2001, 9.7.1)."""
+    levels = {"0": 0, "x": 1, "z": 1, "1": 2}
+    if levels[old] == levels[new]:
+        return None
+    return "posedge" if levels[old] < levels[new] else "negedge"
+
+
+def least(first, processes, targets_of):
+    """The least set with these signals and the targets that `targets_of` gives of each process by the set."""
+    found, more = set(first), True
+    while more:
+        added = set().union(*(targets_of(process, found) for process in processes)) - found
+        found |= added
+        more = bool(added)
+    return found
+
+
+class Wakes:
+    """What may move in a step in which these inputs change; `edges` has the edges of those that have one bit."""
+
+    def __init__(self, flat, changed, edges):
+        self.processes, self.changed, self.edges, self.chosen = flat.processes, changed, edges, {}
+        self.may_move = least(changed, flat.processes, self.moved_targets)
+
+    def wakers(self, process, members):
+        """The event signals among these that can wake a clocked block, in the order of its list."""
+        return [signal for signal, edges in process.edges().items()
+                if signal in members and (signal not in self.edges or self.edges[signal] in edges)]
+
+    def moved_targets(self, process, members):
+        if isinstance(process, Edged):
+            wakes = self.wakers(process, members)
+        else:
+            wakes = process.watched() & members
+        return process.targets() if wakes else ()
+
+    def can_wake(self, process):
+        return self.wakers(process, self.may_move)
+
+    def trigger(self, process):
+        """The event signal of a clean block, else None."""
+        wakers = self.can_wake(process)
+        return wakers[0] if len(wakers) == 1 and wakers[0].is_input else None
+
+    def early(self, block):
+        """What may have changed when a clean block is evaluated, its trigger left aside."""
+        if block not in self.chosen:
+            trigger = self.trigger(block)
+
+            def targets(process, members):
+                more = members | {trigger}
+                if not isinstance(process, Edged):
+                    return process.targets() if process.watched() & more else ()
+                at_once = process is not block and self.wakers(process, more)
+                later = self.wakers(process, members)
+                return (process.written_at_once() if at_once else set()) | (process.written_later() if later else set())
+
+            self.chosen[block] = least(self.changed - {trigger}, self.processes, targets)
+        return self.chosen[block]
+
+
+def wakes_of(flat, old, new):
+    """The wakes of a step from these settled values to those; steps with equal changes of inputs have the same."""
+    changed = frozenset(it for it in flat.signals if it.is_input and old[it] != new[it])
+    edges = {it: edge(digit(old[it]), digit(new[it])) for it in changed if it.width == 1}
+    key = changed, frozenset(edges.items())
+    if key not in flat.known_wakes():
+        flat.known_wakes()[key] = Wakes(flat, changed, edges)
+    return flat.known_wakes()[key]
+
+
+def digit(value):
+    """The digit of a vector of one bit."""
+    return "01xz"[value.ones + 2 * value.strange]
