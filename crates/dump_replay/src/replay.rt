@@ -38,13 +38,23 @@ use vcd_reader::Vars;
 ///
 /// It is made when the header ends. What is promised of it is said of each dump that begins with the entries that it was given
 /// (`specs/Followed.antt`). Only `new` takes memory.
-#[derive(Drop)]
 pub struct DumpReplay<'a> {
     replay: Replay<'a>,
     /// By code, whether a signal has it.
     wanted: Vec<bool>,
     /// The last time, of which the step is not closed.
     last: Option<u64>,
+}
+
+// Written out so that a crate which lets one go does not prove again how each of its parts is let go.
+impl Drop for DumpReplay<'_> {
+    fn drop(self) {
+        let DumpReplay {
+            replay: _,
+            wanted: _,
+            last: _,
+        } = self;
+    }
 }
 
 impl<'a> DumpReplay<'a> {
@@ -144,7 +154,12 @@ impl<'a> DumpReplay<'a> {
             → HasFollowed self.entry design points vars instance entries
             → AreFinalMarks (design_view design) Free (dump_of (codes_of design vars instance) (steps_of entries)) points result }
     {
-        self.replay.finish()
+        let DumpReplay {
+            replay,
+            wanted: _,
+            last: _,
+        } = self;
+        replay.finish()
     }
 
     /// Closes the step of this time, whose runs nobody counts.

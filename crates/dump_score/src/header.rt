@@ -15,11 +15,21 @@ use vcd_reader::{Body, DumpFault, DumpKind, Fed, Header, Vars};
 const LONGEST_HEADER: u64 = 67_108_864;
 
 /// A dump of which the header was read.
-#[derive(Drop)]
 pub(crate) struct Opened {
     pub(crate) vars: Vars,
     pub(crate) body: Body,
     pub(crate) span: Span,
+}
+
+// Written out so that a function which lets one go at several places does not prove at each how its parts are let go.
+impl Drop for Opened {
+    fn drop(self) {
+        let Opened {
+            vars: _,
+            body: _,
+            span: _,
+        } = self;
+    }
 }
 
 /// How far a dump was read when its header ended.

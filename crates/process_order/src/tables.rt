@@ -13,7 +13,6 @@ use index_sets::Rows;
 use std::alloc::Global;
 
 /// Which signals and memories each process watches, and in which order the processes are run.
-#[derive(Drop)]
 pub struct ProcessTables {
     /// For each Assign and Comb what it mentions or lists, in order of reading.
     pub watched: Rows<u32>,
@@ -23,6 +22,18 @@ pub struct ProcessTables {
     pub order: Vec<u32>,
     /// The Assigns and Combs on a cycle of such, and those after one, in order of the design.
     pub last: Vec<u32>,
+}
+
+// Written out so that a crate which lets one go does not prove again how each of its parts is let go.
+impl Drop for ProcessTables {
+    fn drop(self) {
+        let ProcessTables {
+            watched: _,
+            clocked: _,
+            order: _,
+            last: _,
+        } = self;
+    }
 }
 
 /// The tables of a design in which these signals and memories are bound. It takes the time of the design's text.

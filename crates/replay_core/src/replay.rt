@@ -44,7 +44,6 @@ use step_counts::Steps;
 ///
 /// What is promised of it is said of each dump that it has followed up to a time (`specs/Followed.antt`): of one whose steps up to
 /// that time it has closed, each at its time and with its values. There may be several, as long as the dump is not read to its end.
-#[derive(Drop)]
 pub struct Replay<'a> {
     design: &'a Design,
     habit: Habit,
@@ -52,6 +51,20 @@ pub struct Replay<'a> {
     room: Box<ReplayRoom>,
     state: ReplayState<'a>,
     phase: Phase,
+}
+
+// Written out so that a crate which lets one go does not prove again how each of its parts is let go.
+impl Drop for Replay<'_> {
+    fn drop(self) {
+        let Replay {
+            design: _,
+            habit: _,
+            tables: _,
+            room: _,
+            state: _,
+            phase: _,
+        } = self;
+    }
 }
 
 impl<'a> Replay<'a> {
@@ -210,7 +223,14 @@ impl<'a> Replay<'a> {
         ensures followed { (dump : BoundDump) (t : ℕ) → HasFollowed self.entry dump t → IsLastStep dump t → AreFinal (made_of self.entry) dump result }
         ensures new { IsNew self.entry → AreVerdicts (made_of self.entry).design (made_of self.entry).points [] result.verdicts }
     {
-        let state = self.state;
+        let Replay {
+            design: _,
+            habit: _,
+            tables: _,
+            room: _,
+            state,
+            phase: _,
+        } = self;
         let notes = state.notes;
         notes.marks
     }

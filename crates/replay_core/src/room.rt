@@ -26,7 +26,6 @@ use wake_list::WakeList;
 const MOST_PIECES: usize = 128;
 
 /// What is found in a step.
-#[derive(Drop)]
 pub(crate) struct ReplayRoom {
     /// What the step begins with.
     pub(crate) step: StepRoom,
@@ -38,6 +37,19 @@ pub(crate) struct ReplayRoom {
     pub(crate) ran: Queue<usize>,
     /// The signals that are compared with the dump.
     pub(crate) checks: CheckOrder,
+}
+
+// Written out so that a crate which lets one go does not prove again how each of its parts is let go.
+impl Drop for ReplayRoom {
+    fn drop(self) {
+        let ReplayRoom {
+            step: _,
+            scratch: _,
+            later: _,
+            ran: _,
+            checks: _,
+        } = self;
+    }
 }
 
 /// The room for the steps of a design with these tables. `bound` says for each signal whether the dump has it.

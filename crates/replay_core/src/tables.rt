@@ -27,7 +27,6 @@ use step_runs::{rows_law, written_rows};
 use step_start::StepTables;
 
 /// What is read in each step.
-#[derive(Drop)]
 pub(crate) struct ReplayTables {
     /// What the step begins with.
     pub(crate) step: StepTables,
@@ -37,6 +36,18 @@ pub(crate) struct ReplayTables {
     pub(crate) wakes: Rows<Wake>,
     /// The signals with a code of which each process may write a bit.
     pub(crate) checks: Rows<u32>,
+}
+
+// Written out so that a crate which lets one go does not prove again how each of its parts is let go.
+impl Drop for ReplayTables {
+    fn drop(self) {
+        let ReplayTables {
+            step: _,
+            processes: _,
+            wakes: _,
+            checks: _,
+        } = self;
+    }
 }
 
 /// The tables of a design without memories, of which each signal has this code. The codes are below `count`, and `bound` says for

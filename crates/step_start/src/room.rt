@@ -8,7 +8,6 @@ use value_store::Queue;
 use wake_list::WakeList;
 
 /// What is made of a design and its binding once, and read in each step.
-#[derive(Drop)]
 pub struct StepTables {
     /// The code of each signal that the dump has.
     pub codes: Vec<Option<u32>>,
@@ -24,8 +23,21 @@ pub struct StepTables {
     pub clocked: RunOrder,
 }
 
+// Written out so that a crate which lets one go does not prove again how each of its parts is let go.
+impl Drop for StepTables {
+    fn drop(self) {
+        let StepTables {
+            codes: _,
+            signals: _,
+            targets: _,
+            written: _,
+            order: _,
+            clocked: _,
+        } = self;
+    }
+}
+
 /// What is found in a step.
-#[derive(Drop)]
 pub struct StepRoom {
     /// The signals whose value has changed.
     pub changed: IndexSet,
@@ -43,4 +55,20 @@ pub struct StepRoom {
     pub list: WakeList,
     /// What is known of the signals that may move, before the step and as it was made in it.
     pub values: StepValues,
+}
+
+// Written out so that a crate which lets one go does not prove again how each of its parts is let go.
+impl Drop for StepRoom {
+    fn drop(self) {
+        let StepRoom {
+            changed: _,
+            changes: _,
+            sets: _,
+            clocked: _,
+            overwritten: _,
+            running: _,
+            list: _,
+            values: _,
+        } = self;
+    }
 }
