@@ -7,8 +7,8 @@ The registers have 32 bits and a block each, ten to a module: with an enable, wi
 clock, and random data and enables where the clock falls. Icarus Verilog simulates it into a dump with all signals and into one
 with the ports alone, for so many clocks that the registers take UPDATES values (2,000,000). Both are scored. Printed are the
 seconds, what they are of the seconds of the simulation without a dump and with the same dump, and of a run of Verilator with
-`--coverage` of the same design and stimulus, where it is installed and the registers are at most 1,000; and the resident memory for
-the dump and for one of a quarter of its length. What Verilator takes to compile is printed apart. Then ten registers are scored beside 10, 1,000 and 10,000 others
+`--coverage` of the same design and stimulus, where it is installed; and the resident memory for the dump and for one of a quarter
+of its length. What Verilator takes to compile is printed apart; of 10,000 registers it is long. Then ten registers are scored beside 10, 1,000 and 10,000 others
 whose clock stays, over CLOCKS clocks (50,000): printed are the nanoseconds a step and their ratios. SIZES are other numbers of
 registers than these three, such as 10,100.
 
@@ -25,8 +25,6 @@ import dump
 
 GROUP = 10
 SIZES = (10, 1_000, 10_000)
-# Verilator takes minutes to compile a thousand registers with coverage
-MOST_COMPILED = 1_000
 QUIET = {"stdout": subprocess.DEVNULL, "stderr": subprocess.DEVNULL}
 PORTS = "clk, reset_n, enable, data, out"
 
@@ -162,15 +160,15 @@ def build_verilator(design):
     with open(driver, "w", encoding="ascii") as it:
         it.write(DRIVER)
     # modules that are not inlined compile in a fifth of the time, and run as fast
-    translated = dump.run(["verilator", "--cc", "--exe", "--coverage", "-O3", "-fno-inline", "-Wno-fatal", "-Wno-lint", "-CFLAGS", "-O2",
-                           "--top-module", "pipeline", "--Mdir", made, design.source, driver])[0]
-    compiled = dump.run(["make", "-s", "-C", made, "-f", "Vpipeline.mk", "Vpipeline"])[0]
+    translated = dump.run(["verilator", "--cc", "--exe", "--coverage", "-O3", "-fno-inline", "--output-split", "20000", "-Wno-fatal", "-Wno-lint",
+                           "-CFLAGS", "-O2", "--top-module", "pipeline", "--Mdir", made, design.source, driver])[0]
+    compiled = dump.run(["make", "-s", "-j", "4", "-C", made, "-f", "Vpipeline.mk", "Vpipeline"])[0]
     return f"{made}/Vpipeline", translated, compiled
 
 
-def verilator_seconds(design, registers, clocks):
-    """The processor seconds of a run of Verilator with coverage, or nothing where it is not installed or takes too long to compile."""
-    if registers > MOST_COMPILED or not shutil.which("verilator"):
+def verilator_seconds(design, clocks):
+    """The processor seconds of a run of Verilator with coverage, or nothing where it is not installed."""
+    if not shutil.which("verilator"):
         return None
     program, translated, compiled = build_verilator(design)
     few, many = ([program, str(count), f"{design.folder}/coverage.dat"] for count in (first_of(clocks), clocks))
@@ -191,7 +189,7 @@ def show_pipeline(program, folder, registers, updates):
     design, clocks = Pipeline(program, folder, registers), max(updates // registers, 20)
     first = first_of(clocks)
     print(f"{registers} registers, {clocks} clocks")
-    plain, verilator = between(design.simulation(first), design.simulation(clocks)), verilator_seconds(design, registers, clocks)
+    plain, verilator = between(design.simulation(first), design.simulation(clocks)), verilator_seconds(design, clocks)
     print(f"  Icarus Verilog without a dump: {plain:.2f} s")
     for name, all_signals in (("all signals", True), ("the ports alone", False)):
         few, quarter, many = (design.write_dump(count, all_signals) for count in (first, max(clocks // 4, 2), clocks))
