@@ -35,9 +35,18 @@ pub struct Found<'a> {
 }
 
 /// Room for the run of one process at a time.
-#[derive(Drop)]
 pub struct Scratch {
     pub saved: SavedValues,
     /// The parts of an assignment, none between runs.
     pub pieces: Queue<Piece>,
+}
+
+// Written out so that a crate which lets one go does not prove again how each of its parts is let go.
+impl Drop for Scratch {
+    fn drop(self) {
+        let Scratch {
+            saved: _,
+            pieces: _,
+        } = self;
+    }
 }
