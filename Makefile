@@ -10,7 +10,7 @@
 
 PREFIX ?= /usr/local
 PROGRAM = crates/covered/out/covered
-STAGE = clocked
+STAGE = memories
 # parts of later stages that are already there: dumps, bindings, merge and report
 AHEAD = merge-report pieces
 PADS = examples/pads

@@ -141,7 +141,6 @@ source_no_usage source_fault.NoMemory same = cc
 source_no_usage (source_fault.File call file) same = cc
 source_no_usage (source_fault.Included call path) same = cc
 source_no_usage (source_fault.Refused refusal) same = cc
-source_no_usage source_fault.NotYet same = cc
 
 -- a fault ends with the status of usage exactly where the words are no command
 pub usage_exactly : (words : List (List ℕ)) (before after : Outside) → (fault : Fault) → Stands words before after fault → (status_of fault ≡ status.Usage) ↔ IsNoCommand words
@@ -159,7 +158,6 @@ source_no_contradiction source_fault.NoMemory same = cc
 source_no_contradiction (source_fault.File call file) same = cc
 source_no_contradiction (source_fault.Included call path) same = cc
 source_no_contradiction (source_fault.Refused refusal) same = cc
-source_no_contradiction source_fault.NotYet same = cc
 
 no_contradiction : (f : CommandFault) → database_status f ≡ status.Contradiction → ⊥
 no_contradiction (database_fault.Files call file) same = cc

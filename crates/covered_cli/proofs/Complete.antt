@@ -239,7 +239,6 @@ module _ (words : List (List ℕ)) (before middle after : Outside) (first : Coun
   bad_ends (source_fault.File call file) is = absurd is
   bad_ends (source_fault.Included call path) is = absurd is
   bad_ends (source_fault.Refused refusal) is = inl refl
-  bad_ends source_fault.NotYet is = inl refl
 
   pub bad_source_ends : IsCommandWith HasBadSource words before → EndsWith source_status_of (status_of f)
   bad_source_ends (score, is, bad) =

@@ -125,7 +125,6 @@ source_no_database source_fault.NoMemory same = cc
 source_no_database (source_fault.File call file) same = cc
 source_no_database (source_fault.Included call path) same = cc
 source_no_database (source_fault.Refused refusal) same = cc
-source_no_database source_fault.NotYet same = cc
 
 pub database_cause : (words : List (List ℕ)) (before after : Outside) (fault : Fault) → Stands words before after fault → status_of fault ≡ status.Database → HasDatabaseCause words before
 database_cause words before after (Usage usage) stands is = absurd (cc)
@@ -171,7 +170,6 @@ source_files_cause words before after score is (source_fault.File call file) sta
     source_call words before after call file.now (inl (of_score score, is, Contains-append_right (score.dump ∷ []) score.sources file.now (root_named (sources_in score) before after call file.now stands))) stands.refused
 source_files_cause words before after score is (source_fault.Included call path) stands same = source_call words before after call path (inr (score, is, stands.0)) stands.1
 source_files_cause words before after score is (source_fault.Refused refusal) stands same = absurd cc
-source_files_cause words before after score is source_fault.NotYet stands same = absurd cc
 
 reading_call : (words : List (List ℕ)) (before after : Outside) (call : Call) (file : List ℕ) → IsReading call → IsInput words file → IsRefusedFile call file before after → HasFilesCause words before after
 reading_call words before after OpenRead file reading input refused = missing_cause words before after file input refused
@@ -259,7 +257,6 @@ module _ (before middle after : Outside) (first : CountsUp before middle) (secon
       record { front = stands.front; others = stands.others; sources = stands.sources; stands = stands.stands; roots = stands.roots; within = stands.within; refused = source_call_later call file.now stands.refused }
   source_later words (source_fault.Included call path) stands = (stands.0, source_call_later call path stands.1)
   source_later words (source_fault.Refused refusal) stands = stands
-  source_later words source_fault.NotYet stands = stands
 
   merge_fault_later : (merge : MergeValues) (f : CommandFault) → IsMergeFault merge before middle f → IsMergeFault merge before after f
   merge_fault_later merge (database.Files call file) (inl fault) = inl (fault.0, fault.1, refused_file_later call file.now fault.2)

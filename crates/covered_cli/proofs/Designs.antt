@@ -40,7 +40,6 @@ replayable_design sources defines top design points stands all =
     record {
       lawful = lawful_design sources defines top design stands;
       own_wakes = answered_wakes stands.modules top (design_view design) (modules_of_tokens a.tokens stands.modules sound a.spelled) stands.flat;
-      memories = stands.memories;
       listed = all.listed;
       apart = all.apart;
       once = all.once;

@@ -19,7 +19,7 @@ use design_model::Design;
 use dump_replay::{DumpReplay, score_table};
 use std::alloc::Global;
 
-/// The database of a design without memories, which has these points and was read from these sources, under the dump in a
+/// The database of a design, which has these points and was read from these sources, under the dump in a
 /// file, in which the design is the instance.
 ///
 /// The file is opened once and read in pieces of 65,536 bytes. All room is made before the body is read, apart from

@@ -90,10 +90,11 @@ given_ready d points x r s phase code v values fits is closed none width =
           wide_closed = subst (AreWideValues d codes) (sym closed) state.wide_closed;
           unsigned = subst AreUnsigned (sym is) (unsigned_after d codes last code v none state.unsigned);
         };
+        words = fits.parts.words;
       };
       none = fits.none;
       none_clocked = fits.none_clocked;
-      untouched = λ new. let u = fits.untouched new in record { knows = u.knows; acted = u.acted; marks = u.marks; seen = u.seen };
+      untouched = λ new. let u = fits.untouched new in record { knows = u.knows; words = u.words; acted = u.acted; marks = u.marks; seen = u.seen };
       begun = λ started. subst (HaveValues codes) (sym is) (λ y. lacks_after d codes last code v (slice_index_or codes y None) (fits.begun started y));
       closed = λ started. subst (HaveValues codes) (sym closed) (fits.closed started);
       refused = fits.refused;

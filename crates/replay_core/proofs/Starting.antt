@@ -34,12 +34,17 @@ use Rattle.first_step.specs.Begun.{IsFirstOf}
 use Rattle.replay_core.specs.Codes.{flags_of}
 use Rattle.replay_core.specs.Fits.{FitsTables, IsReplayable, IsUntouched}
 use Rattle.replay_core.specs.Made.{IsDumpFor, Made, made_with, subject_of}
+use Rattle.replay_core.specs.declared.room.ReplayRoom.{ReplayRoom}
 use Rattle.replay_core.specs.declared.state.ReplayState.{ReplayState}
 use Rattle.replay_core.specs.declared.tables.ReplayTables.{ReplayTables}
 use Rattle.replay_core.specs.Faults.{IsRefuted}
 use Rattle.replay_core.proofs.Closing.{dumped_is}
 use Rattle.replay_core.proofs.Codes.{flags_are}
 use Rattle.replay_core.proofs.Parts.{coded}
+use Rattle.replay_core.proofs.Words.{words_stay}
+use Rattle.body_store.specs.Made.{nothing}
+use Rattle.step_runs.specs.Laws.{FirstWordsLaw}
+use Rattle.step_words.specs.Words.{HasWords}
 use Rattle.dump_check.specs.Checks.{IsDifference}
 use Rattle.dump_check.specs.declared.order.Difference.{Difference}
 use Rattle.known_state.specs.Partly.{Partly}
@@ -74,14 +79,14 @@ module _ (d : Design) (h : Habit) (points : Points) (x : ReplayTables) (replayab
 
   module _ (dump : BoundDump) (t : ℕ) (of : IsDumpFor m dump) (first : IsFirst dump t) (shown : IsShown dump t) where
     -- what the store knew before the step is what the definition starts from
-    pub is_first : (s : ReplayState) → IsUntouched d points s → AreDumped d m.codes s.values.last (dump.values t) → IsFirstOf d dump.bound (dump.values t) m.codes s.values.last s.store
-    is_first s untouched given = record { bound = of.bound; dumped = given; knows = untouched.knows }
+    pub is_first : (r : ReplayRoom) (s : ReplayState) → IsUntouched d points r s → AreDumped d m.codes s.values.last (dump.values t) → IsFirstOf d dump.bound (dump.values t) m.codes s.values.last s.store
+    is_first r s untouched given = record { bound = of.bound; dumped = given; knows = untouched.knows }
 
     -- where nothing contradicts the step the dump is followed up to its first time
-    pub starts_at : (s : ReplayState) (y : Parts) → IsUntouched d points s → AreMarksOf points s.notes.marks → AreUnsigned s.values.last → AreDumped d m.codes s.values.last (dump.values t)
+    pub starts_at : (r : ReplayRoom) (s : ReplayState) (y : Parts) → IsUntouched d points r s → AreMarksOf points s.notes.marks → AreUnsigned s.values.last → AreDumped d m.codes s.values.last (dump.values t)
         → y.values.closed ≡ s.values.last → y.acted ≡ s.acted.items → y.marks ≡ s.notes.marks → y.seen ≡ s.seen → IsOfDesign d (flags_of m.codes) y.sets → HasNoWriters y.sets
         → Knows d (first_replay (subject_of m dump) t).kept y.store → ((c : Cell) → contradicts_first d dump.bound (runs_of d) m.tables (dump.values t) c ≡ false) → Follows (subject_of m dump) t (first_replay (subject_of m dump) t) y
-    starts_at s y untouched marks unsigned given values acted same seen sets writers knows none =
+    starts_at r s y untouched marks unsigned given values acted same seen sets writers knows none =
         starts (subject_of m dump) t y (is_subject dump of) first shown sets writers
         (subst (λ vs. AreDumped d m.codes vs (dump.values t)) (sym values) given)
         (subst AreUnsigned (sym values) unsigned)
@@ -96,6 +101,11 @@ module _ (d : Design) (h : Habit) (points : Points) (x : ReplayTables) (replayab
           marks = untouched.marks;
           seen = untouched.seen;
         }))))
+
+    -- and nothing is known of a word
+    pub starts_words : (r : ReplayRoom) (s : ReplayState) → IsUntouched d points r s → FirstWordsLaw → HasWords d (first_replay (subject_of m dump) t).kept s.notes.written.ranges r.words
+    starts_words r s untouched law =
+        words_stay d nothing (first_replay (subject_of m dump) t).kept s.notes.written.ranges r.words (λ c is. law d dump.bound (runs_of d) m.tables (dump.values t) c replayable.lawful (is_subject dump of).is.tabled is) untouched.words
 
     -- where some bit contradicts it no run shows the dump
     pub refuted_at : (c : Cell) (last : List (Option Vector)) (found : Difference) (made : List Partly) → AreDumped d m.codes last (dump.values t) → contradicts_first d dump.bound (runs_of d) m.tables (dump.values t) c ≡ true

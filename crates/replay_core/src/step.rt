@@ -15,6 +15,8 @@ ghost use Rattle.step_marks.specs.Marked.{IsOver, IsSeenAfter};
 ghost use Rattle.first_step.specs.step_values.Vectors.{FitsSignals};
 ghost use Rattle.first_step.specs.store_knowledge.Knows.{Knows};
 ghost use Rattle.step_marks.specs.toggle_laws.Turns.{MarksInTurn};
+ghost use Rattle.step_words.specs.Words.{AreWordChanges, FitsRanges, HasWords};
+ghost use Rattle.written_words.specs.Same.{FollowsAll, SameUnwritten};
 ghost use Rattle.replay_core.specs.Closing.{Closes, Counts, Refutes};
 ghost use Rattle.replay_core.specs.Fits.{FitsParts, HaveValues, IsReplayable};
 ghost use Rattle.replay_core.specs.Made.{made_with, parts_with};
@@ -33,8 +35,9 @@ use signal_marks::SignalMarks;
 use std::sync::ledger::Ledger;
 use step_counts::Steps;
 use step_marks::mark_moved;
-use step_runs::MarkNotes;
+use step_runs::{MarkNotes, words_law};
 use step_start::{find_step, settle_step};
+use step_words::StepWords;
 
 /// Closes the step that ends at this time, where each signal with a code has a value. The result is the signal that contradicts it,
 /// if there is one.
@@ -64,8 +67,10 @@ pub(crate) fn run_step<L: Ledger>(
     ensures counts { Counts (made_with (design_view design.now) habit state.old.notes.points.now tables.now) time (parts_with room.old state.old) steps.old steps.new }
     ensures named { IfSome result (λ found. found.signal < length design.now.signals) }
 {
+    words_law();
     find_step(&tables.step, &state.values, &mut room.step, &state.store);
     run_woken_clocked(design, habit, tables, room, state, time, steps);
+    compare_words(tables, room, state);
     if let Some(found) = settle_step(
         &tables.step,
         room.ran.as_slice(),
@@ -90,6 +95,38 @@ pub(crate) fn run_step<L: Ledger>(
     );
     state.values.close();
     None
+}
+
+/// Finds the memories of which the Clocked processes have changed a word, and keeps the words for the next step.
+fn compare_words(tables: &ReplayTables, room: &mut ReplayRoom, state: &mut ReplayState)
+    requires fits { FitsParts (design_view state.old.store.design.now) state.old.notes.points.now tables.now room.old state.old }
+    ensures fits { FitsParts (design_view state.old.store.design.now) state.old.notes.points.now tables.now room.new state.new }
+    ensures room { room.new ≡ record room.old { words = room.new.words } }
+    ensures state { state.new ≡ record state.old { notes = state.new.notes } }
+    ensures points { state.new.notes.points.now ≡ state.old.notes.points.now }
+    ensures marks { state.new.notes.marks ≡ state.old.notes.marks }
+    ensures ranges { state.new.notes.written.ranges ≡ state.old.notes.written.ranges }
+    ensures words { (d : TheDesign) (old new : Kept) → Knows d new state.old.store → SameUnwritten d old new state.old.notes.written → HasWords d old state.old.notes.written.ranges room.old.words → HasWords d new state.old.notes.written.ranges room.new.words }
+    ensures changes { (d : TheDesign) (old new : Kept) → Knows d new state.old.store → SameUnwritten d old new state.old.notes.written → HasWords d old state.old.notes.written.ranges room.old.words → AreWordChanges d (FollowsAll d state.old.notes.written) old new room.new.words }
+{
+    compare_noted(&mut room.words, &state.store, &mut state.notes);
+}
+
+/// The same of the words that are noted to be written, which are listed no more after it.
+fn compare_noted(words: &mut StepWords, store: &Store, notes: &mut MarkNotes)
+    requires known { (d : TheDesign) × (k : Kept) × Knows d k store.now }
+    requires fits { FitsRanges (design_view store.now.design.now) notes.old.written.ranges words.old }
+    requires first { notes.old.written.first ≡ length store.now.design.now.signals }
+    ensures fits { FitsRanges (design_view store.now.design.now) notes.old.written.ranges words.new }
+    ensures points { notes.new.points.now ≡ notes.old.points.now }
+    ensures marks { notes.new.marks ≡ notes.old.marks }
+    ensures first { notes.new.written.first ≡ notes.old.written.first }
+    ensures ranges { notes.new.written.ranges ≡ notes.old.written.ranges }
+    ensures words { (d : TheDesign) (old new : Kept) → Knows d new store.now → SameUnwritten d old new notes.old.written → HasWords d old notes.old.written.ranges words.old → HasWords d new notes.old.written.ranges words.new }
+    ensures changes { (d : TheDesign) (old new : Kept) → Knows d new store.now → SameUnwritten d old new notes.old.written → HasWords d old notes.old.written.ranges words.old → AreWordChanges d (FollowsAll d notes.old.written) old new words.new }
+{
+    words.compare(store, &notes.written);
+    notes.written.clear();
 }
 
 /// The first signal of which the processes that ran made something else than what the dump says.
@@ -135,6 +172,7 @@ fn mark_step(
     requires marks { AreMarksOf notes.old.points.now notes.old.marks }
     ensures count { length seen.new ≡ length seen.old }
     ensures points { notes.new.points.now ≡ notes.old.points.now }
+    ensures written { notes.new.written ≡ notes.old.written }
     ensures marks { AreMarksOf notes.old.points.now notes.new.marks }
     ensures toggles { (st : Closing) → IsOver st notes.old.points.now moves.now time store.now values.now seen.old notes.old.marks → MarksInTurn st notes.old.points.now moves.now notes.old.marks.verdicts notes.new.marks.verdicts }
     ensures seen { (st : Closing) → IsOver st notes.old.points.now moves.now time store.now values.now seen.old notes.old.marks → IsSeenAfter st notes.old.points.now seen.new notes.new.marks }
