@@ -8,7 +8,7 @@ clock, and random data and enables where the clock falls. Icarus Verilog simulat
 with the ports alone, for so many clocks that the registers take UPDATES values (2,000,000). Both are scored. Printed are the
 seconds, what they are of the seconds of the simulation without a dump and with the same dump, and of a run of Verilator with
 `--coverage` of the same design and stimulus, where it is installed; and the resident memory for the dump and for one of a quarter
-of its length. What Verilator takes to compile is printed apart; of 10,000 registers it is long. Then ten registers are scored beside 10, 1,000 and 10,000 others
+of its length. What Verilator takes to compile is printed apart. Then ten registers are scored beside 10, 1,000 and 10,000 others
 whose clock stays, over CLOCKS clocks (50,000): printed are the nanoseconds a step and their ratios. SIZES are other numbers of
 registers than these three, such as 10,100.
 
@@ -159,10 +159,9 @@ def build_verilator(design):
     driver, made = f"{design.folder}/driver.cpp", f"{design.folder}/made"
     with open(driver, "w", encoding="ascii") as it:
         it.write(DRIVER)
-    # modules that are not inlined compile in a fifth of the time, and run as fast
-    translated = dump.run(["verilator", "--cc", "--exe", "--coverage", "-O3", "-fno-inline", "--output-split", "20000", "-Wno-fatal", "-Wno-lint",
-                           "-CFLAGS", "-O2", "--top-module", "pipeline", "--Mdir", made, design.source, driver])[0]
-    compiled = dump.run(["make", "-s", "-j", "4", "-C", made, "-f", "Vpipeline.mk", "Vpipeline"])[0]
+    translated = dump.run(["verilator", "--cc", "--exe", "--coverage", "-O3", "-Wno-fatal", "-Wno-lint", "-CFLAGS", "-O2", "--top-module",
+                           "pipeline", "--Mdir", made, design.source, driver])[0]
+    compiled = dump.run(["make", "-s", "-C", made, "-f", "Vpipeline.mk", "Vpipeline"])[0]
     return f"{made}/Vpipeline", translated, compiled
 
 

@@ -35,7 +35,10 @@ use Rattle.first_step.specs.step_check.Checks.{AreCheckRows}
 use Rattle.first_step.specs.step_check.Laws.{HasRun}
 use Rattle.first_step.proofs.step_check.Checked.{agree_law, differ_law}
 use Rattle.step_marks.specs.Marked.{IsOver, IsSeenAfter}
-use Rattle.step_marks.proofs.Closed as marking
+use Rattle.step_machines.specs.Marked.{IsOver as IsMachineStep}
+use Rattle.step_machines.proofs.Closed as marking
+use Rattle.machine_laws.specs.Followed.{MarksMachines}
+use Rattle.machine_laws.specs.Told.{AreTold}
 use Rattle.step_start.specs.step_parts.AtStep.{AtRest, AtStep}
 use Rattle.step_start.specs.step_parts.Due.{Due, HasBegun, IsContradicted, IsDueStep, step_of}
 use Rattle.step_start.proofs.step_parts.Noted.{noted, seen_more}
@@ -162,6 +165,7 @@ module _ (m : Made) (dump : BoundDump) (t : ℕ) (a : Replay) (x : Parts) (at : 
         values = over.values;
         moves = λ s i. over.moves s ∙ subst (λ ys. is_in ys s ≡ true) same i;
         time = sym time;
+        machines = at.follows.subject.machines;
         listed = at.follows.subject.listed;
         marks = of;
         seen =
@@ -169,11 +173,20 @@ module _ (m : Made) (dump : BoundDump) (t : ℕ) (a : Replay) (x : Parts) (at : 
             seen_more m.design m.points x.seen a.notes more.0 x.marks.verdicts marks.verdicts at.follows.rest.marks (subst (λ ns. AreVerdicts m.design m.points ns marks.verdicts) more.1 over.marks) at.follows.rest.seen;
       }
 
-      -- where nothing was found, and the toggles are marked, the dump is followed up to the end of the step
-      pub followed : (y : Parts) → y.sets ≡ wakes → y.store ≡ last → y.acted ≡ flags → y.values.closed ≡ x.values.last → IsOfDesign m.design (flags_of m.codes) y.sets → HasNoWriters y.sets
-          → ((c : Cell) → contradicts (step wakes early) c ≡ false) → MarksInTurn (step wakes early) m.points wakes.moves marks.verdicts y.marks.verdicts → IsSeenAfter (step wakes early) m.points y.seen y.marks
+      -- those after the runs are those with which the machines are marked
+      pub machines_over : (moving : List ℕ) (end : ℕ) → end ≡ suc t → moving ≡ wakes.moves → IsMachineStep (step wakes early) moving end last w
+      machines_over moving end time same = record {
+        values = over.values;
+        moves = λ s. over.moves s ∙ ap (λ ys. is_in ys s) (sym same);
+        time = sym time;
+      }
+
+      -- where nothing was found, and the toggles and the machines are marked, the dump is followed up to the end of the step
+      pub followed : (y : Parts) (middle : Marks) → y.sets ≡ wakes → y.store ≡ last → y.acted ≡ flags → y.values.closed ≡ x.values.last → IsOfDesign m.design (flags_of m.codes) y.sets → HasNoWriters y.sets
+          → ((c : Cell) → contradicts (step wakes early) c ≡ false) → MarksInTurn (step wakes early) m.points wakes.moves marks.verdicts middle.verdicts → IsSeenAfter (step wakes early) m.points y.seen middle
+          → AreMarksOf m.points y.marks → MarksMachines (step wakes early) m.points x.told middle.verdicts y.marks.verdicts
           → (b : Replay) × Follows f (suc t) b y
-      followed y sets store acted values of writers none turns seen = (next_replay f t a x y.sets early, closes f t a x y early at.follows at.given at.window at.listed first of writers nothing values rest)
+      followed y middle sets store acted values of writers none turns seen marked machines = (next_replay f t a x y.sets early, closes f t a x y early at.follows at.given at.window at.listed first of writers nothing values rest told)
         where
           first : AreFirstSets m.design (habit_of m.habit) dump (suc t) (sets_of y.sets early)
           first = subst (λ ws. AreFirstSets m.design (habit_of m.habit) dump (suc t) (sets_of ws early)) (sym sets) begun.sets
@@ -181,9 +194,16 @@ module _ (m : Made) (dump : BoundDump) (t : ℕ) (a : Replay) (x : Parts) (at : 
           nothing : (c : Cell) → contradicts (step y.sets early) c ≡ false
           nothing = subst (λ ws. (c : Cell) → contradicts (step ws early) c ≡ false) (sym sets) none
 
+          both : AtRest m.design m.points (next_replay f t a x wakes early) last flags y.marks y.seen × AreTold m.design m.points (next_replay f t a x wakes early)
+          both =
+              marking.closes (step wakes early) at.follows.subject.machines m.points x.told last w wakes flags marks middle y.marks y.seen due_step.changes.lawful at.follows.subject.listed at.follows.subject.once over at.follows.told turns seen marked machines
+
+          told : y.told ≡ true → AreTold m.design m.points (next_replay f t a x y.sets early)
+          told e = subst (λ ws. AreTold m.design m.points (next_replay f t a x ws early)) (sym sets) both.1
+
           rest : AtRest m.design m.points (next_replay f t a x y.sets early) y.store y.acted y.marks y.seen
           rest =
               subst (λ ws. AtRest m.design m.points (next_replay f t a x ws early) y.store y.acted y.marks y.seen) (sym sets)
               (subst (λ st. AtRest m.design m.points (next_replay f t a x wakes early) st y.acted y.marks y.seen) (sym store)
               (subst (λ fs. AtRest m.design m.points (next_replay f t a x wakes early) last fs y.marks y.seen) (sym acted)
-              (marking.closes (step wakes early) m.points last w wakes flags marks y.marks y.seen due_step.changes.lawful at.follows.subject.listed at.follows.subject.once over turns seen)))
+              both.0))

@@ -1,5 +1,5 @@
 -- The parts of a replay fit its design before and after each call.
-use Rattle.std.proofs.Common.{◌≡◌, ◌∙◌, ℕ, ◌+◌, ◌<◌, ◌≤◌, Bool, true, ◌++◌, List, [], length, Option, Some, None, inl, inr, refl, sym, ap, subst, arith}
+use Rattle.std.proofs.Common.{◌≡◌, ◌∙◌, ℕ, ◌+◌, ◌<◌, ◌≤◌, ◌^◌, Bool, true, ◌++◌, List, [], length, Option, Some, None, inl, inr, refl, sym, ap, subst, arith}
 use Rattle.std.specs.Prelude.{nat_lt, replicate, slice_index_or}
 use Rattle.std.proofs.lemmas.Bool.{cases_Bool}
 use Rattle.std.proofs.lemmas.Bool.Decides.{nat_tests}
@@ -22,6 +22,7 @@ use Rattle.early_sets.specs.WakeState.{WakeState, state_of}
 use Rattle.first_step.specs.step_changes.Changes.{AreUnsigned}
 use Rattle.dump_check.specs.Checks.{Checks}
 use Rattle.index_sets.specs.Rows.{row_at}
+use Rattle.machine_index.specs.Index.{IsIndexOf}
 use Rattle.first_step.specs.settling.declared.parts.Scratch.{Scratch}
 use Rattle.step_start.specs.Fits.{FitsStep}
 use Rattle.first_step.specs.step_values.Vectors.{FitsSignals, StepVectors as StepValues}
@@ -134,6 +135,8 @@ first_fits d points x r s v scratch ran checks values store k fits wide saved pi
         known = knows;
         acted = state.acted;
         seen = state.seen;
+        machines = state.machines;
+        few_machines = state.few_machines;
         noted = state.noted;
         marks = state.marks;
         rows = state.rows ∙ sym (ap length last);
@@ -144,9 +147,9 @@ first_fits d points x r s v scratch ran checks values store k fits wide saved pi
     }
 
 -- all three once the processes have run
-pub run_fits : (d : Design) (points : Points) (x : ReplayTables) (r q : ReplayRoom) (s u : ReplayState) (k : Kept) → FitsParts d points x r s → FitsRoom d x q → Knows d k u.store → length u.acted.items ≡ length s.acted.items → length u.seen ≡ length s.seen
+pub run_fits : (d : Design) (points : Points) (x : ReplayTables) (r q : ReplayRoom) (s u : ReplayState) (k : Kept) → FitsParts d points x r s → FitsRoom d x q → Knows d k u.store → length u.acted.items ≡ length s.acted.items → length u.seen ≡ length s.seen → u.machines.index ≡ s.machines.index
     → u.notes.points.now ≡ s.notes.points.now → AreMarksOf points u.notes.marks → u.values.last ≡ s.values.last → AreWideValues d x.step.codes.items u.values.closed → FitsParts d points x q u
-run_fits d points x r q s u k fits room knows acted seen noted marks last wide =
+run_fits d points x r q s u k fits room knows acted seen index noted marks last wide =
     let state = fits.state in
     record {
       tables = fits.tables;
@@ -156,6 +159,8 @@ run_fits d points x r q s u k fits room knows acted seen noted marks last wide =
         known = knows;
         acted = acted ∙ state.acted;
         seen = seen ∙ state.seen;
+        machines = subst (λ i. IsIndexOf points.machines.items (length d.signals) i) (sym index) state.machines;
+        few_machines = state.few_machines;
         noted = noted ∙ state.noted;
         marks = marks;
         rows = state.rows ∙ sym (ap length last);
@@ -187,8 +192,8 @@ count_is values count is = ap (λ (v : Values). length v.last) is ∙ length-rep
 
 -- a new replay fits
 pub new_ready : (d : Design) (points : Points) (x : ReplayTables) (r : ReplayRoom) (s : ReplayState) (count : ℕ) → IsReplayable d points → FitsTables d x → FitsRoom d x r → r.step.list.pairs ≡ [] → r.step.clocked.pairs ≡ [] → IsUntouched d points s → s.values ≡ no_values count → length x.step.signals ≡ count
-    → length s.acted.items ≡ length d.processes → length s.seen ≡ length d.signals → s.notes.points.now ≡ points → AreMarksOf points s.notes.marks → FitsReplay d s.notes.points.now x r s New
-new_ready d points x r s count replayable tables room none none_clocked untouched values size acted seen noted marks = subst (λ ps. FitsReplay d ps x r s New) (sym noted) (record {
+    → length s.acted.items ≡ length d.processes → length s.seen ≡ length d.signals → IsIndexOf points.machines.items (length d.signals) s.machines.index → length points.machines.items ≤ 2 ^ 32 → s.notes.points.now ≡ points → AreMarksOf points s.notes.marks → FitsReplay d s.notes.points.now x r s New
+new_ready d points x r s count replayable tables room none none_clocked untouched values size acted seen machines few noted marks = subst (λ ps. FitsReplay d ps x r s New) (sym noted) (record {
   replayable = replayable;
   parts = record {
     tables = tables;
@@ -198,6 +203,8 @@ new_ready d points x r s count replayable tables room none none_clocked untouche
       known = untouched.knows;
       acted = acted;
       seen = seen;
+      machines = machines;
+      few_machines = few;
       noted = noted;
       marks = marks;
       rows = size ∙ sym (count_is s.values count values);
@@ -236,6 +243,8 @@ begun_fits d points x r s n store k fits step writers inputs knows =
         known = knows;
         acted = state.acted;
         seen = state.seen;
+        machines = state.machines;
+        few_machines = state.few_machines;
         noted = state.noted;
         marks = state.marks;
         rows = state.rows;

@@ -10,11 +10,9 @@ use Rattle.cover_marks.specs.Marks.{AreMarksOf}
 use Rattle.cover_points.specs.Listed.{points_of}
 use Rattle.cover_points.specs.declared.listing.Points.{Points}
 use Rattle.design_model.specs.Design.{Design}
-use Rattle.design_model.specs.Points.{IsPoint, StateNames}
 use Rattle.design_model.specs.Shows.{BoundDump, IsFirst, IsShown}
-use Rattle.design_model.specs.declared.point.Point.{Point}
-use Rattle.design_model.specs.declared.point.Point.TheVariants.{Arc as arc_point}
 use Rattle.early_sets.specs.declared.habit.Habit.{Habit}
+use Rattle.machine_laws.proofs.Arcs.{arcs_apart}
 use Rattle.process_order.specs.Tables.{tables_of}
 use Rattle.replay_follows.specs.Follows.{Follows, IsSubject, Parts, Subject}
 use Rattle.replay_follows.specs.Laws.{first_replay}
@@ -44,10 +42,6 @@ use Rattle.dump_check.specs.Checks.{IsDifference}
 use Rattle.dump_check.specs.declared.order.Difference.{Difference}
 use Rattle.known_state.specs.Partly.{Partly}
 
--- without state machines there are no arcs
-no_machine : (d : Design) (i : ℕ) (name : List ℕ) (s : ℕ) (from to : List ℕ) (x y : Vector) → IsPoint d [] (arc_point i name s from to x y) → ⊥
-no_machine d i name s from to x y is = is.1
-
 module _ (d : Design) (h : Habit) (points : Points) (x : ReplayTables) (replayable : IsReplayable d points) (runs : AreRuns d (runs_of d)) (fits : FitsTables d x) where
   abbrev m : Made
   m = made_with d h points x
@@ -59,10 +53,11 @@ module _ (d : Design) (h : Habit) (points : Points) (x : ReplayTables) (replayab
       fits = of.fits;
       runs = runs;
       tabled = subst (λ bound. AreTables d bound m.tables) (sym (fun_ext of.bound)) fits.tabled;
-      listed = λ p i. ([], (replayable.listed.members p).0 i);
-      arcs = λ i name s from to y z at. absurd (no_machine d i name s from to y z ((replayable.listed.members (arc_point i name s from to y z)).0 at));
+      listed = λ p i. (replayable.machines, (replayable.listed.members p).0 i);
+      arcs = λ i name s from to y z at. arcs_apart d replayable.machines points i name s from to y z replayable.listed at;
     };
     wakes = replayable.own_wakes;
+    machines = replayable.machines;
     listed = replayable.listed;
     apart = replayable.apart;
     once = replayable.once;
@@ -79,9 +74,9 @@ module _ (d : Design) (h : Habit) (points : Points) (x : ReplayTables) (replayab
 
     -- where nothing contradicts the step the dump is followed up to its first time
     pub starts_at : (s : ReplayState) (y : Parts) → IsUntouched d points s → AreMarksOf points s.notes.marks → AreUnsigned s.values.last → AreDumped d m.codes s.values.last (dump.values t)
-        → y.values.closed ≡ s.values.last → y.acted ≡ s.acted.items → y.marks ≡ s.notes.marks → y.seen ≡ s.seen → IsOfDesign d (flags_of m.codes) y.sets → HasNoWriters y.sets
+        → y.values.closed ≡ s.values.last → y.acted ≡ s.acted.items → y.marks ≡ s.notes.marks → y.seen ≡ s.seen → y.told ≡ s.machines.told → IsOfDesign d (flags_of m.codes) y.sets → HasNoWriters y.sets
         → Knows d (first_replay (subject_of m dump) t).kept y.store → ((c : Cell) → contradicts_first d dump.bound (runs_of d) m.tables (dump.values t) c ≡ false) → Follows (subject_of m dump) t (first_replay (subject_of m dump) t) y
-    starts_at s y untouched marks unsigned given values acted same seen sets writers knows none =
+    starts_at s y untouched marks unsigned given values acted same seen told sets writers knows none =
         starts (subject_of m dump) t y (is_subject dump of) first shown sets writers
         (subst (λ vs. AreDumped d m.codes vs (dump.values t)) (sym values) given)
         (subst AreUnsigned (sym values) unsigned)
@@ -95,7 +90,7 @@ module _ (d : Design) (h : Habit) (points : Points) (x : ReplayTables) (replayab
           points = marks;
           marks = untouched.marks;
           seen = untouched.seen;
-        }))))
+        })))) (told ∙ untouched.told)
 
     -- where some bit contradicts it no run shows the dump
     pub refuted_at : (c : Cell) (last : List (Option Vector)) (found : Difference) (made : List Partly) → AreDumped d m.codes last (dump.values t) → contradicts_first d dump.bound (runs_of d) m.tables (dump.values t) c ≡ true

@@ -37,6 +37,9 @@ use Rattle.run_order.specs.Ranked.{AreRanksOf}
 use Rattle.step_clocked.proofs.Listed.{all_listed}
 use Rattle.step_clocked.specs.Runs.{AreClockedOf, HasWoken, IsClockedStep, is_woken}
 use Rattle.step_marks.specs.Marked.{IsOver, IsSeenAfter}
+use Rattle.step_machines.specs.Marked.{IsOver as IsMachineStep}
+use Rattle.machine_laws.specs.Followed.{MarksMachines}
+use Rattle.cover_marks.specs.declared.marks.Marks.{Marks}
 use Rattle.step_start.specs.Fits.{FitsStep}
 use Rattle.step_start.specs.Settles.{ForRun}
 use Rattle.step_start.specs.step_parts.AtStep.{AtStep}
@@ -58,7 +61,7 @@ use Rattle.replay_core.specs.Steps.{IsSensitive}
 use Rattle.replay_core.specs.declared.room.ReplayRoom.{ReplayRoom}
 use Rattle.replay_core.specs.declared.state.ReplayState.{ReplayState}
 use Rattle.replay_core.specs.declared.tables.ReplayTables.{ReplayTables}
-use Rattle.replay_core.proofs.Closing.{begun_refuted, due_step, followed, has_run, is_over, listed_distinct, listed_sensitive, run_is, run_refuted}
+use Rattle.replay_core.proofs.Closing.{begun_refuted, due_step, followed, has_run, is_over, listed_distinct, listed_sensitive, machines_over, run_is, run_refuted}
 use Rattle.replay_core.proofs.Orders.{all_named, settles_in}
 use Rattle.replay_core.proofs.Parts.{begin_fits, begun_fits}
 use Rattle.replay_core.proofs.Sets.{found_early, run_early}
@@ -213,23 +216,26 @@ module _ (d : Design) (habit : Habit) (points : Points) (x : ReplayTables) (r : 
               run_refuted m dump t a before at (state_of k.sets) early (listed_of k) k.values store u.notes.marks (start dump t a e at) z.store w.step.values z.acted.items z.notes.marks (over dump t a e at)
               w.ran.items x.step.targets x.checks one (runs_over dump t a e at) differs
 
-          -- where there is none, and the toggles are marked, each dump is followed up to the end of the step
-          pub closes_run : (y : ReplayState) (moves : List ℕ) → All (AgreesAt x.step.codes.items s.values.last w.step.values.made) (last_of_each (flat_map (row_at x.checks) w.ran.items))
+          -- where there is none, and the toggles and the machines are marked, each dump is followed up to the end of the step
+          pub closes_run : (y : ReplayState) (middle : Marks) (moves : List ℕ) → All (AgreesAt x.step.codes.items s.values.last w.step.values.made) (last_of_each (flat_map (row_at x.checks) w.ran.items))
               → moves ≡ (state_of k.sets).moves → IsOfDesign d (flags_of x.step.codes.items) (state_of w.step.sets) → HasNoWriters (state_of w.step.sets) → AreMarksOf points z.notes.marks
               → y.store ≡ z.store → y.acted.items ≡ z.acted.items → y.values.closed ≡ s.values.last
-              → ((st : Closing) → IsOver st points moves time z.store w.step.values s.seen z.notes.marks → MarksInTurn st points moves z.notes.marks.verdicts y.notes.marks.verdicts)
-              → ((st : Closing) → IsOver st points moves time z.store w.step.values s.seen z.notes.marks → IsSeenAfter st points y.seen y.notes.marks)
+              → ((st : Closing) → IsOver st points moves time z.store w.step.values s.seen z.notes.marks → MarksInTurn st points moves z.notes.marks.verdicts middle.verdicts)
+              → ((st : Closing) → IsOver st points moves time z.store w.step.values s.seen z.notes.marks → IsSeenAfter st points y.seen middle)
+              → AreMarksOf points y.notes.marks → ((st : Closing) → IsMachineStep st moves time z.store w.step.values → MarksMachines st points s.machines.told middle.verdicts y.notes.marks.verdicts)
               → Closes m time before (parts_with w y)
-          closes_run y moves agree moving of writers marks stored flags closed turns seen = λ dump t a e at.
+          closes_run y middle moves agree moving of writers marks stored flags closed turns seen marked machines = λ dump t a e at.
               let now = state_of k.sets in
               let one = step_of (due dump t a) now early in
               let begins = start dump t a e at in
               let ends = over dump t a e at in
               let last = is_over m dump t a before at now early (listed_of k) k.values store u.notes.marks begins z.store w.step.values z.acted.items z.notes.marks ends moves time e moving marks in
-              followed m dump t a before at now early (listed_of k) k.values store u.notes.marks begins z.store w.step.values z.acted.items z.notes.marks ends (parts_with w y) (ap state_of same) stored flags closed of writers
+              followed m dump t a before at now early (listed_of k) k.values store u.notes.marks begins z.store w.step.values z.acted.items z.notes.marks ends (parts_with w y) middle (ap state_of same) stored flags closed of writers
               (agree_law one w.ran.items x.step.targets x.checks x.step.codes.items s.values.last z.store w.step.values (runs_over dump t a e at) agree)
-              (subst (λ ms. MarksInTurn one points ms z.notes.marks.verdicts y.notes.marks.verdicts) moving (turns one last))
+              (subst (λ ms. MarksInTurn one points ms z.notes.marks.verdicts middle.verdicts) moving (turns one last))
               (seen one last)
+              marked
+              (machines one (machines_over m dump t a before at now early (listed_of k) k.values store u.notes.marks begins z.store w.step.values z.acted.items z.notes.marks ends moves time e moving))
 
 -- ---- the parts fit
 

@@ -1,5 +1,5 @@
 -- The parts of a replay fit its design: what is true of each replay, whatever the dump has given.
-use Rattle.std.specs.Prelude.{◌≡◌, ◌<◌, ◌≤◌, ◌++◌, ℕ, false, List, [], length, slice_index_or, Option, Some, None}
+use Rattle.std.specs.Prelude.{◌≡◌, ◌<◌, ◌≤◌, ◌^◌, ◌++◌, ℕ, false, List, [], length, slice_index_or, Option, Some, None}
 use Rattle.body_replay.specs.Store.{Kept}
 use Rattle.body_store.specs.Made.{nothing}
 use Rattle.code_values.specs.Values.{lacks_value, value_of}
@@ -9,10 +9,12 @@ use Rattle.cover_points.specs.Visits.{AreApart, AreOnce}
 use Rattle.cover_points.specs.declared.listing.Points.{Points}
 use Rattle.design_model.specs.Design.{Design, signal_at}
 use Rattle.design_model.specs.Lawful.{IsLawfulDesign}
+use Rattle.design_model.specs.Points.{StateNames}
 use Rattle.early_sets.specs.WakeState.{state_of}
 use Rattle.four_state.specs.Vector.{Vector}
 use Rattle.index_sets.specs.Rows.{row_at}
 use Rattle.first_step.specs.mark_laws.Marked.{AreVerdicts}
+use Rattle.machine_index.specs.Index.{IsIndexOf}
 use Rattle.model_laws.specs.Own.{HasOwnWakes}
 use Rattle.process_order.specs.Tables.{tables_of}
 use Rattle.replay_model.specs.Tables.{AreTables}
@@ -38,12 +40,13 @@ use Rattle.replay_core.specs.declared.room.ReplayRoom.{ReplayRoom}
 use Rattle.replay_core.specs.declared.state.ReplayState.{ReplayState}
 use Rattle.replay_core.specs.declared.tables.ReplayTables.{ReplayTables}
 
--- a lawful design whose steps can be replayed, without memories, and its points
+-- a lawful design whose steps can be replayed, without memories, and its points, with some state machines
 pub record IsReplayable (d : Design) (points : Points) : Type 0 where
   pub lawful : IsLawfulDesign d
   pub own_wakes : HasOwnWakes d
   pub memories : d.memories ≡ []
-  pub listed : IsPointList d [] points
+  pub machines : List StateNames
+  pub listed : IsPointList d machines points
   pub apart : AreApart points
   pub once : AreOnce points
 
@@ -89,6 +92,8 @@ pub record FitsState (d : Design) (points : Points) (x : ReplayTables) (s : Repl
   pub known : Knows d kept s.store
   pub acted : length s.acted.items ≡ length d.processes
   pub seen : length s.seen ≡ length d.signals
+  pub machines : IsIndexOf points.machines.items (length d.signals) s.machines.index
+  pub few_machines : length points.machines.items ≤ 2 ^ 32
   pub noted : s.notes.points.now ≡ points
   pub marks : AreMarksOf points s.notes.marks
   pub rows : length x.step.signals ≡ length s.values.last
@@ -102,12 +107,13 @@ pub record FitsParts (d : Design) (points : Points) (x : ReplayTables) (r : Repl
   pub room : FitsRoom d x r
   pub state : FitsState d points x s
 
--- nothing is known of a signal, no Comb has acted, and no point is marked
+-- nothing is known of a signal, no Comb has acted, no point is marked, and the states of no machine were
 pub record IsUntouched (d : Design) (points : Points) (s : ReplayState) : Type 0 where
   pub knows : Knows d nothing s.store
   pub acted : (p : ℕ) → flag_at s.acted.items p ≡ false
   pub marks : AreVerdicts d points [] s.notes.marks.verdicts
   pub seen : AreSeen d points s.seen s.notes.marks.verdicts
+  pub told : s.machines.told ≡ false
 
 -- each signal with a code has a value
 abbrev pub HaveValues : List (Option ℕ) → List (Option Vector) → Type 0

@@ -64,6 +64,7 @@ parts_with r s =
       acted = s.acted.items;
       marks = s.notes.marks;
       seen = s.seen;
+      told = s.machines.told;
     }
 
 -- a dump of the design that has the signals with a code, of which each step is judged by the first round

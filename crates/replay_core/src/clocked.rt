@@ -50,6 +50,7 @@ pub(crate) fn run_woken_clocked<L: Ledger>(
     ensures values { state.new.values ≡ state.old.values }
     ensures acted { state.new.acted ≡ state.old.acted }
     ensures seen { state.new.seen ≡ state.old.seen }
+    ensures machines { state.new.machines ≡ state.old.machines }
     ensures points { state.new.notes.points.now ≡ state.old.notes.points.now }
     ensures steps { steps.new ≡ steps.old + length room.new.ran.items }
     ensures chosen { HasWoken (state_of room.old.step.sets) (map (λ q. q.0) room.old.step.clocked.pairs) → (early : ℕ → List ℕ) × AreChosen (state_of room.old.step.sets) habit early }

@@ -56,6 +56,7 @@ pub(crate) fn run_woken<L: Ledger>(
     ensures sets { room.new.step.sets ≡ room.old.step.sets }
     ensures values { state.new.values ≡ state.old.values }
     ensures seen { state.new.seen ≡ state.old.seen }
+    ensures machines { state.new.machines ≡ state.old.machines }
     ensures steps { steps.new ≡ steps.old + length room.old.step.list.pairs }
     ensures step { (st : Closing)
         → IsRunOf st state.old.notes.points.now tables.now.step.order (length tables.now.processes.order.items) (map (λ q. q.0) room.old.step.list.pairs) tables.now.wakes tables.now.step.codes.items room.old.step.changed.items time

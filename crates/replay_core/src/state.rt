@@ -1,6 +1,6 @@
 //! What is kept from step to step.
 
-ghost use Rattle.std.specs.Prelude.{◌≡◌, ◌≤◌, IfOk, false, length, replicate};
+ghost use Rattle.std.specs.Prelude.{◌≡◌, ◌≤◌, ◌^◌, IfOk, false, length, replicate};
 ghost use Rattle.body_store.specs.Made.{nothing};
 ghost use Rattle.code_values.specs.Values.{no_values};
 ghost use Rattle.cover_marks.specs.Marks.{AreMarksOf};
@@ -9,6 +9,7 @@ ghost use Rattle.cover_points.specs.Visits.{ArePlaced};
 ghost use Rattle.design_model.specs.Lawful.{IsLawfulDesign};
 ghost use Rattle.design_model.specs.View.{design_view};
 ghost use Rattle.first_step.specs.store_knowledge.Knows.{Knows};
+ghost use Rattle.machine_index.specs.Index.{IsIndexOf};
 ghost use Rattle.replay_core.specs.Fits.{IsReplayable, IsUntouched};
 
 use body_rooms::store_rooms_law;
@@ -21,6 +22,7 @@ use design_model::Design;
 use first_step::new_store_law;
 use signal_marks::SignalMarks;
 use std::alloc::Global;
+use step_machines::MachineMarks;
 use step_runs::MarkNotes;
 
 /// What is kept from step to step.
@@ -34,6 +36,8 @@ pub(crate) struct ReplayState<'a> {
     pub(crate) acted: Vec<bool>,
     /// The toggles that are marked already.
     pub(crate) seen: SignalMarks,
+    /// The state machines, by their signals.
+    pub(crate) machines: MachineMarks,
     /// The marks of the points.
     pub(crate) notes: MarkNotes<'a>,
 }
@@ -52,12 +56,15 @@ pub(crate) fn make_state<'a>(
     ensures values { IfOk result (λ state. state.values ≡ no_values codes) }
     ensures acted { IfOk result (λ state. length state.acted.items ≡ length design.now.processes) }
     ensures seen { IfOk result (λ state. length state.seen ≡ length design.now.signals) }
+    ensures machines { IfOk result (λ state. IsIndexOf points.now.machines.items (length design.now.signals) state.machines.index) }
+    ensures few_machines { IfOk result (λ state. length points.now.machines.items ≤ 2 ^ 32) }
     ensures points { IfOk result (λ state. state.notes.points.now ≡ points.now) }
     ensures marks { IfOk result (λ state. AreMarksOf points.now state.notes.marks) }
 {
     let values = CodeValues::new(alloc, codes)?;
     let acted = unset_flags(alloc, design.processes.len())?;
     let seen = SignalMarks::new(alloc, design.signals.len())?;
+    let machines = MachineMarks::new(alloc, points, design.signals.len())?;
     let marks = Marks::new(alloc, points)?;
     let store = new_store(alloc, design)?;
     Ok(ReplayState {
@@ -65,6 +72,7 @@ pub(crate) fn make_state<'a>(
         store,
         acted,
         seen,
+        machines,
         notes: MarkNotes {
             marks,
             points,

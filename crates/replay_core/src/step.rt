@@ -1,16 +1,19 @@
 //! A closing step.
 
-ghost use Rattle.std.specs.Prelude.{◌≡◌, ◌<◌, [], IfNone, IfSome, flat_map, length};
+ghost use Rattle.std.specs.Prelude.{◌≡◌, ◌<◌, [], IfNone, IfSome, List, flat_map, length, true};
 ghost use Rattle.std.specs.List.{All};
 ghost use Rattle.body_replay.specs.Store.{Kept};
 ghost use Rattle.cover_marks.specs.Marks.{AreMarksOf};
 ghost use Rattle.cover_points.specs.Listed.{IsPointList};
 ghost use Rattle.design_model.specs.Design.{Design as TheDesign};
 ghost use Rattle.design_model.specs.Lawful.{IsLawfulDesign};
+ghost use Rattle.design_model.specs.Points.{StateNames};
 ghost use Rattle.design_model.specs.View.{design_view};
 ghost use Rattle.dump_check.specs.Checks.{AgreesAt, IsFirstDifference, last_of_each};
 ghost use Rattle.index_sets.specs.Rows.{row_at};
 ghost use Rattle.replay_model.specs.Step.{Closing};
+ghost use Rattle.machine_laws.specs.Followed.{MarksMachines};
+ghost use Rattle.step_machines.specs.Marked.{FitsMachines, IsOver as HasRun};
 ghost use Rattle.step_marks.specs.Marked.{IsOver, IsSeenAfter};
 ghost use Rattle.first_step.specs.step_values.Vectors.{FitsSignals};
 ghost use Rattle.first_step.specs.store_knowledge.Knows.{Knows};
@@ -32,6 +35,7 @@ use first_step::{StepValues, check};
 use signal_marks::SignalMarks;
 use std::sync::ledger::Ledger;
 use step_counts::Steps;
+use step_machines::MachineMarks;
 use step_marks::mark_moved;
 use step_runs::MarkNotes;
 use step_start::{find_step, settle_step};
@@ -88,6 +92,15 @@ pub(crate) fn run_step<L: Ledger>(
         &mut state.seen,
         &mut state.notes,
     );
+    mark_machines(
+        room.step.sets.moves(),
+        design,
+        &room.step.values,
+        &state.store,
+        time,
+        &mut state.machines,
+        &mut state.notes,
+    );
     state.values.close();
     None
 }
@@ -131,7 +144,7 @@ fn mark_step(
     requires known { (d : TheDesign) × (k : Kept) × Knows d k store.now }
     requires fits { FitsSignals (design_view design.now) values.now }
     requires count { length seen.old ≡ length design.now.signals }
-    requires listed { IsPointList (design_view design.now) [] notes.old.points.now }
+    requires listed { (machines : List StateNames) × IsPointList (design_view design.now) machines notes.old.points.now }
     requires marks { AreMarksOf notes.old.points.now notes.old.marks }
     ensures count { length seen.new ≡ length seen.old }
     ensures points { notes.new.points.now ≡ notes.old.points.now }
@@ -140,4 +153,36 @@ fn mark_step(
     ensures seen { (st : Closing) → IsOver st notes.old.points.now moves.now time store.now values.now seen.old notes.old.marks → IsSeenAfter st notes.old.points.now seen.new notes.new.marks }
 {
     mark_moved(moves, design, values, store, time, seen, &mut notes.marks);
+}
+
+/// Marks the states and arcs of the machines of what may move, over the step that ends at this time, and at the first step of the window
+/// the states of all machines.
+fn mark_machines(
+    moves: &[usize],
+    design: &Design,
+    values: &StepValues,
+    store: &Store,
+    time: u64,
+    machines: &mut MachineMarks,
+    notes: &mut MarkNotes,
+)
+    requires design { FitsMachines (design_view design.now) notes.old.points.now machines.old.index }
+    requires known { (k : Kept) × Knows (design_view design.now) k store.now }
+    requires fits { FitsSignals (design_view design.now) values.now }
+    requires marks { AreMarksOf notes.old.points.now notes.old.marks }
+    ensures index { machines.new.index ≡ machines.old.index }
+    ensures told { machines.new.told ≡ true }
+    ensures points { notes.new.points.now ≡ notes.old.points.now }
+    ensures marks { AreMarksOf notes.old.points.now notes.new.marks }
+    ensures machines { (st : Closing) → HasRun st moves.now time store.now values.now → MarksMachines st notes.old.points.now machines.old.told notes.old.marks.verdicts notes.new.marks.verdicts }
+{
+    machines.mark(
+        moves,
+        design,
+        notes.points,
+        values,
+        store,
+        time,
+        &mut notes.marks,
+    );
 }

@@ -84,5 +84,5 @@ returns-clause-fits g c =
     let u = record s { store = new.store; notes = new.notes } in
     let h = e.known.2 in
     let knows = subst (λ b. Knows b e.known.1 new.store) (sym h.design ∙ e.same) h in
-    run_fits d s.notes.points.now x r q s u e.known.1 c.requires.fits (room_run d x r q c.requires.fits.room refl e.count e.rest refl e.pieces e.later e.places refl) knows refl refl e.points
+    run_fits d s.notes.points.now x r q s u e.known.1 c.requires.fits (room_run d x r q c.requires.fits.room refl e.count e.rest refl e.pieces e.later e.places refl) knows refl refl refl e.points
     (subst (λ ps. Rattle.cover_marks.specs.Marks.AreMarksOf ps new.notes.marks) e.points e.marks) refl c.requires.fits.state.wide_closed

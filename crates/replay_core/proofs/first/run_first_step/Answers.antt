@@ -50,7 +50,7 @@ returns-clause-starts g c =
     let is = is_first d h points x c.requires.replayable (c.runs_lawful.ensures d c.requires.replayable.lawful) fits.tables dump t of first shown s c.requires.untouched given in
     let here = subst (λ cs. IsFirstOf d dump.bound (dump.values t) cs s.values.last s.store) (sym codes) is in (
       first_replay (subject_of (made_with d h points x) dump) t,
-      starts_at d h points x c.requires.replayable (c.runs_lawful.ensures d c.requires.replayable.lawful) fits.tables dump t of first shown s _ c.requires.untouched fits.state.marks fits.state.unsigned given (ap (λ (v : Values). v.closed) c.close.ensures) refl refl refl fits.room.sets fits.room.writers
+      starts_at d h points x c.requires.replayable (c.runs_lawful.ensures d c.requires.replayable.lawful) fits.tables dump t of first shown s _ c.requires.untouched fits.state.marks fits.state.unsigned given (ap (λ (v : Values). v.closed) c.close.ensures) refl refl refl refl fits.room.sets fits.room.writers
           (b.ensures.started d dump.bound (dump.values t) here) (none d dump.bound (dump.values t) here),
     ))
 

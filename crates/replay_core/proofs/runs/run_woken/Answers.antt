@@ -57,7 +57,7 @@ returns-clause-fits g c =
       ran = subst (λ n. length d.processes ≤ n) (sym e.places) old.room.ran;
       checks = old.room.checks;
     } in
-    run_fits d s.notes.points.now x r q s u e.known.1 old room knows (ap length back ∙ e.flags ∙ value) refl e.points (subst (λ ps. AreMarksOf ps new.notes.marks) e.points e.marks) refl old.state.wide_closed
+    run_fits d s.notes.points.now x r q s u e.known.1 old room knows (ap length back ∙ e.flags ∙ value) refl refl e.points (subst (λ ps. AreMarksOf ps new.notes.marks) e.points e.marks) refl old.state.wide_closed
 
 pub returns-clause-step : goal.returns-clause-step
 returns-clause-step g c = λ st run at.

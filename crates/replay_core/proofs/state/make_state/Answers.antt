@@ -12,4 +12,5 @@ returns-clause-untouched c =
       acted = no_flags c.in_ok-acted.acted.items _ c.in_ok-acted.ensures;
       marks = no_verdicts d points verdicts c.in_ok-marks.ensures.points.count c.in_ok-marks.ensures.markings;
       seen = c.in_ok-seen.ensures.seen d points verdicts;
+      told = c.in_ok-machines.ensures.told;
     }

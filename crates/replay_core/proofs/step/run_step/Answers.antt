@@ -4,12 +4,15 @@ use Rattle.std.proofs.lemmas.List.{length-map}
 use Rattle.std.proofs.lemmas.List.Elements.{All-weaker}
 use Rattle.code_values.specs.Values.{Values}
 use Rattle.cover_marks.specs.Marks.{AreMarksOf}
+use Rattle.cover_points.specs.Listed.{IsPointList}
 use Rattle.design_model.specs.Design.{Design}
 use Rattle.design_model.specs.View.{design_view, process_view}
 use Rattle.dump_check.specs.Checks.{AgreesAt, IsFirstDifference, last_of_each}
 use Rattle.early_sets.specs.WakeState.{state_of}
 use Rattle.index_sets.specs.Rows.{row_at}
 use Rattle.replay_model.specs.Step.{Closing}
+use Rattle.machine_laws.specs.Followed.{MarksMachines}
+use Rattle.step_machines.specs.Marked.{FitsMachines, IsOver as IsMachineStep}
 use Rattle.step_marks.specs.Marked.{IsOver, IsSeenAfter}
 use Rattle.first_step.specs.step_changes.Changes.{AreChangedSignals}
 use Rattle.first_step.specs.step_values.Dumped.{AreDumped}
@@ -109,6 +112,27 @@ pub run_woken-requires-clause-settles : goal.run_woken-requires-clause-settles
 run_woken-requires-clause-settles g c =
     let u = c.run_woken_clocked.new.state in
     list_settles (design_view c.args.design.now) c.args.tables.now c.settle_step.new.room u.store c.requires.fits.tables c.run_woken_clocked.ensures.fits.state.known.design c.in_default.ensures.listed
+
+pub mark_step-requires-clause-listed : goal.mark_step-requires-clause-listed
+mark_step-requires-clause-listed g c =
+    let noted = c.run_woken.ensures.fits.state.noted ∙ c.run_woken_clocked.ensures.points in
+    (c.requires.replayable.machines, subst (λ ps. IsPointList (design_view c.args.design.now) c.requires.replayable.machines ps) (sym noted) c.requires.replayable.listed)
+
+pub mark_machines-requires-clause-design : goal.mark_machines-requires-clause-design
+mark_machines-requires-clause-design g c =
+    let state = c.run_woken.ensures.fits.state in
+    let replayable = c.requires.replayable in
+    let d = design_view c.args.design.now in
+    let points = c.args.state.now.notes.points.now in
+    let noted = c.mark_step.ensures.points ∙ state.noted ∙ c.run_woken_clocked.ensures.points in
+    let here = subst (λ ps. FitsMachines d ps c.run_woken.new.state.machines.index) c.run_woken_clocked.ensures.points (record {
+      lawful = replayable.lawful;
+      machines = replayable.machines;
+      listed = subst (λ ps. IsPointList d replayable.machines ps) (sym c.run_woken_clocked.ensures.points) replayable.listed;
+      few = state.few_machines;
+      index = state.machines;
+    }) in
+    subst (λ ps. FitsMachines d ps c.run_woken.new.state.machines.index) (sym noted) here
 
 pub check_step-requires-clause-ran : goal.check_step-requires-clause-ran
 check_step-requires-clause-ran g c =
@@ -275,21 +299,27 @@ returns-clause-closes g c =
     let of = subst (λ ps. AreMarksOf ps o.notes.marks) noted (subst (λ ps. AreMarksOf ps o.notes.marks) (sym all.state.noted) all.state.marks) in
     let moves = c.moves.result.now in
     let last = c.mark_step.ensures in
-    let y = record o { seen = c.mark_step.new.seen; notes = c.mark_step.new.notes; values = c.close.new.self } in
+    let y = record o { seen = c.mark_step.new.seen; machines = c.mark_machines.new.machines; notes = c.mark_machines.new.notes; values = c.close.new.self } in
     let seen = z.ensures.seen ∙ w.seen in
     let given = z.ensures.values ∙ w.values in
+    let told = ap (λ ms. ms.told) (z.ensures.machines ∙ w.machines) in
+    let moves_same = c.moves.ensures.value ∙ sym c.moves-2.ensures.value in
     let to : (st : Closing) → IsOver st points moves time o.store a.step.values s.seen o.notes.marks → IsOver st o.notes.points.now moves time o.store b.new.room.step.values o.seen o.notes.marks = λ st i.
     subst (λ ps. IsOver st ps moves time o.store b.new.room.step.values o.seen o.notes.marks) (sym noted)
     (subst (λ (f : ReplayRoom). IsOver st points moves time o.store f.step.values o.seen o.notes.marks) (sym b.ensures.room)
     (subst (λ ms. IsOver st points moves time o.store a.step.values ms o.notes.marks) (sym seen) i)) in
     subst (λ f. Closes (made_with d habit points x) time (parts_with r s) (parts_with f y)) (sym b.ensures.room)
-    (closes_run d habit points x r s n time q u ran k store c.requires.fits.tables changed begun a o (ap (λ v. v.items) w.acted) z.ensures.sets w.points z.ensures.step z.ensures.ran y moves
+    (closes_run d habit points x r s n time q u ran k store c.requires.fits.tables changed begun a o (ap (λ v. v.items) w.acted) z.ensures.sets w.points z.ensures.step z.ensures.ran y c.mark_step.new.notes.marks moves
     (subst (λ (vs : Values). All (AgreesAt codes vs.last a.step.values.made) (last_of_each (flat_map (row_at x.checks) a.ran.items))) given c.in_default-check_step.ensures.none)
     (c.moves.ensures.value ∙ ap (λ (f : ReplayRoom). (state_of f.step.sets).moves) b.ensures.room ∙ ap (λ ws. (state_of ws).moves) z.ensures.sets)
     all.room.sets all.room.writers of refl refl
     (ap (λ (v : Values). v.closed) c.close.ensures ∙ ap (λ (v : Values). v.last) given)
-    (λ st i. subst (λ ps. MarksInTurn st ps moves o.notes.marks.verdicts y.notes.marks.verdicts) noted (last.toggles st (to st i)))
-    (λ st i. subst (λ ps. IsSeenAfter st ps y.seen y.notes.marks) noted (last.seen st (to st i))))
+    (λ st i. subst (λ ps. MarksInTurn st ps moves o.notes.marks.verdicts c.mark_step.new.notes.marks.verdicts) noted (last.toggles st (to st i)))
+    (λ st i. subst (λ ps. IsSeenAfter st ps y.seen c.mark_step.new.notes.marks) noted (last.seen st (to st i)))
+    (subst (λ ps. AreMarksOf ps y.notes.marks) (last.points ∙ noted) c.mark_machines.ensures.marks)
+    (λ st i. subst (λ b. MarksMachines st points b c.mark_step.new.notes.marks.verdicts y.notes.marks.verdicts) told
+    (subst (λ ps. MarksMachines st ps o.machines.told c.mark_step.new.notes.marks.verdicts y.notes.marks.verdicts) (last.points ∙ noted)
+    (c.mark_machines.ensures.machines st (subst (λ ms. IsMachineStep st ms time o.store b.new.room.step.values) moves_same (subst (λ (f : ReplayRoom). IsMachineStep st moves time o.store f.step.values) (sym b.ensures.room) i))))))
 
 -- ---- the parts after it
 
@@ -305,8 +335,9 @@ returns-clause-fits g c =
     let o = z.new.state in
     let ran = subst (λ ps. FitsParts d ps x z.new.room o) w.ensures.points z.ensures.fits in
     let fits = checked_fits d points x z.new.room b.new.room o b.ensures.room b.ensures.size ran in
-    let y = record o { seen = c.mark_step.new.seen; notes = c.mark_step.new.notes; values = c.close.new.self } in
-    run_fits d points x b.new.room b.new.room o y fits.state.kept fits fits.room fits.state.known refl e.count e.points (subst (λ ps. AreMarksOf ps c.mark_step.new.notes.marks) fits.state.noted e.marks)
+    let y = record o { seen = c.mark_step.new.seen; machines = c.mark_machines.new.machines; notes = c.mark_machines.new.notes; values = c.close.new.self } in
+    let m = c.mark_machines.ensures in
+    run_fits d points x b.new.room b.new.room o y fits.state.kept fits fits.room fits.state.known refl e.count m.index (m.points ∙ e.points) (subst (λ ps. AreMarksOf ps c.mark_machines.new.notes.marks) (e.points ∙ fits.state.noted) m.marks)
     (ap (λ (v : Values). v.last) c.close.ensures) (subst (AreWideValues d x.step.codes.items) (sym (ap (λ (v : Values). v.closed) c.close.ensures)) fits.state.wide)
 
 pub returns-in-Some-check_step-clause-fits : goal.returns-in-Some-check_step-clause-fits

@@ -15,7 +15,7 @@ returns-clause-ready c =
     let state = c.in_ok-state in
     let size : length (map process_view D.processes) ≡ length D.processes = length-map D.processes process_view in
     let fits = subst (λ x. FitsRoom d x room.room.value) c.deref.ensures room.ensures.fits in
-    new_ready d c.args.points.now tables.tables.value room.room.value state.state c.past_codes-count.result c.requires.replayable tables.ensures.fits fits room.ensures.none room.ensures.none_clocked state.ensures.untouched state.ensures.values tables.ensures.count (state.ensures.acted ∙ sym size) state.ensures.seen state.ensures.points state.ensures.marks
+    new_ready d c.args.points.now tables.tables.value room.room.value state.state c.past_codes-count.result c.requires.replayable tables.ensures.fits fits room.ensures.none room.ensures.none_clocked state.ensures.untouched state.ensures.values tables.ensures.count (state.ensures.acted ∙ sym size) state.ensures.seen state.ensures.machines state.ensures.few_machines state.ensures.points state.ensures.marks
 
 pub returns-clause-within : goal.returns-clause-within
 returns-clause-within c = λ s code coded.
